@@ -111,33 +111,33 @@ module _ (owner : Tenure → ℕ) (w : Actors) (at : Place) (heard : List Rsl) (
   abbrev Which : ℕ → Type 0
   Which number = (number ≡ (tenure_behind w at).number) ⊎ (hear heard state ≡ Free)
 
-  assigns-fit : (number : ℕ) → Which number → (r : Result RrMessage RrFault) → NamesUser at w.controller r → AssignsIn owner at number r
-  assigns-fit number which (Ok (ImmediateAssignment channel request advance)) names = λ is. by (names is) which where
+  assigns_fit : (number : ℕ) → Which number → (r : Result RrMessage RrFault) → NamesUser at w.controller r → AssignsIn owner at number r
+  assigns_fit number which (Ok (ImmediateAssignment channel request advance)) names = λ is. by (names is) which where
     by : (n : ℕ) × (state ≡ InUse n) × (asker w.controller n ≡ Some (slice_index_or request 0 0)) → Which number → owner (record { at = at; number = number }) ≡ slice_index_or request 0 0
     by (n, used, asks) (inl same) = ap (λ (k : ℕ). owner (record { at = at; number = k })) same ∙ agrees.own n (slice_index_or request 0 0) hearing used asks (λ down silent. true≢false (sym up ∙ down))
     by (n, used, asks) (inr free) = absurd (use_free heard state n used free)
-  assigns-fit number which (Ok _) names = tt
-  assigns-fit number which (Err fault) names = tt
+  assigns_fit number which (Ok _) names = tt
+  assigns_fit number which (Err fault) names = tt
 
-  beside-fits : (number : ℕ) → Which number → (target : Option Tenure) (o : Option Rsl) → NamesIn at w.controller o → ((d : DataMessage) → o ≡ Some (rsl.DataRequest d) → d.channel ≡ at.number → LeadsBy owner (record { at = at; number = number }) target) → FitsBeside owner at number target o
-  beside-fits number which target (Some (rsl.ImmediateAssignCommand i)) names leads = assigns-fit number which (rr_reading i.information) names
-  beside-fits number which target (Some (rsl.DataRequest d)) names leads = leads d refl
-  beside-fits number which target None names leads = tt
-  beside-fits number which target (Some _) names leads = tt
+  beside_fits : (number : ℕ) → Which number → (target : Option Tenure) (o : Option Rsl) → NamesIn at w.controller o → ((d : DataMessage) → o ≡ Some (rsl.DataRequest d) → d.channel ≡ at.number → LeadsBy owner (record { at = at; number = number }) target) → FitsBeside owner at number target o
+  beside_fits number which target (Some (rsl.ImmediateAssignCommand i)) names leads = assigns_fit number which (rr_reading i.information) names
+  beside_fits number which target (Some (rsl.DataRequest d)) names leads = leads d refl
+  beside_fits number which target None names leads = tt
+  beside_fits number which target (Some _) names leads = tt
 
-  out-leads : (number : ℕ) → Which number → (target : Option Tenure) (out : Out) → LeadsOwn owner w at target out → (d : DataMessage) → said_to at out ≡ Some (rsl.DataRequest d) → d.channel ≡ at.number → LeadsBy owner (record { at = at; number = number }) (outbox_entry target out).target
-  out-leads number which None out leads d is same = tt
-  out-leads number which (Some tenure) out leads d is same = by (commands (rsl_in out.frame)) (leads tenure refl d is same) which where
+  out_leads : (number : ℕ) → Which number → (target : Option Tenure) (out : Out) → LeadsOwn owner w at target out → (d : DataMessage) → said_to at out ≡ Some (rsl.DataRequest d) → d.channel ≡ at.number → LeadsBy owner (record { at = at; number = number }) (outbox_entry target out).target
+  out_leads number which None out leads d is same = tt
+  out_leads number which (Some tenure) out leads d is same = by (commands (rsl_in out.frame)) (leads tenure refl d is same) which where
     by : (b : Bool) → (n : ℕ) × (state ≡ InUse n) × (owner tenure ≡ owner (tenure_behind w at)) → Which number → LeadsBy owner (record { at = at; number = number }) (if b then Some tenure else None)
     by false own which = tt
     by true (n, used, own) (inl now) = own ∙ ap (λ (k : ℕ). owner (record { at = at; number = k })) (sym now)
     by true (n, used, own) (inr free) = absurd (use_free heard state n used free)
 
-  fit-all : (target : Option Tenure) (outs : List Out) → AllByRecursion (NamesOut at w.controller) outs → AllByRecursion (LeadsOwn owner w at target) outs → FitAll owner at target (tenure_behind w at).number (hear heard state) outs
-  fit-all target [] names leads = λ number which. tt
-  fit-all target (out ∷ outs) names leads = λ number which. (
-    beside-fits number which (outbox_entry target out).target (said_to at out) names.0 (out-leads number which target out leads.0),
-    fit-all target outs names.1 leads.1 number which,
+  fit_all : (target : Option Tenure) (outs : List Out) → AllByRecursion (NamesOut at w.controller) outs → AllByRecursion (LeadsOwn owner w at target) outs → FitAll owner at target (tenure_behind w at).number (hear heard state) outs
+  fit_all target [] names leads = λ number which. tt
+  fit_all target (out ∷ outs) names leads = λ number which. (
+    beside_fits number which (outbox_entry target out).target (said_to at out) names.0 (out_leads number which target out leads.0),
+    fit_all target outs names.1 leads.1 number which,
   )
 
 -- ---- so it serves the channel
@@ -149,6 +149,6 @@ serves_by owner w at least target s heard agrees laws serving leads = record {
   hearing = heard_before w.controller s at.station;
   silent = none_to (step w.controller s).next at target (step w.controller s).outs laws.up;
   goes = λ hearing. (serving hearing laws.sent).0;
-  fits = λ hearing up. fit-all owner w at heard agrees up (heard_before w.controller s at.station hearing) target (step w.controller s).outs (serving hearing laws.sent).1 (leads hearing up);
+  fits = λ hearing up. fit_all owner w at heard agrees up (heard_before w.controller s at.station hearing) target (step w.controller s).outs (serving hearing laws.sent).1 (leads hearing up);
   users = λ number mobile asks used. users_of w.controller s at number mobile laws asks used;
 }

@@ -66,14 +66,14 @@ break_serves at least source c differ ready = λ sent.
       told_holds c.links d e (break_of source) (break_shut (break_of source) (own_carried source)) own.rising own.there own.stands holds,
       told_runs at c c.links d e (break_of source) least (break_shut (break_of source) (own_carried source)) own holds,
     ))
-    down c.entries ready.numbered.rising (down-here c.entries (all_here c c.entries ready (all_found c.entries ready.numbered.rising))) (record { shaped = ready.holds.shaped; each = ready.holds.each }) sent in
+    down c.entries ready.numbered.rising (down_here c.entries (all_here c c.entries ready (all_found c.entries ready.numbered.rising))) (record { shaped = ready.holds.shaped; each = ready.holds.each }) sent in
     (subst (Goes at (channel_state c at) (each (told (break_of source)) down c.entries).outs) (sym (without_same (source == SWITCH_LINK) source (each (told (break_of source)) down c.entries).next at differ)) (runs all.0), all.1)
   where
-    down-here : (xs : List Entry) → AllByRecursion (IsHere c.links c) xs → AllByRecursion (IsHere c.links (with_down source c)) xs
-    down-here [] own = tt
-    down-here (x ∷ xs) own = (
+    down_here : (xs : List Entry) → AllByRecursion (IsHere c.links c) xs → AllByRecursion (IsHere c.links (with_down source c)) xs
+    down_here [] own = tt
+    down_here (x ∷ xs) own = (
       record { rising = own.0.rising; there = own.0.there; stands = own.0.stands; from_one = own.0.from_one; below = own.0.below; linked = own.0.linked },
-      down-here xs own.1,
+      down_here xs own.1,
     )
 
 -- ---- time passes

@@ -56,8 +56,8 @@ module _ (at : Place) (least : 1 ≤ at.station) where
   abbrev pub Serving : Controller → ChannelState → Turn → Type 0
   Serving c from t = AllByRecursion IsSent t.outs → Goes at from t.outs (channel_state t.next at) × AllByRecursion (NamesOut at c) t.outs
 
-  quiet-serves : (c next : Controller) (from : ChannelState) → channel_state next at ≡ from → Serving c from (turn [] next)
-  quiet-serves c next from same sent = (subst (Goes at from []) (sym same) (runs over), tt)
+  quiet_serves : (c next : Controller) (from : ChannelState) → channel_state next at ≡ from → Serving c from (turn [] next)
+  quiet_serves c next from same sent = (subst (Goes at from []) (sym same) (runs over), tt)
 
   -- ---- a row, of a controller of which a channel may have been freed
 
@@ -68,43 +68,43 @@ module _ (at : Place) (least : 1 ≤ at.station) where
     used : IsOpen e.connection.state → place_of e.connection.serving ≡ at → channel_state c at ≡ InUse e.connection.number
     asks : asker c e.connection.number ≡ Some e.connection.request.access
 
-  fitting-serves : (c d : Controller) (otherwise : Turn) (e : Entry) (input : Input) (offer : Option Channel) (o : Option Row) → row_of e.connection input offer ≡ o → RowFits c d e offer → Serving c (channel_state d at) otherwise → Serving c (channel_state d at) (by_fitting otherwise e o d)
-  fitting-serves c d otherwise e input offer None is fits same = same
-  fitting-serves c d otherwise e input offer (Some r) is fits same = λ sent.
+  fitting_serves : (c d : Controller) (otherwise : Turn) (e : Entry) (input : Input) (offer : Option Channel) (o : Option Row) → row_of e.connection input offer ≡ o → RowFits c d e offer → Serving c (channel_state d at) otherwise → Serving c (channel_state d at) (by_fitting otherwise e o d)
+  fitting_serves c d otherwise e input offer None is fits same = same
+  fitting_serves c d otherwise e input offer (Some r) is fits same = λ sent.
       let changes = changes_of e.connection input offer r fits.stands is in (
         touches_goes e.connection.number at d.channels r.outs least sent (row_touches e.connection.number at d.channels e.connection input offer r changes fits.of fits.free),
         row_names at c e.connection.number e.connection input offer r least sent is changes fits.used fits.asks,
       )
 
-  asks-of : (c : Controller) (e : Entry) → entry_of c e.connection.number ≡ Some e → asker c e.connection.number ≡ Some e.connection.request.access
-  asks-of c e there = ap (option_map (λ (x : Entry). x.connection.request.access)) there
+  asks_of : (c : Controller) (e : Entry) → entry_of c e.connection.number ≡ Some e → asker c e.connection.number ≡ Some e.connection.request.access
+  asks_of c e there = ap (option_map (λ (x : Entry). x.connection.request.access)) there
 
-  used-of : (c : Controller) (e : Entry) → entry_of c e.connection.number ≡ Some e → Holds c.links c → IsOpen e.connection.state → place_of e.connection.serving ≡ at → channel_state c at ≡ InUse e.connection.number
-  used-of c e there holds is_open same = ap (state_in c.channels) (sym same) ∙ (owns_entry c.links c e there holds is_open).using.0
+  used_of : (c : Controller) (e : Entry) → entry_of c e.connection.number ≡ Some e → Holds c.links c → IsOpen e.connection.state → place_of e.connection.serving ≡ at → channel_state c at ≡ InUse e.connection.number
+  used_of c e there holds is_open same = ap (state_in c.channels) (sym same) ∙ (owns_entry c.links c e there holds is_open).using.0
 
-  ignoring-serves : (c : Controller) → Serving c (channel_state c at) (ignoring c)
-  ignoring-serves c = quiet-serves c (ignoring c).next (channel_state c at) refl
+  ignoring_serves : (c : Controller) → Serving c (channel_state c at) (ignoring c)
+  ignoring_serves c = quiet_serves c (ignoring c).next (channel_state c at) refl
 
-  concerning-serves : (c : Controller) (input : Input) (m : ℕ) (o : Option Entry) → entry_of c m ≡ o → Ready c → Serving c (channel_state c at) (concerning input c o)
-  concerning-serves c input m None there ready = ignoring-serves c
-  concerning-serves c input m (Some e) there ready =
+  concerning_serves : (c : Controller) (input : Input) (m : ℕ) (o : Option Entry) → entry_of c m ≡ o → Ready c → Serving c (channel_state c at) (concerning input c o)
+  concerning_serves c input m None there ready = ignoring_serves c
+  concerning_serves c input m (Some e) there ready =
       let own = here_of c m e ready there in
-      fitting-serves c c (ignoring c) e input (request_offer c e.connection input) (row_in c e.connection input) refl
+      fitting_serves c c (ignoring c) e input (request_offer c e.connection input) (row_in c e.connection input) refl
       (record {
         stands = own.stands;
         of = λ is_open. of_owns c.channels c.links e.connection.number (roles_of e.connection) (owns_entry c.links c e own.there ready.holds is_open);
         free = λ is_open f is. free_offer c.settings c.channels c.links f ready.holds.shaped (assignment_offers c (serving_after e.connection (row_of e.connection input None)) f ready.holds.shaped is);
-        used = used-of c e own.there ready.holds;
-        asks = asks-of c e own.there;
-      }) (ignoring-serves c)
+        used = used_of c e own.there ready.holds;
+        asks = asks_of c e own.there;
+      }) (ignoring_serves c)
 
   -- a channel that was releasing is freed first
-  too-serves : (p : Place) (k : ℕ) (c : Controller) (input : Input) (m : ℕ) (o : Option Entry) → channel_state c p ≡ Releasing k → entry_of c m ≡ o → Ready c → Serving c (channel_state (freed p c) at) (concerning_too input (freed p c) o)
-  too-serves p k c input m None was there ready = quiet-serves c (freed p c) (channel_state (freed p c) at) refl
-  too-serves p k c input m (Some e) was there ready =
+  too_serves : (p : Place) (k : ℕ) (c : Controller) (input : Input) (m : ℕ) (o : Option Entry) → channel_state c p ≡ Releasing k → entry_of c m ≡ o → Ready c → Serving c (channel_state (freed p c) at) (concerning_too input (freed p c) o)
+  too_serves p k c input m None was there ready = quiet_serves c (freed p c) (channel_state (freed p c) at) refl
+  too_serves p k c input m (Some e) was there ready =
       let own = here_of c m e ready there in
       let shaped : IsShaped c.settings (with_state p Free c.channels) = freed_shaped p c ready.holds.shaped in
-      fitting-serves c (freed p c) (turn [] (freed p c)) e input (request_offer (freed p c) e.connection input) (row_in (freed p c) e.connection input) refl
+      fitting_serves c (freed p c) (turn [] (freed p c)) e input (request_offer (freed p c) e.connection input) (row_in (freed p c) e.connection input) refl
       (record {
         stands = own.stands;
         of = λ is_open.
@@ -114,9 +114,9 @@ module _ (at : Place) (least : 1 ≤ at.station) where
               apart = λ t is. apart_target (roles_of e.connection) t is owns.apart;
             };
         free = λ is_open f is. free_offer c.settings (with_state p Free c.channels) c.links f shaped (assignment_offers (freed p c) (serving_after e.connection (row_of e.connection input None)) f shaped is);
-        used = used-of c e own.there ready.holds;
-        asks = asks-of c e own.there;
-      }) (quiet-serves c (freed p c) (channel_state (freed p c) at) refl)
+        used = used_of c e own.there ready.holds;
+        asks = asks_of c e own.there;
+      }) (quiet_serves c (freed p c) (channel_state (freed p c) at) refl)
 
   -- ---- what comes on a channel
 
@@ -129,49 +129,49 @@ module _ (at : Place) (least : 1 ≤ at.station) where
   heard_by (OnChannel p (inputs.ReleaseAck q)) c = freed_by (channel_state c p) p c
   heard_by word c = channel_state c at
 
-  free-serves : (p : Place) (input : Input) (c : Controller) → IsNoNack input → Serving c (channel_state c at) (on_state Free p input c None)
+  free_serves : (p : Place) (input : Input) (c : Controller) → IsNoNack input → Serving c (channel_state c at) (on_state Free p input c None)
   unfolding IsNoNack
-  free-serves p (inputs.ActivationNack q) c no_nack = absurd no_nack
-  free-serves p (inputs.ReleaseAck q) c no_nack = ignoring-serves c
-  free-serves p _ c no_nack = ignoring-serves c
+  free_serves p (inputs.ActivationNack q) c no_nack = absurd no_nack
+  free_serves p (inputs.ReleaseAck q) c no_nack = ignoring_serves c
+  free_serves p _ c no_nack = ignoring_serves c
 
-  use-serves : (p : Place) (input : Input) (c : Controller) (k : ℕ) (o : Option Entry) → IsNoNack input → entry_of c k ≡ o → Ready c → Serving c (channel_state c at) (on_state (InUse k) p input c o)
+  use_serves : (p : Place) (input : Input) (c : Controller) (k : ℕ) (o : Option Entry) → IsNoNack input → entry_of c k ≡ o → Ready c → Serving c (channel_state c at) (on_state (InUse k) p input c o)
   unfolding IsNoNack
-  use-serves p (inputs.ActivationNack q) c k o no_nack there ready = absurd no_nack
-  use-serves p (inputs.ReleaseAck q) c k o no_nack there ready = concerning-serves c (inputs.ReleaseAck q) k o there ready
-  use-serves p input c k o no_nack there ready = concerning-serves c input k o there ready
+  use_serves p (inputs.ActivationNack q) c k o no_nack there ready = absurd no_nack
+  use_serves p (inputs.ReleaseAck q) c k o no_nack there ready = concerning_serves c (inputs.ReleaseAck q) k o there ready
+  use_serves p input c k o no_nack there ready = concerning_serves c input k o there ready
 
-  ack-serves : (p q : Place) (c : Controller) (state : ChannelState) → channel_state c p ≡ state → Ready c → Serving c (freed_by state p c) (on_state state p (inputs.ReleaseAck q) c (entry_at c state))
+  ack_serves : (p q : Place) (c : Controller) (state : ChannelState) → channel_state c p ≡ state → Ready c → Serving c (freed_by state p c) (on_state state p (inputs.ReleaseAck q) c (entry_at c state))
   unfolding IsNoNack
-  ack-serves p q c Free is ready = ignoring-serves c
-  ack-serves p q c (InUse k) is ready = concerning-serves c (inputs.ReleaseAck q) k (entry_of c k) refl ready
-  ack-serves p q c (Releasing k) is ready = too-serves p k c (inputs.ReleaseAck q) k (entry_of c k) is refl ready
+  ack_serves p q c Free is ready = ignoring_serves c
+  ack_serves p q c (InUse k) is ready = concerning_serves c (inputs.ReleaseAck q) k (entry_of c k) refl ready
+  ack_serves p q c (Releasing k) is ready = too_serves p k c (inputs.ReleaseAck q) k (entry_of c k) is refl ready
 
   -- one that is no RF CHANNEL RELEASE ACK
   IsNoAck : Input → Type 0
   IsNoAck (inputs.ReleaseAck q) = ⊥
   IsNoAck _ = Unit {0}
 
-  other-serves : (p : Place) (input : Input) (c : Controller) (state : ChannelState) → IsNoNack input → IsNoAck input → Ready c → Serving c (channel_state c at) (on_state state p input c (entry_at c state))
+  other_serves : (p : Place) (input : Input) (c : Controller) (state : ChannelState) → IsNoNack input → IsNoAck input → Ready c → Serving c (channel_state c at) (on_state state p input c (entry_at c state))
   unfolding IsNoNack IsNoAck
-  other-serves p input c Free no_nack no_ack ready = free-serves p input c no_nack
-  other-serves p input c (InUse k) no_nack no_ack ready = use-serves p input c k (entry_of c k) no_nack refl ready
-  other-serves p input c (Releasing k) no_nack no_ack ready = releasing input no_nack no_ack where
+  other_serves p input c Free no_nack no_ack ready = free_serves p input c no_nack
+  other_serves p input c (InUse k) no_nack no_ack ready = use_serves p input c k (entry_of c k) no_nack refl ready
+  other_serves p input c (Releasing k) no_nack no_ack ready = releasing input no_nack no_ack where
     releasing : (input : Input) → IsNoNack input → IsNoAck input → Serving c (channel_state c at) (on_state (Releasing k) p input c (entry_of c k))
     releasing (inputs.ActivationNack q) no_nack no_ack = absurd no_nack
     releasing (inputs.ReleaseAck q) no_nack no_ack = absurd no_ack
-    releasing input no_nack no_ack = concerning-serves c input k (entry_of c k) refl ready
+    releasing input no_nack no_ack = concerning_serves c input k (entry_of c k) refl ready
 
-  channel-serves : (p : Place) (input : Input) (c : Controller) → IsNoNack input → Ready c → Serving c (heard_by (OnChannel p input) c) (on_state (channel_state c p) p input c (entry_at c (channel_state c p)))
+  channel_serves : (p : Place) (input : Input) (c : Controller) → IsNoNack input → Ready c → Serving c (heard_by (OnChannel p input) c) (on_state (channel_state c p) p input c (entry_at c (channel_state c p)))
   unfolding IsNoAck
-  channel-serves p (inputs.ReleaseAck q) c no_nack ready = ack-serves p q c (channel_state c p) refl ready
-  channel-serves p input c no_nack ready = other-serves p input c (channel_state c p) no_nack tt ready
+  channel_serves p (inputs.ReleaseAck q) c no_nack ready = ack_serves p q c (channel_state c p) refl ready
+  channel_serves p input c no_nack ready = other_serves p input c (channel_state c p) no_nack tt ready
 
   -- ---- a connection begins
 
-  given-serves : (c : Controller) (source : ℕ) (request : RequestReference) (delay : ℕ) (o : Option Channel) → access_channel c source ≡ o → Ready c → Serving c (channel_state c at) (given c request delay o)
-  given-serves c source request delay None is ready = ignoring-serves c
-  given-serves c source request delay (Some channel) is ready = λ sent. (
+  given_serves : (c : Controller) (source : ℕ) (request : RequestReference) (delay : ℕ) (o : Option Channel) → access_channel c source ≡ o → Ready c → Serving c (channel_state c at) (given c request delay o)
+  given_serves c source request delay None is ready = ignoring_serves c
+  given_serves c source request delay (Some channel) is ready = λ sent. (
     touches_goes c.next_number at c.channels (access_activation channel ∷ []) least sent (touches (place_or at (place_of channel))),
     no_assignments at c c.next_number (access_activation channel ∷ []) least sent (tt, tt),
   ) where
@@ -180,35 +180,35 @@ module _ (at : Place) (least : 1 ≤ at.station) where
         (here (station_activates at channel.station _ (ap (λ (p : Place). p.station) same) (ap (λ (p : Place). p.number) same)) tt)
     touches (inr differ) = leaves_it (differ, tt)
 
-  if-serves : (b : Bool) (c : Controller) (t : Turn) → (b ≡ true → Serving c (channel_state c at) t) → Serving c (channel_state c at) (if b then t else ignoring c)
-  if-serves true c t after = after refl
-  if-serves false c t after = ignoring-serves c
+  if_serves : (b : Bool) (c : Controller) (t : Turn) → (b ≡ true → Serving c (channel_state c at) t) → Serving c (channel_state c at) (if b then t else ignoring c)
+  if_serves true c t after = after refl
+  if_serves false c t after = ignoring_serves c
 
   -- ---- a report
 
-  decision-serves : (decision : Decision) (c : Controller) (e : Entry) (put : Entry) (m : ℕ) → put.connection ≡ e.connection → entry_of c m ≡ Some e → Ready c → Serving c (channel_state c at) (on_decision decision (with_entry put c) put)
-  decision-serves Stay c e put m same there ready = quiet-serves c (with_entry put c) (channel_state c at) refl
-  decision-serves (Move cell) c e put m same there ready =
+  decision_serves : (decision : Decision) (c : Controller) (e : Entry) (put : Entry) (m : ℕ) → put.connection ≡ e.connection → entry_of c m ≡ Some e → Ready c → Serving c (channel_state c at) (on_decision decision (with_entry put c) put)
+  decision_serves Stay c e put m same there ready = quiet_serves c (with_entry put c) (channel_state c at) refl
+  decision_serves (Move cell) c e put m same there ready =
       let own = here_of c m e ready there in
       let d : Controller = with_entry put c in
-      fitting-serves c d (turn [] d) put inputs.Move (handover_offer d put.connection.serving cell) (row_of put.connection inputs.Move (handover_offer d put.connection.serving cell)) refl
+      fitting_serves c d (turn [] d) put inputs.Move (handover_offer d put.connection.serving cell) (row_of put.connection inputs.Move (handover_offer d put.connection.serving cell)) refl
       (record {
         stands = subst Stands (sym same) own.stands;
         of = subst (λ (s : Connection). IsOpen s.state → IsOf s.number c.channels (roles_of s)) (sym same) (λ is_open. of_owns c.channels c.links e.connection.number (roles_of e.connection) (owns_entry c.links c e own.there ready.holds is_open));
         free = λ is_open f is. free_offer c.settings c.channels c.links f ready.holds.shaped (offered_free d c.links cell c.handovers (kind_of put.connection.serving.number) f refl ready.holds.shaped is);
-        used = subst (λ (s : Connection). IsOpen s.state → place_of s.serving ≡ at → channel_state c at ≡ InUse s.number) (sym same) (used-of c e own.there ready.holds);
-        asks = subst (λ (s : Connection). asker c s.number ≡ Some s.request.access) (sym same) (asks-of c e own.there);
-      }) (quiet-serves c d (channel_state c at) refl)
+        used = subst (λ (s : Connection). IsOpen s.state → place_of s.serving ≡ at → channel_state c at ≡ InUse s.number) (sym same) (used_of c e own.there ready.holds);
+        asks = subst (λ (s : Connection). asker c s.number ≡ Some s.request.access) (sym same) (asks_of c e own.there);
+      }) (quiet_serves c d (channel_state c at) refl)
 
-  report-serves : (p : Place) (of : ℕ) (report : Report) (c : Controller) (m : ℕ) (o : Option Entry) → entry_of c m ≡ o → Ready c → Serving c (channel_state c at) (on_report p of report c o)
-  report-serves p of report c m None there ready = ignoring-serves c
-  report-serves p of report c m (Some e) there ready = if-serves (measures p e) c (measured of report c e) (λ measuring.
-      decision-serves (decision_over (with_report of report e).averages.settings (with_report of report e).averages.reports of) c e (with_report of report e) m refl there ready)
+  report_serves : (p : Place) (of : ℕ) (report : Report) (c : Controller) (m : ℕ) (o : Option Entry) → entry_of c m ≡ o → Ready c → Serving c (channel_state c at) (on_report p of report c o)
+  report_serves p of report c m None there ready = ignoring_serves c
+  report_serves p of report c m (Some e) there ready = if_serves (measures p e) c (measured of report c e) (λ measuring.
+      decision_serves (decision_over (with_report of report e).averages.settings (with_report of report e).averages.reports of) c e (with_report of report e) m refl there ready)
 
-  report-on-serves : (p : Place) (of : ℕ) (report : Report) (c : Controller) (state : ChannelState) → Ready c → Serving c (channel_state c at) (on_report p of report c (entry_at c state))
-  report-on-serves p of report c Free ready = ignoring-serves c
-  report-on-serves p of report c (InUse k) ready = report-serves p of report c k (entry_of c k) refl ready
-  report-on-serves p of report c (Releasing k) ready = report-serves p of report c k (entry_of c k) refl ready
+  report_on_serves : (p : Place) (of : ℕ) (report : Report) (c : Controller) (state : ChannelState) → Ready c → Serving c (channel_state c at) (on_report p of report c (entry_at c state))
+  report_on_serves p of report c Free ready = ignoring_serves c
+  report_on_serves p of report c (InUse k) ready = report_serves p of report c k (entry_of c k) refl ready
+  report_on_serves p of report c (Releasing k) ready = report_serves p of report c k (entry_of c k) refl ready
 
   -- ---- a frame
 
@@ -218,13 +218,13 @@ module _ (at : Place) (least : 1 ≤ at.station) where
     by true = refl
     by false = refl
 
-  pub word-serves : (source : ℕ) (word : Word) (c : Controller) → NoNackWord word → Ready c → Serving c (heard_by word c) (on_word source word c)
-  word-serves source Nothing c no_nack ready = ignoring-serves c
-  word-serves source Ping c no_nack ready = λ sent. (
+  pub word_serves : (source : ℕ) (word : Word) (c : Controller) → NoNackWord word → Ready c → Serving c (heard_by word c) (on_word source word c)
+  word_serves source Nothing c no_nack ready = ignoring_serves c
+  word_serves source Ping c no_nack ready = λ sent. (
     runs (passes (subst (Passes at.number) (sym (pong-says source)) tt) over),
     (subst (NamesIn at c) (sym (pong-says source)) tt, tt),
   )
-  word-serves source (Asks request delay) c no_nack ready = if-serves (may_open c) c (given c request delay (access_channel c source)) (λ may. given-serves c source request delay (access_channel c source) refl ready)
-  word-serves source (OnChannel p input) c no_nack ready = channel-serves p input c no_nack ready
-  word-serves source (Reports p of report) c no_nack ready = report-on-serves p of report c (channel_state c p) ready
-  word-serves source (OnConnection m input) c no_nack ready = concerning-serves c input m (entry_of c m) refl ready
+  word_serves source (Asks request delay) c no_nack ready = if_serves (may_open c) c (given c request delay (access_channel c source)) (λ may. given_serves c source request delay (access_channel c source) refl ready)
+  word_serves source (OnChannel p input) c no_nack ready = channel_serves p input c no_nack ready
+  word_serves source (Reports p of report) c no_nack ready = report_on_serves p of report c (channel_state c p) ready
+  word_serves source (OnConnection m input) c no_nack ready = concerning_serves c input m (entry_of c m) refl ready

@@ -156,10 +156,10 @@ silent_texts {input} {text} {targets} {before} {after} {c} t passes =
 
 pub passed : (input : Input) (text : List ℕ) (targets : List Channel) (after : Place → List Item) (up : ℕ → Bool) (place : Place) → passes_target input targets place ≡ true → to_come input text targets after up place ≡ []
 passed input text targets after up place passes =
-    cond-true (is_silent input text targets place) [] (texts_of (after place) ++ mark (not (up place.station) && not (is_ended (after place)))) (ap (λ (b : Bool). is_ended (said_by input text place) || b) passes ∙ or-true (is_ended (said_by input text place))) where
-      or-true : (a : Bool) → a || true ≡ true
-      or-true true = refl
-      or-true false = refl
+    cond-true (is_silent input text targets place) [] (texts_of (after place) ++ mark (not (up place.station) && not (is_ended (after place)))) (ap (λ (b : Bool). is_ended (said_by input text place) || b) passes ∙ or_true (is_ended (said_by input text place))) where
+      or_true : (a : Bool) → a || true ≡ true
+      or_true true = refl
+      or_true false = refl
 
 pub target_before : (input : Input) (text : List ℕ) (targets : List Channel) (before after : Place → List Item) (up : ℕ → Bool) (c : Channel) → IsTarget input text targets before after c → MayCome (from_input Zero input (to_come input text targets after up)) before c
 target_before input text targets before after up c t = elim (cases_Bool (passes_target input targets (place_of c))) [

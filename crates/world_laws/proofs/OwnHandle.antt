@@ -48,10 +48,10 @@ first_coming w item items at stood =
 commands_awaits : (input : Input) (roles : Roles) → step_by input roles ≡ role_commands → Awaits roles.target
 commands_awaits (inputs.ActivationAck at) roles is = elim (cases_Bool (awaits_at at roles.target)) [
   | inl waits ↦ awaited at roles.target waits
-  | inr not_so ↦ absurd (stays-not (sym (ap (λ (b : Bool). if b then role_commands else roles_stay) not_so) ∙ is))
+  | inr not_so ↦ absurd (stays_not (sym (ap (λ (b : Bool). if b then role_commands else roles_stay) not_so) ∙ is))
 ] where
-  stays-not : roles_stay ≡ role_commands → ⊥
-  stays-not is = absurd cc
+  stays_not : roles_stay ≡ role_commands → ⊥
+  stays_not is = absurd cc
 commands_awaits (inputs.ActivationNack at) roles is = absurd (by (awaits_at at roles.target) is) where
   by : (b : Bool) → (if b then role_goes_back else roles_stay) ≡ role_commands → ⊥
   by true is = absurd cc

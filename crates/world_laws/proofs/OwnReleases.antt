@@ -62,12 +62,12 @@ undone_none at (d ∷ ds) none = elim (cases_Bool (is_at at d.channel && not d.i
 pub undone_done : (Q : Channel → Type 0) (at : Place) (place : ℕ) (ds : List Drain) → drain_at at ds ≡ Some place → AreApart (undone ds) → AllByRecursion (λ c. is_at at c ≡ false → Q c) (undone ds) → AllByRecursion Q (undone (done_at place ds))
 undone_done Q at place [] found apart all = absurd cc
 undone_done Q at place (d ∷ ds) found apart all = elim (cases_Bool (is_at at d.channel && not d.is_done)) [
-  | inl here ↦ subst (λ (n : ℕ). AllByRecursion Q (undone (done_at n (d ∷ ds)))) (some-same (sym (ap (λ (b : Bool). cond b (Some 0) (option_map (λ place. suc place) (drain_at at ds))) here) ∙ found)) (first d.is_done refl here apart all)
+  | inl here ↦ subst (λ (n : ℕ). AllByRecursion Q (undone (done_at n (d ∷ ds)))) (some_same (sym (ap (λ (b : Bool). cond b (Some 0) (option_map (λ place. suc place) (drain_at at ds))) here) ∙ found)) (first d.is_done refl here apart all)
   | inr other ↦ let later = later_of (drain_at at ds) place (sym (ap (λ (b : Bool). cond b (Some 0) (option_map (λ place. suc place) (drain_at at ds))) other) ∙ found) in
       subst (λ (n : ℕ). AllByRecursion Q (undone (done_at n (d ∷ ds)))) later.2 (behind later.0 d.is_done refl other apart all (λ apart_rest all_rest. undone_done Q at later.0 ds later.1 apart_rest all_rest))
 ] where
-  some-same : {a b : ℕ} → Some a ≡ Some b → a ≡ b
-  some-same {a} e = ap (λ (o : Option ℕ). unwrap_or o a) e
+  some_same : {a b : ℕ} → Some a ≡ Some b → a ≡ b
+  some_same {a} e = ap (λ (o : Option ℕ). unwrap_or o a) e
 
   impossible : (a : Bool) → a && false ≡ true → ⊥
   impossible true is = absurd cc

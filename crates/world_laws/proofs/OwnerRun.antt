@@ -30,7 +30,7 @@ use Rattle.world_laws.proofs.OrderHeard.{word-known}
 use Rattle.world_laws.proofs.OrderLeads.{LeadsOut, ack_leads}
 use Rattle.world_laws.proofs.OrderServes.{Lawful, LeadsOwn, broken_down, heard_before, serves_by}
 use Rattle.world_laws.proofs.OrderSteps.{break_serves, tick_serves}
-use Rattle.world_laws.proofs.OrderTurns.{Serving, word-serves}
+use Rattle.world_laws.proofs.OrderTurns.{Serving, word_serves}
 use Rattle.world_laws.proofs.Events.{snoc_actors, world}
 use Rattle.world_laws.proofs.Framing.{all_left, all_right}
 
@@ -79,10 +79,10 @@ frame_serving at least source frame c known ready = elim (source_or source) [
       let frees = subst (λ (k : ℕ). FreesNone (word_of k frame)) (sym switch) (switch_frees frame) in
       subst (λ (s : ChannelState). Serving at least c s (on_word source (word_of source frame) c))
       (none_frees at least (word_of source frame) c frees ∙ sym (other_heard at (record { source = source; what = whats.Frame frame }) c (not_switch at source least switch)))
-      (word-serves at least source (word_of source frame) c (none_nacks (word_of source frame) frees) ready)
+      (word_serves at least source (word_of source frame) c (none_nacks (word_of source frame) frees) ready)
   | inr station ↦
       let heard = station_heard at least source frame c station (known.station station) in
-      subst (λ (s : ChannelState). Serving at least c s (on_word source (word_of source frame) c)) (sym heard.0) (word-serves at least source (word_of source frame) c heard.1 ready)
+      subst (λ (s : ChannelState). Serving at least c s (on_word source (word_of source frame) c)) (sym heard.0) (word_serves at least source (word_of source frame) c heard.1 ready)
 ]
 
 item_serving : (at : Place) (least : 1 ≤ at.station) (source : ℕ) (what : What) (c : Controller) (up : Bool) → hears c source ≡ up → IsKnownItem (record { source = source; what = what }) → Ready c → is_link_up (links_with up source what c) at.station ≡ true → is_link_up c.links at.station ≡ true → Serving at least c (hear (heard_of at (record { source = source; what = what })) (channel_state c at)) (on_what up source what c)
@@ -137,10 +137,10 @@ module _ (settings : Parameters) (owner : Tenure → ℕ) (w : Actors) (agree : 
   within : (p : Place) (number : ℕ) → channel_state w.controller p ≡ InUse number → p.station ≤ length settings.cells
   within p number used = within_settings settings w.controller p same_settings ready (λ free. free≢use number (sym free ∙ used))
 
-  acks-lead : (at : Place) (source : ℕ) (frame : Frame) (items : List Item) (a : ActivationAck) (outs : List Out) → 1 ≤ at.station → at.station ≤ length settings.cells → source ≢ SWITCH_LINK → hears w.controller source ≡ true → w.inbox ≡ record { source = source; what = whats.Frame frame } ∷ items → rsl_in frame ≡ Some (rsl.ChannelActivationAck a) → hears w.controller at.station ≡ true → is_up w at.station ≡ true
+  acks_lead : (at : Place) (source : ℕ) (frame : Frame) (items : List Item) (a : ActivationAck) (outs : List Out) → 1 ≤ at.station → at.station ≤ length settings.cells → source ≢ SWITCH_LINK → hears w.controller source ≡ true → w.inbox ≡ record { source = source; what = whats.Frame frame } ∷ items → rsl_in frame ≡ Some (rsl.ChannelActivationAck a) → hears w.controller at.station ≡ true → is_up w at.station ≡ true
       → AllByRecursion (LeadsOut at (place_at source a.channel) w.controller) outs → AllByRecursion (LeadsOwn owner w at (Some (tenure_at w (place_at source a.channel)))) outs
-  acks-lead at source frame items a [] least most station up stands says hearing at_up leads = tt
-  acks-lead at source frame items a (out ∷ outs) least most station up stands says hearing at_up leads = (
+  acks_lead at source frame items a [] least most station up stands says hearing at_up leads = tt
+  acks_lead at source frame items a (out ∷ outs) least most station up stands says hearing at_up leads = (
     λ tenure is d said same.
         let user = leads.0 d said same in
         let p : Place = place_at source a.channel in
@@ -149,48 +149,48 @@ module _ (settings : Parameters) (owner : Tenure → ℕ) (w : Actors) (agree : 
         let there : owner (tenure_behind w at) ≡ user.mobile = (agree at least most).own user.number user.mobile hearing user.here user.asks (λ down silent. true≢false (sym at_up ∙ down)) in
         let tenure_is : tenure_at w p ≡ tenure = (let both : Some (tenure_at w p) ≡ Some tenure = is in cc) in
         (user.number, user.here, ap owner (sym tenure_is) ∙ own ∙ sym there),
-    acks-lead at source frame items a outs least most station up stands says hearing at_up leads.1,
+    acks_lead at source frame items a outs least most station up stands says hearing at_up leads.1,
   )
 
   -- by what a station made
-  message-leads : (at : Place) (source : ℕ) (frame : Frame) (items : List Item) (m : Rsl) (outs : List Out) → 1 ≤ at.station → at.station ≤ length settings.cells → source ≢ SWITCH_LINK → hears w.controller source ≡ true → w.inbox ≡ record { source = source; what = whats.Frame frame } ∷ items → rsl_in frame ≡ Some m → hears w.controller at.station ≡ true → is_up w at.station ≡ true
+  message_leads : (at : Place) (source : ℕ) (frame : Frame) (items : List Item) (m : Rsl) (outs : List Out) → 1 ≤ at.station → at.station ≤ length settings.cells → source ≢ SWITCH_LINK → hears w.controller source ≡ true → w.inbox ≡ record { source = source; what = whats.Frame frame } ∷ items → rsl_in frame ≡ Some m → hears w.controller at.station ≡ true → is_up w at.station ≡ true
       → ((a : ActivationAck) → m ≡ rsl.ChannelActivationAck a → AllByRecursion (LeadsOut at (place_at source a.channel) w.controller) outs) → AllByRecursion (LeadsOwn owner w at (acknowledged_tenure w source (Some m))) outs
-  message-leads at source frame items (rsl.ChannelActivationAck a) outs least most station up stands says hearing at_up leads = acks-lead at source frame items a outs least most station up stands says hearing at_up (leads a refl)
-  message-leads at source frame items m outs least most station up stands says hearing at_up leads = none_lead owner w at None outs refl
+  message_leads at source frame items (rsl.ChannelActivationAck a) outs least most station up stands says hearing at_up leads = acks_lead at source frame items a outs least most station up stands says hearing at_up (leads a refl)
+  message_leads at source frame items m outs least most station up stands says hearing at_up leads = none_lead owner w at None outs refl
 
-  frame-leads : (at : Place) (source : ℕ) (frame : Frame) (items : List Item) (up : Bool) → hears w.controller source ≡ up → 1 ≤ at.station → at.station ≤ length settings.cells → source ≢ SWITCH_LINK → w.inbox ≡ record { source = source; what = whats.Frame frame } ∷ items → IsKnown (whats.Frame frame) → hears w.controller at.station ≡ true → is_up w at.station ≡ true
+  frame_leads : (at : Place) (source : ℕ) (frame : Frame) (items : List Item) (up : Bool) → hears w.controller source ≡ up → 1 ≤ at.station → at.station ≤ length settings.cells → source ≢ SWITCH_LINK → w.inbox ≡ record { source = source; what = whats.Frame frame } ∷ items → IsKnown (whats.Frame frame) → hears w.controller at.station ≡ true → is_up w at.station ≡ true
       → AllByRecursion IsSent (on_what up source (whats.Frame frame) w.controller).outs → AllByRecursion (LeadsOwn owner w at (acknowledged_tenure w source (rsl_in frame))) (on_what up source (whats.Frame frame) w.controller).outs
-  frame-leads at source frame items false down least most station stands known hearing at_up sent = tt
-  frame-leads at source frame items true up least most station stands (m, is, read, no_nack) hearing at_up sent =
+  frame_leads at source frame items false down least most station stands known hearing at_up sent = tt
+  frame_leads at source frame items true up least most station stands (m, is, read, no_nack) hearing at_up sent =
       let says : rsl_in frame ≡ Some m = ap rsl_in is ∙ read_known m read in
       let word : word_of source frame ≡ rsl_word source m = ap (word_of source) is ∙ word-known source m station read in
       let c : Controller = w.controller in
       subst (λ (o : Option Rsl). AllByRecursion (LeadsOwn owner w at (acknowledged_tenure w source o)) (on_word source (word_of source frame) c).outs) (sym says)
-      (message-leads at source frame items m (on_word source (word_of source frame) c).outs least most station up stands says hearing at_up
+      (message_leads at source frame items m (on_word source (word_of source frame) c).outs least most station up stands says hearing at_up
       (λ a acks.
       let p : Place = place_at source a.channel in
       let own : word_of source frame ≡ OnChannel p (inputs.ActivationAck p) = word ∙ ap (rsl_word source) acks in
       subst (λ (x : Word). AllByRecursion (LeadsOut at p c) (on_word source x c).outs) (sym own)
       (ack_leads at p c (channel_state c p) ready (subst (λ (x : Word). AllByRecursion IsSent (on_word source x c).outs) own sent))))
 
-  pub item-leads : (at : Place) (source : ℕ) (what : What) (items : List Item) → 1 ≤ at.station → at.station ≤ length settings.cells → w.inbox ≡ record { source = source; what = what } ∷ items → IsKnownItem (record { source = source; what = what }) → hears w.controller at.station ≡ true → is_up w at.station ≡ true
+  pub item_leads : (at : Place) (source : ℕ) (what : What) (items : List Item) → 1 ≤ at.station → at.station ≤ length settings.cells → w.inbox ≡ record { source = source; what = what } ∷ items → IsKnownItem (record { source = source; what = what }) → hears w.controller at.station ≡ true → is_up w at.station ≡ true
       → AllByRecursion IsSent (on_what (hears w.controller source) source what w.controller).outs → AllByRecursion (LeadsOwn owner w at (target_in w source what)) (on_what (hears w.controller source) source what w.controller).outs
-  item-leads at source whats.Down items least most stands known hearing at_up sent = none_lead owner w at None (on_what (hears w.controller source) source whats.Down w.controller).outs refl
-  item-leads at source (whats.Frame frame) items least most stands known hearing at_up sent = elim (source_or source) [
+  item_leads at source whats.Down items least most stands known hearing at_up sent = none_lead owner w at None (on_what (hears w.controller source) source whats.Down w.controller).outs refl
+  item_leads at source (whats.Frame frame) items least most stands known hearing at_up sent = elim (source_or source) [
     | inl switch ↦ none_lead owner w at (acknowledged_tenure w source (rsl_in frame)) (on_what (hears w.controller source) source (whats.Frame frame) w.controller).outs (ap (acknowledged_tenure w source) (known.switch switch))
-    | inr station ↦ frame-leads at source frame items (hears w.controller source) refl least most station stands (known.station station) hearing at_up sent
+    | inr station ↦ frame_leads at source frame items (hears w.controller source) refl least most station stands (known.station station) hearing at_up sent
   ]
 
-  pub serves-handle : (item : Item) (items : List Item) → w.inbox ≡ item ∷ items → Lawful w.controller (Take item) → IsKnownItem item → (at : Place) → 1 ≤ at.station → at.station ≤ length settings.cells → Serves owner w at (target_in w item.source item.what) (take item w.controller) (heard_of at item)
+  pub serves_handle : (item : Item) (items : List Item) → w.inbox ≡ item ∷ items → Lawful w.controller (Take item) → IsKnownItem item → (at : Place) → 1 ≤ at.station → at.station ≤ length settings.cells → Serves owner w at (target_in w item.source item.what) (take item w.controller) (heard_of at item)
   unfolding take
-  serves-handle item items stands laws known at least most =
+  serves_handle item items stands laws known at least most =
       serves_by owner w at least (target_in w item.source item.what) (Take item) (heard_of at item) (agree at least most) laws
       (λ hearing. item_serving at least item.source item.what w.controller (hears w.controller item.source) refl known ready
       (ap (λ (links : List Bool). is_link_up links at.station) (sym (step_goes w.controller (Take item)).links_are) ∙ hearing) (heard_before w.controller (Take item) at.station hearing))
-      (λ hearing up. item-leads at item.source item.what items least most stands known (heard_before w.controller (Take item) at.station hearing) up laws.sent)
+      (λ hearing up. item_leads at item.source item.what items least most stands known (heard_before w.controller (Take item) at.station hearing) up laws.sent)
 
-  pub serves-tick : (ms : ℕ) → Lawful w.controller (Tick ms) → (at : Place) → 1 ≤ at.station → at.station ≤ length settings.cells → Serves owner w at None (tick ms w.controller) []
-  serves-tick ms laws at least most =
+  pub serves_tick : (ms : ℕ) → Lawful w.controller (Tick ms) → (at : Place) → 1 ≤ at.station → at.station ≤ length settings.cells → Serves owner w at None (tick ms w.controller) []
+  serves_tick ms laws at least most =
       serves_by owner w at least None (Tick ms) [] (agree at least most) laws (λ hearing. tick_serves at least ms w.controller ready) (λ hearing up. none_lead owner w at None (step w.controller (Tick ms)).outs refl)
 
 -- ---- over all events
@@ -209,11 +209,11 @@ serves_event settings owner done w Handle is allowed octets own agree = λ item 
     let came : AllByRecursion ComesInOctets (first_taken (item ∷ items)) = subst (λ (xs : List Item). AllByRecursion ComesInOctets (first_taken xs)) stands own in
     let laws : Lawful w.controller (Take item) = subst (λ (c : Controller). Lawful c (Take item)) (sym lives) (lawful_life settings (all_steps (new_actors settings) done) (Take item) allowed octets came.0) in
     let known : AllByRecursion IsKnownItem (item ∷ items) = subst (AllByRecursion IsKnownItem) stands (subst (λ (x : Actors). AllByRecursion IsKnownItem x.inbox) (sym is) (known-inbox settings done)) in
-    serves-handle settings owner w agree (ap (λ (c : Controller). c.settings) lives ∙ life-settings settings (all_steps (new_actors settings) done)) laws.ready item items stands laws known.0
+    serves_handle settings owner w agree (ap (λ (c : Controller). c.settings) lives ∙ life-settings settings (all_steps (new_actors settings) done)) laws.ready item items stands laws known.0
 serves_event settings owner done w (events.Tick ms) is allowed octets own agree =
     let lives : w.controller ≡ (life settings (all_steps (new_actors settings) done)).next = ap (λ (x : Actors). x.controller) is ∙ LivesByTable-new settings done in
     let laws : Lawful w.controller (Tick ms) = subst (λ (c : Controller). Lawful c (Tick ms)) (sym lives) (lawful_life settings (all_steps (new_actors settings) done) (Tick ms) allowed octets own.0) in
-    serves-tick settings owner w agree (ap (λ (c : Controller). c.settings) lives ∙ life-settings settings (all_steps (new_actors settings) done)) laws.ready ms laws
+    serves_tick settings owner w agree (ap (λ (c : Controller). c.settings) lives ∙ life-settings settings (all_steps (new_actors settings) done)) laws.ready ms laws
 serves_event settings owner done w _ is allowed octets own agree = tt
 
 pub serves_through : (settings : Parameters) (owner : Tenure → ℕ) (done rest : List Event) (w : Actors) → w ≡ world settings done → AreAllowed settings → AllByRecursion ComesInOctets (all_steps (new_actors settings) done) → AllByRecursion ComesInOctets (all_steps w rest) → ServesThrough settings owner w rest

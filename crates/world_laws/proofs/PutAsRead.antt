@@ -79,50 +79,50 @@ ends_none _ state = tt
 
 -- the message that an input brings
 module _ (P : List ℕ → Type 0) where
-  first-all : (at : Place) (message : List ℕ) → P message → (place : Place) → AllByRecursion P (first_at at message none place)
-  first-all at message is place = by (place.station == at.station && place.number == at.number) where
+  first_all : (at : Place) (message : List ℕ) → P message → (place : Place) → AllByRecursion P (first_at at message none place)
+  first_all at message is place = by (place.station == at.station && place.number == at.number) where
     by : (b : Bool) → AllByRecursion P (if b then message ∷ none place else none place)
     by true = (is, tt)
     by false = tt
 
 module _ (P : List ℕ → Type 0) where
-  all-of-tenures : (sapi : Sapi) (f : Future) (serving : Channel) (ds : List Drain) (ts : List Held) → ((at : Place) → AllByRecursion P (f at)) → AllByRecursion (λ t. AllByRecursion P (tenure_messages t sapi)) ts → AllByRecursion P (still_of sapi f serving ds ts)
-  all-of-tenures sapi f serving ds [] each all = tt
-  all-of-tenures sapi f serving [] (t ∷ ts) each all = AllByRecursion-append P (tenure_messages t sapi) (f (place_of serving)) all.0 (each (place_of serving))
-  all-of-tenures sapi f serving (d ∷ ds) (t ∷ ts) each all =
+  all_of_tenures : (sapi : Sapi) (f : Future) (serving : Channel) (ds : List Drain) (ts : List Held) → ((at : Place) → AllByRecursion P (f at)) → AllByRecursion (λ t. AllByRecursion P (tenure_messages t sapi)) ts → AllByRecursion P (still_of sapi f serving ds ts)
+  all_of_tenures sapi f serving ds [] each all = tt
+  all_of_tenures sapi f serving [] (t ∷ ts) each all = AllByRecursion-append P (tenure_messages t sapi) (f (place_of serving)) all.0 (each (place_of serving))
+  all_of_tenures sapi f serving (d ∷ ds) (t ∷ ts) each all =
       AllByRecursion-append P (tenure_messages t sapi) ((if d.is_done then [] else f (place_of d.channel)) ++ still_of sapi f serving ds ts) all.0
-      (AllByRecursion-append P (if d.is_done then [] else f (place_of d.channel)) (still_of sapi f serving ds ts) (by d.is_done) (all-of-tenures sapi f serving ds ts each all.1)) where
+      (AllByRecursion-append P (if d.is_done then [] else f (place_of d.channel)) (still_of sapi f serving ds ts) (by d.is_done) (all_of_tenures sapi f serving ds ts each all.1)) where
         by : (b : Bool) → AllByRecursion P (if b then [] else f (place_of d.channel))
         by true = tt
         by false = each (place_of d.channel)
 
-  all-of-target : (f : Future) (state : State) → ((at : Place) → AllByRecursion P (f at)) → AllByRecursion P (of_target f state)
-  all-of-target f (Live reference (Changing target)) each = each (place_of target.channel)
-  all-of-target f (Live reference Active) each = tt
-  all-of-target f (Live reference (Preparing target)) each = tt
-  all-of-target f (Live reference Draining) each = tt
-  all-of-target f WaitActivation each = tt
-  all-of-target f WaitEstablish each = tt
-  all-of-target f WaitConfirm each = tt
-  all-of-target f (Closed clearing) each = tt
-  all-of-target f Removed each = tt
+  all_of_target : (f : Future) (state : State) → ((at : Place) → AllByRecursion P (f at)) → AllByRecursion P (of_target f state)
+  all_of_target f (Live reference (Changing target)) each = each (place_of target.channel)
+  all_of_target f (Live reference Active) each = tt
+  all_of_target f (Live reference (Preparing target)) each = tt
+  all_of_target f (Live reference Draining) each = tt
+  all_of_target f WaitActivation each = tt
+  all_of_target f WaitEstablish each = tt
+  all_of_target f WaitConfirm each = tt
+  all_of_target f (Closed clearing) each = tt
+  all_of_target f Removed each = tt
 
   -- what is relayed was held, or comes with the input
-  all-relayed : (sapi : Sapi) (s : Connection) (input : Input) (offer : Option Channel) (r : Row) → Stands s → AreApart (used_channels s) → row_of s input offer ≡ Some r → IsOpen r.next.state
+  all_relayed : (sapi : Sapi) (s : Connection) (input : Input) (offer : Option Channel) (r : Row) → Stands s → AreApart (used_channels s) → row_of s input offer ≡ Some r → IsOpen r.next.state
       → ((at : Place) → AllByRecursion P (from_input sapi input none at)) → AllByRecursion (λ t. AllByRecursion P (tenure_messages t sapi)) s.up.tenures → AllByRecursion P (relayed sapi r.outs)
-  all-relayed sapi s input offer r stands apart fits is_open each all =
+  all_relayed sapi s input offer r stands apart fits is_open each all =
       let keeps : KeepsUplink sapi none s input r = subst (OfRow (KeepsUplink sapi none s input)) fits (row-keeps s input offer sapi none stands apart (ends_none input s.state)) in
       all_left P (relayed sapi r.outs) (still_to_relay sapi none r.next)
       (subst (AllByRecursion P) (sym (keeps is_open))
       (AllByRecursion-append P (still_of sapi (from_input sapi input none) s.serving s.draining s.up.tenures) (of_target (from_input sapi input none) s.state)
-      (all-of-tenures sapi (from_input sapi input none) s.serving s.draining s.up.tenures each all) (all-of-target (from_input sapi input none) s.state each)))
+      (all_of_tenures sapi (from_input sapi input none) s.serving s.draining s.up.tenures each all) (all_of_target (from_input sapi input none) s.state each)))
 
 -- ---- messages of 1 to 251 octets
 
 brought_whole : (input : Input) → IsCarried input → (at : Place) → AllByRecursion IsLayer3 (from_input Zero input none at)
-brought_whole (inputs.Dtap at Zero message) carried place = first-all IsLayer3 at message carried place
+brought_whole (inputs.Dtap at Zero message) carried place = first_all IsLayer3 at message carried place
 brought_whole (inputs.Dtap at Three message) carried place = tt
-brought_whole (inputs.EstablishIndication at Zero (Some initial)) carried place = first-all IsLayer3 at initial carried place
+brought_whole (inputs.EstablishIndication at Zero (Some initial)) carried place = first_all IsLayer3 at initial carried place
 brought_whole (inputs.EstablishIndication at Zero None) carried place = tt
 brought_whole (inputs.EstablishIndication at Three message) carried place = tt
 brought_whole _ carried place = tt
@@ -134,7 +134,7 @@ held_whole (t ∷ ts) all = (all.0.0, held_whole ts all.1)
 -- ---- SAPI 3
 
 brought_beside : (input : Input) → BringsBesideFlow input → (place : Place) → AllByRecursion IsBesideFlow (from_input Three input none place)
-brought_beside (inputs.Dtap at Three message) says place = first-all IsBesideFlow at message says place
+brought_beside (inputs.Dtap at Three message) says place = first_all IsBesideFlow at message says place
 brought_beside (inputs.Dtap at Zero message) says place = tt
 brought_beside _ says place = tt
 
@@ -336,9 +336,9 @@ frames_are_put_as_read_new settings events s item items input offer r allowed oc
     ap (connection_of (step c (Take item)).next) number ∙ taken_next c item comes.frame s.number r.next (ap (λ (d : Controller). is_up d item.source) (sym lives) ∙ comes.up) comes.is (word-next item.source r ready said comes.fits comes.stays_open) in
     let owns = next_owns (step c (Take item)).next r (after.holds.each r.next.number) next comes.stays_open in
     record {
-      whole = all-relayed IsLayer3 Zero s input offer r one.stands apart comes.fits comes.stays_open (brought_whole input comes.carried) (held_whole s.up.tenures one.stands.up_messages);
+      whole = all_relayed IsLayer3 Zero s input offer r one.stands apart comes.fits comes.stays_open (brought_whole input comes.carried) (held_whole s.up.tenures one.stands.up_messages);
       forwards = forwards_of input offer r one comes.fits sound
-          (all-relayed IsBesideFlow Three s input offer r one.stands apart comes.fits comes.stays_open (says_input said says) (beside_held c s one.there held));
+          (all_relayed IsBesideFlow Three s input offer r one.stands apart comes.fits comes.stays_open (says_input said says) (beside_held c s one.there held));
       read = all_read s.number r.outs one.few sound;
       apart = used_apart r.next owns.apart;
       placed = owns_placed (step c (Take item)).next r.next (ready_uses (step c (Take item)).next (ready_by (step c (Take item)).next after.fits after.holds after.uses)) owns;

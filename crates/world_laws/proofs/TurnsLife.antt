@@ -81,20 +81,20 @@ fitting_turn at c otherwise e input offer (Some r) is told sounds carried refers
 -- ---- entries of a controller that is ready
 
 module _ (c : Controller) (ready : Ready c) (sound : IsSoundAll c) where
-  pub told-of : (m : ℕ) (e : Entry) → entry_of c m ≡ Some e → IsTold e
+  pub told_of : (m : ℕ) (e : Entry) → entry_of c m ≡ Some e → IsTold e
   unfolding SoundOf
-  told-of m e there =
+  told_of m e there =
       let here : IsHere c.links c e = here_of c m e ready there in
       let own : connection_of c e.connection.number ≡ Some e.connection = ap (option_map (λ (x : Entry). x.connection)) here.there in
       let below = here.below in
       let next = sound.next in
       record { stands = here.stands; parts = subst SoundOf own (sound.each e.connection.number); few = omega arith }
 
-  uses-of : (m : ℕ) (e : Entry) → entry_of c m ≡ Some e → IsOpen e.connection.state → IsUsing e.connection.number c.channels (roles_of e.connection)
-  uses-of m e there is_open = using_of c.channels c.links e.connection.number (roles_of e.connection) (owns_entry c.links c e (here_of c m e ready there).there ready.holds is_open)
+  uses_of : (m : ℕ) (e : Entry) → entry_of c m ≡ Some e → IsOpen e.connection.state → IsUsing e.connection.number c.channels (roles_of e.connection)
+  uses_of m e there is_open = using_of c.channels c.links e.connection.number (roles_of e.connection) (owns_entry c.links c e (here_of c m e ready there).there ready.holds is_open)
 
-  offers-of : (station reference : ℕ) (kind : ChannelKind) (d : Channel) → first_free c station reference kind ≡ Some d → IsOpenFor c.channels d
-  offers-of station reference kind d is = open_for c.channels c.links d (offered_free c c.links station reference kind d refl ready.holds.shaped is)
+  offers_of : (station reference : ℕ) (kind : ChannelKind) (d : Channel) → first_free c station reference kind ≡ Some d → IsOpenFor c.channels d
+  offers_of station reference kind d is = open_for c.channels c.links d (offered_free c c.links station reference kind d refl ready.holds.shaped is)
 
   ignored : (at : Place) → TurnsFrom at (channel_state c at) (ignoring c)
   unfolding TurnsFrom
@@ -103,26 +103,26 @@ module _ (c : Controller) (ready : Ready c) (sound : IsSoundAll c) where
   concerns : (at : Place) (input : Input) (m : ℕ) (o : Option Entry) → entry_of c m ≡ o → IsCarried input → RefersBy input → TurnsFrom at (channel_state c at) (concerning input c o)
   concerns at input m None there carried refers = ignored at
   concerns at input m (Some e) there carried refers =
-      fitting_turn at c (ignoring c) e input (request_offer c e.connection input) (row_in c e.connection input) refl (told-of m e there) (offer_list (request_offer c e.connection input) (request_sound c e.connection input sound.cells)) carried refers (uses-of m e there)
-      (offers-of (serving_after e.connection (row_of e.connection input None)).station 0 Tch) (ignored at)
+      fitting_turn at c (ignoring c) e input (request_offer c e.connection input) (row_in c e.connection input) refl (told_of m e there) (offer_list (request_offer c e.connection input) (request_sound c e.connection input sound.cells)) carried refers (uses_of m e there)
+      (offers_of (serving_after e.connection (row_of e.connection input None)).station 0 Tch) (ignored at)
 
   -- the channel was freed first
-  freed-using : (place : Place) (k : ℕ) (m : ℕ) (roles : Roles) → channel_state c place ≡ Releasing k → IsUsing m c.channels roles → IsUsing m (with_state place Free c.channels) roles
-  freed-using place k m roles is u = record {
+  freed_using : (place : Place) (k : ℕ) (m : ℕ) (roles : Roles) → channel_state c place ≡ Releasing k → IsUsing m c.channels roles → IsUsing m (with_state place Free c.channels) roles
+  freed_using place k m roles is u = record {
     using = still_in c.channels place Free (InUse m) (roles.serving ∷ target_channels roles.target) (λ same. use≢release m k (sym same ∙ is)) u.using;
     apart = u.apart;
   }
 
-  freed-offers : (place : Place) (station reference : ℕ) (kind : ChannelKind) (d : Channel) → first_free (freed place c) station reference kind ≡ Some d → IsOpenFor (with_state place Free c.channels) d
-  freed-offers place station reference kind d is = open_for (with_state place Free c.channels) c.links d (offered_free (freed place c) c.links station reference kind d refl (freed_shaped place c ready.holds.shaped) is)
+  freed_offers : (place : Place) (station reference : ℕ) (kind : ChannelKind) (d : Channel) → first_free (freed place c) station reference kind ≡ Some d → IsOpenFor (with_state place Free c.channels) d
+  freed_offers place station reference kind d is = open_for (with_state place Free c.channels) c.links d (offered_free (freed place c) c.links station reference kind d refl (freed_shaped place c ready.holds.shaped) is)
 
-  concerns-freed : (at place : Place) (k : ℕ) (input : Input) (m : ℕ) (o : Option Entry) → channel_state c place ≡ Releasing k → entry_of c m ≡ o → IsCarried input → RefersBy input → TurnsFrom at (channel_state (freed place c) at) (concerning_too input (freed place c) o)
+  concerns_freed : (at place : Place) (k : ℕ) (input : Input) (m : ℕ) (o : Option Entry) → channel_state c place ≡ Releasing k → entry_of c m ≡ o → IsCarried input → RefersBy input → TurnsFrom at (channel_state (freed place c) at) (concerning_too input (freed place c) o)
   unfolding TurnsFrom
-  concerns-freed at place k input m None is there carried refers = refl
-  concerns-freed at place k input m (Some e) is there carried refers =
-      fitting_turn at (freed place c) (turn [] (freed place c)) e input (request_offer (freed place c) e.connection input) (row_in (freed place c) e.connection input) refl (told-of m e there)
-      (offer_list (request_offer (freed place c) e.connection input) (request_sound (freed place c) e.connection input sound.cells)) carried refers (λ is_open. freed-using place k e.connection.number (roles_of e.connection) is (uses-of m e there is_open))
-      (freed-offers place (serving_after e.connection (row_of e.connection input None)).station 0 Tch) refl
+  concerns_freed at place k input m None is there carried refers = refl
+  concerns_freed at place k input m (Some e) is there carried refers =
+      fitting_turn at (freed place c) (turn [] (freed place c)) e input (request_offer (freed place c) e.connection input) (row_in (freed place c) e.connection input) refl (told_of m e there)
+      (offer_list (request_offer (freed place c) e.connection input) (request_sound (freed place c) e.connection input sound.cells)) carried refers (λ is_open. freed_using place k e.connection.number (roles_of e.connection) is (uses_of m e there is_open))
+      (freed_offers place (serving_after e.connection (row_of e.connection input None)).station 0 Tch) refl
 
 -- ---- the state from that a word begins
 
@@ -182,69 +182,69 @@ unfoldable pub WordTurns : Place → ℕ → Word → Controller → Type 0
 WordTurns at source word c = TurnsFrom at (freed_by at word (channel_state c at)) (on_word source word c)
 
 module _ (c : Controller) (ready : Ready c) (sound : IsSoundAll c) (at : Place) where
-  concerns-at : (input : Input) (state : ChannelState) → IsCarried input → RefersBy input → TurnsFrom at (channel_state c at) (concerning input c (entry_at c state))
-  concerns-at input Free carried refers = ignored c ready sound at
-  concerns-at input (InUse n) carried refers = concerns c ready sound at input n (entry_of c n) refl carried refers
-  concerns-at input (Releasing n) carried refers = concerns c ready sound at input n (entry_of c n) refl carried refers
+  concerns_at : (input : Input) (state : ChannelState) → IsCarried input → RefersBy input → TurnsFrom at (channel_state c at) (concerning input c (entry_at c state))
+  concerns_at input Free carried refers = ignored c ready sound at
+  concerns_at input (InUse n) carried refers = concerns c ready sound at input n (entry_of c n) refl carried refers
+  concerns_at input (Releasing n) carried refers = concerns c ready sound at input n (entry_of c n) refl carried refers
 
-  channel-turns : (place : Place) (input : Input) → IsFreeing c place input → IsCarried input → RefersBy input → TurnsFrom at (freed_by at (OnChannel place input) (channel_state c at)) (on_state (channel_state c place) place input c (entry_at c (channel_state c place)))
-  channel-turns place input (frees_it k acknowledged is acks) carried refers =
+  channel_turns : (place : Place) (input : Input) → IsFreeing c place input → IsCarried input → RefersBy input → TurnsFrom at (freed_by at (OnChannel place input) (channel_state c at)) (on_state (channel_state c place) place input c (entry_at c (channel_state c place)))
+  channel_turns place input (frees_it k acknowledged is acks) carried refers =
       subst (λ (i : Input). TurnsFrom at (freed_by at (OnChannel place i) (channel_state c at)) (on_state (channel_state c place) place i c (entry_at c (channel_state c place)))) (sym acks)
       (subst (λ (state : ChannelState). TurnsFrom at (freed_by at (OnChannel place (inputs.ReleaseAck acknowledged)) (channel_state c at)) (on_state state place (inputs.ReleaseAck acknowledged) c (entry_at c state))) (sym is)
       (subst (λ (before : ChannelState). TurnsFrom at before (concerning_too (inputs.ReleaseAck acknowledged) (freed place c) (entry_of c k))) (sym (freed-one c at place acknowledged k is))
-      (concerns-freed c ready sound at place k (inputs.ReleaseAck acknowledged) k (entry_of c k) is refl tt tt)))
-  channel-turns place input (frees_none stay start) carried refers =
+      (concerns_freed c ready sound at place k (inputs.ReleaseAck acknowledged) k (entry_of c k) is refl tt tt)))
+  channel_turns place input (frees_none stay start) carried refers =
       subst (λ (b : Bool). TurnsFrom at (freed_by at (OnChannel place input) (channel_state c at)) (on_freed b place input c (entry_at c (channel_state c place)))) (sym stay)
-      (subst (λ (before : ChannelState). TurnsFrom at before (concerning input c (entry_at c (channel_state c place)))) (sym (start at)) (concerns-at input (channel_state c place) carried refers))
+      (subst (λ (before : ChannelState). TurnsFrom at before (concerning input c (entry_at c (channel_state c place)))) (sym (start at)) (concerns_at input (channel_state c place) carried refers))
 
-  given-turns : (source : ℕ) (request : RequestReference) (delay : ℕ) (o : Option Channel) → access_channel c source ≡ o → c.next_number ≤ MAX_CONNECTION_NUMBER → TurnsFrom at (channel_state c at) (given c request delay o)
+  given_turns : (source : ℕ) (request : RequestReference) (delay : ℕ) (o : Option Channel) → access_channel c source ≡ o → c.next_number ≤ MAX_CONNECTION_NUMBER → TurnsFrom at (channel_state c at) (given c request delay o)
   unfolding TurnsFrom AreInTurn IsInTurn
-  given-turns source request delay None is few = ignored c ready sound at
-  given-turns source request delay (Some channel) is few =
+  given_turns source request delay None is few = ignored c ready sound at
+  given_turns source request delay (Some channel) is few =
       let sounds : IsSoundChannel channel = offered_sound c source 0 Sdcch channel sound.cells is in
       let access = sound_access channel sounds in
       let offered : IsOffered c.channels c.links channel = offered_free c c.links source 0 Sdcch channel refl ready.holds.shaped is in
       all_turns c.next_number at c.channels (access_activation channel ∷ []) (message_again c.next_number (access_activation channel) (omega arith) access.0 access.1, tt) ((offered.is_free, offered.is_in), tt)
 
-  asks-turns : (b d : Bool) (t : Turn) → (d ≡ true → TurnsFrom at (channel_state c at) t) → TurnsFrom at (channel_state c at) (if (b && d) then t else ignoring c)
-  asks-turns true true t after = after refl
-  asks-turns true false t after = ignored c ready sound at
-  asks-turns false d t after = ignored c ready sound at
+  asks_turns : (b d : Bool) (t : Turn) → (d ≡ true → TurnsFrom at (channel_state c at) t) → TurnsFrom at (channel_state c at) (if (b && d) then t else ignoring c)
+  asks_turns true true t after = after refl
+  asks_turns true false t after = ignored c ready sound at
+  asks_turns false d t after = ignored c ready sound at
 
   -- ---- a report
 
-  decision-turns : (d : Decision) (put e : Entry) (m : ℕ) → entry_of c m ≡ Some e → put.connection ≡ e.connection → TurnsFrom at (channel_state c at) (on_decision d (with_entry put c) put)
+  decision_turns : (d : Decision) (put e : Entry) (m : ℕ) → entry_of c m ≡ Some e → put.connection ≡ e.connection → TurnsFrom at (channel_state c at) (on_decision d (with_entry put c) put)
   unfolding TurnsFrom
-  decision-turns Stay put e m there same = refl
-  decision-turns (Move cell) put e m there same =
-      let told : IsTold e = told-of c ready sound m e there in
+  decision_turns Stay put e m there same = refl
+  decision_turns (Move cell) put e m there same =
+      let told : IsTold e = told_of c ready sound m e there in
       fitting_turn at (with_entry put c) (turn [] (with_entry put c)) put inputs.Move (handover_offer (with_entry put c) put.connection.serving cell) (row_of put.connection inputs.Move (handover_offer (with_entry put c) put.connection.serving cell)) refl
       (record { stands = subst Stands (sym same) told.stands; parts = subst SoundParts (sym same) told.parts; few = subst (λ (s : Connection). s.number < 2 ^ 24) (sym same) told.few })
       (offer_list (handover_offer c put.connection.serving cell) (λ d is. offered_sound c cell c.handovers (kind_of put.connection.serving.number) d sound.cells is)) tt tt
-      (subst (λ (s : Connection). IsOpen s.state → IsUsing s.number c.channels (roles_of s)) (sym same) (uses-of c ready sound m e there))
-      (offers-of c ready sound cell c.handovers (kind_of put.connection.serving.number)) refl
+      (subst (λ (s : Connection). IsOpen s.state → IsUsing s.number c.channels (roles_of s)) (sym same) (uses_of c ready sound m e there))
+      (offers_of c ready sound cell c.handovers (kind_of put.connection.serving.number)) refl
 
-  report-turns : (place : Place) (of : ℕ) (report : Report) (m : ℕ) (o : Option Entry) → entry_of c m ≡ o → TurnsFrom at (channel_state c at) (on_report place of report c o)
-  report-turns place of report m None there = ignored c ready sound at
-  report-turns place of report m (Some e) there = by (measures place e) where
+  report_turns : (place : Place) (of : ℕ) (report : Report) (m : ℕ) (o : Option Entry) → entry_of c m ≡ o → TurnsFrom at (channel_state c at) (on_report place of report c o)
+  report_turns place of report m None there = ignored c ready sound at
+  report_turns place of report m (Some e) there = by (measures place e) where
     put : Entry
     put = with_report of report e
 
     by : (b : Bool) → TurnsFrom at (channel_state c at) (if b then measured of report c e else ignoring c)
-    by true = decision-turns (decision_over put.averages.settings put.averages.reports of) put e m there refl
+    by true = decision_turns (decision_over put.averages.settings put.averages.reports of) put e m there refl
     by false = ignored c ready sound at
 
-  reports-turns : (place : Place) (of : ℕ) (report : Report) (state : ChannelState) → TurnsFrom at (channel_state c at) (on_report place of report c (entry_at c state))
-  reports-turns place of report Free = ignored c ready sound at
-  reports-turns place of report (InUse n) = report-turns place of report n (entry_of c n) refl
-  reports-turns place of report (Releasing n) = report-turns place of report n (entry_of c n) refl
+  reports_turns : (place : Place) (of : ℕ) (report : Report) (state : ChannelState) → TurnsFrom at (channel_state c at) (on_report place of report c (entry_at c state))
+  reports_turns place of report Free = ignored c ready sound at
+  reports_turns place of report (InUse n) = report_turns place of report n (entry_of c n) refl
+  reports_turns place of report (Releasing n) = report_turns place of report n (entry_of c n) refl
 
-  pub word-turns : (source : ℕ) (word : Word) → IsCarriedBy word → RefersIn word → RefusesNone word → WordTurns at source word c
+  pub word_turns : (source : ℕ) (word : Word) → IsCarriedBy word → RefersIn word → RefusesNone word → WordTurns at source word c
   unfolding WordTurns TurnsFrom
-  word-turns source Nothing carried refers none = refl
-  word-turns source Ping carried refers none = (channel_state c at, subst (λ (o : Option Order). Turns o (channel_state c at) (channel_state c at)) (sym (quiet_order (source == at.station) None refl)) refl, refl)
-  word-turns source (Asks request delay) carried refers none =
-      asks-turns (is_up c SWITCH_LINK) (nat_le c.next_number MAX_CONNECTION_NUMBER) (given c request delay (access_channel c source)) (λ few. given-turns source request delay (access_channel c source) refl (leb-true c.next_number MAX_CONNECTION_NUMBER few))
-  word-turns source (OnChannel place input) carried refers none = channel-turns place input (freeing_of c place input (channel_state c place) refl none) carried refers
-  word-turns source (Reports place of report) carried refers none = reports-turns place of report (channel_state c place)
-  word-turns source (OnConnection m input) carried refers none = concerns c ready sound at input m (entry_of c m) refl carried refers
+  word_turns source Nothing carried refers none = refl
+  word_turns source Ping carried refers none = (channel_state c at, subst (λ (o : Option Order). Turns o (channel_state c at) (channel_state c at)) (sym (quiet_order (source == at.station) None refl)) refl, refl)
+  word_turns source (Asks request delay) carried refers none =
+      asks_turns (is_up c SWITCH_LINK) (nat_le c.next_number MAX_CONNECTION_NUMBER) (given c request delay (access_channel c source)) (λ few. given_turns source request delay (access_channel c source) refl (leb-true c.next_number MAX_CONNECTION_NUMBER few))
+  word_turns source (OnChannel place input) carried refers none = channel_turns place input (freeing_of c place input (channel_state c place) refl none) carried refers
+  word_turns source (Reports place of report) carried refers none = reports_turns place of report (channel_state c place)
+  word_turns source (OnConnection m input) carried refers none = concerns c ready sound at input m (entry_of c m) refl carried refers

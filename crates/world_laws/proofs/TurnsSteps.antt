@@ -25,7 +25,7 @@ use Rattle.ruled_relay.specs.declared.item.What.TheVariants as whats
 use Rattle.world_laws.specs.Refusals.{RefusesNone}
 use Rattle.world_laws.specs.TakingTurns.{OrdersTakeTurns, Spares, TakesTurns, freed_by}
 use Rattle.world_laws.proofs.TakingTurns.{turns_append}
-use Rattle.world_laws.proofs.TurnsLife.{IsTold, TurnsFrom, WordTurns, freed-none, row_turn, same_places, told-of, using_of, word-turns}
+use Rattle.world_laws.proofs.TurnsLife.{IsTold, TurnsFrom, WordTurns, freed-none, row_turn, same_places, told_of, using_of, word_turns}
 use Rattle.world_laws.proofs.OrderSteps.{without_same}
 
 AreCells : Controller → Type 0
@@ -80,7 +80,7 @@ break_refers _ break = absurd break
 
 all_told : (c : Controller) → Ready c → IsSoundAll c → (xs : List Entry) → AllByRecursion (λ (x : Entry). entry_of c x.connection.number ≡ Some x) xs → AllByRecursion IsTold xs
 all_told c ready sound [] there = tt
-all_told c ready sound (x ∷ xs) there = (told-of c ready sound x.connection.number x there.0, all_told c ready sound xs there.1)
+all_told c ready sound (x ∷ xs) there = (told_of c ready sound x.connection.number x there.0, all_told c ready sound xs there.1)
 
 down_here : (links : List Bool) (c : Controller) (source : ℕ) (xs : List Entry) → AllByRecursion (IsHere links c) xs → AllByRecursion (IsHere links (with_down source c)) xs
 down_here links c source [] here = tt
@@ -146,7 +146,7 @@ take_turns : (up : Bool) (item : Item) (what : What) (at : Place) (c : Controlle
     → TurnsFrom at (freed_by at (word_by item.source what) (channel_state c at)) (on_what up item.source what c)
 unfolding TurnsFrom WordTurns
 take_turns true item (whats.Frame frame) at c link up ready sound octets none spares =
-    word-turns c ready sound at item.source (word_of item.source frame) (word_carried item.source frame) (word_refers item.source frame octets) none
+    word_turns c ready sound at item.source (word_of item.source frame) (word_carried item.source frame) (word_refers item.source frame octets) none
 take_turns true item whats.Down at c link up ready sound octets none spares = break_turns item.source at c ready sound (spares refl)
 take_turns false item (whats.Frame frame) at c link up ready sound octets none spares =
     sym (other_frees at item.source (word_of item.source frame) (channel_state c at) (word_from item.source frame) (λ same. false≢true (sym link ∙ ap (is_up c) (sym same) ∙ up)))

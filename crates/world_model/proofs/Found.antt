@@ -9,11 +9,11 @@ pub found-number : (number : ℕ) (xs : List Mobile) (p : Mobile) → find (has_
 found-number number [] p found = absurd cc
 found-number number (x ∷ xs) p found =
     elim (cases_Bool (has_number number x)) [
-      | inl hit ↦ ap (λ (q : Mobile). q.number) (sym (some-same (sym (ap (λ (b : Bool). cond b (Some x) (find (has_number number) xs)) hit) ∙ found))) ∙ eqb-true x.number number hit
+      | inl hit ↦ ap (λ (q : Mobile). q.number) (sym (some_same (sym (ap (λ (b : Bool). cond b (Some x) (find (has_number number) xs)) hit) ∙ found))) ∙ eqb-true x.number number hit
       | inr miss ↦ found-number number xs p (sym (ap (λ (b : Bool). cond b (Some x) (find (has_number number) xs)) miss) ∙ found)
     ] where
-      some-same : {a b : Mobile} → Some a ≡ Some b → a ≡ b
-      some-same {a} is = ap (λ (o : Option Mobile). unwrap_or o a) is
+      some_same : {a b : Mobile} → Some a ≡ Some b → a ≡ b
+      some_same {a} is = ap (λ (o : Option Mobile). unwrap_or o a) is
 
 -- one that is put back is found
 pub back-found : (q : Mobile) (xs : List Mobile) (p : Mobile) → find (has_number q.number) xs ≡ Some p → find (has_number q.number) (put_back q xs) ≡ Some q

@@ -81,9 +81,9 @@ pub record Loses (at : Place) (w v : Actors) : Type 0 where
 pub one-at-most : (channel number : ℕ) (state : ChannelState) (all xs ys : List Rsl) → Comes channel state all → state ≡ InUse number → all ≡ xs ++ ys → xs ≢ [] → ys ≡ []
 one-at-most channel number state all [] ys comes used is some = absurd (some refl)
 one-at-most channel number (InUse n) [] (x ∷ xs) ys comes used is some = absurd cc
-one-at-most channel number (InUse n) (one ∷ []) (x ∷ xs) ys comes used is some = (Both-empty xs ys (tail-same is)).1 where
-  tail-same : {a b : Rsl} {others more : List Rsl} → a ∷ others ≡ b ∷ more → others ≡ more
-  tail-same same = cc
+one-at-most channel number (InUse n) (one ∷ []) (x ∷ xs) ys comes used is some = (Both-empty xs ys (tail_same is)).1 where
+  tail_same : {a b : Rsl} {others more : List Rsl} → a ∷ others ≡ b ∷ more → others ≡ more
+  tail_same same = cc
 one-at-most channel number (InUse n) (one ∷ two ∷ rest) (x ∷ xs) ys comes used is some = absurd (never comes refl) where
   never : {l : List Rsl} → Comes channel (InUse n) l → l ≡ one ∷ two ∷ rest → ⊥
   never began same = absurd cc
@@ -122,9 +122,9 @@ agrees_lost owner at w v loses agrees = record {
 -- ---- what a station gives to the inbox is what is said there
 
 read_item : (n : ℕ) (message : Rsl) → IsSound message → said n (station_item n message) ≡ message ∷ []
-read_item n message sound = by (n == n) (eqb-refl n) where
-  eqb-refl : (n : ℕ) → (n == n) ≡ true
-  eqb-refl n = eq-eqb n n refl
+read_item n message sound = by (n == n) (eqb_refl n) where
+  eqb_refl : (n : ℕ) → (n == n) ≡ true
+  eqb_refl n = eq-eqb n n refl
 
   by : (b : Bool) → b ≡ true → (if b then said_by (station_item n message).what else []) ≡ message ∷ []
   by true is = ap (λ (r : _). option_to_list (result_ok r)) (sound-read message sound)

@@ -28,7 +28,7 @@ use Rattle.world_model.proofs.OwnerLines.{AllAgree-new, takes_agreed, tenure-app
 use Rattle.world_model.proofs.OwnerPuts.{entries_to}
 use Rattle.world_model.proofs.OwnerTakes.{takes_keep, takes-rests, takes_spots}
 use Rattle.world_model.proofs.OwnerTenures.{HaveSpots, HaveSpots-new, beside-step, is_beside}
-use Rattle.world_model.proofs.OwnerTurn.{BeginsBy, IsOne, Serves, Turned, turn-agrees}
+use Rattle.world_model.proofs.OwnerTurn.{BeginsBy, IsOne, Serves, Turned, turn_agrees}
 use Rattle.world_model.proofs.Outboxes.{AllJoin, all_join, down-after, down-outbox, new_outbox, step as outbox-step, Step as OutboxStep}
 use Rattle.world_model.proofs.Outboxes.Step.{goes, breaks}
 use Rattle.world_model.proofs.Piping.{acks-append, length-stations_from, step as pipe-step, Step as PipeStep}
@@ -118,11 +118,11 @@ rests_number at w event there rests up = by (outbox-step at.station w event) (pi
   v : Actors
   v = actors_after w event
 
-  none-put : put at.station w event ≡ []
-  none-put = by-link (is_up w at.station) where
-    by-link : (b : Bool) → (if b then to_link at.station (outputs w event) else []) ≡ []
-    by-link true = ap (to_link at.station) rests.outputs
-    by-link false = refl
+  none_put : put at.station w event ≡ []
+  none_put = by_link (is_up w at.station) where
+    by_link : (b : Bool) → (if b then to_link at.station (outputs w event) else []) ≡ []
+    by_link true = ap (to_link at.station) rests.outputs
+    by_link false = refl
 
   by : OutboxStep at.station w event v → PipeStep at.station at.number w event v → (tenure_behind v at).number ≡ (tenure_behind w at).number
   by (breaks broken nothing nobody) pipe = absurd (false_true (sym (ap (λ (l : _). l.up) broken) ∙ up))
@@ -131,7 +131,7 @@ rests_number at w event there rests up = by (outbox-step at.station w event) (pi
       ap (λ (b : Bool). tenure_all at.number b (spot_at v at).tenure (outbox_of v at.station)) active
       ∙ ap (λ (m : ℕ). tenure_all at.number (active_all at.number (is_active_at w at) (taken at.station w event)) m (outbox_of v at.station)) rests.tenure
       ∙ sym (tenure-append at.number (is_active_at w at) (spot_at w at).tenure (taken at.station w event) (outbox_of v at.station))
-      ∙ ap (tenure_all at.number (is_active_at w at) (spot_at w at).tenure) (sym all ∙ ap (λ (es : List OutboxEntry). outbox_of w at.station ++ es) none-put ∙ append-nil (outbox_of w at.station))
+      ∙ ap (tenure_all at.number (is_active_at w at) (spot_at w at).tenure) (sym all ∙ ap (λ (es : List OutboxEntry). outbox_of w at.station ++ es) none_put ∙ append-nil (outbox_of w at.station))
 
 pub beside-number : (at : Place) (w : Actors) (event : Event) → is_beside event ≡ true → IsThere at w → is_up (actors_after w event) at.station ≡ true → (tenure_behind (actors_after w event) at).number ≡ (tenure_behind w at).number
 beside-number at w event is there up = rests_number at w event there (beside-rests at w event is there) up
@@ -146,9 +146,9 @@ unfoldable pub Follows : ℕ → (Tenure → ℕ) → Actors → List Event → 
 Follows last owner w events = (t : Tenure) → 1 ≤ t.at.station → t.at.station ≤ last → is_up w t.at.station ≡ true → (tenure_behind w t.at).number < t.number → owner t ≡ owner_in w events t
 
 begun_less : (a b c : ℕ) → a < b → b ≤ c → nat_lt a b && nat_le b c ≡ true
-begun_less a b c less most = ap (λ (x : Bool). x && nat_le b c) (less-is a b less) ∙ le-leb b c most where
-  less-is : (a b : ℕ) → a < b → nat_lt a b ≡ true
-  less-is a b less = grind arith
+begun_less a b c less most = ap (λ (x : Bool). x && nat_le b c) (less_is a b less) ∙ le-leb b c most where
+  less_is : (a b : ℕ) → a < b → nat_lt a b ≡ true
+  less_is a b less = grind arith
 
 not_begun : (a b c : ℕ) → c < b → nat_lt a b && nat_le b c ≡ false
 not_begun a b c less = by (nat_lt a b) (more b c less) where
@@ -175,12 +175,12 @@ unfolding Follows
 follows_on last owner w event events more follows t from to up later =
     let v : Actors = actors_after w event in
     let least = more t.at from to up in
-    follows t from to (still-up (is_up w t.at.station) refl) (omega (arith, least, later))
+    follows t from to (still_up (is_up w t.at.station) refl) (omega (arith, least, later))
     ∙ cond-false _ (user_of v.controller t.at) (owner_in v events t) (not_begun (tenure_behind w t.at).number t.number (tenure_behind v t.at).number later)
   where
-    still-up : (b : Bool) → is_up w t.at.station ≡ b → is_up w t.at.station ≡ true
-    still-up true is = is
-    still-up false down = absurd (false_true (sym (down-after t.at.station w event down) ∙ up))
+    still_up : (b : Bool) → is_up w t.at.station ≡ b → is_up w t.at.station ≡ true
+    still_up true is = is
+    still_up false down = absurd (false_true (sym (down-after t.at.station w event down) ∙ up))
 
 -- ---- the events
 
@@ -216,12 +216,12 @@ pub record Right (settings : Parameters) (owner : Tenure → ℕ) (w : Actors) (
 
 pub there-of : (settings : Parameters) (owner : Tenure → ℕ) (w : Actors) (events : List Event) (at : Place) → Right settings owner w events → 1 ≤ at.station → at.station ≤ length settings.cells → IsThere at w
 there-of settings owner w events at right least most = record {
-  station = λ is. absurd (zero-less is);
+  station = λ is. absurd (zero_less is);
   among = subst (λ (l : ℕ). at.station - 1 < l) (sym right.stations) (omega (arith, least, most));
   none = right.none at.station;
 } where
-  zero-less : at.station ≡ 0 → ⊥
-  zero-less is = absurd (omega (arith, is, least))
+  zero_less : at.station ≡ 0 → ⊥
+  zero_less is = absurd (omega (arith, is, least))
 
 -- after an event at which the channels agree still, and no last tenure goes
 right_after : (settings : Parameters) (owner : Tenure → ℕ) (w : Actors) (event : Event) (events : List Event) → Right settings owner w (event ∷ events) → AllAgree settings owner (actors_after w event) → HaveSpots (actors_after w event)
@@ -260,7 +260,7 @@ turn_right settings owner w v event events target t heard is spots turned serves
     subst (λ (u : Actors). Right settings owner u events) is
     (right_after settings owner w event events right
     (subst (AllAgree settings owner) (sym is) (λ at least most.
-    turn-agrees owner w v at target t (heard at) (turned at) (serves at least most)
+    turn_agrees owner w v at target t (heard at) (turned at) (serves at least most)
     (subst (BeginsBy owner w v at) (turned at).controller (subst (λ (u : Actors). BeginsBy owner w u at u.controller) is (follows_begins (length settings.cells) owner w event events at least most right.follows)))
     (right.agree at least most)))
     (subst HaveSpots (sym is) spots)

@@ -155,13 +155,13 @@ lead_on P Q h (Some v) leads = h v leads
 own_takes : (owner : Tenure → ℕ) (at : Place) (w : Actors) (o : Option Actors) → o ≡ after_base_takes w at.station → IsThere at w → HaveSpots w → Agrees owner w at → (spot_at (unwrap_or o w) at).tenure ≡ tenure_all at.number (is_active_at w at) (spot_at w at).tenure (if is_some o then first_of (outbox_of w at.station) else [])
 unfolding OfTaken HasTenure
 own_takes owner at w o is there all agrees = subst (λ (p : Option Actors). (spot_at (unwrap_or p w) at).tenure ≡ tenure_all at.number (is_active_at w at) (spot_at w at).tenure (if is_some p then first_of (outbox_of w at.station) else [])) (sym is)
-    (of-taken (after_base_takes w at.station) (base_takes-leads OwnTook w at.station (λ first others up stood. lift first others stood))) where
+    (of_taken (after_base_takes w at.station) (base_takes-leads OwnTook w at.station (λ first others up stood. lift first others stood))) where
       OwnTook : Actors → Type 0
       OwnTook v = (spot_at v at).tenure ≡ tenure_all at.number (is_active_at w at) (spot_at w at).tenure (first_of (outbox_of w at.station))
 
-      of-taken : (p : Option Actors) → OfTaken OwnTook p → (spot_at (unwrap_or p w) at).tenure ≡ tenure_all at.number (is_active_at w at) (spot_at w at).tenure (if is_some p then first_of (outbox_of w at.station) else [])
-      of-taken None leads = refl
-      of-taken (Some v) leads = leads
+      of_taken : (p : Option Actors) → OfTaken OwnTook p → (spot_at (unwrap_or p w) at).tenure ≡ tenure_all at.number (is_active_at w at) (spot_at w at).tenure (if is_some p then first_of (outbox_of w at.station) else [])
+      of_taken None leads = refl
+      of_taken (Some v) leads = leads
 
       lift : (first : OutboxEntry) (others : List OutboxEntry) → outbox_of w at.station ≡ first ∷ others → OfTaken OwnTook (took at.station first.target (rsl_in first.out.frame) (with_outbox at.station others w))
       lift first others stood =

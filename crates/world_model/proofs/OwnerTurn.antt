@@ -112,8 +112,8 @@ module _ (owner : Tenure → ℕ) (w v : Actors) (at : Place) (target : Option T
   came = ap (λ (xs : List Rsl). xs ++ (acknowledgements k (base_of w n).messages ++ due k (is_active_at w at) (outbox_of w n))) turned.inbox
       ∙ append_assoc heard (acknowledged_in at v.inbox) (acknowledgements k (base_of w n).messages ++ due k (is_active_at w at) (outbox_of w n))
 
-  comes-then : to_come v at ≡ rest ++ due k (active_behind w at) turned.entries
-  comes-then =
+  comes_then : to_come v at ≡ rest ++ due k (active_behind w at) turned.entries
+  comes_then =
       ap (λ (b : BaseState). acknowledged_in at v.inbox ++ (acknowledgements k b.messages ++ due k (is_active b.active k) (outbox_of v n))) turned.base
       ∙ ap (λ (es : List OutboxEntry). acknowledged_in at v.inbox ++ (acknowledgements k (base_of w n).messages ++ due k (is_active_at w at) es)) turned.outbox
       ∙ ap (λ (xs : List Rsl). acknowledged_in at v.inbox ++ (acknowledgements k (base_of w n).messages ++ xs)) (due-append k (is_active_at w at) (outbox_of w n) turned.entries)
@@ -131,43 +131,43 @@ module _ (owner : Tenure → ℕ) (w v : Actors) (at : Place) (target : Option T
       ∙ tenure-append k (is_active_at w at) (spot_at w at).tenure (outbox_of w n) turned.entries
 
   -- what comes after the acknowledgement was taken
-  heard-comes : (way : IsOnItsWay w at state) → Comes k (hear heard state) (rest ++ way.lost)
-  heard-comes way = comes_heard k heard state (rest ++ way.lost) turned.one (subst (Comes k state) (ap (λ (xs : List Rsl). xs ++ way.lost) came ∙ append_assoc heard rest way.lost) way.comes)
+  heard_comes : (way : IsOnItsWay w at state) → Comes k (hear heard state) (rest ++ way.lost)
+  heard_comes way = comes_heard k heard state (rest ++ way.lost) turned.one (subst (Comes k state) (ap (λ (xs : List Rsl). xs ++ way.lost) came ∙ append_assoc heard rest way.lost) way.comes)
 
   -- ---- the link is up, and the controller hears it
 
-  put-up : hears t.next n ≡ true → is_up w n ≡ true → Puts owner at (active_behind w at) (tenure_behind w at).number (entries_to at target t.outs) (hear heard state) (channel_state t.next at)
-  put-up hearing up =
+  put_up : hears t.next n ≡ true → is_up w n ≡ true → Puts owner at (active_behind w at) (tenure_behind w at).number (entries_to at target t.outs) (hear heard state) (channel_state t.next at)
+  put_up hearing up =
       goes-put owner at target (tenure_behind w at).number (serves.goes hearing) (serves.fits hearing up) (active_behind w at)
       ((agrees.way (serves.hearing hearing)).active up ∙ sym (hear-use heard state))
 
-  line-of : (es : List OutboxEntry) → turned.entries ≡ es → AreFitting owner at (active_behind w at) (tenure_behind w at).number es → AreFitting owner at (is_active_at v at) (spot_at v at).tenure (outbox_of v n)
-  line-of es is fits =
+  line_of : (es : List OutboxEntry) → turned.entries ≡ es → AreFitting owner at (active_behind w at) (tenure_behind w at).number es → AreFitting owner at (is_active_at v at) (spot_at v at).tenure (outbox_of v n)
+  line_of es is fits =
       subst (λ (b : Bool). AreFitting owner at b (spot_at v at).tenure (outbox_of v n)) (sym active-same)
       (subst (λ (m : ℕ). AreFitting owner at (is_active_at w at) m (outbox_of v n)) (sym turned.tenure)
       (subst (AreFitting owner at (is_active_at w at) (spot_at w at).tenure) (sym (turned.outbox ∙ ap (λ (xs : List OutboxEntry). outbox_of w n ++ xs) is))
       (fitting_append owner at (is_active_at w at) (spot_at w at).tenure (outbox_of w n) es agrees.line fits)))
 
-  line-by : (up hearing : Bool) → is_up w n ≡ up → hears t.next n ≡ hearing → AreFitting owner at (is_active_at v at) (spot_at v at).tenure (outbox_of v n)
-  line-by false hearing down h = line-of [] (turned.down down) tt
-  line-by true false up deaf = line-of [] (turned.joins up ∙ serves.silent deaf) tt
-  line-by true true up hearing = line-of (entries_to at target t.outs) (turned.joins up) (put-up hearing up).works.fits
+  line_by : (up hearing : Bool) → is_up w n ≡ up → hears t.next n ≡ hearing → AreFitting owner at (is_active_at v at) (spot_at v at).tenure (outbox_of v n)
+  line_by false hearing down h = line_of [] (turned.down down) tt
+  line_by true false up deaf = line_of [] (turned.joins up ∙ serves.silent deaf) tt
+  line_by true true up hearing = line_of (entries_to at target t.outs) (turned.joins up) (put_up hearing up).works.fits
 
-  way-by : hears t.next n ≡ true → (up : Bool) → is_up w n ≡ up → IsOnItsWay v at (channel_state t.next at)
-  way-by hearing true up =
+  way_by : hears t.next n ≡ true → (up : Bool) → is_up w n ≡ up → IsOnItsWay v at (channel_state t.next at)
+  way_by hearing true up =
       let way = agrees.way (serves.hearing hearing) in
-      let puts = put-up hearing up in
-      let before : Comes k (hear heard state) rest = subst (Comes k (hear heard state)) (ap (λ (xs : List Rsl). rest ++ xs) (way.all up) ∙ append-nil rest) (heard-comes way) in
+      let puts = put_up hearing up in
+      let before : Comes k (hear heard state) rest = subst (Comes k (hear heard state)) (ap (λ (xs : List Rsl). rest ++ xs) (way.all up) ∙ append-nil rest) (heard_comes way) in
       record {
         lost = [];
-        comes = subst (Comes k (channel_state t.next at)) (sym (append-nil (to_come v at) ∙ comes-then ∙ ap (λ (es : List OutboxEntry). rest ++ due k (active_behind w at) es) (turned.joins up))) (puts.works.comes rest before);
+        comes = subst (Comes k (channel_state t.next at)) (sym (append-nil (to_come v at) ∙ comes_then ∙ ap (λ (es : List OutboxEntry). rest ++ due k (active_behind w at) es) (turned.joins up))) (puts.works.comes rest before);
         all = λ _. refl;
         active = λ _. active-then ∙ ap (active_all k (active_behind w at)) (turned.joins up) ∙ puts.works.active_then;
       }
-  way-by hearing false down =
+  way_by hearing false down =
       let way = agrees.way (serves.hearing hearing) in
-      let lost = (goes_lost (serves.goes hearing) rest way.lost (heard-comes way)).0 in
-      let same : to_come v at ≡ rest = comes-then ∙ ap (λ (es : List OutboxEntry). rest ++ due k (active_behind w at) es) (turned.down down) ∙ append-nil rest in
+      let lost = (goes_lost (serves.goes hearing) rest way.lost (heard_comes way)).0 in
+      let same : to_come v at ≡ rest = comes_then ∙ ap (λ (es : List OutboxEntry). rest ++ due k (active_behind w at) es) (turned.down down) ∙ append-nil rest in
       record {
         lost = lost.0;
         comes = subst (λ (xs : List Rsl). Comes k (channel_state t.next at) (xs ++ lost.0)) (sym same) lost.1;
@@ -175,36 +175,36 @@ module _ (owner : Tenure → ℕ) (w v : Actors) (at : Place) (target : Option T
         active = λ up. absurd (false_true (sym down ∙ sym turned.up ∙ up));
       }
 
-  own-kept : (number mobile : ℕ) → hears t.next n ≡ true → asker t.next number ≡ Some mobile → hear heard state ≡ InUse number → (tenure_behind v at).number ≡ (tenure_behind w at).number → (is_up w n ≡ false → to_come w at ≡ [] → ⊥) → owner (tenure_behind v at) ≡ mobile
-  own-kept number mobile hearing asks used same reaches =
+  own_kept : (number mobile : ℕ) → hears t.next n ≡ true → asker t.next number ≡ Some mobile → hear heard state ≡ InUse number → (tenure_behind v at).number ≡ (tenure_behind w at).number → (is_up w n ≡ false → to_come w at ≡ [] → ⊥) → owner (tenure_behind v at) ≡ mobile
+  own_kept number mobile hearing asks used same reaches =
       let was : state ≡ InUse number = hear_in_use heard state number used in
       ap (λ (m : ℕ). owner (record { at = at; number = m })) same ∙ agrees.own number mobile (serves.hearing hearing) was (serves.users number mobile asks was) reaches
 
-  own-by : (number mobile : ℕ) → hears t.next n ≡ true → channel_state t.next at ≡ InUse number → asker t.next number ≡ Some mobile → (is_up v n ≡ false → to_come v at ≡ [] → ⊥) → (up : Bool) → is_up w n ≡ up → owner (tenure_behind v at) ≡ mobile
-  own-by number mobile hearing used asks reaches true up =
-      let puts = put-up hearing up in
+  own_by : (number mobile : ℕ) → hears t.next n ≡ true → channel_state t.next at ≡ InUse number → asker t.next number ≡ Some mobile → (is_up v n ≡ false → to_come v at ≡ [] → ⊥) → (up : Bool) → is_up w n ≡ up → owner (tenure_behind v at) ≡ mobile
+  own_by number mobile hearing used asks reaches true up =
+      let puts = put_up hearing up in
       let last : (tenure_behind v at).number ≡ puts.last = tenure-then ∙ ap (tenure_all k (active_behind w at) (tenure_behind w at).number) (turned.joins up) ∙ puts.works.tenure_then in
       elim puts.counts [
-        | inl kept ↦ own-kept number mobile hearing asks (kept.1 number used) (last ∙ kept.0) (λ down silent. absurd (false_true (sym down ∙ up)))
+        | inl kept ↦ own_kept number mobile hearing asks (kept.1 number used) (last ∙ kept.0) (λ down silent. absurd (false_true (sym down ∙ up)))
         | inr next ↦ begun number mobile up used asks (last ∙ next.0)
       ]
-  own-by number mobile hearing used asks reaches false down =
+  own_by number mobile hearing used asks reaches false down =
       let way = agrees.way (serves.hearing hearing) in
-      let same : to_come v at ≡ rest = comes-then ∙ ap (λ (es : List OutboxEntry). rest ++ due k (active_behind w at) es) (turned.down down) ∙ append-nil rest in
-      elim (goes_lost (serves.goes hearing) rest way.lost (heard-comes way)).1 [
-        | inl kept ↦ own-kept number mobile hearing asks (kept number used) (tenure-then ∙ ap (tenure_all k (active_behind w at) (tenure_behind w at).number) (turned.down down))
+      let same : to_come v at ≡ rest = comes_then ∙ ap (λ (es : List OutboxEntry). rest ++ due k (active_behind w at) es) (turned.down down) ∙ append-nil rest in
+      elim (goes_lost (serves.goes hearing) rest way.lost (heard_comes way)).1 [
+        | inl kept ↦ own_kept number mobile hearing asks (kept number used) (tenure-then ∙ ap (tenure_all k (active_behind w at) (tenure_behind w at).number) (turned.down down))
             (λ gone silent. reaches (turned.up ∙ gone) (same ∙ (Both-empty heard rest (sym silent ∙ came)).1))
-        | inr free ↦ absurd (reaches (turned.up ∙ down) (same ∙ (Both-empty rest way.lost (sym (none-free (rest ++ way.lost) (hear heard state) free (heard-comes way)))).0))
+        | inr free ↦ absurd (reaches (turned.up ∙ down) (same ∙ (Both-empty rest way.lost (sym (none_free (rest ++ way.lost) (hear heard state) free (heard_comes way)))).0))
       ] where
-        none-free : (xs : List Rsl) (now : ChannelState) → now ≡ Free → Comes k now xs → xs ≡ []
-        none-free xs Free is nothing = refl
-        none-free xs (InUse m) is comes = absurd cc
-        none-free xs (Releasing m) is comes = absurd cc
+        none_free : (xs : List Rsl) (now : ChannelState) → now ≡ Free → Comes k now xs → xs ≡ []
+        none_free xs Free is nothing = refl
+        none_free xs (InUse m) is comes = absurd cc
+        none_free xs (Releasing m) is comes = absurd cc
 
-  pub turn-agrees : Agrees owner v at
-  turn-agrees = record {
-    line = line-by (is_up w n) (hears t.next n) refl refl;
-    way = subst (λ (c : Controller). hears c n ≡ true → IsOnItsWay v at (channel_state c at)) (sym turned.controller) (λ hearing. way-by hearing (is_up w n) refl);
+  pub turn_agrees : Agrees owner v at
+  turn_agrees = record {
+    line = line_by (is_up w n) (hears t.next n) refl refl;
+    way = subst (λ (c : Controller). hears c n ≡ true → IsOnItsWay v at (channel_state c at)) (sym turned.controller) (λ hearing. way_by hearing (is_up w n) refl);
     own = subst (λ (c : Controller). (number mobile : ℕ) → hears c n ≡ true → channel_state c at ≡ InUse number → asker c number ≡ Some mobile → (is_up v n ≡ false → to_come v at ≡ [] → ⊥) → owner (tenure_behind v at) ≡ mobile) (sym turned.controller)
-        (λ number mobile hearing used asks reaches. own-by number mobile hearing used asks reaches (is_up w n) refl);
+        (λ number mobile hearing used asks reaches. own_by number mobile hearing used asks reaches (is_up w n) refl);
   }

@@ -104,9 +104,9 @@ quietly n k w event o nothing nobody leads = quiet_flows n k w event (unwrap_or 
 
 first-and-behind : (messages : List Rsl) (message : Rsl) → first_of_messages messages ≡ Some message → message ∷ messages_behind_first messages ≡ messages
 first-and-behind [] message is = absurd cc
-first-and-behind (first ∷ others) message is = ap (λ (m : Rsl). m ∷ others) (sym (some-same is)) where
-  some-same : {a b : Rsl} → Some a ≡ Some b → a ≡ b
-  some-same {a} is = ap (λ (o : Option Rsl). unwrap_or o a) is
+first-and-behind (first ∷ others) message is = ap (λ (m : Rsl). m ∷ others) (sym (some_same is)) where
+  some_same : {a b : Rsl} → Some a ≡ Some b → a ≡ b
+  some_same {a} is = ap (λ (o : Option Rsl). unwrap_or o a) is
 
 plain_flows : (n k : ℕ) (w : Actors) (event : Event) (v : Actors) → taken n w event ≡ [] → (is_up v n ≡ false → outbox_of v n ≡ []) → Plain n w event v → Step n k w event v
 plain_flows n k w event v nobody dropped (as_before same nothing) = quiet_flows n k w event v nothing nobody (quiet_base same)

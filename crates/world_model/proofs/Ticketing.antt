@@ -305,22 +305,22 @@ sits_step owner w (Return number) by sits =
     put (record p { end = after_arrival p.end (failure command.change); seat = On from None }) (subst (SitsBy owner p.number) seat (sits_of number sits found)).0 (based from.at.station _ sits)))
 sits_step owner w (BaseTakes station) by sits =
     after_sits owner w (after_base_takes w station) sits (base_takes-leads (Sits owner) w station (λ first others up is.
-    took_sits owner (with_outbox station others w) station first.target (rsl_in first.out.frame) (up-right station w up).0 (took-by first others up is) (same_sits sits refl (λ at. refl))))
+    took_sits owner (with_outbox station others w) station first.target (rsl_in first.out.frame) (up-right station w up).0 (took_by first others up is) (same_sits sits refl (λ at. refl))))
   where
     -- the outbox doesn't matter to it
-    same-takes : (target : Option Tenure) (others : List OutboxEntry) (o : Option Rsl) → TakesBy owner w station target o → TakesBy owner (with_outbox station others w) station target o
-    same-takes target others (Some (ImmediateAssignCommand i)) takes = by_reading (rr_reading i.information) takes
+    same_takes : (target : Option Tenure) (others : List OutboxEntry) (o : Option Rsl) → TakesBy owner w station target o → TakesBy owner (with_outbox station others w) station target o
+    same_takes target others (Some (ImmediateAssignCommand i)) takes = by_reading (rr_reading i.information) takes
       where
         by_reading : (r : Result RrMessage RrFault) → AssignsBy owner w station r → AssignsBy owner (with_outbox station others w) station r
         by_reading (Ok (ImmediateAssignment channel request advance)) names = names
         by_reading (Ok _) names = tt
         by_reading (Err fault) names = tt
-    same-takes target others (Some (DataRequest d)) takes = takes
-    same-takes target others None takes = tt
-    same-takes target others (Some _) takes = tt
+    same_takes target others (Some (DataRequest d)) takes = takes
+    same_takes target others None takes = tt
+    same_takes target others (Some _) takes = tt
 
-    took-by : (first : OutboxEntry) (others : List OutboxEntry) → is_station_up w station ≡ true → outbox_of w station ≡ first ∷ others → TakesBy owner (with_outbox station others w) station first.target (rsl_in first.out.frame)
-    took-by first others up is = same-takes first.target others (rsl_in first.out.frame) (first_takes owner w station (outbox_of w station) first others is (by up))
+    took_by : (first : OutboxEntry) (others : List OutboxEntry) → is_station_up w station ≡ true → outbox_of w station ≡ first ∷ others → TakesBy owner (with_outbox station others w) station first.target (rsl_in first.out.frame)
+    took_by first others up is = same_takes first.target others (rsl_in first.out.frame) (first_takes owner w station (outbox_of w station) first others is (by up))
 sits_step owner w (BasePush source) by sits =
     after_sits owner w (after_base_push w source) sits (push-leads (Sits owner) w source (λ first others. same_sits sits refl (λ at. refl)) (λ message _. same_sits sits refl (λ at. spot-with_base source _ w at)))
 sits_step owner w Handle by sits =

@@ -55,28 +55,28 @@ switch_breaks : (w : Actors) (s : Connection) → s.state ≡ WaitEstablish → 
     → SeesSame w (with_item (record { source = SWITCH_LINK; what = whats.Down }) (record (with_link SWITCH_LINK broken_link w) { switch_made = [] })) s
 unfolding SameTenures forwarded
 switch_breaks w s state draining placed unsaid = record {
-  coming = rw (draining, state) (same-coming s.serving, tt);
-  up = λ n. same-up n;
+  coming = rw (draining, state) (same_coming s.serving, tt);
+  up = λ n. same_up n;
   serving = ap (λ (link : Link). flat_map leading_from_air (spot_at w (place_of s.serving)).air ++ flat_map (leading_from_outbox s.serving.number) link.outbox) (set-apart w.links broken_link SWITCH_LINK s.serving.station broken_link placed);
   target = λ t is. absurd (let both : None ≡ Some t = sym (none_target s.state state) ∙ is in cc);
   tenures = λ at. refl;
-  waiting = set-same (λ (link : Link). map (λ f. f.message) (forwarded (map (λ entry. entry.out) link.outbox) s.number)) w.links broken_link SWITCH_LINK SWITCH_LINK broken_link (nothing-waits ∙ sym unsaid);
+  waiting = set-same (λ (link : Link). map (λ f. f.message) (forwarded (map (λ entry. entry.out) link.outbox) s.number)) w.links broken_link SWITCH_LINK SWITCH_LINK broken_link (nothing_waits ∙ sym unsaid);
   taken = refl;
 } where
   v : Actors
   v = with_item (record { source = SWITCH_LINK; what = whats.Down }) (record (with_link SWITCH_LINK broken_link w) { switch_made = [] })
 
-  same-coming : (c : Channel) → coming_up v (place_of c) ≡ coming_up w (place_of c)
-  same-coming c = ap (λ (xs : List Item). xs ++ made_of c.number (base_of w c.station).messages) (flat_map-append (brings_in (place_of c)) w.inbox (record { source = SWITCH_LINK; what = whats.Down } ∷ []) ∙ append-nil (flat_map (brings_in (place_of c)) w.inbox))
+  same_coming : (c : Channel) → coming_up v (place_of c) ≡ coming_up w (place_of c)
+  same_coming c = ap (λ (xs : List Item). xs ++ made_of c.number (base_of w c.station).messages) (flat_map-append (brings_in (place_of c)) w.inbox (record { source = SWITCH_LINK; what = whats.Down } ∷ []) ∙ append-nil (flat_map (brings_in (place_of c)) w.inbox))
 
-  same-up : (n : ℕ) → is_station_up v n ≡ is_station_up w n
-  same-up n = elim (cases_Bool (nat_eq n SWITCH_LINK)) [
+  same_up : (n : ℕ) → is_station_up v n ≡ is_station_up w n
+  same_up n = elim (cases_Bool (nat_eq n SWITCH_LINK)) [
     | inl hit ↦ ap (λ (b : Bool). not b && is_up v n) hit ∙ sym (ap (λ (b : Bool). not b && is_up w n) hit)
     | inr miss ↦ ap (λ (link : Link). not (n == SWITCH_LINK) && link.up) (set-apart w.links broken_link SWITCH_LINK n broken_link (eqb-false n SWITCH_LINK miss))
   ]
 
-  nothing-waits : map (λ f. f.message) (forwarded (map (λ entry. entry.out) broken_link.outbox) s.number) ≡ []
-  nothing-waits = refl
+  nothing_waits : map (λ f. f.message) (forwarded (map (λ entry. entry.out) broken_link.outbox) s.number) ≡ []
+  nothing_waits = refl
 
 -- ---- it stays lined up
 
@@ -85,26 +85,26 @@ module _ (settings : Parameters) (done : List Event) (mobile : ℕ) (s : Connect
   world = actors_after_all (new_actors settings) done
 
   -- where the event isn't taken
-  not-up : (station : ℕ) → is_station_up world station ≡ false → actors_after world (events.BaseTakes station) ≡ world
+  not_up : (station : ℕ) → is_station_up world station ≡ false → actors_after world (events.BaseTakes station) ≡ world
   unfolding event_after
-  not-up station is = ap (λ (b : Bool). unwrap_or (if b then took_first station (outbox_of world station) world else None) world) is
+  not_up station is = ap (λ (b : Bool). unwrap_or (if b then took_first station (outbox_of world station) world else None) world) is
 
-  switch-not-up : is_up world SWITCH_LINK ≡ false → actors_after world events.SwitchTakes ≡ world
+  switch_not_up : is_up world SWITCH_LINK ≡ false → actors_after world events.SwitchTakes ≡ world
   unfolding event_after
-  switch-not-up is = ap (λ (b : Bool). unwrap_or (if b then switch_took_first (outbox_of world SWITCH_LINK) world else None) world) is
+  switch_not_up is = ap (λ (b : Bool). unwrap_or (if b then switch_took_first (outbox_of world SWITCH_LINK) world else None) world) is
 
   unconfirmed : (state : State) → state ≡ WaitEstablish → IsUnconfirmed (Some (record s { state = state })) → ⊥
   unconfirmed state is unheard = absurd (subst (λ (x : State). IsUnconfirmed (Some (record s { state = x }))) is unheard)
 
-  takes-lined : (station : ℕ) → s.state ≡ WaitEstablish → IsKnown (modulus_in settings) world mobile s → AreLinedUp (modulus_in settings) world mobile s → AreLinedUp (modulus_in settings) (actors_after world (events.BaseTakes station)) mobile s
-  takes-lined station state known lined = elim (cases_Bool (is_station_up world station)) [
+  takes_lined : (station : ℕ) → s.state ≡ WaitEstablish → IsKnown (modulus_in settings) world mobile s → AreLinedUp (modulus_in settings) world mobile s → AreLinedUp (modulus_in settings) (actors_after world (events.BaseTakes station)) mobile s
+  takes_lined station state known lined = elim (cases_Bool (is_station_up world station)) [
     | inl up ↦ known.stations station mobile s (known.active station up state) lined
-    | inr down ↦ subst (λ (v : Actors). AreLinedUp (modulus_in settings) v mobile s) (sym (not-up station down)) lined
+    | inr down ↦ subst (λ (v : Actors). AreLinedUp (modulus_in settings) v mobile s) (sym (not_up station down)) lined
   ]
 
-  switch-lined : s.state ≡ WaitEstablish → IsHad world s → IsKnown (modulus_in settings) world mobile s → AreLinedUp (modulus_in settings) world mobile s → AreLinedUp (modulus_in settings) (actors_after world events.SwitchTakes) mobile s
-  switch-lined state had known lined = elim (cases_Bool (is_up world SWITCH_LINK)) [
-    | inr down ↦ subst (λ (v : Actors). AreLinedUp (modulus_in settings) v mobile s) (sym (switch-not-up down)) lined
+  switch_lined : s.state ≡ WaitEstablish → IsHad world s → IsKnown (modulus_in settings) world mobile s → AreLinedUp (modulus_in settings) world mobile s → AreLinedUp (modulus_in settings) (actors_after world events.SwitchTakes) mobile s
+  switch_lined state had known lined = elim (cases_Bool (is_up world SWITCH_LINK)) [
+    | inr down ↦ subst (λ (v : Actors). AreLinedUp (modulus_in settings) v mobile s) (sym (switch_not_up down)) lined
     | inl up ↦ elim (known.delivers up) [
       | inl delivers ↦ switch_keeps_line_ups_new settings done mobile s delivers lined
       | inr unheard ↦
@@ -114,9 +114,9 @@ module _ (settings : Parameters) (done : List Event) (mobile : ℕ) (s : Connect
     ]
   ]
 
-  breaks-lined : (source : ℕ) → s.state ≡ WaitEstablish → s.draining ≡ [] → s.serving.station ≢ SWITCH_LINK → IsKnown (modulus_in settings) world mobile s → AreLinedUp (modulus_in settings) world mobile s → AreLinedUp (modulus_in settings) (actors_after world (events.BaseDown source)) mobile s
+  breaks_lined : (source : ℕ) → s.state ≡ WaitEstablish → s.draining ≡ [] → s.serving.station ≢ SWITCH_LINK → IsKnown (modulus_in settings) world mobile s → AreLinedUp (modulus_in settings) world mobile s → AreLinedUp (modulus_in settings) (actors_after world (events.BaseDown source)) mobile s
   unfolding event_after
-  breaks-lined source state draining placed known lined = elim (cases_Bool (nat_eq source SWITCH_LINK)) [
+  breaks_lined source state draining placed known lined = elim (cases_Bool (nat_eq source SWITCH_LINK)) [
     | inr miss ↦ station_breaks_keep_line_ups_new settings done source mobile s (eqb-false source SWITCH_LINK miss) (rw (draining) tt) lined
     | inl hit ↦
         let P : Actors → Type 0 = λ v. AreLinedUp (modulus_in settings) v mobile s in
@@ -127,9 +127,9 @@ module _ (settings : Parameters) (done : List Event) (mobile : ℕ) (s : Connect
   ]
 
   pub stays-lined : (event : Event) → is_of_others event ≡ true → s.state ≡ WaitEstablish → AreAllowed settings → IsHad world s → IsKnown (modulus_in settings) world mobile s → AreLinedUp (modulus_in settings) world mobile s → AreLinedUp (modulus_in settings) (actors_after world event) mobile s
-  stays-lined (events.BaseTakes station) is state allowed had known lined = takes-lined station state known lined
-  stays-lined events.SwitchTakes is state allowed had known lined = switch-lined state had known lined
-  stays-lined (events.BaseDown source) is state allowed had known lined = breaks-lined source state (bare_of s state (connections_stand_new settings done s.number s had.there)).draining (serving_placed settings done s allowed had) known lined
+  stays-lined (events.BaseTakes station) is state allowed had known lined = takes_lined station state known lined
+  stays-lined events.SwitchTakes is state allowed had known lined = switch_lined state had known lined
+  stays-lined (events.BaseDown source) is state allowed had known lined = breaks_lined source state (bare_of s state (connections_stand_new settings done s.number s had.there)).draining (serving_placed settings done s allowed had) known lined
   stays-lined events.Handle is state allowed had known lined = absurd cc
   stays-lined (events.Tick ms) is state allowed had known lined = absurd cc
   stays-lined event is state allowed had known lined = mobiles_keep_line_ups_new settings done event mobile s refl known.alone lined

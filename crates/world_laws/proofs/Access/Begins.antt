@@ -19,13 +19,13 @@ use Rattle.world_laws.specs.Access.Coming.{AssignsBy, AssignsIn, IsComing}
 use Rattle.world_laws.specs.Access.Coming.Comes.{asks}
 use Rattle.world_laws.specs.Access.Requested.{AreBeside, AssignsAnother, IsBeside}
 use Rattle.world_laws.proofs.Access.Turning.{all_down, another_assigns, assigned_turn, of_all, own_among}
-use Rattle.world_laws.proofs.Access.Came.{IsLess, behind-less, before, turn-comes, turned, v-controller, v-mobile}
+use Rattle.world_laws.proofs.Access.Came.{IsLess, behind_less, before, turn_comes, turned, v_controller, v_mobile}
 use Rattle.controller_model.proofs.LifeLaws.Passing.{read_request}
 use Rattle.world_laws.proofs.OrderTexts.{assignment_back, read_of}
 use Rattle.world_laws.specs.Access.Begun.{AwaitsChannel, ConnectionsBeginForTheirMobile, IsQuietAt}
-use Rattle.world_laws.proofs.Access.ForOthers.{item-begins}
-use Rattle.world_laws.proofs.Access.Numbered.{step-another}
-use Rattle.world_laws.proofs.Access.CameLaw.{handled-is, sends-at}
+use Rattle.world_laws.proofs.Access.ForOthers.{item_begins}
+use Rattle.world_laws.proofs.Access.Numbered.{step_another}
+use Rattle.world_laws.proofs.Access.CameLaw.{handled_is, sends_at}
 use Rattle.world_laws.proofs.Apart.{all_both}
 use Rattle.world_laws.proofs.Events.{snoc_steps}
 use Rattle.world_laws.proofs.Framing.{all_left, all_right}
@@ -60,9 +60,9 @@ module _ (settings : Parameters) (done : List Event) (s : Connection) where
   abbrev mobile : ℕ
   mobile = s.request.access
 
-  own-at : (target : Option Tenure) (c : Channel) (out : Out) → IsSent out → (x : Message) × (out ≡ out_of s.number x) × (x ≡ access_activation c) → (out.to ≡ s.serving.station → leading_from_outbox s.serving.number (entry_of target out) ≡ []) × AssignsBy mobile s out.to (rsl_in out.frame)
+  own_at : (target : Option Tenure) (c : Channel) (out : Out) → IsSent out → (x : Message) × (out ≡ out_of s.number x) × (x ≡ access_activation c) → (out.to ≡ s.serving.station → leading_from_outbox s.serving.number (entry_of target out) ≡ []) × AssignsBy mobile s out.to (rsl_in out.frame)
   unfolding out_of
-  own-at target c out sent own =
+  own_at target c out sent own =
       let a = activation_is c in
       let is : out ≡ out_of s.number (Station c.station (rsl.ChannelActivation a.0)) = own.1 ∙ ap (out_of s.number) (own.2 ∙ a.1) in
       let own_sent : IsSent (out_of s.number (Station c.station (rsl.ChannelActivation a.0))) = subst IsSent is sent in
@@ -72,57 +72,57 @@ module _ (settings : Parameters) (done : List Event) (s : Connection) where
         subst (AssignsBy mobile s out.to) (sym frame) (activation_assigns mobile s out.to a.0 read.0 read.1.text),
       )
 
-  new-comes : (target : Option Tenure) (items : List RelayItem) (t : Turn) (c : Channel) → IsLess settings done mobile s items → s.state ≡ WaitActivation → outs_for s.number t.outs ≡ outs_of s.number (access_activation c ∷ []) → AllByRecursion IsSent t.outs → AreBeside target mobile s t.outs
+  new_comes : (target : Option Tenure) (items : List RelayItem) (t : Turn) (c : Channel) → IsLess settings done mobile s items → s.state ≡ WaitActivation → outs_for s.number t.outs ≡ outs_of s.number (access_activation c ∷ []) → AllByRecursion IsSent t.outs → AreBeside target mobile s t.outs
       → AwaitsChannel modulus world mobile → IsQuietAt world (place_of s.serving) → 1 ≤ s.number → connection_of t.next s.number ≡ Some s → IsComing modulus (turned settings done mobile s target t items) mobile s
-  new-comes target items t c less state put sent beside waits quiet least there =
+  new_comes target items t c less state put sent beside waits quiet least there =
       let u : Actors = record (before settings done mobile s items) { controller = t.next } in
       let v : Actors = turned settings done mobile s target t items in
       let both = all_both (λ (out : Out). out.conn ≡ s.number → (x : Message) × (out ≡ out_of s.number x) × (x ≡ access_activation c)) IsSent
-      (λ (out : Out). out.conn ≡ s.number → (out.to ≡ s.serving.station → leading_from_outbox s.serving.number (entry_of target out) ≡ []) × AssignsBy mobile s out.to (rsl_in out.frame)) t.outs (λ out is is_sent. λ same. own-at target c out is_sent (is same))
+      (λ (out : Out). out.conn ≡ s.number → (out.to ≡ s.serving.station → leading_from_outbox s.serving.number (entry_of target out) ≡ []) × AssignsBy mobile s out.to (rsl_in out.frame)) t.outs (λ out is is_sent. λ same. own_at target c out is_sent (is same))
       (own_among (λ (x : Message). x ≡ access_activation c) s.number t.outs (access_activation c ∷ []) put (refl, tt)) sent in
       let all = of_all (IsBeside target mobile s) (λ (out : Out). (out.to ≡ s.serving.station → leading_from_outbox s.serving.number (entry_of target out) ≡ []) × AssignsBy mobile s out.to (rsl_in out.frame)) s.number t.outs
       (λ out one. (one.for_others.leads.0, another_assigns mobile s out.to (rsl_in out.frame) one.assigns)) beside both in
       let down : going_down v (place_of s.serving) ≡ going_down world (place_of s.serving) = all_down target s.serving t.outs u (all_both _ _ (λ (out : Out). out.to ≡ s.serving.station → leading_from_outbox s.serving.number (entry_of target out) ≡ []) t.outs (λ out one two. one.0) all all) in
       record {
-        had = record { there = ap (λ (d : Controller). connection_of d s.number) (v-controller settings done mobile s target t items) ∙ there; is_open = subst IsOpen (sym state) tt; from_one = least };
+        had = record { there = ap (λ (d : Controller). connection_of d s.number) (v_controller settings done mobile s target t items) ∙ there; is_open = subst IsOpen (sym state) tt; from_one = least };
         early = subst IsEarlyIn (sym state) tt;
         asked = refl;
         one = waits.one;
-        found = v-mobile settings done mobile s target t items mobile ∙ waits.found;
-        comes = turn-comes settings done mobile s target t items waits.one less down (λ other lined. absurd (let clash : WaitActivation ≡ WaitEstablish = sym state ∙ other in cc)) waits.found (asks waits.asking waits.new quiet.none_comes quiet.none_commanded);
-        assigned = assigned_turn mobile s target t.outs u (λ station. untold-all station (outbox_of world station) (waits.untold station)) (all_both _ _ (λ (out : Out). AssignsBy mobile s out.to (rsl_in out.frame)) t.outs (λ out one two. one.1) all all);
+        found = v_mobile settings done mobile s target t items mobile ∙ waits.found;
+        comes = turn_comes settings done mobile s target t items waits.one less down (λ other lined. absurd (let clash : WaitActivation ≡ WaitEstablish = sym state ∙ other in cc)) waits.found (asks waits.asking waits.new quiet.none_comes quiet.none_commanded);
+        assigned = assigned_turn mobile s target t.outs u (λ station. untold_all station (outbox_of world station) (waits.untold station)) (all_both _ _ (λ (out : Out). AssignsBy mobile s out.to (rsl_in out.frame)) t.outs (λ out one two. one.1) all all);
       } where
-        untold-all : (station : ℕ) (entries : List OutboxEntry) → AllByRecursion (λ entry. AssignsAnother mobile (rsl_in entry.out.frame)) entries → AllByRecursion (AssignsIn mobile s station) entries
-        untold-all station [] all = tt
-        untold-all station (entry ∷ entries) all = (another_assigns mobile s station (rsl_in entry.out.frame) all.0, untold-all station entries all.1)
+        untold_all : (station : ℕ) (entries : List OutboxEntry) → AllByRecursion (λ entry. AssignsAnother mobile (rsl_in entry.out.frame)) entries → AllByRecursion (AssignsIn mobile s station) entries
+        untold_all station [] all = tt
+        untold_all station (entry ∷ entries) all = (another_assigns mobile s station (rsl_in entry.out.frame) all.0, untold_all station entries all.1)
 
-  by-acts : (target : Option Tenure) (items : List RelayItem) (item : RelayItem) → IsLess settings done mobile s items → AllByRecursion IsSent (take item world.controller).outs → AreBeside target mobile s (take item world.controller).outs → AwaitsChannel modulus world mobile → IsQuietAt world (place_of s.serving) → 1 ≤ s.number
+  by_acts : (target : Option Tenure) (items : List RelayItem) (item : RelayItem) → IsLess settings done mobile s items → AllByRecursion IsSent (take item world.controller).outs → AreBeside target mobile s (take item world.controller).outs → AwaitsChannel modulus world mobile → IsQuietAt world (place_of s.serving) → 1 ≤ s.number
       → connection_of (take item world.controller).next s.number ≡ Some s → (next : ℕ) (up : Bool) (brought_it : Brought) (was now : Option Connection) (put : List Message) → Acts s.number next up brought_it was put now → was ≡ None → now ≡ Some s → outs_for s.number (take item world.controller).outs ≡ outs_of s.number put
       → IsComing modulus (turned settings done mobile s target (take item world.controller) items) mobile s
-  by-acts target items item less sent beside waits quiet least there next up brought_it was now put (rests silent is none) none_was some_now outs = absurd (let both : None ≡ Some s = sym none_was ∙ sym is ∙ some_now in cc)
-  by-acts target items item less sent beside waits quiet least there next up brought_it was now put (ages old x by_time is aged silent is_now) none_was some_now outs = absurd (let both : None ≡ Some old = sym none_was ∙ is in cc)
-  by-acts target items item less sent beside waits quiet least there next up brought_it was now put (goes_by old s1 input offer r is aged by fits put_is is_now) none_was some_now outs = absurd (let both : None ≡ Some old = sym none_was ∙ is in cc)
-  by-acts target items item less sent beside waits quiet least there next up brought_it was now put (begins is linked channel request delay none_brought none put_is is_now) none_was some_now outs =
-      new-comes target items (take item world.controller) channel less (ap (λ (x : Connection). x.state) (same_Some _ _ (sym some_now ∙ is_now))) (outs ∙ ap (outs_of s.number) put_is) sent beside waits quiet least there
+  by_acts target items item less sent beside waits quiet least there next up brought_it was now put (rests silent is none) none_was some_now outs = absurd (let both : None ≡ Some s = sym none_was ∙ sym is ∙ some_now in cc)
+  by_acts target items item less sent beside waits quiet least there next up brought_it was now put (ages old x by_time is aged silent is_now) none_was some_now outs = absurd (let both : None ≡ Some old = sym none_was ∙ is in cc)
+  by_acts target items item less sent beside waits quiet least there next up brought_it was now put (goes_by old s1 input offer r is aged by fits put_is is_now) none_was some_now outs = absurd (let both : None ≡ Some old = sym none_was ∙ is in cc)
+  by_acts target items item less sent beside waits quiet least there next up brought_it was now put (begins is linked channel request delay none_brought none put_is is_now) none_was some_now outs =
+      new_comes target items (take item world.controller) channel less (ap (λ (x : Connection). x.state) (same_Some _ _ (sym some_now ∙ is_now))) (outs ∙ ap (outs_of s.number) put_is) sent beside waits quiet least there
 
 pub connections_begin_for_their_mobile_new : (settings : Parameters) (done : List Event) → ConnectionsBeginForTheirMobile settings done
 connections_begin_for_their_mobile_new settings done s item items allowed octets stood least none there waits quiet unanswered =
     let world : Actors = actors_after_all (new_actors settings) done in
     let target : Option Tenure = target_in world item.source item.what in
-    let leads : actors_after world events.Handle ≡ turned settings done s.request.access s target (take item world.controller) items = handled-is settings done s.request.access s (item ∷ items) stood in
+    let leads : actors_after world events.Handle ≡ turned settings done s.request.access s target (take item world.controller) items = handled_is settings done s.request.access s (item ∷ items) stood in
     let both : AllByRecursion ComesInOctets (all_steps (new_actors settings) done ++ step_at world events.Handle) = subst (AllByRecursion ComesInOctets) (snoc_steps (new_actors settings) done events.Handle) octets in
     let own : ComesInOctets (Take item) = (subst (λ (xs : List RelayItem). AllByRecursion ComesInOctets (first_taken xs)) stood (all_right ComesInOctets (all_steps (new_actors settings) done) (step_at world events.Handle) both)).0 in
-    let now : connection_of (take item world.controller).next s.number ≡ Some s = ap (λ (c : Controller). connection_of c s.number) (sym (v-controller settings done s.request.access s target (take item world.controller) items) ∙ ap (λ (x : Actors). x.controller) (sym leads)) ∙ there in
+    let now : connection_of (take item world.controller).next s.number ≡ Some s = ap (λ (c : Controller). connection_of c s.number) (sym (v_controller settings done s.request.access s target (take item world.controller) items) ∙ ap (λ (x : Actors). x.controller) (sym leads)) ∙ there in
     let acts : ActsOn s.number world.controller (Take item) = subst (λ (c : Controller). ActsOn s.number c (Take item)) (sym (LivesByTable-new settings done)) (life_acts settings (all_steps (new_actors settings) done) (Take item) s.number least) in
     let steps : List Step = all_steps (new_actors settings) done in
     let lives = LivesByTable-new settings done in
     let numbered : IsNumbered world.controller = subst IsNumbered (sym lives) (life_fits settings steps 1 (omega arith)).numbered in
-    let sent : AllByRecursion IsSent (take item world.controller).outs = sends-at settings done s.request.access s (Take item) allowed (all_left ComesInOctets (all_steps (new_actors settings) done) (step_at world events.Handle) both) own in
+    let sent : AllByRecursion IsSent (take item world.controller).outs = sends_at settings done s.request.access s (Take item) allowed (all_left ComesInOctets (all_steps (new_actors settings) done) (step_at world events.Handle) both) own in
     let beside : AreBeside target s.request.access s (take item world.controller).outs =
     all_both (λ (out : Out). out.conn ≢ s.number → IsForOthers target s out) (λ (out : Out). out.conn ≢ s.number → AssignsAnother s.request.access (rsl_in out.frame)) (λ (out : Out). out.conn ≢ s.number → IsBeside target s.request.access s out) (take item world.controller).outs
-    (λ out one two. λ differs. record { for_others = one differs; assigns = two differs }) (item-begins settings done s item allowed least none now)
-    (step-another world.controller s.number s.request.access s.serving (λ m t is same. absurd (unanswered m t is same)) (Take item) numbered sent
+    (λ out one two. λ differs. record { for_others = one differs; assigns = two differs }) (item_begins settings done s item allowed least none now)
+    (step_another world.controller s.number s.request.access s.serving (λ m t is same. absurd (unanswered m t is same)) (Take item) numbered sent
     (λ m from_one. subst (λ (c : Controller). NamesItsMobile m c (Take item)) (sym lives) (life_names settings steps (Take item) m from_one))) in
     subst (λ (x : Actors). IsComing (modulus_in settings) x s.request.access s) (sym leads)
-    (by-acts settings done s target items item (behind-less settings done s.request.access s item items stood) sent beside waits quiet least now
+    (by_acts settings done s target items item (behind_less settings done s.request.access s item items stood) sent beside waits quiet least now
     world.controller.next_number _ _ (connection_of world.controller s.number) (connection_of (take item world.controller).next s.number) acts.put acts.acts none now acts.outs)

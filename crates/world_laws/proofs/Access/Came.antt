@@ -82,26 +82,26 @@ module _ (settings : Parameters) (done : List Event) (mobile : ℕ) (s : Connect
   abbrev pub turned : Option Tenure → Turn → List RelayItem → Actors
   turned target t items = with_turn target t (before items)
 
-  pub v-controller : (target : Option Tenure) (t : Turn) (items : List RelayItem) → (turned target t items).controller ≡ t.next
-  v-controller target t items = turn-leads (λ v. v.controller ≡ t.next) target t (before items) (λ links. refl)
+  pub v_controller : (target : Option Tenure) (t : Turn) (items : List RelayItem) → (turned target t items).controller ≡ t.next
+  v_controller target t items = turn-leads (λ v. v.controller ≡ t.next) target t (before items) (λ links. refl)
 
-  pub v-mobile : (target : Option Tenure) (t : Turn) (items : List RelayItem) (k : ℕ) → mobile_of (turned target t items) k ≡ mobile_of world k
-  v-mobile target t items k = ap (λ (ms : List Mobile). find (has_number k) ms) (turn_mobiles target t.outs (record (before items) { controller = t.next }))
+  pub v_mobile : (target : Option Tenure) (t : Turn) (items : List RelayItem) (k : ℕ) → mobile_of (turned target t items) k ≡ mobile_of world k
+  v_mobile target t items k = ap (λ (ms : List Mobile). find (has_number k) ms) (turn_mobiles target t.outs (record (before items) { controller = t.next }))
 
-  pub v-coming : (target : Option Tenure) (t : Turn) (items : List RelayItem) (p : Place) → coming_up (turned target t items) p ≡ coming_up (before items) p
-  v-coming target t items p = turn-leads (λ v. coming_up v p ≡ coming_up (before items) p) target t (before items) (λ links. refl)
+  pub v_coming : (target : Option Tenure) (t : Turn) (items : List RelayItem) (p : Place) → coming_up (turned target t items) p ≡ coming_up (before items) p
+  v_coming target t items p = turn-leads (λ v. coming_up v p ≡ coming_up (before items) p) target t (before items) (λ links. refl)
 
-  pub v-initials : (target : Option Tenure) (t : Turn) (items : List RelayItem) (p : Place) → initials_up (turned target t items) p ≡ initials_up (before items) p
-  v-initials target t items p = turn-leads (λ v. initials_up v p ≡ initials_up (before items) p) target t (before items) (λ links. refl)
+  pub v_initials : (target : Option Tenure) (t : Turn) (items : List RelayItem) (p : Place) → initials_up (turned target t items) p ≡ initials_up (before items) p
+  v_initials target t items p = turn-leads (λ v. initials_up v p ≡ initials_up (before items) p) target t (before items) (λ links. refl)
 
-  pub v-data : (target : Option Tenure) (t : Turn) (items : List RelayItem) (p : Place) → data_up (turned target t items) p ≡ data_up (before items) p
-  v-data target t items p = turn-leads (λ v. data_up v p ≡ data_up (before items) p) target t (before items) (λ links. refl)
+  pub v_data : (target : Option Tenure) (t : Turn) (items : List RelayItem) (p : Place) → data_up (turned target t items) p ≡ data_up (before items) p
+  v_data target t items p = turn-leads (λ v. data_up v p ≡ data_up (before items) p) target t (before items) (λ links. refl)
 
-  pub v-tenure : (target : Option Tenure) (t : Turn) (items : List RelayItem) (p : Place) → tenure_at (turned target t items) p ≡ tenure_at world p
-  v-tenure target t items p = turn-leads (λ v. tenure_at v p ≡ tenure_at world p) target t (before items) (λ links. refl)
+  pub v_tenure : (target : Option Tenure) (t : Turn) (items : List RelayItem) (p : Place) → tenure_at (turned target t items) p ≡ tenure_at world p
+  v_tenure target t items p = turn-leads (λ v. tenure_at v p ≡ tenure_at world p) target t (before items) (λ links. refl)
 
-  pub v-taken : (target : Option Tenure) (t : Turn) (items : List RelayItem) (n : ℕ) → taken_of (turned target t items) n ≡ taken_of world n
-  v-taken target t items n = turn-leads (λ v. taken_of v n ≡ taken_of world n) target t (before items) (λ links. refl)
+  pub v_taken : (target : Option Tenure) (t : Turn) (items : List RelayItem) (n : ℕ) → taken_of (turned target t items) n ≡ taken_of world n
+  v_taken target t items n = turn-leads (λ v. taken_of v n ≡ taken_of world n) target t (before items) (λ links. refl)
 
   -- what is on its way up is no more than before
   pub record IsLess (items : List RelayItem) : Type 0 where
@@ -109,12 +109,12 @@ module _ (settings : Parameters) (done : List Event) (mobile : ℕ) (s : Connect
     pub initials : Sub (initials_up (before items) at) (initials_up world at)
     pub later : Sub (data_up (before items) at) (data_up world at)
 
-  pub first-of : (item : RelayItem) (items : List RelayItem) → world.inbox ≡ item ∷ items → coming_up world at ≡ brings_in at item ++ coming_up (before items) at
-  first-of item items stood = ap (λ (xs : List RelayItem). flat_map (brings_in at) xs ++ made_of at.number (base_of world at.station).messages) stood ∙ append_assoc (brings_in at item) (flat_map (brings_in at) items) (made_of at.number (base_of world at.station).messages)
+  pub first_of : (item : RelayItem) (items : List RelayItem) → world.inbox ≡ item ∷ items → coming_up world at ≡ brings_in at item ++ coming_up (before items) at
+  first_of item items stood = ap (λ (xs : List RelayItem). flat_map (brings_in at) xs ++ made_of at.number (base_of world at.station).messages) stood ∙ append_assoc (brings_in at item) (flat_map (brings_in at) items) (made_of at.number (base_of world at.station).messages)
 
-  pub behind-less : (item : RelayItem) (items : List RelayItem) → world.inbox ≡ item ∷ items → IsLess items
-  behind-less item items stood = record {
-    messages = subst (Sub (messages_in (coming_up (before items) at))) (sym (ap messages_in (first-of item items stood) ∙ messages_in-append (brings_in at item) (coming_up (before items) at))) (sub_behind (messages_in (brings_in at item)) (messages_in (coming_up (before items) at)));
+  pub behind_less : (item : RelayItem) (items : List RelayItem) → world.inbox ≡ item ∷ items → IsLess items
+  behind_less item items stood = record {
+    messages = subst (Sub (messages_in (coming_up (before items) at))) (sym (ap messages_in (first_of item items stood) ∙ messages_in-append (brings_in at item) (coming_up (before items) at))) (sub_behind (messages_in (brings_in at item)) (messages_in (coming_up (before items) at)));
     initials = sub_flat_map (initial_by at.number) ups;
     later = sub_flat_map (data_by at.number) ups;
   } where
@@ -123,63 +123,63 @@ module _ (settings : Parameters) (done : List Event) (mobile : ℕ) (s : Connect
 
   -- ---- it stays as it is
 
-  pub turn-comes : (target : Option Tenure) (t : Turn) (items : List RelayItem) (one : Mobile) → IsLess items → going_down (turned target t items) at ≡ going_down world at → (s.state ≡ WaitEstablish → AreLinedUp modulus world mobile s → AreLinedUp modulus (turned target t items) mobile s)
+  pub turn_comes : (target : Option Tenure) (t : Turn) (items : List RelayItem) (one : Mobile) → IsLess items → going_down (turned target t items) at ≡ going_down world at → (s.state ≡ WaitEstablish → AreLinedUp modulus world mobile s → AreLinedUp modulus (turned target t items) mobile s)
       → mobile_of world mobile ≡ Some one → Comes modulus world s one → Comes modulus (turned target t items) s one
-  turn-comes target t items one less down lined found (asks seat new none uncommanded) =
-      asks seat new (ap messages_in (v-coming target t items at) ∙ sub_nothing (subst (Sub (messages_in (coming_up (before items) at))) none less.messages)) (down ∙ uncommanded)
-  turn-comes target t items one less down lined found (arrived state seat own begun) =
+  turn_comes target t items one less down lined found (asks seat new none uncommanded) =
+      asks seat new (ap messages_in (v_coming target t items at) ∙ sub_nothing (subst (Sub (messages_in (coming_up (before items) at))) none less.messages)) (down ∙ uncommanded)
+  turn_comes target t items one less down lined found (arrived state seat own begun) =
       let after = lined state (record { one = one; found = found; lined = own }) in
-      arrived state (seat ∙ ap (λ (x : Tenure). On x None) (sym (v-tenure target t items at))) (subst (λ (x : Mobile). LinedUp modulus (turned target t items) x s) (same_Some _ _ (sym after.found ∙ v-mobile target t items mobile ∙ found)) after.lined) (once begun) where
+      arrived state (seat ∙ ap (λ (x : Tenure). On x None) (sym (v_tenure target t items at))) (subst (λ (x : Mobile). LinedUp modulus (turned target t items) x s) (same_Some _ _ (sym after.found ∙ v_mobile target t items mobile ∙ found)) after.lined) (once begun) where
         once : BeginsOnce world one at → BeginsOnce (turned target t items) one at
-        once (to_begin opens none behind) = to_begin opens (ap messages_in (v-coming target t items at) ∙ sub_nothing (subst (Sub (messages_in (coming_up (before items) at))) none less.messages)) behind
+        once (to_begin opens none behind) = to_begin opens (ap messages_in (v_coming target t items at) ∙ sub_nothing (subst (Sub (messages_in (coming_up (before items) at))) none less.messages)) behind
         once (began opens few none) =
-            began opens (let fewer = sub_length less.initials in let same = ap length (v-initials target t items at) in omega (arith, few, fewer, same))
-            (let fewer = controls_sub less.later in let same = ap controls_of (v-data target t items at) in omega (arith, none, fewer, same))
+            began opens (let fewer = sub_length less.initials in let same = ap length (v_initials target t items at) in omega (arith, few, fewer, same))
+            (let fewer = controls_sub less.later in let same = ap controls_of (v_data target t items at) in omega (arith, none, fewer, same))
 
-  pub stays-came : (target : Option Tenure) (t : Turn) (items : List RelayItem) (x : Connection) (coming : IsComing modulus world mobile s) → IsAged s x → connection_of t.next s.number ≡ Some x → Comes modulus (turned target t items) s coming.one → AreAssigned (turned target t items) mobile s → Came (IsComing modulus) modulus (turned target t items) mobile s.number
-  stays-came target t items x coming aged there comes assigned =
+  pub stays_came : (target : Option Tenure) (t : Turn) (items : List RelayItem) (x : Connection) (coming : IsComing modulus world mobile s) → IsAged s x → connection_of t.next s.number ≡ Some x → Comes modulus (turned target t items) s coming.one → AreAssigned (turned target t items) mobile s → Came (IsComing modulus) modulus (turned target t items) mobile s.number
+  stays_came target t items x coming aged there comes assigned =
       let like : IsLike s x = aged_like s x aged in
       still_comes x like.number (record {
         had = record {
-          there = ap (connection_of (turned target t items).controller) like.number ∙ ap (λ (c : Controller). connection_of c s.number) (v-controller target t items) ∙ there;
+          there = ap (connection_of (turned target t items).controller) like.number ∙ ap (λ (c : Controller). connection_of c s.number) (v_controller target t items) ∙ there;
           is_open = subst IsOpen (sym like.state) coming.had.is_open;
           from_one = subst (λ (n : ℕ). 1 ≤ n) (sym like.number) coming.had.from_one;
         };
         early = subst IsEarlyIn (sym like.state) coming.early;
         asked = ap (λ (r : _). r.access) like.request ∙ coming.asked;
         one = coming.one;
-        found = v-mobile target t items mobile ∙ coming.found;
+        found = v_mobile target t items mobile ∙ coming.found;
         comes = aged_comes s x aged comes;
         assigned = aged_assigned (turned target t items) mobile s x aged assigned;
       })
 
   -- ---- its channel was activated: its mobile is told
 
-  pub told-comes : (target : Option Tenure) (t : Turn) (items : List RelayItem) (one : Mobile) → s.state ≡ WaitActivation → IsLess items → going_down (turned target t items) at ≡ going_down world at → Comes modulus world s one → Comes modulus (turned target t items) (enter WaitEstablish s) one
-  told-comes target t items one state less down (asks seat new none uncommanded) =
-      asks seat new (ap messages_in (v-coming target t items at) ∙ sub_nothing (subst (Sub (messages_in (coming_up (before items) at))) none less.messages)) (down ∙ uncommanded)
-  told-comes target t items one state less down (arrived other seat own begun) = absurd (let both : WaitActivation ≡ WaitEstablish = sym state ∙ other in cc)
+  pub told_comes : (target : Option Tenure) (t : Turn) (items : List RelayItem) (one : Mobile) → s.state ≡ WaitActivation → IsLess items → going_down (turned target t items) at ≡ going_down world at → Comes modulus world s one → Comes modulus (turned target t items) (enter WaitEstablish s) one
+  told_comes target t items one state less down (asks seat new none uncommanded) =
+      asks seat new (ap messages_in (v_coming target t items at) ∙ sub_nothing (subst (Sub (messages_in (coming_up (before items) at))) none less.messages)) (down ∙ uncommanded)
+  told_comes target t items one state less down (arrived other seat own begun) = absurd (let both : WaitActivation ≡ WaitEstablish = sym state ∙ other in cc)
 
-  passes-told : {v : Actors} {one : Mobile} (ms : ℕ) (x : Connection) → Comes modulus v (enter WaitEstablish x) one → Comes modulus v (enter WaitEstablish (after_pass ms x)) one
-  passes-told ms x (asks seat new none uncommanded) = asks seat new none uncommanded
-  passes-told ms x (arrived state seat lined begun) = arrived state seat (record { alive = lined.alive; sits = lined.sits; led = lined.led; none_on_target = lined.none_on_target; apart = lined.apart; placed = lined.placed }) begun
+  passes_told : {v : Actors} {one : Mobile} (ms : ℕ) (x : Connection) → Comes modulus v (enter WaitEstablish x) one → Comes modulus v (enter WaitEstablish (after_pass ms x)) one
+  passes_told ms x (asks seat new none uncommanded) = asks seat new none uncommanded
+  passes_told ms x (arrived state seat lined begun) = arrived state seat (record { alive = lined.alive; sits = lined.sits; led = lined.led; none_on_target = lined.none_on_target; apart = lined.apart; placed = lined.placed }) begun
 
-  pub told-came : (target : Option Tenure) (t : Turn) (items : List RelayItem) (x : Connection) (coming : IsComing modulus world mobile s) → IsAged s x → connection_of t.next s.number ≡ Some (enter WaitEstablish x) → Comes modulus (turned target t items) (enter WaitEstablish s) coming.one → AreAssigned (turned target t items) mobile (enter WaitEstablish s)
+  pub told_came : (target : Option Tenure) (t : Turn) (items : List RelayItem) (x : Connection) (coming : IsComing modulus world mobile s) → IsAged s x → connection_of t.next s.number ≡ Some (enter WaitEstablish x) → Comes modulus (turned target t items) (enter WaitEstablish s) coming.one → AreAssigned (turned target t items) mobile (enter WaitEstablish s)
       → Came (IsComing modulus) modulus (turned target t items) mobile s.number
-  told-came target t items x coming aged there comes assigned =
+  told_came target t items x coming aged there comes assigned =
       let like : IsLike s x = aged_like s x aged in
       let v : Actors = turned target t items in
       still_comes (enter WaitEstablish x) like.number (record {
         had = record {
-          there = ap (connection_of v.controller) like.number ∙ ap (λ (c : Controller). connection_of c s.number) (v-controller target t items) ∙ there;
+          there = ap (connection_of v.controller) like.number ∙ ap (λ (c : Controller). connection_of c s.number) (v_controller target t items) ∙ there;
           is_open = tt;
           from_one = subst (λ (n : ℕ). 1 ≤ n) (sym like.number) coming.had.from_one;
         };
         early = tt;
         asked = ap (λ (r : _). r.access) like.request ∙ coming.asked;
         one = coming.one;
-        found = v-mobile target t items mobile ∙ coming.found;
-        comes = aged_holds (λ (y : Connection). Comes modulus v (enter WaitEstablish y) coming.one) (λ ms y c. passes-told ms y c) s x aged comes;
+        found = v_mobile target t items mobile ∙ coming.found;
+        comes = aged_holds (λ (y : Connection). Comes modulus v (enter WaitEstablish y) coming.one) (λ ms y c. passes_told ms y c) s x aged comes;
         assigned = aged_holds (λ (y : Connection). AreAssigned v mobile (enter WaitEstablish y)) (λ ms y a. a) s x aged assigned;
       })
 
@@ -188,12 +188,12 @@ module _ (settings : Parameters) (done : List Event) (mobile : ℕ) (s : Connect
   here : is_at at s.serving ≡ true
   here = ap (λ (b : Bool). b && nat_eq s.serving.number s.serving.number) (eq-eqb s.serving.station s.serving.station refl) ∙ eq-eqb s.serving.number s.serving.number refl
 
-  pub asks-lined : (target : Option Tenure) (t : Turn) (items : List RelayItem) (initial : List ℕ) (one : Mobile) → s.state ≡ WaitEstablish → IsBareOf s → one.seat ≡ On (tenure_at world at) None → LinedUp modulus world one s → s.serving.station ≢ SWITCH_LINK
+  pub asks_lined : (target : Option Tenure) (t : Turn) (items : List RelayItem) (initial : List ℕ) (one : Mobile) → s.state ≡ WaitEstablish → IsBareOf s → one.seat ≡ On (tenure_at world at) None → LinedUp modulus world one s → s.serving.station ≢ SWITCH_LINK
       → coming_up world at ≡ brought initial ∷ coming_up (turned target t items) at → going_down (turned target t items) at ≡ going_down world at → waiting_of world s.number ≡ [] → taken_of world s.number ≡ [] → waiting_of (turned target t items) s.number ≡ initial ∷ []
       → controls_in (coming_up (turned target t items) at) + controls_of (to_be_taken one.end.zero) ≡ 0 → LinedUp modulus (turned target t items) one (enter WaitConfirm s)
-  asks-lined target t items initial one state bare seat lined placed came down unsaid untaken said left = record {
+  asks_lined target t items initial one state bare seat lined placed came down unsaid untaken said left = record {
     alive = subst (Alive modulus) (sym reads) (requests_alive one.end.sent one.end.zero initial (coming_up v at) (not (is_station_up world s.serving.station)) left (subst (Alive modulus) was lined.alive));
-    sits = rw (seat, sym (v-tenure target t items at)) (sits_stays refl nothing);
+    sits = rw (seat, sym (v_tenure target t items at)) (sits_stays refl nothing);
     led = rw (down, quiet) tt;
     none_on_target = tt;
     apart = rw (bare.draining) (tt, tt);
@@ -212,4 +212,4 @@ module _ (settings : Parameters) (done : List Event) (mobile : ℕ) (s : Connect
     was = rw (state, bare.draining, bare.tenures, seat, here, quiet, unsaid, untaken, came) refl
 
     reads : line_up v one (enter WaitConfirm s) ≡ assembled one.end.sent one.end.zero on_serving WaitConfirm 0 [] (of_items (coming_up v at) (not (is_station_up world s.serving.station))) fresh (flow (initial ∷ [])) []
-    reads = rw (bare.draining, bare.tenures, seat, here, down, quiet, said, v-taken target t items s.number, untaken, up) refl
+    reads = rw (bare.draining, bare.tenures, seat, here, down, quiet, said, v_taken target t items s.number, untaken, up) refl

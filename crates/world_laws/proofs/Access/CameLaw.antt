@@ -32,11 +32,11 @@ use Rattle.world_laws.specs.Access.Requested.Came.{comes as still_comes, goes as
 use Rattle.world_laws.proofs.Access.Beginning.{IsBareOf, bare_of}
 use Rattle.world_laws.proofs.Access.EarlyRows.{EarlyRow, early_row}
 use Rattle.world_laws.proofs.Access.EarlyRows.EarlyRow.{acked, asked as asks_switch, gone as row_gone}
-use Rattle.world_laws.proofs.Access.Came.{IsLess, IsLike, aged_like, behind-less, turned, v-controller}
-use Rattle.world_laws.proofs.Access.CameSteps.{Opens, acked-came, asked-came, not_time, opening_of, opens-with, quiet-came}
-use Rattle.world_laws.proofs.Access.Ignored.{ignored-silent, none_of_data}
-use Rattle.world_laws.proofs.Access.ForOthers.{all_without, item-others}
-use Rattle.world_laws.proofs.Access.Numbered.{step-another}
+use Rattle.world_laws.proofs.Access.Came.{IsLess, IsLike, aged_like, behind_less, turned, v_controller}
+use Rattle.world_laws.proofs.Access.CameSteps.{Opens, acked_came, asked_came, not_time, opening_of, opens-with, quiet_came}
+use Rattle.world_laws.proofs.Access.Ignored.{ignored_silent, none_of_data}
+use Rattle.world_laws.proofs.Access.ForOthers.{all_without, item_others}
+use Rattle.world_laws.proofs.Access.Numbered.{step_another}
 use Rattle.world_laws.proofs.Apart.{all_both}
 use Rattle.world_laws.proofs.Events.{snoc_actors, snoc_steps}
 use Rattle.world_laws.proofs.Framing.{all_left, all_right}
@@ -71,16 +71,16 @@ module _ (settings : Parameters) (done : List Event) (mobile : ℕ) (s : Connect
     opening : (place : Place) (initial : List ℕ) → IsBrought (brought_in world.controller s.number st) (inputs.EstablishIndication place Zero (Some initial)) → is_at place s.serving ≡ true → Opens settings done mobile s items initial
     sits : AllSitBy owner (after target (step world.controller st) items)
 
-  acts-came : (st : Step) (target : Option Tenure) (items : List RelayItem) (owner : Tenure → ℕ) (coming : IsComing modulus world mobile s) → AreAllowed settings → IsKnown modulus world mobile s → is_up world SWITCH_LINK ≡ true → Stepping st target items owner
+  acts_came : (st : Step) (target : Option Tenure) (items : List RelayItem) (owner : Tenure → ℕ) (coming : IsComing modulus world mobile s) → AreAllowed settings → IsKnown modulus world mobile s → is_up world SWITCH_LINK ≡ true → Stepping st target items owner
       → (next : ℕ) (up : Bool) (was now : Option Connection) (put : List Message) → Acts s.number next up (brought_in world.controller s.number st) was put now → was ≡ Some s → connection_of (step world.controller st).next s.number ≡ now → outs_for s.number (step world.controller st).outs ≡ outs_of s.number put
       → Came (IsComing modulus) modulus (after target (step world.controller st) items) mobile s.number
-  acts-came st target items owner coming allowed known switch h next up was now put (rests silent is none) there leads outs =
+  acts_came st target items owner coming allowed known switch h next up was now put (rests silent is none) there leads outs =
       let same : connection_of (step world.controller st).next s.number ≡ Some s = leads ∙ is ∙ there in
-      quiet-came settings done mobile s target (step world.controller st) items s coming h.less ([], refl) same (outs ∙ ap (outs_of s.number) silent) h.beside (h.still (subst (FitsNone (brought_in world.controller s.number st)) there none))
-  acts-came st target items owner coming allowed known switch h next up was now put (ages old x by_time is aged silent is_now) there leads outs =
-      quiet-came settings done mobile s target (step world.controller st) items x coming h.less (subst (λ (o : Connection). IsAged o x) (same_Some _ _ (sym is ∙ there)) aged) (leads ∙ is_now) (outs ∙ ap (outs_of s.number) silent) h.beside (h.aging by_time)
-  acts-came st target items owner coming allowed known switch h next up was now put (begins is linked channel request delay none_brought none put_is is_now) there leads outs = absurd (let both : None ≡ Some s = sym none ∙ there in cc)
-  acts-came st target items owner coming allowed known switch h next up was now put (goes_by old s1 input offer r is aged brought_it fits put_is is_now) there leads outs = by (early_row s1 input offer r (subst IsEarlyIn (sym like.state) coming.early) fits) where
+      quiet_came settings done mobile s target (step world.controller st) items s coming h.less ([], refl) same (outs ∙ ap (outs_of s.number) silent) h.beside (h.still (subst (FitsNone (brought_in world.controller s.number st)) there none))
+  acts_came st target items owner coming allowed known switch h next up was now put (ages old x by_time is aged silent is_now) there leads outs =
+      quiet_came settings done mobile s target (step world.controller st) items x coming h.less (subst (λ (o : Connection). IsAged o x) (same_Some _ _ (sym is ∙ there)) aged) (leads ∙ is_now) (outs ∙ ap (outs_of s.number) silent) h.beside (h.aging by_time)
+  acts_came st target items owner coming allowed known switch h next up was now put (begins is linked channel request delay none_brought none put_is is_now) there leads outs = absurd (let both : None ≡ Some s = sym none ∙ there in cc)
+  acts_came st target items owner coming allowed known switch h next up was now put (goes_by old s1 input offer r is aged brought_it fits put_is is_now) there leads outs = by (early_row s1 input offer r (subst IsEarlyIn (sym like.state) coming.early) fits) where
     own_aged : IsAged s s1
     own_aged = subst (λ (o : Connection). IsAged o s1) (same_Some _ _ (sym is ∙ there)) aged
 
@@ -94,50 +94,50 @@ module _ (settings : Parameters) (done : List Event) (mobile : ℕ) (s : Connect
     puts = outs ∙ ap (outs_of s.number) put_is
 
     by : EarlyRow s1 input r → Came (IsComing modulus) modulus (after target (step world.controller st) items) mobile s.number
-    by (row_gone over) = is_gone (λ still_there. subst IsThere (ap (λ (c : Controller). connection_of c s.number) (v-controller settings done mobile s target (step world.controller st) items) ∙ own ∙ ap (λ (x : State). kept_in x r.next) over) still_there)
+    by (row_gone over) = is_gone (λ still_there. subst IsThere (ap (λ (c : Controller). connection_of c s.number) (v_controller settings done mobile s target (step world.controller st) items) ∙ own ∙ ap (λ (x : State). kept_in x r.next) over) still_there)
     by (acked state row_is) =
-        acked-came settings done mobile s target (step world.controller st) items s1 coming h.less own_aged state (own ∙ ap (λ (x : Row). kept x.next) row_is) (puts ∙ ap (λ (x : Row). outs_of s.number x.outs) row_is) h.sent h.beside
+        acked_came settings done mobile s target (step world.controller st) items s1 coming h.less own_aged state (own ∙ ap (λ (x : Row). kept x.next) row_is) (puts ∙ ap (λ (x : Row). outs_of s.number x.outs) row_is) h.sent h.beside
     by (asks_switch state place initial input_is here row_is) =
-        asked-came settings done mobile s target (step world.controller st) items s1 initial owner coming allowed known h.less own_aged state
+        asked_came settings done mobile s target (step world.controller st) items s1 initial owner coming allowed known h.less own_aged state
         (h.opening place initial (subst (IsBrought (brought_in world.controller s.number st)) input_is brought_it) (subst (λ (c : Channel). is_at place c ≡ true) like.serving here)) switch
         (own ∙ ap (λ (x : Row). kept x.next) row_is) (puts ∙ ap (λ (x : Row). outs_of s.number x.outs) row_is) h.sent h.beside h.sits
 
-  step-came : (st : Step) (target : Option Tenure) (items : List RelayItem) (owner : Tenure → ℕ) (coming : IsComing modulus world mobile s) → AreAllowed settings → IsKnown modulus world mobile s → is_up world SWITCH_LINK ≡ true → Stepping st target items owner → Came (IsComing modulus) modulus (after target (step world.controller st) items) mobile s.number
-  step-came st target items owner coming allowed known switch h =
+  step_came : (st : Step) (target : Option Tenure) (items : List RelayItem) (owner : Tenure → ℕ) (coming : IsComing modulus world mobile s) → AreAllowed settings → IsKnown modulus world mobile s → is_up world SWITCH_LINK ≡ true → Stepping st target items owner → Came (IsComing modulus) modulus (after target (step world.controller st) items) mobile s.number
+  step_came st target items owner coming allowed known switch h =
       let acts : ActsOn s.number world.controller st = subst (λ (c : Controller). ActsOn s.number c st) (sym (LivesByTable-new settings done)) (life_acts settings (all_steps (new_actors settings) done) st s.number coming.had.from_one) in
-      acts-came st target items owner coming allowed known switch h world.controller.next_number _ (connection_of world.controller s.number) (connection_of (step world.controller st).next s.number) acts.put acts.acts coming.had.there refl acts.outs
+      acts_came st target items owner coming allowed known switch h world.controller.next_number _ (connection_of world.controller s.number) (connection_of (step world.controller st).next s.number) acts.put acts.acts coming.had.there refl acts.outs
 
   -- what is put for others names other mobiles
-  beside-all : (st : Step) (target : Option Tenure) → AreOneEach world → IsComing modulus world mobile s → AllByRecursion IsSent (step world.controller st).outs → AreForOthers target s (step world.controller st).outs → AreBeside target mobile s (step world.controller st).outs
-  beside-all st target one_each coming sent others =
+  beside_all : (st : Step) (target : Option Tenure) → AreOneEach world → IsComing modulus world mobile s → AllByRecursion IsSent (step world.controller st).outs → AreForOthers target s (step world.controller st).outs → AreBeside target mobile s (step world.controller st).outs
+  beside_all st target one_each coming sent others =
       let steps : List Step = all_steps (new_actors settings) done in
       let lives = LivesByTable-new settings done in
       let numbered : IsNumbered world.controller = subst IsNumbered (sym lives) (life_fits settings steps 1 (omega arith)).numbered in
       all_both (λ (out : Out). out.conn ≢ s.number → IsForOthers target s out) (λ (out : Out). out.conn ≢ s.number → AssignsAnother mobile (rsl_in out.frame)) (λ (out : Out). out.conn ≢ s.number → IsBeside target mobile s out) (step world.controller st).outs
       (λ out one two. λ differs. record { for_others = one differs; assigns = two differs }) others
-      (step-another world.controller s.number mobile s.serving (λ m t is same. one_each m s.number t s is coming.had.there (same ∙ sym coming.asked)) st numbered sent
+      (step_another world.controller s.number mobile s.serving (λ m t is same. one_each m s.number t s is coming.had.there (same ∙ sym coming.asked)) st numbered sent
       (λ m least. subst (λ (c : Controller). NamesItsMobile m c st) (sym lives) (life_names settings steps st m least)))
 
-  pub sends-at : (st : Step) → AreAllowed settings → AllByRecursion ComesInOctets (all_steps (new_actors settings) done) → ComesInOctets st → AllByRecursion IsSent (step world.controller st).outs
-  sends-at st allowed octets own = subst (λ (c : Controller). AllByRecursion IsSent (step c st).outs) (sym (LivesByTable-new settings done)) (life_sends settings (all_steps (new_actors settings) done) st allowed octets own)
+  pub sends_at : (st : Step) → AreAllowed settings → AllByRecursion ComesInOctets (all_steps (new_actors settings) done) → ComesInOctets st → AllByRecursion IsSent (step world.controller st).outs
+  sends_at st allowed octets own = subst (λ (c : Controller). AllByRecursion IsSent (step c st).outs) (sym (LivesByTable-new settings done)) (life_sends settings (all_steps (new_actors settings) done) st allowed octets own)
 
-  sits-after : (event : Event) → AreAllowed settings → CameInOctets settings (done ++ event ∷ []) → AllSitBy (owner_in (new_actors settings) (done ++ event ∷ [])) (actors_after world event)
-  sits-after event allowed octets = subst (AllSitBy (owner_in (new_actors settings) (done ++ event ∷ []))) (snoc_actors (new_actors settings) done event) (mobiles_sit_on_theirs_new settings (done ++ event ∷ []) allowed octets)
+  sits_after : (event : Event) → AreAllowed settings → CameInOctets settings (done ++ event ∷ []) → AllSitBy (owner_in (new_actors settings) (done ++ event ∷ [])) (actors_after world event)
+  sits_after event allowed octets = subst (AllSitBy (owner_in (new_actors settings) (done ++ event ∷ []))) (snoc_actors (new_actors settings) done event) (mobiles_sit_on_theirs_new settings (done ++ event ∷ []) allowed octets)
 
   -- ---- it handles an item
 
-  pub handled-is : (items : List RelayItem) → world.inbox ≡ items → actors_after world events.Handle ≡ unwrap_or (handled items world) world
+  pub handled_is : (items : List RelayItem) → world.inbox ≡ items → actors_after world events.Handle ≡ unwrap_or (handled items world) world
   unfolding event_after
-  handled-is items stood = ap (λ (xs : List RelayItem). unwrap_or (handled xs world) world) stood
+  handled_is items stood = ap (λ (xs : List RelayItem). unwrap_or (handled xs world) world) stood
 
-  handle-came : AreAllowed settings → CameInOctets settings (done ++ events.Handle ∷ []) → is_up world SWITCH_LINK ≡ true → IsKnown modulus world mobile s → AcksAgree world s → AreOneEach world → IsComing modulus world mobile s → Came (IsComing modulus) modulus (actors_after world events.Handle) mobile s.number
-  handle-came allowed octets switch known acks one_each coming = by world.inbox refl where
+  handle_came : AreAllowed settings → CameInOctets settings (done ++ events.Handle ∷ []) → is_up world SWITCH_LINK ≡ true → IsKnown modulus world mobile s → AcksAgree world s → AreOneEach world → IsComing modulus world mobile s → Came (IsComing modulus) modulus (actors_after world events.Handle) mobile s.number
+  handle_came allowed octets switch known acks one_each coming = by world.inbox refl where
     both : AllByRecursion ComesInOctets (all_steps (new_actors settings) done ++ step_at world events.Handle)
     both = subst (AllByRecursion ComesInOctets) (snoc_steps (new_actors settings) done events.Handle) octets
 
     by : (items : List RelayItem) → world.inbox ≡ items → Came (IsComing modulus) modulus (actors_after world events.Handle) mobile s.number
-    by [] stood = subst (λ (v : Actors). Came (IsComing modulus) modulus v mobile s.number) (sym (handled-is [] stood)) (still_comes s refl coming)
-    by (item ∷ items) stood = subst (λ (v : Actors). Came (IsComing modulus) modulus v mobile s.number) (sym (handled-is (item ∷ items) stood)) (step-came (Take item) target items owner coming allowed known switch stepping) where
+    by [] stood = subst (λ (v : Actors). Came (IsComing modulus) modulus v mobile s.number) (sym (handled_is [] stood)) (still_comes s refl coming)
+    by (item ∷ items) stood = subst (λ (v : Actors). Came (IsComing modulus) modulus v mobile s.number) (sym (handled_is (item ∷ items) stood)) (step_came (Take item) target items owner coming allowed known switch stepping) where
       target : Option Tenure
       target = target_in world item.source item.what
 
@@ -148,33 +148,33 @@ module _ (settings : Parameters) (done : List Event) (mobile : ℕ) (s : Connect
       own_octets = (subst (λ (xs : List RelayItem). AllByRecursion ComesInOctets (first_taken xs)) stood (all_right ComesInOctets (all_steps (new_actors settings) done) (step_at world events.Handle) both)).0
 
       keeps_off : AreBeside target mobile s (take item world.controller).outs
-      keeps_off = beside-all (Take item) target one_each coming (sends-at (Take item) allowed (all_left ComesInOctets (all_steps (new_actors settings) done) (step_at world events.Handle) both) own_octets) (item-others settings done s item allowed (all_left ComesInOctets (all_steps (new_actors settings) done) (step_at world events.Handle) both) own_octets coming.had.from_one coming.had)
+      keeps_off = beside_all (Take item) target one_each coming (sends_at (Take item) allowed (all_left ComesInOctets (all_steps (new_actors settings) done) (step_at world events.Handle) both) own_octets) (item_others settings done s item allowed (all_left ComesInOctets (all_steps (new_actors settings) done) (step_at world events.Handle) both) own_octets coming.had.from_one coming.had)
 
       still : FitsNone (brought_in world.controller s.number (Take item)) (Some s) → AllByRecursion (IsForOthers target s) (take item world.controller).outs → s.state ≡ WaitEstablish → AreLinedUp modulus world mobile s → AreLinedUp modulus (after target (take item world.controller) items) mobile s
       still fits_none others state lined =
           let bare : IsBareOf s = bare_of s state (connections_stand_new settings done s.number s coming.had.there) in
-          let silent : BringsNothing s item = rw (bare.draining, state) (ignored-silent settings done mobile s item items allowed coming.had stood acks state (none_of_data coming.comes) fits_none, tt) in
-          subst (λ (v : Actors). AreLinedUp modulus v mobile s) (handled-is (item ∷ items) stood) (relay_leaves_others_new settings done mobile s (subst (IsOthers world s) (sym stood) (silent, others)) lined)
+          let silent : BringsNothing s item = rw (bare.draining, state) (ignored_silent settings done mobile s item items allowed coming.had stood acks state (none_of_data coming.comes) fits_none, tt) in
+          subst (λ (v : Actors). AreLinedUp modulus v mobile s) (handled_is (item ∷ items) stood) (relay_leaves_others_new settings done mobile s (subst (IsOthers world s) (sym stood) (silent, others)) lined)
 
       stepping : Stepping (Take item) target items owner
       stepping = record {
-        less = behind-less settings done mobile s item items stood;
-        sent = sends-at (Take item) allowed (all_left ComesInOctets (all_steps (new_actors settings) done) (step_at world events.Handle) both) own_octets;
+        less = behind_less settings done mobile s item items stood;
+        sent = sends_at (Take item) allowed (all_left ComesInOctets (all_steps (new_actors settings) done) (step_at world events.Handle) both) own_octets;
         beside = keeps_off;
         still = still;
         aging = λ by_time. absurd (not_time world.controller s.number item by_time);
         opening = λ place initial brought_it here. opens-with settings done mobile s item items place initial stood (opening_of world.controller s.number item place initial brought_it) here;
-        sits = subst (AllSitBy owner) (handled-is (item ∷ items) stood) (sits-after events.Handle allowed octets);
+        sits = subst (AllSitBy owner) (handled_is (item ∷ items) stood) (sits_after events.Handle allowed octets);
       }
 
   -- ---- time passes
 
-  tick-is : (ms : ℕ) → actors_after world (events.Tick ms) ≡ after None (tick ms world.controller) world.inbox
+  tick_is : (ms : ℕ) → actors_after world (events.Tick ms) ≡ after None (tick ms world.controller) world.inbox
   unfolding event_after
-  tick-is ms = refl
+  tick_is ms = refl
 
-  tick-came : (ms : ℕ) → AreAllowed settings → CameInOctets settings (done ++ events.Tick ms ∷ []) → is_up world SWITCH_LINK ≡ true → IsKnown modulus world mobile s → AreOneEach world → IsComing modulus world mobile s → Came (IsComing modulus) modulus (actors_after world (events.Tick ms)) mobile s.number
-  tick-came ms allowed octets switch known one_each coming = subst (λ (v : Actors). Came (IsComing modulus) modulus v mobile s.number) (sym (tick-is ms)) (step-came (Tick ms) None world.inbox owner coming allowed known switch stepping) where
+  tick_came : (ms : ℕ) → AreAllowed settings → CameInOctets settings (done ++ events.Tick ms ∷ []) → is_up world SWITCH_LINK ≡ true → IsKnown modulus world mobile s → AreOneEach world → IsComing modulus world mobile s → Came (IsComing modulus) modulus (actors_after world (events.Tick ms)) mobile s.number
+  tick_came ms allowed octets switch known one_each coming = subst (λ (v : Actors). Came (IsComing modulus) modulus v mobile s.number) (sym (tick_is ms)) (step_came (Tick ms) None world.inbox owner coming allowed known switch stepping) where
     owner : Tenure → ℕ
     owner = owner_in (new_actors settings) (done ++ events.Tick ms ∷ [])
 
@@ -182,20 +182,20 @@ module _ (settings : Parameters) (done : List Event) (mobile : ℕ) (s : Connect
     both = subst (AllByRecursion ComesInOctets) (snoc_steps (new_actors settings) done (events.Tick ms)) octets
 
     ages_on : AllByRecursion (IsForOthers None s) (tick ms world.controller).outs → s.state ≡ WaitEstablish → AreLinedUp modulus world mobile s → AreLinedUp modulus (after None (tick ms world.controller) world.inbox) mobile s
-    ages_on others state lined = subst (λ (v : Actors). AreLinedUp modulus v mobile s) (tick-is ms) (time_leaves_others_new settings done ms mobile s others lined)
+    ages_on others state lined = subst (λ (v : Actors). AreLinedUp modulus v mobile s) (tick_is ms) (time_leaves_others_new settings done ms mobile s others lined)
 
     stepping : Stepping (Tick ms) None world.inbox owner
     stepping = record {
       less = record { messages = sub_itself (messages_in (coming_up world at)); initials = sub_itself (initials_up world at); later = sub_itself (data_up world at) };
-      sent = sends-at (Tick ms) allowed (all_left ComesInOctets (all_steps (new_actors settings) done) (step_at world (events.Tick ms)) both) tt;
-      beside = beside-all (Tick ms) None one_each coming (sends-at (Tick ms) allowed (all_left ComesInOctets (all_steps (new_actors settings) done) (step_at world (events.Tick ms)) both) tt) (all_without s (tick ms world.controller).outs);
+      sent = sends_at (Tick ms) allowed (all_left ComesInOctets (all_steps (new_actors settings) done) (step_at world (events.Tick ms)) both) tt;
+      beside = beside_all (Tick ms) None one_each coming (sends_at (Tick ms) allowed (all_left ComesInOctets (all_steps (new_actors settings) done) (step_at world (events.Tick ms)) both) tt) (all_without s (tick ms world.controller).outs);
       still = λ fits_none. ages_on;
       aging = λ by_time. ages_on;
       opening = λ place initial brought_it here. absurd (timer_not place initial brought_it);
-      sits = subst (AllSitBy owner) (tick-is ms) (sits-after (events.Tick ms) allowed octets);
+      sits = subst (AllSitBy owner) (tick_is ms) (sits_after (events.Tick ms) allowed octets);
     }
 
 pub controller_brings_coming_new : (settings : Parameters) (done : List Event) (event : Event) → ControllerBringsComing settings done event
-controller_brings_coming_new settings done events.Handle mobile s is allowed octets switch known acks one_each coming = handle-came settings done mobile s allowed octets switch known acks one_each coming
-controller_brings_coming_new settings done (events.Tick ms) mobile s is allowed octets switch known acks one_each coming = tick-came settings done mobile s ms allowed octets switch known one_each coming
+controller_brings_coming_new settings done events.Handle mobile s is allowed octets switch known acks one_each coming = handle_came settings done mobile s allowed octets switch known acks one_each coming
+controller_brings_coming_new settings done (events.Tick ms) mobile s is allowed octets switch known acks one_each coming = tick_came settings done mobile s ms allowed octets switch known one_each coming
 controller_brings_coming_new settings done event mobile s is allowed octets switch known acks one_each coming = absurd cc

@@ -44,8 +44,8 @@ use Rattle.world_laws.proofs.Access.Brings.{Establishes, frame_establishes}
 use Rattle.world_laws.proofs.Access.Served.{served_by}
 use Rattle.world_laws.proofs.Access.Turning.{all_down, all_zero, another_assigns, assigned_turn, assigns_own, command_of, none_own, of_all}
 use Rattle.world_laws.proofs.Access.Turning.{own_among, own_assigns, own_leads}
-use Rattle.world_laws.proofs.Access.Came.{IsLess, IsLike, aged_like, asks-lined, before, stays-came, told-came, told-comes, turn-comes}
-use Rattle.world_laws.proofs.Access.Came.{turned, v-controller, v-initials, v-mobile, v-tenure, v-coming}
+use Rattle.world_laws.proofs.Access.Came.{IsLess, IsLike, aged_like, asks_lined, before, stays_came, told_came, told_comes, turn_comes}
+use Rattle.world_laws.proofs.Access.Came.{turned, v_controller, v_initials, v_mobile, v_tenure, v_coming}
 use Rattle.world_laws.proofs.Access.Upcoming.{controls-up}
 use Rattle.dtap_codec.specs.RrReading.{rr_reading}
 use Rattle.world_laws.proofs.Apart.{all_both}
@@ -119,18 +119,18 @@ not_time c n item = by (hears c item.source) item.what where
     either true is = absurd cc
     either false is = absurd cc
 
-  by-said : (word : Word) → brought_by c n word ≡ brings_time → ⊥
-  by-said (OnChannel holds input) is = held (holder (channel_state c holds)) input is
-  by-said (OnConnection d input) is = held (Some d) input is
-  by-said (Reports p of report) is = absurd cc
-  by-said Nothing is = absurd cc
-  by-said Ping is = absurd cc
-  by-said (Asks request delay) is = absurd cc
+  by_said : (word : Word) → brought_by c n word ≡ brings_time → ⊥
+  by_said (OnChannel holds input) is = held (holder (channel_state c holds)) input is
+  by_said (OnConnection d input) is = held (Some d) input is
+  by_said (Reports p of report) is = absurd cc
+  by_said Nothing is = absurd cc
+  by_said Ping is = absurd cc
+  by_said (Asks request delay) is = absurd cc
 
   by : (b : Bool) (what : What) → (if b then brought_with c n item.source what else brings_nothing) ≡ brings_time → ⊥
   by false what is = absurd cc
   by true whats.Down is = absurd cc
-  by true (whats.Frame frame) is = by-said (word_of item.source frame) is
+  by true (whats.Frame frame) is = by_said (word_of item.source frame) is
 
 to-switch : (n : ℕ) (c : Channel) (initial : List ℕ) → (out_of n (complete_layer3 c initial)).to ≡ SWITCH_LINK
 unfolding out_of
@@ -187,22 +187,22 @@ module _ (settings : Parameters) (done : List Event) (mobile : ℕ) (s : Connect
 
   -- ---- nothing is put for it
 
-  pub quiet-came : (target : Option Tenure) (t : Turn) (items : List RelayItem) (x : Connection) (coming : IsComing modulus world mobile s) → IsLess settings done mobile s items → IsAged s x → connection_of t.next s.number ≡ Some x → outs_for s.number t.outs ≡ []
+  pub quiet_came : (target : Option Tenure) (t : Turn) (items : List RelayItem) (x : Connection) (coming : IsComing modulus world mobile s) → IsLess settings done mobile s items → IsAged s x → connection_of t.next s.number ≡ Some x → outs_for s.number t.outs ≡ []
       → AreBeside target mobile s t.outs → (AllByRecursion (IsForOthers target s) t.outs → s.state ≡ WaitEstablish → AreLinedUp modulus world mobile s → AreLinedUp modulus (after target t items) mobile s) → Came (IsComing modulus) modulus (after target t items) mobile s.number
-  quiet-came target t items x coming less aged there none beside lined =
+  quiet_came target t items x coming less aged there none beside lined =
       let all : AllByRecursion (IsBeside target mobile s) t.outs = all_both (λ (out : Out). out.conn ≢ s.number) (λ (out : Out). out.conn ≢ s.number → IsBeside target mobile s out) (IsBeside target mobile s) t.outs (λ out other is. is other) (none_own s.number t.outs none) beside in
       let u : Actors = record (waiting items) { controller = t.next } in
       let down : going_down (after target t items) at ≡ going_down world at = all_down target s.serving t.outs u (all_both (IsBeside target mobile s) (IsBeside target mobile s) (λ (out : Out). out.to ≡ s.serving.station → leading_from_outbox s.serving.number (entry_of target out) ≡ []) t.outs (λ out one two. one.for_others.leads.0) all all) in
       let others : AllByRecursion (IsForOthers target s) t.outs = all_both (IsBeside target mobile s) (IsBeside target mobile s) (IsForOthers target s) t.outs (λ out one two. one.for_others) all all in
       let assigned : AreAssigned (after target t items) mobile s = assigned_turn mobile s target t.outs u (λ station. coming.assigned station) (all_both (IsBeside target mobile s) (IsBeside target mobile s) (λ (out : Out). AssignsBy mobile s out.to (rsl_in out.frame)) t.outs (λ out one two. another_assigns mobile s out.to (rsl_in out.frame) one.assigns) all all) in
-      stays-came settings done mobile s target t items x coming aged there (turn-comes settings done mobile s target t items coming.one less down (lined others) coming.found coming.comes) assigned
+      stays_came settings done mobile s target t items x coming aged there (turn_comes settings done mobile s target t items coming.one less down (lined others) coming.found coming.comes) assigned
 
   -- ---- it is told its channel
 
-  own-at : (target : Option Tenure) (s1 : Connection) (out : Out) → IsLike s s1 → IsSent out → (x : Message) × (out ≡ out_of s.number x) × (x ≡ immediate_assign_command s1.serving s1.request s1.delay)
+  own_at : (target : Option Tenure) (s1 : Connection) (out : Out) → IsLike s s1 → IsSent out → (x : Message) × (out ≡ out_of s.number x) × (x ≡ immediate_assign_command s1.serving s1.request s1.delay)
       → (out.to ≡ s.serving.station → leading_from_outbox s.serving.number (entry_of target out) ≡ []) × AssignsBy mobile (enter WaitEstablish s) out.to (rsl_in out.frame)
   unfolding out_of
-  own-at target s1 out like sent own =
+  own_at target s1 out like sent own =
       let is : out ≡ out_of s.number (immediate_assign_command s1.serving s1.request s1.delay) = own.1 ∙ ap (out_of s.number) own.2 in
       let reads = assigns_own s.number s1.serving s1.request s1.delay (subst IsSent is sent) in
       let frame : rsl_in out.frame ≡ Some reads.as_read = ap (λ (o : Out). rsl_in o.frame) is ∙ reads.reads in
@@ -212,25 +212,25 @@ module _ (settings : Parameters) (done : List Event) (mobile : ℕ) (s : Connect
             (own_assigns mobile (enter WaitEstablish s) s1.serving s1.request s1.delay reads.as_read reads.text (λ number same. (ap (place_at s1.serving.station) same ∙ ap place_of like.serving, refl)))),
       )
 
-  pub acked-came : (target : Option Tenure) (t : Turn) (items : List RelayItem) (s1 : Connection) (coming : IsComing modulus world mobile s) → IsLess settings done mobile s items → IsAged s s1 → s1.state ≡ WaitActivation → connection_of t.next s.number ≡ Some (enter WaitEstablish s1)
+  pub acked_came : (target : Option Tenure) (t : Turn) (items : List RelayItem) (s1 : Connection) (coming : IsComing modulus world mobile s) → IsLess settings done mobile s items → IsAged s s1 → s1.state ≡ WaitActivation → connection_of t.next s.number ≡ Some (enter WaitEstablish s1)
       → outs_for s.number t.outs ≡ outs_of s.number (immediate_assign_command s1.serving s1.request s1.delay ∷ []) → AllByRecursion IsSent t.outs → AreBeside target mobile s t.outs → Came (IsComing modulus) modulus (after target t items) mobile s.number
-  acked-came target t items s1 coming less aged state there put sent beside =
+  acked_came target t items s1 coming less aged state there put sent beside =
       let like : IsLike s s1 = aged_like s s1 aged in
       let u : Actors = record (waiting items) { controller = t.next } in
       let own = own_among (λ (x : Message). x ≡ immediate_assign_command s1.serving s1.request s1.delay) s.number t.outs (immediate_assign_command s1.serving s1.request s1.delay ∷ []) put (refl, tt) in
       let both = all_both (λ (out : Out). out.conn ≡ s.number → (x : Message) × (out ≡ out_of s.number x) × (x ≡ immediate_assign_command s1.serving s1.request s1.delay)) IsSent
-      (λ (out : Out). out.conn ≡ s.number → (out.to ≡ s.serving.station → leading_from_outbox s.serving.number (entry_of target out) ≡ []) × AssignsBy mobile (enter WaitEstablish s) out.to (rsl_in out.frame)) t.outs (λ out is is_sent. λ same. own-at target s1 out like is_sent (is same)) own sent in
+      (λ (out : Out). out.conn ≡ s.number → (out.to ≡ s.serving.station → leading_from_outbox s.serving.number (entry_of target out) ≡ []) × AssignsBy mobile (enter WaitEstablish s) out.to (rsl_in out.frame)) t.outs (λ out is is_sent. λ same. own_at target s1 out like is_sent (is same)) own sent in
       let all = of_all (IsBeside target mobile s) (λ (out : Out). (out.to ≡ s.serving.station → leading_from_outbox s.serving.number (entry_of target out) ≡ []) × AssignsBy mobile (enter WaitEstablish s) out.to (rsl_in out.frame)) s.number t.outs
       (λ out one. (one.for_others.leads.0, another_assigns mobile (enter WaitEstablish s) out.to (rsl_in out.frame) one.assigns)) beside both in
       let down : going_down (after target t items) at ≡ going_down world at = all_down target s.serving t.outs u (all_both _ _ (λ (out : Out). out.to ≡ s.serving.station → leading_from_outbox s.serving.number (entry_of target out) ≡ []) t.outs (λ out one two. one.0) all all) in
       let assigned : AreAssigned (after target t items) mobile (enter WaitEstablish s) = assigned_turn mobile (enter WaitEstablish s) target t.outs u (λ station. told_all mobile s station (outbox_of world station) (coming.assigned station)) (all_both _ _ (λ (out : Out). AssignsBy mobile (enter WaitEstablish s) out.to (rsl_in out.frame)) t.outs (λ out one two. one.1) all all) in
-      told-came settings done mobile s target t items s1 coming aged there (told-comes settings done mobile s target t items coming.one (sym like.state ∙ state) less down coming.comes) assigned
+      told_came settings done mobile s target t items s1 coming aged there (told_comes settings done mobile s target t items coming.one (sym like.state ∙ state) less down coming.comes) assigned
 
   -- ---- it asks the switch
 
-  pub asked-came : (target : Option Tenure) (t : Turn) (items : List RelayItem) (s1 : Connection) (initial : List ℕ) (owner : Tenure → ℕ) (coming : IsComing modulus world mobile s) → AreAllowed settings → IsKnown modulus world mobile s → IsLess settings done mobile s items → IsAged s s1 → s1.state ≡ WaitEstablish → Opens items initial → is_up world SWITCH_LINK ≡ true
+  pub asked_came : (target : Option Tenure) (t : Turn) (items : List RelayItem) (s1 : Connection) (initial : List ℕ) (owner : Tenure → ℕ) (coming : IsComing modulus world mobile s) → AreAllowed settings → IsKnown modulus world mobile s → IsLess settings done mobile s items → IsAged s s1 → s1.state ≡ WaitEstablish → Opens items initial → is_up world SWITCH_LINK ≡ true
       → connection_of t.next s.number ≡ Some (enter WaitConfirm s1) → outs_for s.number t.outs ≡ outs_of s.number (complete_layer3 s1.serving initial ∷ []) → AllByRecursion IsSent t.outs → AreBeside target mobile s t.outs → AllSitBy owner (after target t items) → Came (IsComing modulus) modulus (after target t items) mobile s.number
-  asked-came target t items s1 initial owner coming allowed known less aged state opens_with up there put sent beside sits = by coming.comes where
+  asked_came target t items s1 initial owner coming allowed known less aged state opens_with up there put sent beside sits = by coming.comes where
     v : Actors
     v = after target t items
 
@@ -244,17 +244,17 @@ module _ (settings : Parameters) (done : List Event) (mobile : ℕ) (s : Connect
     placed = serving_placed settings done s allowed coming.had
 
     came : coming_up world at ≡ brought initial ∷ coming_up v at
-    came = opens_with.came ∙ ap (λ (xs : List Item). brought initial ∷ xs) (sym (v-coming settings done mobile s target t items at))
+    came = opens_with.came ∙ ap (λ (xs : List Item). brought initial ∷ xs) (sym (v_coming settings done mobile s target t items at))
 
     -- its own goes to the switch
-    own-to : (out : Out) → (x : Message) × (out ≡ out_of s.number x) × (x ≡ complete_layer3 s1.serving initial) → out.to ≡ SWITCH_LINK
-    own-to out own = ap (λ (o : Out). o.to) (own.1 ∙ ap (out_of s.number) own.2) ∙ to-switch s.number s1.serving initial
+    own_to : (out : Out) → (x : Message) × (out ≡ out_of s.number x) × (x ≡ complete_layer3 s1.serving initial) → out.to ≡ SWITCH_LINK
+    own_to out own = ap (λ (o : Out). o.to) (own.1 ∙ ap (out_of s.number) own.2) ∙ to-switch s.number s1.serving initial
 
     down : going_down v at ≡ going_down world at
     down = all_down target s.serving t.outs u
         (of_all (IsBeside target mobile s) (λ (out : Out). out.to ≡ s.serving.station → leading_from_outbox s.serving.number (entry_of target out) ≡ []) s.number t.outs (λ out one. one.for_others.leads.0) beside
         (all_both (λ (out : Out). out.conn ≡ s.number → (x : Message) × (out ≡ out_of s.number x) × (x ≡ complete_layer3 s1.serving initial)) IsSent (λ (out : Out). out.conn ≡ s.number → out.to ≡ s.serving.station → leading_from_outbox s.serving.number (entry_of target out) ≡ []) t.outs
-        (λ out is is_sent. λ same to. absurd (placed (sym to ∙ own-to out (is same))))
+        (λ out is is_sent. λ same to. absurd (placed (sym to ∙ own_to out (is same))))
         (own_among (λ (x : Message). x ≡ complete_layer3 s1.serving initial) s.number t.outs (complete_layer3 s1.serving initial ∷ []) put (refl, tt)) sent))
 
     seen : (sapi : Sapi) → messages_on sapi (forwarded t.outs s.number) ≡ relayed sapi (complete_layer3 s1.serving initial ∷ [])
@@ -273,21 +273,21 @@ module _ (settings : Parameters) (done : List Event) (mobile : ℕ) (s : Connect
       once (to_begin opens none behind) = absurd (let both : initial ∷ messages_in (coming_up v at) ≡ [] = sym (ap messages_in came) ∙ none in cc)
       once (began opens few none) =
           let none_left : initials_up (waiting items) at ≡ [] = none_longer initial (initials_up (waiting items) at) (let count = ap length opens_with.one in omega (arith, few, count)) in
-          let none_up : initials_up v (place_of s1.serving) ≡ [] = ap (λ (c : Channel). initials_up v (place_of c)) like.serving ∙ v-initials settings done mobile s target t items at ∙ none_left in
+          let none_up : initials_up v (place_of s1.serving) ≡ [] = ap (λ (c : Channel). initials_up v (place_of c)) like.serving ∙ v_initials settings done mobile s target t items at ∙ none_left in
           let left : controls_in (coming_up v at) + controls_of (to_be_taken coming.one.end.zero) ≡ 0 =
-          let all = ap controls_in (v-coming settings done mobile s target t items at) ∙ controls-up (waiting items) at in
+          let all = ap controls_in (v_coming settings done mobile s target t items at) ∙ controls-up (waiting items) at in
           let first = ap controls_of none_left in
           let fewer = controls_sub less.later in
           omega (arith, all, first, fewer, none) in
           let bare : IsBareOf s = bare_of s own_state (connections_stand_new settings done s.number s coming.had.there) in
-          let own : LinedUp modulus v coming.one (enter WaitConfirm s) = asks-lined settings done mobile s target t items initial coming.one own_state bare seat lined placed came down known.none_waits untaken said left in
+          let own : LinedUp modulus v coming.one (enter WaitConfirm s) = asks_lined settings done mobile s target t items initial coming.one own_state bare seat lined placed came down known.none_waits untaken said left in
           let aged_own : LinedUp modulus v coming.one (enter WaitConfirm s1) = aged_holds (λ (y : Connection). LinedUp modulus v coming.one (enter WaitConfirm y)) (λ ms y l. record { alive = l.alive; sits = l.sits; led = l.led; none_on_target = l.none_on_target; apart = l.apart; placed = l.placed }) s s1 aged own in
           let none_drains : s1.draining ≡ [] = aged_holds (λ (y : Connection). y.draining ≡ []) (λ ms y is. is) s s1 aged bare.draining in
-          let found : mobile_of v mobile ≡ Some coming.one = v-mobile settings done mobile s target t items mobile ∙ coming.found in
-          let sits_there : coming.one.seat ≡ On (tenure_at v (place_of s1.serving)) None = seat ∙ ap (λ (x : Tenure). On x None) (sym (v-tenure settings done mobile s target t items at) ∙ ap (λ (c : Channel). tenure_at v (place_of c)) (sym like.serving)) in
+          let found : mobile_of v mobile ≡ Some coming.one = v_mobile settings done mobile s target t items mobile ∙ coming.found in
+          let sits_there : coming.one.seat ≡ On (tenure_at v (place_of s1.serving)) None = seat ∙ ap (λ (x : Tenure). On x None) (sym (v_tenure settings done mobile s target t items at) ∙ ap (λ (c : Channel). tenure_at v (place_of c)) (sym like.serving)) in
           has_requested (enter WaitConfirm s1) like.number refl (record {
             had = record {
-              there = ap (connection_of v.controller) like.number ∙ ap (λ (c : Controller). connection_of c s.number) (v-controller settings done mobile s target t items) ∙ there;
+              there = ap (connection_of v.controller) like.number ∙ ap (λ (c : Controller). connection_of c s.number) (v_controller settings done mobile s target t items) ∙ there;
               is_open = tt;
               from_one = subst (λ (n : ℕ). 1 ≤ n) (sym like.number) coming.had.from_one;
             };

@@ -164,33 +164,33 @@ module _ (settings : Parameters) (done : List Event) (mobile : ℕ) (s : Connect
       let fresh : IsNew modulus q = new_after p q (On (tenure_at world (place_at a.station a.channel.channel.0)) None) a.after new in
       arrived own.1 seat (begins_lined v q s own.1 (bare_of s own.1 (connections_stand_new settings done s.number s had.there)) placed seat fresh up silent quiet unsaid untaken) (to_begin fresh.opens silent fresh.no_control)
 
-  asks-goes : (event : Event) (v : Actors) (p q : Mobile) → AreAllowed settings → IsHad world s → IsKnown modulus world mobile s → AreAssigned world mobile s → Passes world v → Goes world event v mobile p q → p.seat ≡ Asking → IsNew modulus p
+  asks_goes : (event : Event) (v : Actors) (p q : Mobile) → AreAllowed settings → IsHad world s → IsKnown modulus world mobile s → AreAssigned world mobile s → Passes world v → Goes world event v mobile p q → p.seat ≡ Asking → IsNew modulus p
       → messages_in (coming_up world (place_of s.serving)) ≡ [] → going_down world (place_of s.serving) ≡ [] → Comes modulus v s q
-  asks-goes event v p q allowed had known assigned passes (same is) seat new none uncommanded =
+  asks_goes event v p q allowed had known assigned passes (same is) seat new none uncommanded =
       let placed : s.serving.station ≢ SWITCH_LINK = serving_placed settings done s allowed had in
       asks (ap (λ (x : Mobile). x.seat) is ∙ seat) (subst (IsNew modulus) (sym is) new) (none_passes (place_of s.serving) placed passes none) (sub_nothing (subst (Sub (going_down v (place_of s.serving))) uncommanded (passes.downs s.serving placed)))
-  asks-goes event v p q allowed had known assigned passes (stays there opens other gives) seat new none uncommanded = absurd (other seat)
-  asks-goes event v p q allowed had known assigned passes (hears tenure command first others there air is) seat new none uncommanded = absurd (on_asks (sym there ∙ seat))
-  asks-goes event v p q allowed had known assigned passes (moves to_move opens) seat new none uncommanded = absurd (subst IsToMove seat to_move)
-  asks-goes event v p q allowed had known assigned passes (gets a) seat new none uncommanded = arrives event v p q allowed had known assigned passes a new none uncommanded
+  asks_goes event v p q allowed had known assigned passes (stays there opens other gives) seat new none uncommanded = absurd (other seat)
+  asks_goes event v p q allowed had known assigned passes (hears tenure command first others there air is) seat new none uncommanded = absurd (on_asks (sym there ∙ seat))
+  asks_goes event v p q allowed had known assigned passes (moves to_move opens) seat new none uncommanded = absurd (subst IsToMove seat to_move)
+  asks_goes event v p q allowed had known assigned passes (gets a) seat new none uncommanded = arrives event v p q allowed had known assigned passes a new none uncommanded
 
   -- on its channel
-  there-goes : (event : Event) (v : Actors) (p q : Mobile) → AreAllowed settings → IsHad world s → IsKnown modulus world mobile s → Passes world v → Goes world event v mobile p q → mobile_of v mobile ≡ Some q → AreLinedUp modulus v mobile s → s.state ≡ WaitEstablish
+  there_goes : (event : Event) (v : Actors) (p q : Mobile) → AreAllowed settings → IsHad world s → IsKnown modulus world mobile s → Passes world v → Goes world event v mobile p q → mobile_of v mobile ≡ Some q → AreLinedUp modulus v mobile s → s.state ≡ WaitEstablish
       → p.seat ≡ On (tenure_at world (place_of s.serving)) None → BeginsOnce world p (place_of s.serving) → Comes modulus v s q
-  there-goes event v p q allowed had known passes goes found lined state seat begins =
+  there_goes event v p q allowed had known passes goes found lined state seat begins =
       let placed : s.serving.station ≢ SWITCH_LINK = serving_placed settings done s allowed had in
       let own : LinedUp modulus v q s = subst (λ (x : Mobile). LinedUp modulus v x s) (same_Some _ _ (sym lined.found ∙ found)) lined.lined in
       let sits : Sits v s.serving None q.seat = subst (λ (o : Option _). Sits v s.serving o q.seat) (none_target s.state state) own.sits in
       arrived state (sits_there sits (goes_kept (place_of s.serving) (tenure_at world (place_of s.serving)) refl seat known.kept goes)) own (begins_passes (place_of s.serving) placed (goes_opens seat goes) (goes_gives seat goes) passes begins)
 
-  passing-comes : (event : Event) (v : Actors) (p q : Mobile) → AreAllowed settings → IsHad world s → IsKnown modulus world mobile s → AreAssigned world mobile s → Passes world v → Goes world event v mobile p q → mobile_of v mobile ≡ Some q
+  passing_comes : (event : Event) (v : Actors) (p q : Mobile) → AreAllowed settings → IsHad world s → IsKnown modulus world mobile s → AreAssigned world mobile s → Passes world v → Goes world event v mobile p q → mobile_of v mobile ≡ Some q
       → (s.state ≡ WaitEstablish → AreLinedUp modulus world mobile s → AreLinedUp modulus v mobile s) → mobile_of world mobile ≡ Some p → Comes modulus world s p → Comes modulus v s q
-  passing-comes event v p q allowed had known assigned passes goes found stays_lined there (asks seat new none uncommanded) = asks-goes event v p q allowed had known assigned passes goes seat new none uncommanded
-  passing-comes event v p q allowed had known assigned passes goes found stays_lined there (arrived state seat lined begins) =
-      there-goes event v p q allowed had known passes goes found (stays_lined state (record { one = p; found = there; lined = lined })) state seat begins
+  passing_comes event v p q allowed had known assigned passes goes found stays_lined there (asks seat new none uncommanded) = asks_goes event v p q allowed had known assigned passes goes seat new none uncommanded
+  passing_comes event v p q allowed had known assigned passes goes found stays_lined there (arrived state seat lined begins) =
+      there_goes event v p q allowed had known passes goes found (stays_lined state (record { one = p; found = there; lined = lined })) state seat begins
 
-  pub keeps-passing : (event : Event) → is_passing event ≡ true → is_of_others event ≡ true → AreAllowed settings → IsKnown modulus world mobile s → IsComing modulus world mobile s → IsComing modulus (actors_after world event) mobile s
-  keeps-passing event passing of_others allowed known coming =
+  pub keeps_passing : (event : Event) → is_passing event ≡ true → is_of_others event ≡ true → AreAllowed settings → IsKnown modulus world mobile s → IsComing modulus world mobile s → IsComing modulus (actors_after world event) mobile s
+  keeps_passing event passing of_others allowed known coming =
       let v : Actors = actors_after world event in
       let passes : Passes world v = after-taken (Passes world) (event_after world event) world (event_passes world event passing (good-all (new_actors settings) done (good-new settings))) (passes_itself world) in
       let all : AllGo world event v = after-taken (AllGo world event) (event_after world event) world (event_goes world event passing) (all_same world event world refl) in
@@ -201,15 +201,15 @@ module _ (settings : Parameters) (done : List Event) (mobile : ℕ) (s : Connect
         asked = coming.asked;
         one = one.0;
         found = one.1;
-        comes = passing-comes event v coming.one one.0 allowed coming.had known coming.assigned passes one.2 one.1 (λ state lined. stays-lined settings done mobile s event of_others state allowed coming.had known lined) coming.found coming.comes;
+        comes = passing_comes event v coming.one one.0 allowed coming.had known coming.assigned passes one.2 one.1 (λ state lined. stays-lined settings done mobile s event of_others state allowed coming.had known lined) coming.found coming.comes;
         assigned = entries_pass mobile s passes coming.assigned;
       }
 
   -- ---- a frame of SAPI 0
 
-  sent-elsewhere : (p : Mobile) (tenure : Tenure) (frame : List ℕ) (one : Mobile) → AreAllowed settings → IsHad world s → is_reached world tenure ≡ true → is_at tenure.at s.serving ≡ false → mobile_of (brought world p tenure.at Zero frame) mobile ≡ Some one
+  sent_elsewhere : (p : Mobile) (tenure : Tenure) (frame : List ℕ) (one : Mobile) → AreAllowed settings → IsHad world s → is_reached world tenure ≡ true → is_at tenure.at s.serving ≡ false → mobile_of (brought world p tenure.at Zero frame) mobile ≡ Some one
       → (AreLinedUp modulus (brought world p tenure.at Zero frame) mobile s) ⊎ (one.seat ≡ Asking) → Comes modulus world s one → Comes modulus (brought world p tenure.at Zero frame) s one
-  sent-elsewhere p tenure frame one allowed had reached apart found either comes = by either comes where
+  sent_elsewhere p tenure frame one allowed had reached apart found either comes = by either comes where
     v : Actors
     v = brought world p tenure.at Zero frame
 
@@ -237,10 +237,10 @@ module _ (settings : Parameters) (done : List Event) (mobile : ℕ) (s : Connect
     by (inl lined2) (arrived state seat lined once) =
         arrived state (seat ∙ ap (λ (t : Tenure). On t None) (sym here)) (subst (λ (x : Mobile). LinedUp modulus v x s) (same_Some _ _ (sym lined2.found ∙ found)) lined2.lined) (begins once)
 
-  sent-there : (tenure : Tenure) (command : Option Command) (frame : List ℕ) (one : Mobile) → one.seat ≡ On tenure command → Lent one.end frame → mobile_of (brought world one tenure.at Zero frame) mobile ≡ Some (record (framed one Zero) { opens = false })
+  sent_there : (tenure : Tenure) (command : Option Command) (frame : List ℕ) (one : Mobile) → one.seat ≡ On tenure command → Lent one.end frame → mobile_of (brought world one tenure.at Zero frame) mobile ≡ Some (record (framed one Zero) { opens = false })
       → AreLinedUp modulus (brought world one tenure.at Zero frame) mobile s → Comes modulus world s one → Comes modulus (brought world one tenure.at Zero frame) s (record (framed one Zero) { opens = false })
-  sent-there tenure command frame one sits lent found lined2 (asks seat new none uncommanded) = absurd (on_asks (sym sits ∙ seat))
-  sent-there tenure command frame one sits lent found lined2 (arrived state seat lined once) =
+  sent_there tenure command frame one sits lent found lined2 (asks seat new none uncommanded) = absurd (on_asks (sym sits ∙ seat))
+  sent_there tenure command frame one sits lent found lined2 (arrived state seat lined once) =
       arrived state
       (seat ∙ ap (λ (t : Tenure). On t None) (sym (tenure-with_base world tenure.at.station (signalling_brought (base_of world tenure.at.station) tenure.at.number one.opens frame) (place_of s.serving))))
       (subst (λ (x : Mobile). LinedUp modulus v x s) (same_Some _ _ (sym lined2.found ∙ found)) lined2.lined) (begins once) where
@@ -264,14 +264,14 @@ module _ (settings : Parameters) (done : List Event) (mobile : ℕ) (s : Connect
             let sum : controls_of (frame ∷ to_be_taken (after_lending one.end.zero)) ≡ controls_of (frame ∷ []) + controls_of (to_be_taken (after_lending one.end.zero)) = controls-append (frame ∷ []) (to_be_taken (after_lending one.end.zero)) in
             omega (arith, less, counts, all, sum, none))
 
-  or-asks : (v : Actors) (one : Mobile) → mobile_of world mobile ≡ Some one → (s.state ≡ WaitEstablish → AreLinedUp modulus world mobile s → AreLinedUp modulus v mobile s) → Comes modulus world s one → (AreLinedUp modulus v mobile s) ⊎ (one.seat ≡ Asking)
-  or-asks v one found stays_lined (asks seat new none uncommanded) = inr seat
-  or-asks v one found stays_lined (arrived state seat lined once) = inl (stays_lined state (record { one = one; found = found; lined = lined }))
+  or_asks : (v : Actors) (one : Mobile) → mobile_of world mobile ≡ Some one → (s.state ≡ WaitEstablish → AreLinedUp modulus world mobile s → AreLinedUp modulus v mobile s) → Comes modulus world s one → (AreLinedUp modulus v mobile s) ⊎ (one.seat ≡ Asking)
+  or_asks v one found stays_lined (asks seat new none uncommanded) = inr seat
+  or_asks v one found stays_lined (arrived state seat lined once) = inl (stays_lined state (record { one = one; found = found; lined = lined }))
 
   -- the station takes the frame of a mobile
-  sent-comes : (number : ℕ) (p : Mobile) (tenure : Tenure) (command : Option Command) (frame : List ℕ) → mobile_of world number ≡ Some p → p.seat ≡ On tenure command → Lent p.end frame → is_reached world tenure ≡ true → AreAllowed settings → IsKnown modulus world mobile s → IsComing modulus world mobile s
+  sent_comes : (number : ℕ) (p : Mobile) (tenure : Tenure) (command : Option Command) (frame : List ℕ) → mobile_of world number ≡ Some p → p.seat ≡ On tenure command → Lent p.end frame → is_reached world tenure ≡ true → AreAllowed settings → IsKnown modulus world mobile s → IsComing modulus world mobile s
       → (s.state ≡ WaitEstablish → AreLinedUp modulus world mobile s → AreLinedUp modulus (brought world p tenure.at Zero frame) mobile s) → IsComing modulus (brought world p tenure.at Zero frame) mobile s
-  sent-comes number p tenure command frame acts sits lent reached allowed known coming stays_lined = by_number (nat_eq number mobile) refl where
+  sent_comes number p tenure command frame acts sits lent reached allowed known coming stays_lined = by_number (nat_eq number mobile) refl where
     v : Actors
     v = brought world p tenure.at Zero frame
 
@@ -284,9 +284,9 @@ module _ (settings : Parameters) (done : List Event) (mobile : ℕ) (s : Connect
     q_number : q.number ≡ number
     q_number = found-number number world.mobiles p acts
 
-    own-comes : mobile_of v mobile ≡ Some q → Comes modulus world s p → (AreLinedUp modulus v mobile s) ⊎ (p.seat ≡ Asking) → Comes modulus v s q
-    own-comes found comes (inl lined) = sent-there tenure command frame p sits lent found lined comes
-    own-comes found comes (inr asking) = absurd (on_asks (sym sits ∙ asking))
+    own_comes : mobile_of v mobile ≡ Some q → Comes modulus world s p → (AreLinedUp modulus v mobile s) ⊎ (p.seat ≡ Asking) → Comes modulus v s q
+    own_comes found comes (inl lined) = sent_there tenure command frame p sits lent found lined comes
+    own_comes found comes (inr asking) = absurd (on_asks (sym sits ∙ asking))
 
     by_number : (b : Bool) → nat_eq number mobile ≡ b → IsComing modulus v mobile s
     by_number true hit =
@@ -294,23 +294,23 @@ module _ (settings : Parameters) (done : List Event) (mobile : ℕ) (s : Connect
         let p_is : p ≡ coming.one = same_Some _ _ (sym acts ∙ ap (mobile_of world) is ∙ coming.found) in
         let found : mobile_of v mobile ≡ Some q = ap (λ (n : ℕ). find (has_number n) (put_back q world.mobiles)) (sym is ∙ sym q_number) ∙ back-found q world.mobiles p (ap (λ (n : ℕ). find (has_number n) world.mobiles) q_number ∙ acts) in
         let comes : Comes modulus world s p = subst (Comes modulus world s) (sym p_is) coming.comes in
-        rest q found (own-comes found comes (or-asks v p (ap (mobile_of world) (sym is) ∙ acts) stays_lined comes))
+        rest q found (own_comes found comes (or_asks v p (ap (mobile_of world) (sym is) ∙ acts) stays_lined comes))
     by_number false miss =
         let differs : number ≢ mobile = eqb-false number mobile miss in
         let found : mobile_of v mobile ≡ Some coming.one = back-other q world.mobiles mobile (λ is. differs (sym q_number ∙ is)) ∙ coming.found in
         let elsewhere : IsElsewhere (s.serving ∷ target_in s.state) tenure.at = all_right (λ c. is_at tenure.at c ≡ false) (undone s.draining) (s.serving ∷ target_in s.state) (known.alone number p tenure command differs acts sits reached) in
-        rest coming.one found (sent-elsewhere p tenure frame coming.one allowed coming.had reached elsewhere.0 found (or-asks v coming.one coming.found stays_lined coming.comes) coming.comes)
+        rest coming.one found (sent_elsewhere p tenure frame coming.one allowed coming.had reached elsewhere.0 found (or_asks v coming.one coming.found stays_lined coming.comes) coming.comes)
 
-  pub keeps-sent : (number : ℕ) → AreAllowed settings → IsKnown modulus world mobile s → IsComing modulus world mobile s → IsComing modulus (actors_after world (events.AirUp number Zero)) mobile s
+  pub keeps_sent : (number : ℕ) → AreAllowed settings → IsKnown modulus world mobile s → IsComing modulus world mobile s → IsComing modulus (actors_after world (events.AirUp number Zero)) mobile s
   unfolding event_after
-  keeps-sent number allowed known coming =
+  keeps_sent number allowed known coming =
       let event : Event = events.AirUp number Zero in
       let P : Actors → Type 0 = λ v. (s.state ≡ WaitEstablish → AreLinedUp modulus world mobile s → AreLinedUp modulus v mobile s) → IsComing modulus v mobile s in
-      after-taken P (event_after world event) world (air_up-leads P world number Zero (λ p tenure command frame acts sits lent reached. sent-comes number p tenure command frame acts sits (frame_lent p.end frame lent) reached allowed known coming)) (λ _. coming)
+      after-taken P (event_after world event) world (air_up-leads P world number Zero (λ p tenure command frame acts sits lent reached. sent_comes number p tenure command frame acts sits (frame_lent p.end frame lent) reached allowed known coming)) (λ _. coming)
       (λ state lined. stays-lined settings done mobile s event refl state allowed coming.had known lined)
 
 pub others_keep_coming_new : (settings : Parameters) (done : List Event) (event : Event) → OthersKeepComing settings done event
-others_keep_coming_new settings done (events.AirUp number Zero) mobile s of_others allowed known coming = keeps-sent settings done mobile s number allowed known coming
+others_keep_coming_new settings done (events.AirUp number Zero) mobile s of_others allowed known coming = keeps_sent settings done mobile s number allowed known coming
 others_keep_coming_new settings done events.Handle mobile s of_others allowed known coming = absurd cc
 others_keep_coming_new settings done (events.Tick ms) mobile s of_others allowed known coming = absurd cc
-others_keep_coming_new settings done event mobile s of_others allowed known coming = keeps-passing settings done mobile s event refl refl allowed known coming
+others_keep_coming_new settings done event mobile s of_others allowed known coming = keeps_passing settings done mobile s event refl refl allowed known coming

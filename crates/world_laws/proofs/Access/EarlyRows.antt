@@ -52,12 +52,12 @@ establish_row s _ offer r state fits = absurd (none-some r fits)
 
 pub early_row : (s : Connection) (input : Input) (offer : Option Channel) (r : Row) → IsEarlyIn s.state → row_of s input offer ≡ Some r → EarlyRow s input r
 early_row s input offer r early fits = by s.state refl early where
-  fits-by : (state : State) → s.state ≡ state → row_by state s input offer ≡ Some r
-  fits-by state is = subst (λ (x : State). row_by x s input offer ≡ Some r) is (sym (row_is_by s input offer) ∙ fits)
+  fits_by : (state : State) → s.state ≡ state → row_by state s input offer ≡ Some r
+  fits_by state is = subst (λ (x : State). row_by x s input offer ≡ Some r) is (sym (row_is_by s input offer) ∙ fits)
 
   by : (state : State) → s.state ≡ state → IsEarlyIn state → EarlyRow s input r
-  by WaitActivation is early = activation_row s input offer r is (fits-by WaitActivation is)
-  by WaitEstablish is early = establish_row s input offer r is (fits-by WaitEstablish is)
+  by WaitActivation is early = activation_row s input offer r is (fits_by WaitActivation is)
+  by WaitEstablish is early = establish_row s input offer r is (fits_by WaitEstablish is)
   by WaitConfirm is early = absurd early
   by (Live reference stage) is early = absurd early
   by (Closed clearing) is early = absurd early

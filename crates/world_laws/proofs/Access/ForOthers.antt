@@ -76,10 +76,10 @@ module _ (settings : Parameters) (done : List Event) (s : Connection) where
   steps = all_steps (new_actors settings) done
 
   -- a frame
-  frame-others : (source : ℕ) (frame : Frame) → AreAllowed settings → AllByRecursion ComesInOctets steps → AreOctets frame.body → 1 ≤ s.number → IsHad world s
+  frame_others : (source : ℕ) (frame : Frame) → AreAllowed settings → AllByRecursion ComesInOctets steps → AreOctets frame.body → 1 ≤ s.number → IsHad world s
       → (o : Option ℕ) → concerned world.controller (word_of source frame) ≡ o → AreForOthers (target_in world source (whats.Frame frame)) s (step world.controller (Take (record { source = source; what = whats.Frame frame }))).outs
   unfolding take
-  frame-others source frame allowed octets own least had o is = by o is where
+  frame_others source frame allowed octets own least had o is = by o is where
     item : RelayItem
     item = record { source = source; what = whats.Frame frame }
 
@@ -105,18 +105,18 @@ module _ (settings : Parameters) (done : List Event) (s : Connection) where
           subst (AreForOthers (target_in world source (whats.Frame frame)) s) (sym (ap (λ (c : Controller). (step c (Take item)).outs) lives ∙ passes.outs)) (own_alone (target_in world source (whats.Frame frame)) s passes.put)
 
   -- whatever comes
-  pub item-others : (item : RelayItem) → AreAllowed settings → AllByRecursion ComesInOctets steps → IsOfOctets item.what → 1 ≤ s.number → IsHad world s → AreForOthers (target_in world item.source item.what) s (take item world.controller).outs
-  item-others item allowed octets own least had = by item.what refl own where
+  pub item_others : (item : RelayItem) → AreAllowed settings → AllByRecursion ComesInOctets steps → IsOfOctets item.what → 1 ≤ s.number → IsHad world s → AreForOthers (target_in world item.source item.what) s (take item world.controller).outs
+  item_others item allowed octets own least had = by item.what refl own where
     by : (what : What) → item.what ≡ what → IsOfOctets what → AreForOthers (target_in world item.source item.what) s (take item world.controller).outs
     by whats.Down is own = subst (λ (x : What). AreForOthers (target_in world item.source x) s (take item world.controller).outs) (sym is) (all_without s (take item world.controller).outs)
     by (whats.Frame frame) is own =
         subst (λ (x : What). AreForOthers (target_in world item.source x) s (take (record { source = item.source; what = x }) world.controller).outs) (sym is)
-        (frame-others item.source frame allowed octets own least had (concerned world.controller (word_of item.source frame)) refl)
+        (frame_others item.source frame allowed octets own least had (concerned world.controller (word_of item.source frame)) refl)
 
   -- a connection begins: all is its own
-  frame-begins : (source : ℕ) (frame : Frame) → AreAllowed settings → 1 ≤ s.number → connection_of world.controller s.number ≡ None → connection_of (step world.controller (Take (record { source = source; what = whats.Frame frame }))).next s.number ≡ Some s
+  frame_begins : (source : ℕ) (frame : Frame) → AreAllowed settings → 1 ≤ s.number → connection_of world.controller s.number ≡ None → connection_of (step world.controller (Take (record { source = source; what = whats.Frame frame }))).next s.number ≡ Some s
       → (o : Option ℕ) → concerned world.controller (word_of source frame) ≡ o → AreForOthers (target_in world source (whats.Frame frame)) s (step world.controller (Take (record { source = source; what = whats.Frame frame }))).outs
-  frame-begins source frame allowed least none there o is = by o is where
+  frame_begins source frame allowed least none there o is = by o is where
     item : RelayItem
     item = record { source = source; what = whats.Frame frame }
 
@@ -138,11 +138,11 @@ module _ (settings : Parameters) (done : List Event) (s : Connection) where
           let passes : PassesBy (s.number + 1) s.number (life settings steps).next (Take item) = frame_passes settings steps (s.number + 1) s.number source frame allowed (omega arith) least (λ e. absurd (omega (arith, e))) (ap (λ (c : Controller). concerned c (word_of source frame)) (sym lives) ∙ is ∙ ap (λ (n : ℕ). Some n) (eqb-true k s.number hit)) in
           subst (AreForOthers (target_in world source (whats.Frame frame)) s) (sym (ap (λ (c : Controller). (step c (Take item)).outs) lives ∙ passes.outs)) (own_alone (target_in world source (whats.Frame frame)) s passes.put)
 
-  pub item-begins : (item : RelayItem) → AreAllowed settings → 1 ≤ s.number → connection_of world.controller s.number ≡ None → connection_of (take item world.controller).next s.number ≡ Some s → AreForOthers (target_in world item.source item.what) s (take item world.controller).outs
-  item-begins item allowed least none there = by item.what refl where
+  pub item_begins : (item : RelayItem) → AreAllowed settings → 1 ≤ s.number → connection_of world.controller s.number ≡ None → connection_of (take item world.controller).next s.number ≡ Some s → AreForOthers (target_in world item.source item.what) s (take item world.controller).outs
+  item_begins item allowed least none there = by item.what refl where
     by : (what : What) → item.what ≡ what → AreForOthers (target_in world item.source item.what) s (take item world.controller).outs
     by whats.Down is = subst (λ (x : What). AreForOthers (target_in world item.source x) s (take item world.controller).outs) (sym is) (all_without s (take item world.controller).outs)
     by (whats.Frame frame) is =
         let same : item ≡ record { source = item.source; what = whats.Frame frame } = ap (λ (x : What). record { source = item.source; what = x }) is in
         subst (λ (i : RelayItem). AreForOthers (target_in world i.source i.what) s (take i world.controller).outs) (sym same)
-        (frame-begins item.source frame allowed least none (ap (λ (i : RelayItem). connection_of (take i world.controller).next s.number) (sym same) ∙ there) (concerned world.controller (word_of item.source frame)) refl)
+        (frame_begins item.source frame allowed least none (ap (λ (i : RelayItem). connection_of (take i world.controller).next s.number) (sym same) ∙ there) (concerned world.controller (word_of item.source frame)) refl)

@@ -58,16 +58,16 @@ module _ (settings : Parameters) (done : List Event) (mobile : ℕ) (s : Connect
   here : is_at at s.serving ≡ true
   here = ap (λ (b : Bool). b && nat_eq s.serving.number s.serving.number) (eq-eqb s.serving.station s.serving.station refl) ∙ eq-eqb s.serving.number s.serving.number refl
 
-  owns-own : AreAllowed settings → IsHad world s → Owns world.controller.channels world.controller.links s.number (roles_of s)
-  owns-own allowed had =
+  owns_own : AreAllowed settings → IsHad world s → Owns world.controller.channels world.controller.links s.number (roles_of s)
+  owns_own allowed had =
       let c : Controller = (life settings (all_steps (new_actors settings) done)).next in
       let there : connection_of c s.number ≡ Some s = subst (λ (d : Controller). connection_of d s.number ≡ Some s) (LivesByTable-new settings done) had.there in
       subst (λ (d : Controller). Owns d.channels d.links s.number (roles_of s)) (sym (LivesByTable-new settings done)) ((subst (OwnsOpen c.channels c.links s.number) there (life_owns settings (all_steps (new_actors settings) done) s.number allowed)) had.is_open)
 
   -- what it says comes to the connection
-  comes-to : (item : RelayItem) (frame : Frame) (input : Input) → AreAllowed settings → IsHad world s → s.draining ≡ [] → item.what ≡ whats.Frame frame → item.source ≡ at.station → word_of item.source frame ≡ OnChannel at input → brought_in world.controller s.number (Take item) ≡ brings_input input
-  comes-to item frame input allowed had draining what_is station word =
-      let owns = owns-own allowed had in
+  comes_to : (item : RelayItem) (frame : Frame) (input : Input) → AreAllowed settings → IsHad world s → s.draining ≡ [] → item.what ≡ whats.Frame frame → item.source ≡ at.station → word_of item.source frame ≡ OnChannel at input → brought_in world.controller s.number (Take item) ≡ brings_input input
+  comes_to item frame input allowed had draining what_is station word =
+      let owns = owns_own allowed had in
       let up : hears world.controller item.source ≡ true = ap (hears world.controller) station ∙ linked owns in
       ap (λ (b : Bool). if b then brought_with world.controller s.number item.source item.what else brings_nothing) up
       ∙ ap (brought_with world.controller s.number item.source) what_is
@@ -77,17 +77,17 @@ module _ (settings : Parameters) (done : List Event) (mobile : ℕ) (s : Connect
         linked : Owns world.controller.channels world.controller.links s.number (roles_of s) → hears world.controller s.serving.station ≡ true
         linked owns = (subst (λ (ds : List _). AllByRecursion (λ c. hears world.controller c.station ≡ true) (undone ds ++ s.serving ∷ target_channels (roles_of s).target)) draining owns.linked).0
 
-  no-opening : (l3 : List ℕ) → s.state ≡ WaitEstablish → MissesOf (inputs.EstablishIndication at Zero (Some l3)) (Some s) → ⊥
+  no_opening : (l3 : List ℕ) → s.state ≡ WaitEstablish → MissesOf (inputs.EstablishIndication at Zero (Some l3)) (Some s) → ⊥
   unfolding row_of
-  no-opening l3 state misses = row_there (is_at at s.serving) (access (Some l3) s) here (subst (λ (x : State). on_establish_indication x s at Zero (Some l3) ≡ None) state misses.1)
+  no_opening l3 state misses = row_there (is_at at s.serving) (access (Some l3) s) here (subst (λ (x : State). on_establish_indication x s at Zero (Some l3) ≡ None) state misses.1)
 
-  no-text : (l3 : List ℕ) → s.state ≡ WaitEstablish → MissesOf (inputs.Dtap at Zero l3) (Some s) → ⊥
+  no_text : (l3 : List ℕ) → s.state ≡ WaitEstablish → MissesOf (inputs.Dtap at Zero l3) (Some s) → ⊥
   unfolding row_of
-  no-text l3 state misses = row_there (is_at at s.serving) (dropping s) here (subst (λ (x : State). on_dtap x s at Zero l3 ≡ None) state misses.1)
+  no_text l3 state misses = row_there (is_at at s.serving) (dropping s) here (subst (λ (x : State). on_dtap x s at Zero l3 ≡ None) state misses.1)
 
-  no-control : (item : RelayItem) (items : List RelayItem) (frame : Frame) (l3 : List ℕ) (d : Data) → world.inbox ≡ item ∷ items → controls_of (data_up world at) ≡ 0 → is_control l3 ≡ true → item.what ≡ whats.Frame frame → rsl_in frame ≡ Some (rsl.DataIndication d) → item.source ≡ at.station
+  no_control : (item : RelayItem) (items : List RelayItem) (frame : Frame) (l3 : List ℕ) (d : Data) → world.inbox ≡ item ∷ items → controls_of (data_up world at) ≡ 0 → is_control l3 ≡ true → item.what ≡ whats.Frame frame → rsl_in frame ≡ Some (rsl.DataIndication d) → item.source ≡ at.station
       → data_by at.number (rsl.DataIndication d) ≡ l3 ∷ [] → ⊥
-  no-control item items frame l3 d stood none control_is what_is read station brings_it =
+  no_control item items frame l3 d stood none control_is what_is read station brings_it =
       let reads_it : read_of at.station item ≡ rsl.DataIndication d ∷ [] =
       ap (read_by at.station item.source) what_is ∙ ap (λ (b : Bool). cond b (option_to_list (rsl_in frame)) []) (eq-eqb item.source at.station station) ∙ ap option_to_list read in
       let rest : List (List ℕ) = flat_map (data_by at.number) (flat_map (read_of at.station) items ++ (base_of world at.station).messages) in
@@ -99,8 +99,8 @@ module _ (settings : Parameters) (done : List Event) (mobile : ℕ) (s : Connect
       let all = ap controls_of up in
       absurd (omega (arith, none, first, all))
 
-  no-end : (item : RelayItem) (items : List RelayItem) (frame : Frame) → world.inbox ≡ item ∷ items → AcksAgree world s → item.what ≡ whats.Frame frame → item.source ≡ at.station → rsl_in frame ≡ Some (rsl.RfChannelReleaseAck at.number) → ⊥
-  no-end item items frame stood acks what_is station read =
+  no_end : (item : RelayItem) (items : List RelayItem) (frame : Frame) → world.inbox ≡ item ∷ items → AcksAgree world s → item.what ≡ whats.Frame frame → item.source ≡ at.station → rsl_in frame ≡ Some (rsl.RfChannelReleaseAck at.number) → ⊥
+  no_end item items frame stood acks what_is station read =
       let reads_it : read_of at.station item ≡ rsl.RfChannelReleaseAck at.number ∷ [] =
       ap (read_by at.station item.source) what_is ∙ ap (λ (b : Bool). cond b (option_to_list (rsl_in frame)) []) (eq-eqb item.source at.station station) ∙ ap option_to_list read in
       let rest : List Rsl = flat_map (read_of at.station) items ++ (base_of world at.station).messages in
@@ -109,8 +109,8 @@ module _ (settings : Parameters) (done : List Event) (mobile : ℕ) (s : Connect
       ∙ ap (λ (xs : List Rsl). (xs ++ flat_map (read_of at.station) items) ++ (base_of world at.station).messages) reads_it in
       releases_not at.number rest (subst (λ (ms : List Rsl). NoneReleases (acknowledgements at.number ms)) up acks.others_go_on.0)
 
-  pub ignored-silent : (item : RelayItem) (items : List RelayItem) → AreAllowed settings → IsHad world s → world.inbox ≡ item ∷ items → AcksAgree world s → s.state ≡ WaitEstablish → controls_of (data_up world at) ≡ 0 → FitsNone (brought_in world.controller s.number (Take item)) (Some s) → brings_in at item ≡ []
-  ignored-silent item items allowed had stood acks state none fits_none = by item.what refl where
+  pub ignored_silent : (item : RelayItem) (items : List RelayItem) → AreAllowed settings → IsHad world s → world.inbox ≡ item ∷ items → AcksAgree world s → s.state ≡ WaitEstablish → controls_of (data_up world at) ≡ 0 → FitsNone (brought_in world.controller s.number (Take item)) (Some s) → brings_in at item ≡ []
+  ignored_silent item items allowed had stood acks state none fits_none = by item.what refl where
     placed : s.serving.station ≢ SWITCH_LINK
     placed = serving_placed settings done s allowed had
 
@@ -121,14 +121,14 @@ module _ (settings : Parameters) (done : List Event) (mobile : ℕ) (s : Connect
     known = (subst (AllByRecursion IsKnownItem) stood (known-inbox settings done)).0
 
     misses : (frame : Frame) (input : Input) → item.what ≡ whats.Frame frame → item.source ≡ at.station → word_of item.source frame ≡ OnChannel at input → MissesOf input (Some s)
-    misses frame input what_is station word = subst (λ (b : Brought). FitsNone b (Some s)) (comes-to item frame input allowed had draining what_is station word) fits_none
+    misses frame input what_is station word = subst (λ (b : Brought). FitsNone b (Some s)) (comes_to item frame input allowed had draining what_is station word) fits_none
 
     by_first : (frame : Frame) → item.what ≡ whats.Frame frame → FirstBrings at item.source frame (brings_by at item.source (whats.Frame frame)) → brings_in at item ≡ []
     by_first frame what_is (brings_none is) = ap (brings_by at item.source) what_is ∙ is
-    by_first frame what_is (opening l3 word station) = absurd (no-opening l3 state (misses frame (inputs.EstablishIndication at Zero (Some l3)) what_is station word))
-    by_first frame what_is (text l3 word station) = absurd (no-text l3 state (misses frame (inputs.Dtap at Zero l3) what_is station word))
-    by_first frame what_is (control l3 d control_is read station brings_it) = absurd (no-control item items frame l3 d stood none control_is what_is read station brings_it)
-    by_first frame what_is (ends read station) = absurd (no-end item items frame stood acks what_is station read)
+    by_first frame what_is (opening l3 word station) = absurd (no_opening l3 state (misses frame (inputs.EstablishIndication at Zero (Some l3)) what_is station word))
+    by_first frame what_is (text l3 word station) = absurd (no_text l3 state (misses frame (inputs.Dtap at Zero l3) what_is station word))
+    by_first frame what_is (control l3 d control_is read station brings_it) = absurd (no_control item items frame l3 d stood none control_is what_is read station brings_it)
+    by_first frame what_is (ends read station) = absurd (no_end item items frame stood acks what_is station read)
 
     by : (what : What) → item.what ≡ what → brings_in at item ≡ []
     by whats.Down what_is = ap (brings_by at item.source) what_is

@@ -146,43 +146,43 @@ abbrev pub IsOnly : Controller → ℕ → ℕ → Type 0
 IsOnly c n mobile = (m : ℕ) (t : Connection) → connection_of c m ≡ Some t → t.request.access ≡ mobile → m ≡ n
 
 module _ (c : Controller) (n mobile : ℕ) (any : Channel) (only : IsOnly c n mobile) where
-  named-another : (m : ℕ) (o : Option Connection) → connection_of c m ≡ o → m ≢ n → (station : ℕ) (i : Assignment) (information : List ℕ) → i.information ≡ information → NamesBy o (Station station (rsl.ImmediateAssignCommand i)) → NamesAnother mobile (rr_reading information)
+  named_another : (m : ℕ) (o : Option Connection) → connection_of c m ≡ o → m ≢ n → (station : ℕ) (i : Assignment) (information : List ℕ) → i.information ≡ information → NamesBy o (Station station (rsl.ImmediateAssignCommand i)) → NamesAnother mobile (rr_reading information)
   unfolding NamesBy
-  named-another m None is differs station i information same names =
+  named_another m None is differs station i information same names =
       other_named mobile any (record { access = mobile + 1; frame = 0 }) station i information same (names any (record { access = mobile + 1; frame = 0 })) (λ e. absurd (omega (arith, e)))
-  named-another m (Some t) is differs station i information same names = other_named mobile t.serving t.request station i information same names (λ e. differs (only m t is e))
+  named_another m (Some t) is differs station i information same names = other_named mobile t.serving t.request station i information same names (λ e. differs (only m t is e))
 
-  message-another : (m : ℕ) (x : Message) → m ≢ n → IsSent (out_of m x) → NamesBy (connection_of c m) x → AssignsAnother mobile (rsl_in (out_of m x).frame)
+  message_another : (m : ℕ) (x : Message) → m ≢ n → IsSent (out_of m x) → NamesBy (connection_of c m) x → AssignsAnother mobile (rsl_in (out_of m x).frame)
   unfolding out_of
-  message-another m (Station station y) differs sent names =
+  message_another m (Station station y) differs sent names =
       let read = read_of m station y sent in
       subst (AssignsAnother mobile) (sym (ap result_ok read.1.reading)) (by read.0 read.1.text) where
         by : (z : Rsl) → rsl_text y ≡ rsl_text z → AssignsAnother mobile (Some z)
         by (rsl.ImmediateAssignCommand j) text =
             let back = assignment_back y j text in
-            named-another m (connection_of c m) refl differs station back.0 j.information back.2 (subst (λ (z : Rsl). NamesBy (connection_of c m) (Station station z)) back.1 names)
+            named_another m (connection_of c m) refl differs station back.0 j.information back.2 (subst (λ (z : Rsl). NamesBy (connection_of c m) (Station station z)) back.1 names)
         by _ text = tt
-  message-another m (Request message) differs sent names = tt
-  message-another m (Data destination message) differs sent names = tt
-  message-another m (ReleaseComplete destination) differs sent names = tt
+  message_another m (Request message) differs sent names = tt
+  message_another m (Data destination message) differs sent names = tt
+  message_another m (ReleaseComplete destination) differs sent names = tt
 
   -- by numbers of connections
   pub swap : (Q : ℕ → Out → Type 0) (outs : List Out) → ((m : ℕ) → 1 ≤ m → AllByRecursion (λ out. out.conn ≡ m → Q m out) outs) → AllByRecursion (λ out. 1 ≤ out.conn → Q out.conn out) outs
   swap Q [] all = tt
   swap Q (o ∷ os) all = (λ least. (all o.conn least).0 refl, swap Q os (λ m least. (all m least).1))
 
-  others-another : (outs : List Out) → AllByRecursion IsSent outs → AllByRecursion IsFrom outs → AllByRecursion (λ out. 1 ≤ out.conn → (x : Message) × (out ≡ out_of out.conn x) × NamesBy (connection_of c out.conn) x) outs
+  others_another : (outs : List Out) → AllByRecursion IsSent outs → AllByRecursion IsFrom outs → AllByRecursion (λ out. 1 ≤ out.conn → (x : Message) × (out ≡ out_of out.conn x) × NamesBy (connection_of c out.conn) x) outs
       → AllByRecursion (λ out. out.conn ≢ n → AssignsAnother mobile (rsl_in out.frame)) outs
-  others-another [] sent from named = tt
-  others-another (o ∷ os) sent from named = ((λ differs. by differs from.0), others-another os sent.1 from.1 named.1) where
+  others_another [] sent from named = tt
+  others_another (o ∷ os) sent from named = ((λ differs. by differs from.0), others_another os sent.1 from.1 named.1) where
     by : o.conn ≢ n → (1 ≤ o.conn) ⊎ (rsl_in o.frame ≡ None) → AssignsAnother mobile (rsl_in o.frame)
     by differs (inr none) = subst (AssignsAnother mobile) (sym none) tt
     by differs (inl least) =
         let own = named.0 least in
-        subst (λ (out : Out). AssignsAnother mobile (rsl_in out.frame)) (sym own.1) (message-another o.conn own.0 differs (subst IsSent own.1 sent.0) own.2)
+        subst (λ (out : Out). AssignsAnother mobile (rsl_in out.frame)) (sym own.1) (message_another o.conn own.0 differs (subst IsSent own.1 sent.0) own.2)
 
   -- so what a step puts for others assigns no channel to the mobile of the connection
-  pub step-another : (st : Step) → IsNumbered c → AllByRecursion IsSent (step c st).outs → ((m : ℕ) → 1 ≤ m → NamesItsMobile m c st) → AllByRecursion (λ out. out.conn ≢ n → AssignsAnother mobile (rsl_in out.frame)) (step c st).outs
-  step-another st numbered sent names =
-      others-another (step c st).outs sent (step_from c st numbered)
+  pub step_another : (st : Step) → IsNumbered c → AllByRecursion IsSent (step c st).outs → ((m : ℕ) → 1 ≤ m → NamesItsMobile m c st) → AllByRecursion (λ out. out.conn ≢ n → AssignsAnother mobile (rsl_in out.frame)) (step c st).outs
+  step_another st numbered sent names =
+      others_another (step c st).outs sent (step_from c st numbered)
       (swap (λ m out. (x : Message) × (out ≡ out_of m x) × NamesBy (connection_of c m) x) (step c st).outs (λ m least. let own = names m least in own_among (NamesBy (connection_of c m)) m (step c st).outs own.put own.outs (all_names (connection_of c m) own.put own.names)))

@@ -26,7 +26,7 @@ use Rattle.world_laws.specs.Access.Opened.{OpenedStayOpened}
 use Rattle.world_laws.proofs.Access.Mobiles.{AllGo, Goes, all_same, event_goes}
 use Rattle.world_laws.proofs.Access.Mobiles.Goes.{comes as gets, hears, moves, same, stays}
 use Rattle.world_laws.proofs.Access.Passes.{Passes, passes_itself}
-use Rattle.world_laws.proofs.Access.RowChannels.{row-uses}
+use Rattle.world_laws.proofs.Access.RowChannels.{row_uses}
 use Rattle.world_laws.proofs.Access.Travels.{event_passes, is_passing}
 use Rattle.world_laws.proofs.Access.Upcoming.{initials_apart, initials_later, initials-none, initials_pass}
 use Rattle.world_laws.proofs.Handling.Finishing.{controller-is}
@@ -72,55 +72,55 @@ module _ (settings : Parameters) (done : List Event) (mobile : ℕ) (s next : Co
   -- ---- which channels it uses then
 
   module _ (P : Channel → Type 0) where
-    next-uses : (number after_all : ℕ) (up : Bool) (brought_it : Brought) (put : List Message) (before after : Option Connection) → Acts number after_all up brought_it before put after → before ≡ Some s → Stands s → after ≡ Some next → IsOpen next.state
+    next_uses : (number after_all : ℕ) (up : Bool) (brought_it : Brought) (put : List Message) (before after : Option Connection) → Acts number after_all up brought_it before put after → before ≡ Some s → Stands s → after ≡ Some next → IsOpen next.state
         → AllByRecursion P (used_channels s) → AllByRecursion P (awaited_in next.state) → AllByRecursion P (used_channels next)
-    next-uses number after_all up brought_it put before after (rests silent is none) was stands now stays_open all new = subst (λ (x : Connection). AllByRecursion P (used_channels x)) (same_Some _ _ (sym was ∙ sym is ∙ now)) all
-    next-uses number after_all up brought_it put before after (ages old s2 by_time is aged silent is2) was stands now stays_open all new =
+    next_uses number after_all up brought_it put before after (rests silent is none) was stands now stays_open all new = subst (λ (x : Connection). AllByRecursion P (used_channels x)) (same_Some _ _ (sym was ∙ sym is ∙ now)) all
+    next_uses number after_all up brought_it put before after (ages old s2 by_time is aged silent is2) was stands now stays_open all new =
         subst (λ (x : Connection). AllByRecursion P (used_channels x)) (same_Some _ _ (sym is2 ∙ now)) (aged_holds (λ (x : Connection). AllByRecursion P (used_channels x)) (λ ms x holds. holds) old s2 aged (subst (λ (x : Connection). AllByRecursion P (used_channels x)) (same_Some _ _ (sym was ∙ is)) all))
-    next-uses number after_all up brought_it put before after (begins is linked channel request delay nothing none put_is is2) was stands now stays_open all new = absurd (let both : None ≡ Some s = sym none ∙ was in cc)
-    next-uses number after_all up brought_it put before after (goes old s1 input offer r is aged by fits put_is is2) was stands now stays_open all new =
+    next_uses number after_all up brought_it put before after (begins is linked channel request delay nothing none put_is is2) was stands now stays_open all new = absurd (let both : None ≡ Some s = sym none ∙ was in cc)
+    next_uses number after_all up brought_it put before after (goes old s1 input offer r is aged by fits put_is is2) was stands now stays_open all new =
         let same_old : s ≡ old = same_Some _ _ (sym was ∙ is) in
         let own : AllByRecursion P (used_channels s1) = aged_holds (λ (x : Connection). AllByRecursion P (used_channels x)) (λ ms x holds. holds) old s1 aged (subst (λ (x : Connection). AllByRecursion P (used_channels x)) same_old all) in
         let stands1 : Stands s1 = aged_holds Stands (λ ms x holds. pass_stands ms x holds) old s1 aged (subst Stands same_old stands) in
-        let next_is : r.next ≡ next = kept-is r.next.state r.next (sym is2 ∙ now) in
+        let next_is : r.next ≡ next = kept_is r.next.state r.next (sym is2 ∙ now) in
         subst (λ (x : Connection). AllByRecursion P (used_channels x)) next_is
-        (row-uses P s1 input offer r stands1 fits (subst (λ (x : Connection). IsOpen x.state) (sym next_is) stays_open) own (subst (λ (x : Connection). AllByRecursion P (awaited_in x.state)) (sym next_is) new)) where
-          kept-is : (state : State) (x : Connection) → kept_in state x ≡ Some next → x ≡ next
-          kept-is Removed x is = absurd cc
-          kept-is WaitActivation x is = same_Some _ _ is
-          kept-is WaitEstablish x is = same_Some _ _ is
-          kept-is WaitConfirm x is = same_Some _ _ is
-          kept-is (Live reference stage) x is = same_Some _ _ is
-          kept-is (Closed clearing) x is = same_Some _ _ is
+        (row_uses P s1 input offer r stands1 fits (subst (λ (x : Connection). IsOpen x.state) (sym next_is) stays_open) own (subst (λ (x : Connection). AllByRecursion P (awaited_in x.state)) (sym next_is) new)) where
+          kept_is : (state : State) (x : Connection) → kept_in state x ≡ Some next → x ≡ next
+          kept_is Removed x is = absurd cc
+          kept_is WaitActivation x is = same_Some _ _ is
+          kept_is WaitEstablish x is = same_Some _ _ is
+          kept_is WaitConfirm x is = same_Some _ _ is
+          kept_is (Live reference stage) x is = same_Some _ _ is
+          kept_is (Closed clearing) x is = same_Some _ _ is
 
-  turn-uses : (P : Channel → Type 0) (st : Step) (v : Actors) → connection_of world.controller s.number ≡ Some s → 1 ≤ s.number → v.controller ≡ (step world.controller st).next → connection_of v.controller s.number ≡ Some next → IsOpen next.state
+  turn_uses : (P : Channel → Type 0) (st : Step) (v : Actors) → connection_of world.controller s.number ≡ Some s → 1 ≤ s.number → v.controller ≡ (step world.controller st).next → connection_of v.controller s.number ≡ Some next → IsOpen next.state
       → AllByRecursion P (used_channels s) → AllByRecursion P (awaited_in next.state) → AllByRecursion P (used_channels next)
-  turn-uses P st v there from_one leads now stays_open all new =
+  turn_uses P st v there from_one leads now stays_open all new =
       let c : Controller = (life settings (all_steps (new_actors settings) done)).next in
       let lives : world.controller ≡ c = LivesByTable-new settings done in
       let acts : ActsOn s.number c st = life_acts settings (all_steps (new_actors settings) done) st s.number from_one in
-      next-uses P s.number c.next_number _ _ acts.put (connection_of c s.number) (connection_of (step c st).next s.number) acts.acts
+      next_uses P s.number c.next_number _ _ acts.put (connection_of c s.number) (connection_of (step c st).next s.number) acts.acts
       (ap (λ (d : Controller). connection_of d s.number) (sym lives) ∙ there) (connections_stand_new settings done s.number s there)
       (ap (λ (d : Controller). connection_of (step d st).next s.number) (sym lives) ∙ ap (λ (d : Controller). connection_of d s.number) (sym leads) ∙ now) stays_open all new
 
   -- ---- at each event
 
-  all-less : (v : Actors) (cs : List Channel) → NoneJoins world v → AllByRecursion (λ c. c.station ≢ SWITCH_LINK) cs → AllByRecursion (λ c. initials_up world (place_of c) ≡ []) cs → AllByRecursion (λ c. initials_up v (place_of c) ≡ []) cs
-  all-less v [] less placed all = tt
-  all-less v (c ∷ cs) less placed all = (sub_nothing (subst (Sub (initials_up v (place_of c))) all.0 (less (place_of c) placed.0)), all-less v cs less placed.1 all.1)
+  all_less : (v : Actors) (cs : List Channel) → NoneJoins world v → AllByRecursion (λ c. c.station ≢ SWITCH_LINK) cs → AllByRecursion (λ c. initials_up world (place_of c) ≡ []) cs → AllByRecursion (λ c. initials_up v (place_of c) ≡ []) cs
+  all_less v [] less placed all = tt
+  all_less v (c ∷ cs) less placed all = (sub_nothing (subst (Sub (initials_up v (place_of c))) all.0 (less (place_of c) placed.0)), all_less v cs less placed.1 all.1)
 
   fewer : (v : Actors) (cs : List Channel) → NoneJoin world v cs → AllByRecursion (λ c. initials_up world (place_of c) ≡ []) cs → AllByRecursion (λ c. initials_up v (place_of c) ≡ []) cs
   fewer v [] less all = tt
   fewer v (c ∷ cs) less all = (sub_nothing (subst (Sub (initials_up v (place_of c))) all.0 less.0), fewer v cs less.1 all.1)
 
-  awaited-none : (v : Actors) (cs : List Channel) → AllByRecursion (λ c. messages_in (coming_up v (place_of c)) ≡ []) cs → AllByRecursion (λ c. initials_up v (place_of c) ≡ []) cs
-  awaited-none v [] all = tt
-  awaited-none v (c ∷ cs) all = (initials-none v (place_of c) all.0, awaited-none v cs all.1)
+  awaited_none : (v : Actors) (cs : List Channel) → AllByRecursion (λ c. messages_in (coming_up v (place_of c)) ≡ []) cs → AllByRecursion (λ c. initials_up v (place_of c) ≡ []) cs
+  awaited_none v [] all = tt
+  awaited_none v (c ∷ cs) all = (initials-none v (place_of c) all.0, awaited_none v cs all.1)
 
   -- of a mobile that sent its initial message
-  sent-none : (number : ℕ) (p : Mobile) (tenure : Tenure) (command : Option Command) (frame : List ℕ) (one : Mobile) → mobile_of world number ≡ Some p → p.seat ≡ On tenure command → is_reached world tenure ≡ true → mobile_of world mobile ≡ Some one → one.opens ≡ false → IsAlone world mobile s
+  sent_none : (number : ℕ) (p : Mobile) (tenure : Tenure) (command : Option Command) (frame : List ℕ) (one : Mobile) → mobile_of world number ≡ Some p → p.seat ≡ On tenure command → is_reached world tenure ≡ true → mobile_of world mobile ≡ Some one → one.opens ≡ false → IsAlone world mobile s
       → AllByRecursion (λ c. c.station ≢ SWITCH_LINK) (used_channels s) → NoneJoin world (brought world p tenure.at Zero frame) (used_channels s) × HasSent (brought world p tenure.at Zero frame) mobile
-  sent-none number p tenure command frame one acts sits reached found sent alone placed = by (nat_eq number mobile) refl where
+  sent_none number p tenure command frame one acts sits reached found sent alone placed = by (nat_eq number mobile) refl where
     v : Actors
     v = brought world p tenure.at Zero frame
 
@@ -152,69 +152,69 @@ module _ (settings : Parameters) (done : List Event) (mobile : ℕ) (s next : Co
           record { one = one; found = back-other (record (framed p Zero) { opens = false }) world.mobiles mobile (λ is. differs (sym q_number ∙ is)) ∙ found; sent = sent },
         )
 
-  opened-of : (v : Actors) (one : Mobile) → mobile_of v mobile ≡ Some one → HasSent v mobile → AllByRecursion (λ c. initials_up v (place_of c) ≡ []) (used_channels next) → HasOpened v one next
-  opened-of v one found sent none = record { opened = ap (λ (x : Mobile). x.opens) (same_Some _ _ (sym found ∙ sent.found)) ∙ sent.sent; none_comes = none }
+  opened_of : (v : Actors) (one : Mobile) → mobile_of v mobile ≡ Some one → HasSent v mobile → AllByRecursion (λ c. initials_up v (place_of c) ≡ []) (used_channels next) → HasOpened v one next
+  opened_of v one found sent none = record { opened = ap (λ (x : Mobile). x.opens) (same_Some _ _ (sym found ∙ sent.found)) ∙ sent.sent; none_comes = none }
 
   -- where the controller takes no part it is as it was
-  as-it-was : (v : Actors) → v.controller ≡ world.controller → connection_of world.controller s.number ≡ Some s → connection_of v.controller s.number ≡ Some next → s ≡ next
-  as-it-was v leads there now = same_Some _ _ (sym there ∙ ap (λ (c : Controller). connection_of c s.number) (sym leads) ∙ now)
+  as_it_was : (v : Actors) → v.controller ≡ world.controller → connection_of world.controller s.number ≡ Some s → connection_of v.controller s.number ≡ Some next → s ≡ next
+  as_it_was v leads there now = same_Some _ _ (sym there ∙ ap (λ (c : Controller). connection_of c s.number) (sym leads) ∙ now)
 
-  passing-opened : (event : Event) → is_passing event ≡ true → (one : Mobile) → mobile_of world mobile ≡ Some one → one.opens ≡ false → connection_of world.controller s.number ≡ Some s → connection_of (actors_after world event).controller s.number ≡ Some next
+  passing_opened : (event : Event) → is_passing event ≡ true → (one : Mobile) → mobile_of world mobile ≡ Some one → one.opens ≡ false → connection_of world.controller s.number ≡ Some s → connection_of (actors_after world event).controller s.number ≡ Some next
       → AllByRecursion (λ c. c.station ≢ SWITCH_LINK) (used_channels s) → AllByRecursion (λ c. initials_up world (place_of c) ≡ []) (used_channels s)
       → HasSent (actors_after world event) mobile × AllByRecursion (λ c. initials_up (actors_after world event) (place_of c) ≡ []) (used_channels next)
-  passing-opened event passing one found sent there now placed none =
+  passing_opened event passing one found sent there now placed none =
       let v : Actors = actors_after world event in
       let passes : Passes world v = after-taken (Passes world) (event_after world event) world (event_passes world event passing (good-all (new_actors settings) done (good-new settings))) (passes_itself world) in
       let all : AllGo world event v = after-taken (AllGo world event) (event_after world event) world (event_goes world event passing) (all_same world event world refl) in
       let each = all.each mobile one found in
-      let is : s ≡ next = as-it-was v passes.controller there now in (
+      let is : s ≡ next = as_it_was v passes.controller there now in (
         record { one = each.0; found = each.1; sent = goes_sent sent each.2 },
-        subst (λ (x : Connection). AllByRecursion (λ c. initials_up v (place_of c) ≡ []) (used_channels x)) is (all-less v (used_channels s) (λ at at_is. initials_pass at at_is passes) placed none),
+        subst (λ (x : Connection). AllByRecursion (λ c. initials_up v (place_of c) ≡ []) (used_channels x)) is (all_less v (used_channels s) (λ at at_is. initials_pass at at_is passes) placed none),
       )
 
   abbrev Opens : Actors → Type 0
   Opens v = connection_of v.controller s.number ≡ Some next → HasSent v mobile × AllByRecursion (λ c. initials_up v (place_of c) ≡ []) (used_channels next)
 
-  sent-opened : (number : ℕ) → (one : Mobile) → mobile_of world mobile ≡ Some one → one.opens ≡ false → connection_of world.controller s.number ≡ Some s → IsAlone world mobile s
+  sent_opened : (number : ℕ) → (one : Mobile) → mobile_of world mobile ≡ Some one → one.opens ≡ false → connection_of world.controller s.number ≡ Some s → IsAlone world mobile s
       → AllByRecursion (λ c. c.station ≢ SWITCH_LINK) (used_channels s) → AllByRecursion (λ c. initials_up world (place_of c) ≡ []) (used_channels s) → Opens (actors_after world (events.AirUp number Zero))
   unfolding event_after
-  sent-opened number one found sent there alone placed none =
-      let still : Opens world = λ now. (record { one = one; found = found; sent = sent }, subst (λ (x : Connection). AllByRecursion (λ c. initials_up world (place_of c) ≡ []) (used_channels x)) (as-it-was world refl there now) none) in
+  sent_opened number one found sent there alone placed none =
+      let still : Opens world = λ now. (record { one = one; found = found; sent = sent }, subst (λ (x : Connection). AllByRecursion (λ c. initials_up world (place_of c) ≡ []) (used_channels x)) (as_it_was world refl there now) none) in
       after-taken Opens (event_after world (events.AirUp number Zero)) world (air_up-leads Opens world number Zero (λ p tenure command frame acts sits lent reached. λ now.
       let v : Actors = brought world p tenure.at Zero frame in
-      let both = sent-none number p tenure command frame one acts sits reached found sent alone placed in
-      (both.1, subst (λ (x : Connection). AllByRecursion (λ c. initials_up v (place_of c) ≡ []) (used_channels x)) (as-it-was v refl there now) (fewer v (used_channels s) both.0 none)))) still
+      let both = sent_none number p tenure command frame one acts sits reached found sent alone placed in
+      (both.1, subst (λ (x : Connection). AllByRecursion (λ c. initials_up v (place_of c) ≡ []) (used_channels x)) (as_it_was v refl there now) (fewer v (used_channels s) both.0 none)))) still
 
   -- the controller takes a step
-  turn-opened : (st : Step) (v : Actors) (one : Mobile) → mobile_of world mobile ≡ Some one → one.opens ≡ false → connection_of world.controller s.number ≡ Some s → 1 ≤ s.number → v.mobiles ≡ world.mobiles → v.controller ≡ (step world.controller st).next → NoneJoins world v
+  turn_opened : (st : Step) (v : Actors) (one : Mobile) → mobile_of world mobile ≡ Some one → one.opens ≡ false → connection_of world.controller s.number ≡ Some s → 1 ≤ s.number → v.mobiles ≡ world.mobiles → v.controller ≡ (step world.controller st).next → NoneJoins world v
       → AllByRecursion (λ c. initials_up world (place_of c) ≡ []) (used_channels s) → AllByRecursion (λ c. c.station ≢ SWITCH_LINK) (used_channels s) → AllByRecursion (λ c. initials_up v (place_of c) ≡ []) (awaited_in next.state) → connection_of v.controller s.number ≡ Some next → IsOpen next.state
       → HasSent v mobile × AllByRecursion (λ c. initials_up v (place_of c) ≡ []) (used_channels next)
-  turn-opened st v one found sent there from_one mobiles leads less none placed new now stays_open = (
+  turn_opened st v one found sent there from_one mobiles leads less none placed new now stays_open = (
     record { one = one; found = ap (λ (ms : List Mobile). find (has_number mobile) ms) mobiles ∙ found; sent = sent },
-    turn-uses (λ c. initials_up v (place_of c) ≡ []) st v there from_one leads now stays_open (all-less v (used_channels s) less placed none) new,
+    turn_uses (λ c. initials_up v (place_of c) ≡ []) st v there from_one leads now stays_open (all_less v (used_channels s) less placed none) new,
   )
 
   abbrev Handles : Actors → Type 0
   Handles v = AllByRecursion (λ c. initials_up v (place_of c) ≡ []) (awaited_in next.state) → connection_of v.controller s.number ≡ Some next → IsOpen next.state → HasSent v mobile × AllByRecursion (λ c. initials_up v (place_of c) ≡ []) (used_channels next)
 
-  handle-opened : (one : Mobile) → mobile_of world mobile ≡ Some one → one.opens ≡ false → connection_of world.controller s.number ≡ Some s → 1 ≤ s.number
+  handle_opened : (one : Mobile) → mobile_of world mobile ≡ Some one → one.opens ≡ false → connection_of world.controller s.number ≡ Some s → 1 ≤ s.number
       → AllByRecursion (λ c. initials_up world (place_of c) ≡ []) (used_channels s) → AllByRecursion (λ c. c.station ≢ SWITCH_LINK) (used_channels s) → Handles (actors_after world events.Handle)
   unfolding event_after
-  handle-opened one found sent there from_one none placed =
-      let still : Handles world = λ new now stays_open. (record { one = one; found = found; sent = sent }, subst (λ (x : Connection). AllByRecursion (λ c. initials_up world (place_of c) ≡ []) (used_channels x)) (as-it-was world refl there now) none) in
+  handle_opened one found sent there from_one none placed =
+      let still : Handles world = λ new now stays_open. (record { one = one; found = found; sent = sent }, subst (λ (x : Connection). AllByRecursion (λ c. initials_up world (place_of c) ≡ []) (used_channels x)) (as_it_was world refl there now) none) in
       after-taken Handles (event_after world events.Handle) world (handle-leads Handles world (λ item items stood. λ new now stays_open.
       let target : Option Tenure = target_in world item.source item.what in
       let t : Turn = take item world.controller in
       let u : Actors = record world { inbox = items } in
-      turn-opened (Take item) (with_turn target t u) one found sent there from_one (turn_mobiles target t.outs (record u { controller = t.next })) (controller-is target t u)
+      turn_opened (Take item) (with_turn target t u) one found sent there from_one (turn_mobiles target t.outs (record u { controller = t.next })) (controller-is target t u)
       (λ at at_is. subst (λ (xs : List (List ℕ)). Sub xs (initials_up world at)) (sym (turned target t u at)) (behind_first world item items at stood)) none placed new now stays_open)) still
 
-  tick-opened : (ms : ℕ) (one : Mobile) → mobile_of world mobile ≡ Some one → one.opens ≡ false → connection_of world.controller s.number ≡ Some s → 1 ≤ s.number
+  tick_opened : (ms : ℕ) (one : Mobile) → mobile_of world mobile ≡ Some one → one.opens ≡ false → connection_of world.controller s.number ≡ Some s → 1 ≤ s.number
       → AllByRecursion (λ c. initials_up world (place_of c) ≡ []) (used_channels s) → AllByRecursion (λ c. c.station ≢ SWITCH_LINK) (used_channels s) → Handles (actors_after world (events.Tick ms))
   unfolding event_after
-  tick-opened ms one found sent there from_one none placed = λ new now stays_open.
+  tick_opened ms one found sent there from_one none placed = λ new now stays_open.
       let t : Turn = tick ms world.controller in
-      turn-opened (Tick ms) (with_turn None t world) one found sent there from_one (turn_mobiles None t.outs (record world { controller = t.next })) (controller-is None t world)
+      turn_opened (Tick ms) (with_turn None t world) one found sent there from_one (turn_mobiles None t.outs (record world { controller = t.next })) (controller-is None t world)
       (λ at at_is. subst (λ (xs : List (List ℕ)). Sub xs (initials_up world at)) (sym (turned None t world at)) (sub_itself (initials_up world at))) none placed new now stays_open
 
 pub opened_stay_opened_new : (settings : Parameters) (done : List Event) (event : Event) → OpenedStayOpened settings done event
@@ -235,21 +235,21 @@ opened_stay_opened_new settings done event mobile s next lives alone number had 
   placed = lives.lined.lined.placed
 
   new : AllByRecursion (λ c. initials_up v (place_of c) ≡ []) (awaited_in next.state)
-  new = awaited-none settings done mobile s next v (awaited_in next.state) fresh.silent
+  new = awaited_none settings done mobile s next v (awaited_in next.state) fresh.silent
 
-  done-with : HasSent v mobile × AllByRecursion (λ c. initials_up v (place_of c) ≡ []) (used_channels next) → HasOpened v lined.one next
-  done-with both = opened-of settings done mobile s next v lined.one lined.found both.0 both.1
+  done_with : HasSent v mobile × AllByRecursion (λ c. initials_up v (place_of c) ≡ []) (used_channels next) → HasOpened v lined.one next
+  done_with both = opened_of settings done mobile s next v lined.one lined.found both.0 both.1
 
   passing : is_passing event ≡ true → HasOpened v lined.one next
-  passing is = done-with (passing-opened settings done mobile s next event is lives.lined.one lives.lined.found sent lives.had.there now placed lives.opened.none_comes)
+  passing is = done_with (passing_opened settings done mobile s next event is lives.lined.one lives.lined.found sent lives.had.there now placed lives.opened.none_comes)
 
   Handled_at : Event → Type 0
   Handled_at x = AllByRecursion (λ c. initials_up (actors_after w x) (place_of c) ≡ []) (awaited_in next.state) → connection_of (actors_after w x).controller s.number ≡ Some next → IsOpen next.state
       → HasSent (actors_after w x) mobile × AllByRecursion (λ c. initials_up (actors_after w x) (place_of c) ≡ []) (used_channels next)
 
   by : (e : Event) → event ≡ e → HasOpened v lined.one next
-  by (events.AirUp n Zero) is = done-with (subst (λ (x : Event). connection_of (actors_after w x).controller s.number ≡ Some next → HasSent (actors_after w x) mobile × AllByRecursion (λ c. initials_up (actors_after w x) (place_of c) ≡ []) (used_channels next)) (sym is)
-      (sent-opened settings done mobile s next n lives.lined.one lives.lined.found sent lives.had.there alone placed lives.opened.none_comes) now)
-  by events.Handle is = done-with (subst (λ (x : Event). Handled_at x) (sym is) (handle-opened settings done mobile s next lives.lined.one lives.lined.found sent lives.had.there lives.had.from_one lives.opened.none_comes placed) new now had.is_open)
-  by (events.Tick ms) is = done-with (subst (λ (x : Event). Handled_at x) (sym is) (tick-opened settings done mobile s next ms lives.lined.one lives.lined.found sent lives.had.there lives.had.from_one lives.opened.none_comes placed) new now had.is_open)
+  by (events.AirUp n Zero) is = done_with (subst (λ (x : Event). connection_of (actors_after w x).controller s.number ≡ Some next → HasSent (actors_after w x) mobile × AllByRecursion (λ c. initials_up (actors_after w x) (place_of c) ≡ []) (used_channels next)) (sym is)
+      (sent_opened settings done mobile s next n lives.lined.one lives.lined.found sent lives.had.there alone placed lives.opened.none_comes) now)
+  by events.Handle is = done_with (subst (λ (x : Event). Handled_at x) (sym is) (handle_opened settings done mobile s next lives.lined.one lives.lined.found sent lives.had.there lives.had.from_one lives.opened.none_comes placed) new now had.is_open)
+  by (events.Tick ms) is = done_with (subst (λ (x : Event). Handled_at x) (sym is) (tick_opened settings done mobile s next ms lives.lined.one lives.lined.found sent lives.had.there lives.had.from_one lives.opened.none_comes placed) new now had.is_open)
   by e is = passing (ap is_passing is)

@@ -16,48 +16,48 @@ use Rattle.world_laws.proofs.Framing.{all_left, all_right}
 module _ (P : Channel → Type 0) where
   -- ---- old channels
 
-  undone-done : (place : ℕ) (ds : List Drain) → AllByRecursion P (undone ds) → AllByRecursion P (undone (done_at place ds))
-  undone-done place [] all = tt
-  undone-done zero (d ∷ ds) all = by d.is_done all where
+  undone_done : (place : ℕ) (ds : List Drain) → AllByRecursion P (undone ds) → AllByRecursion P (undone (done_at place ds))
+  undone_done place [] all = tt
+  undone_done zero (d ∷ ds) all = by d.is_done all where
     by : (b : Bool) → AllByRecursion P (if b then undone ds else d.channel ∷ undone ds) → AllByRecursion P (undone ds)
     by true all = all
     by false all = all.1
-  undone-done (suc place) (d ∷ ds) all = by d.is_done all (undone-done place ds) where
+  undone_done (suc place) (d ∷ ds) all = by d.is_done all (undone_done place ds) where
     by : (b : Bool) → AllByRecursion P (if b then undone ds else d.channel ∷ undone ds) → (AllByRecursion P (undone ds) → AllByRecursion P (undone (done_at place ds))) → AllByRecursion P (if b then undone (done_at place ds) else d.channel ∷ undone (done_at place ds))
     by true all others = others all
     by false all others = (all.0, others all.1)
 
-  undone-still : (ds : List Drain) → AllByRecursion P (undone ds) → AllByRecursion P (undone (still_draining ds))
-  undone-still [] all = tt
-  undone-still (d ∷ ds) all = by d.is_done refl all (undone-still ds) where
+  undone_still : (ds : List Drain) → AllByRecursion P (undone ds) → AllByRecursion P (undone (still_draining ds))
+  undone_still [] all = tt
+  undone_still (d ∷ ds) all = by d.is_done refl all (undone_still ds) where
     by : (b : Bool) → d.is_done ≡ b → AllByRecursion P (if b then undone ds else d.channel ∷ undone ds) → (AllByRecursion P (undone ds) → AllByRecursion P (undone (still_draining ds))) → AllByRecursion P (undone (if b then still_draining ds else d ∷ ds))
     by true is all others = others all
     by false is all others = subst (λ (b : Bool). AllByRecursion P (if b then undone ds else d.channel ∷ undone ds)) (sym is) all
 
-  undone-more : (ds : List Drain) (c : Channel) → AllByRecursion P (undone ds) → P c → AllByRecursion P (undone (ds ++ record { channel = c; is_done = false } ∷ []))
-  undone-more [] c all own = (own, tt)
-  undone-more (d ∷ ds) c all own = by d.is_done all (undone-more ds c) where
+  undone_more : (ds : List Drain) (c : Channel) → AllByRecursion P (undone ds) → P c → AllByRecursion P (undone (ds ++ record { channel = c; is_done = false } ∷ []))
+  undone_more [] c all own = (own, tt)
+  undone_more (d ∷ ds) c all own = by d.is_done all (undone_more ds c) where
     by : (b : Bool) → AllByRecursion P (if b then undone ds else d.channel ∷ undone ds) → (AllByRecursion P (undone ds) → P c → AllByRecursion P (undone (ds ++ record { channel = c; is_done = false } ∷ []))) → AllByRecursion P (if b then undone (ds ++ record { channel = c; is_done = false } ∷ []) else d.channel ∷ undone (ds ++ record { channel = c; is_done = false } ∷ []))
     by true all others = others all own
     by false all others = (all.0, others all.1 own)
 
   -- ---- steps
 
-  step-uses : (step : RoleStep) (roles : Roles) → AllByRecursion P (used_in roles) → AllByRecursion P (used_in (after_step step roles))
-  step-uses it_stays roles all = all
-  step-uses it_commands roles all = by roles.target (all_left P (undone roles.draining) (roles.serving ∷ target_channels roles.target) all) (all_right P (undone roles.draining) (roles.serving ∷ target_channels roles.target) all) where
+  step_uses : (step : RoleStep) (roles : Roles) → AllByRecursion P (used_in roles) → AllByRecursion P (used_in (after_step step roles))
+  step_uses it_stays roles all = all
+  step_uses it_commands roles all = by roles.target (all_left P (undone roles.draining) (roles.serving ∷ target_channels roles.target) all) (all_right P (undone roles.draining) (roles.serving ∷ target_channels roles.target) all) where
     by : (o : Option TargetRole) → AllByRecursion P (undone roles.draining) → AllByRecursion P (roles.serving ∷ target_channels o) → AllByRecursion P (undone roles.draining ++ roles.serving ∷ target_channels (commanded o))
     by None old others = AllByRecursion-append P (undone roles.draining) (roles.serving ∷ []) old others
     by (Some t) old others = AllByRecursion-append P (undone roles.draining) (roles.serving ∷ t.target.channel ∷ []) old others
-  step-uses it_completes roles all = by roles.target (all_left P (undone roles.draining) (roles.serving ∷ target_channels roles.target) all) (all_right P (undone roles.draining) (roles.serving ∷ target_channels roles.target) all) all where
+  step_uses it_completes roles all = by roles.target (all_left P (undone roles.draining) (roles.serving ∷ target_channels roles.target) all) (all_right P (undone roles.draining) (roles.serving ∷ target_channels roles.target) all) all where
     by : (o : Option TargetRole) → AllByRecursion P (undone roles.draining) → AllByRecursion P (roles.serving ∷ target_channels o) → AllByRecursion P (used_in roles) → AllByRecursion P (used_in (completed o roles))
     by None old others all = all
-    by (Some t) old others all = AllByRecursion-append P (undone (roles.draining ++ record { channel = roles.serving; is_done = false } ∷ [])) (t.target.channel ∷ []) (undone-more roles.draining roles.serving old others.0) (others.1.0, tt)
-  step-uses it_goes_back roles all =
+    by (Some t) old others all = AllByRecursion-append P (undone (roles.draining ++ record { channel = roles.serving; is_done = false } ∷ [])) (t.target.channel ∷ []) (undone_more roles.draining roles.serving old others.0) (others.1.0, tt)
+  step_uses it_goes_back roles all =
       AllByRecursion-append P (undone roles.draining) (roles.serving ∷ []) (all_left P (undone roles.draining) (roles.serving ∷ target_channels roles.target) all) ((all_right P (undone roles.draining) (roles.serving ∷ target_channels roles.target) all).0, tt)
-  step-uses (it_leaves place) roles all =
+  step_uses (it_leaves place) roles all =
       AllByRecursion-append P (undone (still_draining (done_at place roles.draining))) (roles.serving ∷ target_channels roles.target)
-      (undone-still (done_at place roles.draining) (undone-done place roles.draining (all_left P (undone roles.draining) (roles.serving ∷ target_channels roles.target) all)))
+      (undone_still (done_at place roles.draining) (undone_done place roles.draining (all_left P (undone roles.draining) (roles.serving ∷ target_channels roles.target) all)))
       (all_right P (undone roles.draining) (roles.serving ∷ target_channels roles.target) all)
 
   -- a change that begins
@@ -72,23 +72,23 @@ module _ (P : Channel → Type 0) where
   awaited (Closed clearing) t is all = absurd cc
   awaited Removed t is all = absurd cc
 
-  begin-uses : (begun : Option Target) (old : Roles) (next : Connection) → roles_of next ≡ with_target begun old → AllByRecursion P (used_in old) → AllByRecursion P (awaited_in next.state) → AllByRecursion P (used_in (roles_of next))
-  begin-uses None old next is all new = subst (λ (r : Roles). AllByRecursion P (used_in r)) (sym is) all
-  begin-uses (Some t) old next is all new =
+  begin_uses : (begun : Option Target) (old : Roles) (next : Connection) → roles_of next ≡ with_target begun old → AllByRecursion P (used_in old) → AllByRecursion P (awaited_in next.state) → AllByRecursion P (used_in (roles_of next))
+  begin_uses None old next is all new = subst (λ (r : Roles). AllByRecursion P (used_in r)) (sym is) all
+  begin_uses (Some t) old next is all new =
       subst (λ (r : Roles). AllByRecursion P (used_in r)) (sym is)
       (AllByRecursion-append P (undone old.draining) (old.serving ∷ t.channel ∷ []) (all_left P (undone old.draining) (old.serving ∷ target_channels old.target) all)
       ((all_right P (undone old.draining) (old.serving ∷ target_channels old.target) all).0, (awaited next.state t (ap (λ (r : Roles). r.target) is) new, tt)))
 
-  of-roles : (s : Connection) → AllByRecursion P (used_in (roles_of s)) → AllByRecursion P (used_channels s)
-  of-roles s all = subst (λ (cs : List Channel). AllByRecursion P (undone s.draining ++ s.serving ∷ cs)) (target_in-role s.state) all
+  of_roles : (s : Connection) → AllByRecursion P (used_in (roles_of s)) → AllByRecursion P (used_channels s)
+  of_roles s all = subst (λ (cs : List Channel). AllByRecursion P (undone s.draining ++ s.serving ∷ cs)) (target_in-role s.state) all
 
-  to-roles : (s : Connection) → AllByRecursion P (used_channels s) → AllByRecursion P (used_in (roles_of s))
-  to-roles s all = subst (λ (cs : List Channel). AllByRecursion P (undone s.draining ++ s.serving ∷ cs)) (sym (target_in-role s.state)) all
+  to_roles : (s : Connection) → AllByRecursion P (used_channels s) → AllByRecursion P (used_in (roles_of s))
+  to_roles s all = subst (λ (cs : List Channel). AllByRecursion P (undone s.draining ++ s.serving ∷ cs)) (sym (target_in-role s.state)) all
 
-  changed-uses : (s : Connection) (input : Input) (offer : Option Channel) (r : Row) → ChangesRoles s input offer r → IsOpen r.next.state → AllByRecursion P (used_channels s) → AllByRecursion P (awaited_in r.next.state) → AllByRecursion P (used_channels r.next)
-  changed-uses s input offer r (goes_on was is on) stays_open all new = of-roles r.next (begin-uses on.begun (after_step (step_by input (roles_of s)) (roles_of s)) r.next on.roles (step-uses (step_by input (roles_of s)) (roles_of s) (to-roles s all)) new)
-  changed-uses s input offer r (ends was shut over) stays_open all new = absurd (shut stays_open)
-  changed-uses s input offer r (had_ended was shut nothing) stays_open all new = absurd (shut stays_open)
+  changed_uses : (s : Connection) (input : Input) (offer : Option Channel) (r : Row) → ChangesRoles s input offer r → IsOpen r.next.state → AllByRecursion P (used_channels s) → AllByRecursion P (awaited_in r.next.state) → AllByRecursion P (used_channels r.next)
+  changed_uses s input offer r (goes_on was is on) stays_open all new = of_roles r.next (begin_uses on.begun (after_step (step_by input (roles_of s)) (roles_of s)) r.next on.roles (step_uses (step_by input (roles_of s)) (roles_of s) (to_roles s all)) new)
+  changed_uses s input offer r (ends was shut over) stays_open all new = absurd (shut stays_open)
+  changed_uses s input offer r (had_ended was shut nothing) stays_open all new = absurd (shut stays_open)
 
-  pub row-uses : (s : Connection) (input : Input) (offer : Option Channel) (r : Row) → Stands s → row_of s input offer ≡ Some r → IsOpen r.next.state → AllByRecursion P (used_channels s) → AllByRecursion P (awaited_in r.next.state) → AllByRecursion P (used_channels r.next)
-  row-uses s input offer r stands fits stays_open all new = changed-uses s input offer r (subst (ChangesRolesBy s input offer) fits (ChangesRoles-row s input offer stands)) stays_open all new
+  pub row_uses : (s : Connection) (input : Input) (offer : Option Channel) (r : Row) → Stands s → row_of s input offer ≡ Some r → IsOpen r.next.state → AllByRecursion P (used_channels s) → AllByRecursion P (awaited_in r.next.state) → AllByRecursion P (used_channels r.next)
+  row_uses s input offer r stands fits stays_open all new = changed_uses s input offer r (subst (ChangesRolesBy s input offer) fits (ChangesRoles-row s input offer stands)) stays_open all new

@@ -29,7 +29,7 @@ use Rattle.world_laws.proofs.Standing.{connections_stand_new}
 use Rattle.world_laws.specs.Channels.Begun.{BegunIsTaken, EstablishedAreActive, HasBegun, ServedAreActive, begun_in}
 use Rattle.world_laws.proofs.Channels.Agreeing.{IsPlaced, agreed, owns_at, placed_at, used_at}
 use Rattle.world_laws.proofs.Channels.BegunRow.{IsAckOf, begun_used, row_begun}
-use Rattle.world_laws.proofs.Channels.BegunTurn.{ack_heard, rests_silent, turn-begins, turn-kept}
+use Rattle.world_laws.proofs.Channels.BegunTurn.{ack_heard, rests_silent, turn_begins, turn_kept}
 use Rattle.world_laws.proofs.Targets.Within.{still_all}
 use Rattle.world_laws.proofs.Events.{snoc_actors, world}
 use Rattle.world_laws.proofs.Framing.{all_left, all_right}
@@ -72,16 +72,16 @@ module _ (settings : Parameters) (done : List Event) (event : Event) (v : Actors
   abbrev c : Controller
   c = w.controller
 
-  next-is : v.controller ≡ (step c s).next
-  next-is = (stepping.turned (place_at 0 0)).controller
+  next_is : v.controller ≡ (step c s).next
+  next_is = (stepping.turned (place_at 0 0)).controller
 
-  used-then : (number : ℕ) (x : Connection) → connection_of v.controller number ≡ Some x → AllByRecursion (InUseAt v.controller number) (begun_in x.state x.serving)
-  used-then number x there =
+  used_then : (number : ℕ) (x : Connection) → connection_of v.controller number ≡ Some x → AllByRecursion (InUseAt v.controller number) (begun_in x.state x.serving)
+  used_then number x there =
       subst (λ (u : Actors). AllByRecursion (InUseAt u.controller number) (begun_in x.state x.serving)) (sym is_then)
       (begun_in_use settings (done ++ event ∷ []) allowed number x (subst (λ (u : Actors). connection_of u.controller number ≡ Some x) is_then there))
 
-  placed-then : (at : Place) (number : ℕ) → channel_state v.controller at ≡ InUse number → IsPlaced settings v at
-  placed-then at number used =
+  placed_then : (at : Place) (number : ℕ) → channel_state v.controller at ≡ InUse number → IsPlaced settings v at
+  placed_then at number used =
       subst (λ (u : Actors). IsPlaced settings u at) (sym is_then) (used_placed settings (done ++ event ∷ []) allowed at number (subst (λ (u : Actors). channel_state u.controller at ≡ InUse number) is_then used))
 
   -- nothing is to come of it, if it is in use then
@@ -89,59 +89,59 @@ module _ (settings : Parameters) (done : List Event) (event : Event) (v : Actors
   Silent number y = channel_state v.controller (place_of y) ≡ InUse number → to_come v (place_of y) ≡ []
 
   hears-then : (at : Place) (number : ℕ) → channel_state v.controller at ≡ InUse number → hears (step c s).next at.station ≡ true
-  hears-then at number used = subst (λ (d : Controller). hears d at.station ≡ true) next-is (placed-then at number used).hearing
+  hears-then at number used = subst (λ (d : Controller). hears d at.station ≡ true) next_is (placed_then at number used).hearing
 
-  in-use-next : (at : Place) (number : ℕ) → channel_state v.controller at ≡ InUse number → channel_state (step c s).next at ≡ InUse number
-  in-use-next at number used = subst (λ (d : Controller). channel_state d at ≡ InUse number) next-is used
+  in_use_next : (at : Place) (number : ℕ) → channel_state v.controller at ≡ InUse number → channel_state (step c s).next at ≡ InUse number
+  in_use_next at number used = subst (λ (d : Controller). channel_state d at ≡ InUse number) next_is used
 
   keep : (number : ℕ) (y : Channel) → to_come w (place_of y) ≡ [] → InUseAt c number y → Silent number y
   unfolding InUseAt
   keep number y none used still =
       let at : Place = place_of y in
-      let placed = placed-then at number still in
-      turn-kept owner w v at stepping.target (step c s) (heard at) (stepping.turned at) (stepping.serves at placed.least placed.most) (agree at placed.least placed.most) number used (in-use-next at number still) (hears-then at number still) none
+      let placed = placed_then at number still in
+      turn_kept owner w v at stepping.target (step c s) (heard at) (stepping.turned at) (stepping.serves at placed.least placed.most) (agree at placed.least placed.most) number used (in_use_next at number still) (hears-then at number still) none
 
-  keep-all : AllBegun w → (number : ℕ) (x : Connection) → 1 ≤ number → connection_of c number ≡ Some x → AllByRecursion (Silent number) (begun_in x.state x.serving)
+  keep_all : AllBegun w → (number : ℕ) (x : Connection) → 1 ≤ number → connection_of c number ≡ Some x → AllByRecursion (Silent number) (begun_in x.state x.serving)
   unfolding AllBegun
-  keep-all begun number x from_one there = all_both (λ y. to_come w (place_of y) ≡ []) (InUseAt c number) (Silent number) (begun_in x.state x.serving) (keep number) (begun number x from_one there) (begun_in_use settings done allowed number x there)
+  keep_all begun number x from_one there = all_both (λ y. to_come w (place_of y) ≡ []) (InUseAt c number) (Silent number) (begun_in x.state x.serving) (keep number) (begun number x from_one there) (begun_in_use settings done allowed number x there)
 
   begins : (number : ℕ) (input : Input) → IsBrought (brought_in c number s) input → IsAckOf input (InUseAt c number) (Silent number)
   unfolding InUseAt
   begins number input brought place y same here used still =
       let at : Place = place_of y in
-      let placed = placed-then at number still in
-      turn-begins owner w v at stepping.target (step c s) (heard at) (stepping.turned at) (stepping.serves at placed.least placed.most) (agree at placed.least placed.most) number used (in-use-next at number still) (hears-then at number still)
+      let placed = placed_then at number still in
+      turn_begins owner w v at stepping.target (step c s) (heard at) (stepping.turned at) (stepping.serves at placed.least placed.most) (agree at placed.least placed.most) number used (in_use_next at number still) (hears-then at number still)
       (subst (λ (p : Place). heard p ≢ []) (place-is place y here) (stepping.acks number place (subst (IsBrought (brought_in c number s)) same brought)))
 
   finish : (number : ℕ) (x : Connection) → connection_of v.controller number ≡ Some x → AllByRecursion (Silent number) (begun_in x.state x.serving) → HasBegun v x
   unfolding InUseAt
-  finish number x there all = all_both (Silent number) (InUseAt v.controller number) (λ y. to_come v (place_of y) ≡ []) (begun_in x.state x.serving) (λ y silent used. silent used) all (used-then number x there)
+  finish number x there all = all_both (Silent number) (InUseAt v.controller number) (λ y. to_come v (place_of y) ≡ []) (begun_in x.state x.serving) (λ y silent used. silent used) all (used_then number x there)
 
-  by-acts : AllBegun w → (number : ℕ) (x : Connection) (put : List Message) → 1 ≤ number → connection_of v.controller number ≡ Some x → Acts number c.next_number (hears c SWITCH_LINK) (brought_in c number s) (connection_of c number) put (connection_of (step c s).next number) → HasBegun v x
+  by_acts : AllBegun w → (number : ℕ) (x : Connection) (put : List Message) → 1 ≤ number → connection_of v.controller number ≡ Some x → Acts number c.next_number (hears c SWITCH_LINK) (brought_in c number s) (connection_of c number) put (connection_of (step c s).next number) → HasBegun v x
   unfolding InUseAt
-  by-acts begun number x put from_one there (rests silent same none) = finish number x there (keep-all begun number x from_one (sym same ∙ ap (λ (d : Controller). connection_of d number) (sym next-is) ∙ there))
-  by-acts begun number x put from_one there (ages old y passes before aged silent after) =
-      let is : y ≡ x = (let both : Some y ≡ Some x = sym after ∙ ap (λ (d : Controller). connection_of d number) (sym next-is) ∙ there in cc) in
+  by_acts begun number x put from_one there (rests silent same none) = finish number x there (keep_all begun number x from_one (sym same ∙ ap (λ (d : Controller). connection_of d number) (sym next_is) ∙ there))
+  by_acts begun number x put from_one there (ages old y passes before aged silent after) =
+      let is : y ≡ x = (let both : Some y ≡ Some x = sym after ∙ ap (λ (d : Controller). connection_of d number) (sym next_is) ∙ there in cc) in
       finish number x there (subst (λ (z : Connection). AllByRecursion (Silent number) (begun_in z.state z.serving)) is
-      (aged_holds (λ z. AllByRecursion (Silent number) (begun_in z.state z.serving)) (λ ms z all. all) old y aged (keep-all begun number old from_one before)))
-  by-acts begun number x put from_one there (opens next up channel request delay nothing before put_is after) =
-      let is : new_connection number channel request delay ≡ x = (let both : Some (new_connection number channel request delay) ≡ Some x = sym after ∙ ap (λ (d : Controller). connection_of d number) (sym next-is) ∙ there in cc) in
+      (aged_holds (λ z. AllByRecursion (Silent number) (begun_in z.state z.serving)) (λ ms z all. all) old y aged (keep_all begun number old from_one before)))
+  by_acts begun number x put from_one there (opens next up channel request delay nothing before put_is after) =
+      let is : new_connection number channel request delay ≡ x = (let both : Some (new_connection number channel request delay) ≡ Some x = sym after ∙ ap (λ (d : Controller). connection_of d number) (sym next_is) ∙ there in cc) in
       subst (HasBegun v) is tt
-  by-acts begun number x put from_one there (goes old y input offer r before aged brought fits put_is after) =
-      let is : r.next ≡ x = kept_some r.next.state r.next x (sym after ∙ ap (λ (d : Controller). connection_of d number) (sym next-is) ∙ there) in
+  by_acts begun number x put from_one there (goes old y input offer r before aged brought fits put_is after) =
+      let is : r.next ≡ x = kept_some r.next.state r.next x (sym after ∙ ap (λ (d : Controller). connection_of d number) (sym next_is) ∙ there) in
       finish number x there (subst (λ (z : Connection). AllByRecursion (Silent number) (begun_in z.state z.serving)) is
       (row_begun (InUseAt c number) (Silent number) y input offer r (aged_holds Stands pass_stands old y aged (connections_stand_new settings done number old before)) fits (begins number input brought)
       (aged_holds (λ z. IsOpen z.state → AllByRecursion (InUseAt c number) (z.serving ∷ target_channels (target_role z.state))) (λ ms z all. all) old y aged (owned number old before))
-      (aged_holds (λ z. AllByRecursion (Silent number) (begun_in z.state z.serving)) (λ ms z all. all) old y aged (keep-all begun number old from_one before))))
+      (aged_holds (λ z. AllByRecursion (Silent number) (begun_in z.state z.serving)) (λ ms z all. all) old y aged (keep_all begun number old from_one before))))
     where
       owned : (number : ℕ) (old : Connection) → connection_of c number ≡ Some old → IsOpen old.state → AllByRecursion (InUseAt c number) (old.serving ∷ target_channels (target_role old.state))
       owned number old there opened = (owns_at settings done allowed number old there opened).using
 
-  stepping-begun : AllBegun w → AllBegun v
+  stepping_begun : AllBegun w → AllBegun v
   unfolding AllBegun
-  stepping-begun begun number x from_one there =
+  stepping_begun begun number x from_one there =
       let acts = subst (λ (d : Controller). ActsOn number d s) (sym (LivesByTable-new settings done)) (life_acts settings (all_steps (new_actors settings) done) s number from_one) in
-      by-acts begun number x acts.put from_one there acts.acts
+      by_acts begun number x acts.put from_one there acts.acts
 
 -- ---- each event
 
@@ -174,7 +174,7 @@ module _ (settings : Parameters) (done : List Event) (allowed : AreAllowed setti
   ticks : (ms : ℕ) → AllByRecursion ComesInOctets (step_at now (events.Tick ms)) → AllBegun (actors_after now (events.Tick ms))
   unfolding ServesAt event_after
   ticks ms came =
-      stepping-begun settings done (events.Tick ms) (actors_after now (events.Tick ms)) (sym (snoc_actors (new_actors settings) done (events.Tick ms))) allowed own_of right.agree (steps.Tick ms) (λ at. [])
+      stepping_begun settings done (events.Tick ms) (actors_after now (events.Tick ms)) (sym (snoc_actors (new_actors settings) done (events.Tick ms))) allowed own_of right.agree (steps.Tick ms) (λ at. [])
       (record {
         target = None;
         turned = λ at. tick-turned now at ms;
@@ -192,7 +192,7 @@ module _ (settings : Parameters) (done : List Event) (allowed : AreAllowed setti
         let same : actors_after now Handle ≡ v = ap (λ (all : List Item). unwrap_or (handled all now) now) is in
         let known : AllByRecursion IsKnownItem (item ∷ items) = subst (AllByRecursion IsKnownItem) is (known-inbox settings done) in
         subst AllBegun (sym same)
-        (stepping-begun settings done Handle v (sym same ∙ sym (snoc_actors (new_actors settings) done Handle)) allowed own_of right.agree (steps.Take item) (λ at. heard_of at item)
+        (stepping_begun settings done Handle v (sym same ∙ sym (snoc_actors (new_actors settings) done Handle)) allowed own_of right.agree (steps.Take item) (λ at. heard_of at item)
         (record {
           target = target_in now item.source item.what;
           turned = λ at. handle-turned now at item items is;
@@ -200,8 +200,8 @@ module _ (settings : Parameters) (done : List Event) (allowed : AreAllowed setti
           acks = λ number at brought. ack_heard now now.controller number item at (used_at settings done allowed) known.0 brought;
         }) begun)
 
-  event-begun : (e : Event) → AllByRecursion ComesInOctets (step_at now e) → AllBegun (actors_after now e)
-  event-begun = kinds (λ e. AllByRecursion ComesInOctets (step_at now e) → AllBegun (actors_after now e)) (λ e is came. beside e is) handles ticks (λ station came. takes station)
+  event_begun : (e : Event) → AllByRecursion ComesInOctets (step_at now e) → AllBegun (actors_after now e)
+  event_begun = kinds (λ e. AllByRecursion ComesInOctets (step_at now e) → AllBegun (actors_after now e)) (λ e is came. beside e is) handles ticks (λ station came. takes station)
 
 -- ---- over all events
 
@@ -209,7 +209,7 @@ begun_all : (settings : Parameters) (done rest : List Event) (w : Actors) → w 
 begun_all settings done [] w is allowed octets later begun = begun
 begun_all settings done (event ∷ rest) w is allowed octets later begun =
     let own : AllByRecursion ComesInOctets (step_at (world settings done) event) = subst (λ (u : Actors). AllByRecursion ComesInOctets (step_at u event)) is (all_left ComesInOctets (step_at w event) (all_steps (actors_after w event) rest) later) in
-    let next : AllBegun (actors_after w event) = subst (λ (u : Actors). AllBegun (actors_after u event)) (sym is) (event-begun settings done allowed octets (subst AllBegun is begun) event own) in
+    let next : AllBegun (actors_after w event) = subst (λ (u : Actors). AllBegun (actors_after u event)) (sym is) (event_begun settings done allowed octets (subst AllBegun is begun) event own) in
     begun_all settings (done ++ event ∷ []) rest (actors_after w event) (ap (λ (u : Actors). actors_after u event) is ∙ sym (snoc_actors (new_actors settings) done event)) allowed
     (snoc_steps ComesInOctets (new_actors settings) done event octets own) (all_right ComesInOctets (step_at w event) (all_steps (actors_after w event) rest) later) next
 

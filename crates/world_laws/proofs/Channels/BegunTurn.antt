@@ -105,13 +105,13 @@ abbrev rest_of : Actors → Actors → Place → List Rsl
 rest_of w v at = acknowledged_in at v.inbox ++ (acknowledgements at.number (base_of w at.station).messages ++ due at.number (is_active_at w at) (outbox_of w at.station))
 
 module _ (owner : Tenure → ℕ) (w v : Actors) (at : Place) (target : Option Tenure) (t : Turn) (heard : List Rsl) (turned : Turned w v at target t heard) (serves : Serves owner w at target t heard) (agrees : Agrees owner w at) where
-  came-first : to_come w at ≡ heard ++ rest_of w v at
-  came-first =
+  came_first : to_come w at ≡ heard ++ rest_of w v at
+  came_first =
       ap (λ (xs : List Rsl). xs ++ (acknowledgements at.number (base_of w at.station).messages ++ due at.number (is_active_at w at) (outbox_of w at.station))) turned.inbox
       ∙ append_assoc heard (acknowledged_in at v.inbox) (acknowledgements at.number (base_of w at.station).messages ++ due at.number (is_active_at w at) (outbox_of w at.station))
 
-  comes-then : to_come v at ≡ rest_of w v at ++ due at.number (active_behind w at) turned.entries
-  comes-then =
+  comes_then : to_come v at ≡ rest_of w v at ++ due at.number (active_behind w at) turned.entries
+  comes_then =
       ap (λ (b : BaseState). acknowledged_in at v.inbox ++ (acknowledgements at.number b.messages ++ due at.number (is_active b.active at.number) (outbox_of v at.station))) turned.base
       ∙ ap (λ (es : List OutboxEntry). acknowledged_in at v.inbox ++ (acknowledgements at.number (base_of w at.station).messages ++ due at.number (is_active_at w at) es)) turned.outbox
       ∙ ap (λ (xs : List Rsl). acknowledged_in at v.inbox ++ (acknowledgements at.number (base_of w at.station).messages ++ xs)) (due-append at.number (is_active_at w at) (outbox_of w at.station) turned.entries)
@@ -119,8 +119,8 @@ module _ (owner : Tenure → ℕ) (w v : Actors) (at : Place) (target : Option T
       ∙ sym (append_assoc (acknowledged_in at v.inbox) (acknowledgements at.number (base_of w at.station).messages ++ due at.number (is_active_at w at) (outbox_of w at.station)) (due at.number (active_behind w at) turned.entries))
 
   -- of a channel that is in use before and after it, nothing is due for what it puts
-  none-due : (number : ℕ) → channel_state w.controller at ≡ InUse number → channel_state t.next at ≡ InUse number → hears t.next at.station ≡ true → due at.number (active_behind w at) turned.entries ≡ []
-  none-due number used still hearing = by (is_up w at.station) refl where
+  none_due : (number : ℕ) → channel_state w.controller at ≡ InUse number → channel_state t.next at ≡ InUse number → hears t.next at.station ≡ true → due at.number (active_behind w at) turned.entries ≡ []
+  none_due number used still hearing = by (is_up w at.station) refl where
     by : (up : Bool) → is_up w at.station ≡ up → due at.number (active_behind w at) turned.entries ≡ []
     by false down = ap (due at.number (active_behind w at)) (turned.down down)
     by true up =
@@ -132,20 +132,20 @@ module _ (owner : Tenure → ℕ) (w v : Actors) (at : Place) (target : Option T
         ap (due at.number (active_behind w at)) (turned.joins up)
         ∙ one-at-most at.number number (channel_state t.next at) _ one _ all still refl (λ is. absurd cc)
 
-  turn-silent : (number : ℕ) → channel_state w.controller at ≡ InUse number → channel_state t.next at ≡ InUse number → hears t.next at.station ≡ true → rest_of w v at ≡ [] → to_come v at ≡ []
-  turn-silent number used still hearing none = comes-then ∙ ap (λ (xs : List Rsl). xs ++ due at.number (active_behind w at) turned.entries) none ∙ none-due number used still hearing
+  turn_silent : (number : ℕ) → channel_state w.controller at ≡ InUse number → channel_state t.next at ≡ InUse number → hears t.next at.station ≡ true → rest_of w v at ≡ [] → to_come v at ≡ []
+  turn_silent number used still hearing none = comes_then ∙ ap (λ (xs : List Rsl). xs ++ due at.number (active_behind w at) turned.entries) none ∙ none_due number used still hearing
 
   -- where nothing was to come, nothing is to come
-  pub turn-kept : (number : ℕ) → channel_state w.controller at ≡ InUse number → channel_state t.next at ≡ InUse number → hears t.next at.station ≡ true → to_come w at ≡ [] → to_come v at ≡ []
-  turn-kept number used still hearing silent = turn-silent number used still hearing (Both-empty heard (rest_of w v at) (sym silent ∙ came-first)).1
+  pub turn_kept : (number : ℕ) → channel_state w.controller at ≡ InUse number → channel_state t.next at ≡ InUse number → hears t.next at.station ≡ true → to_come w at ≡ [] → to_come v at ≡ []
+  turn_kept number used still hearing silent = turn_silent number used still hearing (Both-empty heard (rest_of w v at) (sym silent ∙ came_first)).1
 
   -- nor where an acknowledgement is taken
-  pub turn-begins : (number : ℕ) → channel_state w.controller at ≡ InUse number → channel_state t.next at ≡ InUse number → hears t.next at.station ≡ true → heard ≢ [] → to_come v at ≡ []
-  turn-begins number used still hearing some =
+  pub turn_begins : (number : ℕ) → channel_state w.controller at ≡ InUse number → channel_state t.next at ≡ InUse number → hears t.next at.station ≡ true → heard ≢ [] → to_come v at ≡ []
+  turn_begins number used still hearing some =
       let way = agrees.way (serves.hearing hearing) in
       let none : rest_of w v at ++ way.lost ≡ [] =
-      one-at-most at.number number (channel_state w.controller at) (to_come w at ++ way.lost) heard (rest_of w v at ++ way.lost) way.comes used (ap (λ (xs : List Rsl). xs ++ way.lost) came-first ∙ append_assoc heard (rest_of w v at) way.lost) some in
-      turn-silent number used still hearing (Both-empty (rest_of w v at) way.lost (sym none)).0
+      one-at-most at.number number (channel_state w.controller at) (to_come w at ++ way.lost) heard (rest_of w v at ++ way.lost) way.comes used (ap (λ (xs : List Rsl). xs ++ way.lost) came_first ∙ append_assoc heard (rest_of w v at) way.lost) some in
+      turn_silent number used still hearing (Both-empty (rest_of w v at) way.lost (sym none)).0
 
 -- ---- an ACTIVATION ACK that comes to a connection is heard of its channel
 

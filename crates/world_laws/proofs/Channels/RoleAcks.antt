@@ -77,37 +77,37 @@ module _ (settings : Parameters) (events : List Event) (allowed : AreAllowed set
   w = world settings events
 
   -- a free channel: none of its acknowledgements is on its way
-  pub silent-of : (at : Place) → 1 ≤ at.station → at.station ≤ length settings.cells → hears w.controller at.station ≡ true → channel_state w.controller at ≡ Free → acknowledgements_up w at ≡ []
-  silent-of at least most hearing free =
+  pub silent_of : (at : Place) → 1 ≤ at.station → at.station ≤ length settings.cells → hears w.controller at.station ≡ true → channel_state w.controller at ≡ Free → acknowledgements_up w at ≡ []
+  silent_of at least most hearing free =
       let comes = comes_at settings events allowed octets at least most hearing Free free in
       (Both-empty (acknowledgements_up w at) comes.0 (sym (free_silent at.number (acknowledgements_up w at ++ comes.0) comes.1))).0
 
   -- one in use: no RF CHANNEL RELEASE ACK is on its way
-  pub none-of : (at : Place) (n : ℕ) → channel_state w.controller at ≡ InUse n → NoneReleases (acknowledgements_up w at)
-  none-of at n used =
+  pub none_of : (at : Place) (n : ℕ) → channel_state w.controller at ≡ InUse n → NoneReleases (acknowledgements_up w at)
+  none_of at n used =
       let placed = placed_at settings events allowed at (λ free. absurd (let both : Free ≡ InUse n = sym free ∙ used in cc)) in
       let comes = comes_at settings events allowed octets at placed.least placed.most placed.hearing (InUse n) used in
       all_left (λ m. is_release_ack m ≡ false) (acknowledgements_up w at) comes.0 (using_none at.number n (acknowledgements_up w at ++ comes.0) comes.1)
 
   -- one that is releasing: an RF CHANNEL RELEASE ACK is the last acknowledgement
-  pub last-of : (at : Place) (n : ℕ) → channel_state w.controller at ≡ Releasing n → ReleasesLast (acknowledgements_up w at)
-  last-of at n releasing =
+  pub last_of : (at : Place) (n : ℕ) → channel_state w.controller at ≡ Releasing n → ReleasesLast (acknowledgements_up w at)
+  last_of at n releasing =
       let placed = placed_at settings events allowed at (λ free. absurd (let both : Free ≡ Releasing n = sym free ∙ releasing in cc)) in
       let comes = comes_at settings events allowed octets at placed.least placed.most placed.hearing (Releasing n) releasing in
       last_front (acknowledgements_up w at) comes.0 (releasing_last at.number n (acknowledgements_up w at ++ comes.0) comes.1)
 
-  tells-of : (at : Place) → channel_state w.controller at ≢ Free → AcksTell w at
-  tells-of at busy = all_acks_tell_new settings events at (λ is. absurd (zero-less at.station is (placed_at settings events allowed at busy).least)) where
-    zero-less : (k : ℕ) → k ≡ SWITCH_LINK → 1 ≤ k → ⊥
-    zero-less k is least = absurd (omega (arith, is, least))
+  tells_of : (at : Place) → channel_state w.controller at ≢ Free → AcksTell w at
+  tells_of at busy = all_acks_tell_new settings events at (λ is. absurd (zero_less at.station is (placed_at settings events allowed at busy).least)) where
+    zero_less : (k : ℕ) → k ≡ SWITCH_LINK → 1 ≤ k → ⊥
+    zero_less k is least = absurd (omega (arith, is, least))
 
   -- so what comes of a channel in use doesn't end, and of one that is releasing nothing comes
   -- behind the RF CHANNEL RELEASE ACK
-  pub goes-on-of : (at : Place) (n : ℕ) → channel_state w.controller at ≡ InUse n → is_ended (coming_up w at) ≡ false
-  goes-on-of at n used = (tells-of at (λ free. absurd (let both : Free ≡ InUse n = sym free ∙ used in cc))).none (none-of at n used)
+  pub goes_on_of : (at : Place) (n : ℕ) → channel_state w.controller at ≡ InUse n → is_ended (coming_up w at) ≡ false
+  goes_on_of at n used = (tells_of at (λ free. absurd (let both : Free ≡ InUse n = sym free ∙ used in cc))).none (none_of at n used)
 
-  pub ends-of : (at : Place) (n : ℕ) → channel_state w.controller at ≡ Releasing n → EndsLast (coming_up w at)
-  ends-of at n releasing = (tells-of at (λ free. absurd (let both : Free ≡ Releasing n = sym free ∙ releasing in cc))).last (last-of at n releasing)
+  pub ends_of : (at : Place) (n : ℕ) → channel_state w.controller at ≡ Releasing n → EndsLast (coming_up w at)
+  ends_of at n releasing = (tells_of at (λ free. absurd (let both : Free ≡ Releasing n = sym free ∙ releasing in cc))).last (last_of at n releasing)
 
 -- ---- the laws
 
@@ -116,9 +116,9 @@ acknowledgements_agree_new settings events s allowed octets had =
     let w : Actors = world settings events in
     let owns = owns_at settings events allowed s.number s had.there had.is_open in
     record {
-      old_end = AllByRecursion-so (λ c. channel_state w.controller (place_of c) ≡ Releasing s.number) (λ c. ReleasesLast (acknowledgements_up w (place_of c))) (λ c is. last-of settings events allowed octets (place_of c) s.number is) (undone s.draining) owns.releasing;
+      old_end = AllByRecursion-so (λ c. channel_state w.controller (place_of c) ≡ Releasing s.number) (λ c. ReleasesLast (acknowledgements_up w (place_of c))) (λ c is. last_of settings events allowed octets (place_of c) s.number is) (undone s.draining) owns.releasing;
       others_go_on = subst (λ (cs : List Channel). AllByRecursion (λ c. NoneReleases (acknowledgements_up w (place_of c))) (s.serving ∷ cs)) (target_in-role s.state)
-          (AllByRecursion-so (λ c. channel_state w.controller (place_of c) ≡ InUse s.number) (λ c. NoneReleases (acknowledgements_up w (place_of c))) (λ c is. none-of settings events allowed octets (place_of c) s.number is) (s.serving ∷ target_channels (target_role s.state)) owns.using);
+          (AllByRecursion-so (λ c. channel_state w.controller (place_of c) ≡ InUse s.number) (λ c. NoneReleases (acknowledgements_up w (place_of c))) (λ c is. none_of settings events allowed octets (place_of c) s.number is) (s.serving ∷ target_channels (target_role s.state)) owns.using);
     }
 
 pub old_channels_end_new : (settings : Parameters) (events : List Event) → OldChannelsEnd settings events
@@ -126,7 +126,7 @@ old_channels_end_new settings events s allowed octets had =
     let w : Actors = world settings events in
     let owns = owns_at settings events allowed s.number s had.there had.is_open in
     record {
-      old = AllByRecursion-so (λ c. channel_state w.controller (place_of c) ≡ Releasing s.number) (λ c. EndsLast (coming_up w (place_of c))) (λ c is. ends-of settings events allowed octets (place_of c) s.number is) (undone s.draining) owns.releasing;
+      old = AllByRecursion-so (λ c. channel_state w.controller (place_of c) ≡ Releasing s.number) (λ c. EndsLast (coming_up w (place_of c))) (λ c is. ends_of settings events allowed octets (place_of c) s.number is) (undone s.draining) owns.releasing;
       others = subst (λ (cs : List Channel). AllByRecursion (λ c. is_ended (coming_up w (place_of c)) ≡ false) (s.serving ∷ cs)) (target_in-role s.state)
-          (AllByRecursion-so (λ c. channel_state w.controller (place_of c) ≡ InUse s.number) (λ c. is_ended (coming_up w (place_of c)) ≡ false) (λ c is. goes-on-of settings events allowed octets (place_of c) s.number is) (s.serving ∷ target_channels (target_role s.state)) owns.using);
+          (AllByRecursion-so (λ c. channel_state w.controller (place_of c) ≡ InUse s.number) (λ c. is_ended (coming_up w (place_of c)) ≡ false) (λ c is. goes_on_of settings events allowed octets (place_of c) s.number is) (s.serving ∷ target_channels (target_role s.state)) owns.using);
     }

@@ -25,7 +25,7 @@ use Rattle.world_laws.proofs.Acknowledged.{bound, brought_unbound, coming-read, 
 use Rattle.world_laws.proofs.OwnerRun.{serves_event, snoc_steps}
 use Rattle.world_laws.specs.Channels.Roles.{FreeAreSilent}
 use Rattle.world_laws.proofs.Channels.Agreeing.{agreed}
-use Rattle.world_laws.proofs.Channels.RoleAcks.{by-said, free_silent, silent-of}
+use Rattle.world_laws.proofs.Channels.RoleAcks.{by-said, free_silent, silent_of}
 use Rattle.world_laws.proofs.Targets.FreeQuiet.{goes_free}
 use Rattle.world_laws.proofs.Events.{snoc_actors, world}
 use Rattle.world_laws.proofs.Framing.{all_left, all_right}
@@ -113,37 +113,37 @@ module _ (settings : Parameters) (done : List Event) (allowed : AreAllowed setti
   right : Right settings own_of w []
   right = agreed settings done allowed octets
 
-  took-then : (at : Place) (e : Event) → acknowledgements_taken at (all_popped (new_actors settings) (done ++ e ∷ [])) ≡ took at ++ acknowledgements_taken at (popped w e)
-  took-then at e = ap (acknowledgements_taken at) (snoc_popped (new_actors settings) done e) ∙ taken-append at (all_popped (new_actors settings) done) (popped w e)
+  took_then : (at : Place) (e : Event) → acknowledgements_taken at (all_popped (new_actors settings) (done ++ e ∷ [])) ≡ took at ++ acknowledgements_taken at (popped w e)
+  took_then at e = ap (acknowledgements_taken at) (snoc_popped (new_actors settings) done e) ∙ taken-append at (all_popped (new_actors settings) done) (popped w e)
 
   -- where the controller does nothing
   resting : (e : Event) → (actors_after w e).controller ≡ w.controller → ((at : Place) → 1 ≤ at.station → at.station ≤ length settings.cells → popped w e ≡ []) → FreeIsOver settings (done ++ e ∷ [])
   unfolding FreeIsOver
   resting e same none at least most hearing free =
-      let next-is : (world settings (done ++ e ∷ [])).controller ≡ w.controller = ap (λ (u : Actors). u.controller) (snoc_actors (new_actors settings) done e) ∙ same in
-      ap (is_within false) (took-then at e ∙ ap (λ (items : List Item). took at ++ acknowledgements_taken at items) (none at least most) ∙ append-nil (took at))
-      ∙ free_over at least most (subst (λ (c : Controller). hears c at.station ≡ true) next-is hearing) (subst (λ (c : Controller). channel_state c at ≡ Free) next-is free)
+      let next_is : (world settings (done ++ e ∷ [])).controller ≡ w.controller = ap (λ (u : Actors). u.controller) (snoc_actors (new_actors settings) done e) ∙ same in
+      ap (is_within false) (took_then at e ∙ ap (λ (items : List Item). took at ++ acknowledgements_taken at items) (none at least most) ∙ append-nil (took at))
+      ∙ free_over at least most (subst (λ (c : Controller). hears c at.station ≡ true) next_is hearing) (subst (λ (c : Controller). channel_state c at ≡ Free) next_is free)
 
   -- a turn
   turning : (e : Event) (v : Actors) (target : Option Tenure) (t : Turn) (heard : Place → List Rsl) → actors_after w e ≡ v → ((at : Place) → acknowledgements_taken at (popped w e) ≡ heard at) → ((at : Place) → Turned w v at target t (heard at)) → ((at : Place) → 1 ≤ at.station → at.station ≤ length settings.cells → Serves own_of w at target t (heard at)) → FreeIsOver settings (done ++ e ∷ [])
   unfolding FreeIsOver is_within
   turning e v target t heard same hears_it turned serves at least most hearing free = by (turn_free own_of w v at target t (heard at) (turned at) (serves at least most) (right.agree at least most) hearing_next free_next) where
-    next-is : (world settings (done ++ e ∷ [])).controller ≡ t.next
-    next-is = ap (λ (u : Actors). u.controller) (snoc_actors (new_actors settings) done e ∙ same) ∙ (turned at).controller
+    next_is : (world settings (done ++ e ∷ [])).controller ≡ t.next
+    next_is = ap (λ (u : Actors). u.controller) (snoc_actors (new_actors settings) done e ∙ same) ∙ (turned at).controller
 
     hearing_next : hears t.next at.station ≡ true
-    hearing_next = subst (λ (c : Controller). hears c at.station ≡ true) next-is hearing
+    hearing_next = subst (λ (c : Controller). hears c at.station ≡ true) next_is hearing
 
     free_next : channel_state t.next at ≡ Free
-    free_next = subst (λ (c : Controller). channel_state c at ≡ Free) next-is free
+    free_next = subst (λ (c : Controller). channel_state c at ≡ Free) next_is free
 
-    took-is : acknowledgements_taken at (all_popped (new_actors settings) (done ++ e ∷ [])) ≡ took at ++ heard at
-    took-is = took-then at e ∙ ap (λ (ms : List Rsl). took at ++ ms) (hears_it at)
+    took_is : acknowledgements_taken at (all_popped (new_actors settings) (done ++ e ∷ [])) ≡ took at ++ heard at
+    took_is = took_then at e ∙ ap (λ (ms : List Rsl). took at ++ ms) (hears_it at)
 
     by : ((channel_state w.controller at ≡ Free) × (heard at ≡ [])) ⊎ IsEnd (heard at) → is_within false (acknowledgements_taken at (all_popped (new_actors settings) (done ++ e ∷ []))) ≡ false
     by (inl (was, none)) =
-        ap (is_within false) (took-is ∙ ap (λ (ms : List Rsl). took at ++ ms) none ∙ append-nil (took at)) ∙ free_over at least most ((serves at least most).hearing hearing_next) was
-    by (inr (channel, end)) = ap (is_within false) (took-is ∙ ap (λ (ms : List Rsl). took at ++ ms) end) ∙ within-append false (took at) (rsl.RfChannelReleaseAck channel ∷ [])
+        ap (is_within false) (took_is ∙ ap (λ (ms : List Rsl). took at ++ ms) none ∙ append-nil (took at)) ∙ free_over at least most ((serves at least most).hearing hearing_next) was
+    by (inr (channel, end)) = ap (is_within false) (took_is ∙ ap (λ (ms : List Rsl). took at ++ ms) end) ∙ within-append false (took at) (rsl.RfChannelReleaseAck channel ∷ [])
 
   beside : (e : Event) → is_beside e ≡ true → FreeIsOver settings (done ++ e ∷ [])
   beside e is = resting e (beside-step w e is).controller (λ at least most. (beside-rests at w e is (there-of settings own_of w [] at right least most)).pops)
@@ -161,8 +161,8 @@ module _ (settings : Parameters) (done : List Event) (allowed : AreAllowed setti
         turning Handle (with_turn (target_in w item.source item.what) (take item w.controller) (record w { inbox = items })) (target_in w item.source item.what) (take item w.controller) (λ at. heard_of at item) (ap (λ (all : List Item). unwrap_or (handled all w) w) is)
         (λ at. ap (λ (all : List Item). acknowledgements_taken at (first_of all)) is ∙ taken-one at item) (λ at. handle-turned w at item items is) (serves_event settings own_of done w Handle refl allowed octets came right.agree item items is)
 
-  event-over : (e : Event) → AllByRecursion ComesInOctets (step_at w e) → FreeIsOver settings (done ++ e ∷ [])
-  event-over = kinds (λ e. AllByRecursion ComesInOctets (step_at w e) → FreeIsOver settings (done ++ e ∷ [])) (λ e is came. beside e is) handles ticks (λ station came. resting (BaseTakes station) (kept-controller w station) (λ at least most. refl))
+  event_over : (e : Event) → AllByRecursion ComesInOctets (step_at w e) → FreeIsOver settings (done ++ e ∷ [])
+  event_over = kinds (λ e. AllByRecursion ComesInOctets (step_at w e) → FreeIsOver settings (done ++ e ∷ [])) (λ e is came. beside e is) handles ticks (λ station came. resting (BaseTakes station) (kept-controller w station) (λ at least most. refl))
 
 over_all : (settings : Parameters) (done rest : List Event) → AreAllowed settings → CameInOctets settings done → AllByRecursion ComesInOctets (all_steps (world settings done) rest) → FreeIsOver settings done → FreeIsOver settings (done ++ rest)
 over_all settings done [] allowed octets later free_over = subst (FreeIsOver settings) (sym (append-nil done)) free_over
@@ -172,7 +172,7 @@ over_all settings done (event ∷ rest) allowed octets later free_over =
     subst (FreeIsOver settings) (append_assoc done (event ∷ []) rest)
     (over_all settings (done ++ event ∷ []) rest allowed (snoc_steps ComesInOctets (new_actors settings) done event octets own)
     (subst (λ (u : Actors). AllByRecursion ComesInOctets (all_steps u rest)) (sym (snoc_actors (new_actors settings) done event)) (all_right ComesInOctets (step_at w event) (all_steps (actors_after w event) rest) later))
-    (event-over settings done allowed octets free_over event own))
+    (event_over settings done allowed octets free_over event own))
 
 over_new : (settings : Parameters) → FreeIsOver settings []
 unfolding FreeIsOver is_within
@@ -185,19 +185,19 @@ unfolding FreeIsOver
 free_coming settings events allowed octets at least most hearing free =
     let w : Actors = world settings events in
     let took : List Rsl = flat_map (read_of at.station) (all_popped (new_actors settings) events) in
-    let station = zero-less at.station least in
+    let station = zero_less at.station least in
     let honest = AreHonest-new settings events at.station station at.number in
     let all = tenures_behind at.number took (messages_up w at.station)
     (subst (λ (ms : List Rsl). Tenures at.number false ms honest.0)
     (ap (λ (ms : List Rsl). ms ++ (base_of w at.station).messages) (given-read settings events at.station station) ∙ append_assoc took (flat_map (read_of at.station) w.inbox) (base_of w at.station).messages) honest.1) in
     let over_now : is_within false (acknowledgements at.number took) ≡ false = over_all settings [] events allowed tt octets (over_new settings) at least most hearing free in
-    coming-read w at ∙ nothing_outside at.number (messages_up w at.station) (subst (λ (b : Bool). Tenures at.number b (messages_up w at.station) honest.0) over_now all) (silent-of settings events allowed octets at least most hearing free)
+    coming-read w at ∙ nothing_outside at.number (messages_up w at.station) (subst (λ (b : Bool). Tenures at.number b (messages_up w at.station) honest.0) over_now all) (silent_of settings events allowed octets at least most hearing free)
   where
-    zero-less : (k : ℕ) → 1 ≤ k → k ≢ SWITCH_LINK
-    zero-less k least is = absurd (omega (arith, is, least))
+    zero_less : (k : ℕ) → 1 ≤ k → k ≢ SWITCH_LINK
+    zero_less k least is = absurd (omega (arith, is, least))
 
 pub free_are_silent_new : (settings : Parameters) (events : List Event) → FreeAreSilent settings events
 free_are_silent_new settings events at allowed octets least most hearing free = record {
-  acknowledged = silent-of settings events allowed octets at least most hearing free;
+  acknowledged = silent_of settings events allowed octets at least most hearing free;
   brings = free_coming settings events allowed octets at least most hearing free;
 }

@@ -112,13 +112,13 @@ heard_fares {settings} {events} {mobile} {s} {item} frame h up is = by (word_of 
   one : IsKnown c s
   one = known settings events s h.allowed h.lives.had
 
-  not-his : (word : Word) → word_of item.source frame ≡ word → (concerned c word ≡ Some s.number → ⊥) → FaresOn (modulus_in settings) (actors_after (world settings events) Handle) mobile s
-  not-his word word_is other = other_fares frame h up is (λ held. other (ap (concerned c) (sym word_is) ∙ held))
+  not_his : (word : Word) → word_of item.source frame ≡ word → (concerned c word ≡ Some s.number → ⊥) → FaresOn (modulus_in settings) (actors_after (world settings events) Handle) mobile s
+  not_his word word_is other = other_fares frame h up is (λ held. other (ap (concerned c) (sym word_is) ∙ held))
 
-  on-channel : (at : Place) (input : Input) → word_of item.source frame ≡ OnChannel at input → (o : Option ℕ) → holder (channel_state c at) ≡ o → FaresOn (modulus_in settings) (actors_after (world settings events) Handle) mobile s
-  on-channel at input word_is None held = not-his (OnChannel at input) word_is (λ same. none_number (sym held ∙ same))
-  on-channel at input word_is (Some n) held = elim (cases_Bool (n == s.number)) [
-    | inr other ↦ not-his (OnChannel at input) word_is (λ same. true≢false (sym (eq-eqb n s.number (one_number (sym held ∙ same))) ∙ other))
+  on_channel : (at : Place) (input : Input) → word_of item.source frame ≡ OnChannel at input → (o : Option ℕ) → holder (channel_state c at) ≡ o → FaresOn (modulus_in settings) (actors_after (world settings events) Handle) mobile s
+  on_channel at input word_is None held = not_his (OnChannel at input) word_is (λ same. none_number (sym held ∙ same))
+  on_channel at input word_is (Some n) held = elim (cases_Bool (n == s.number)) [
+    | inr other ↦ not_his (OnChannel at input) word_is (λ same. true≢false (sym (eq-eqb n s.number (one_number (sym held ∙ same))) ∙ other))
     | inl his ↦
         let number : n ≡ s.number = eqb-true n s.number his in
         let entry = entry_there c s.number s one.there in
@@ -126,18 +126,18 @@ heard_fares {settings} {events} {mobile} {s} {item} frame h up is = by (word_of 
   ]
 
   by : (word : Word) → word_of item.source frame ≡ word → FaresOn (modulus_in settings) (actors_after (world settings events) Handle) mobile s
-  by Nothing word_is = not-his Nothing word_is none_number
-  by Ping word_is = not-his Ping word_is none_number
-  by (Asks request delay) word_is = not-his (Asks request delay) word_is (λ same.
+  by Nothing word_is = not_his Nothing word_is none_number
+  by Ping word_is = not_his Ping word_is none_number
+  by (Asks request delay) word_is = not_his (Asks request delay) word_is (λ same.
       let entry = entry_there c s.number s one.there in
       let below = (here_of c s.number entry.0 one.ready entry.1).below in
       let number : c.next_number ≡ s.number = one_number same in
       let own : entry.0.connection.number ≡ s.number = ap (λ (x : Connection). x.number) entry.2 in
       absurd (omega (arith, below, number, own)))
   by (Reports at number report) word_is = report_fares frame at number report h up is word_is
-  by (OnChannel at input) word_is = on-channel at input word_is (holder (channel_state c at)) refl
+  by (OnChannel at input) word_is = on_channel at input word_is (holder (channel_state c at)) refl
   by (OnConnection n input) word_is = elim (cases_Bool (n == s.number)) [
-    | inr other ↦ not-his (OnConnection n input) word_is (λ same. true≢false (sym (eq-eqb n s.number (one_number same)) ∙ other))
+    | inr other ↦ not_his (OnConnection n input) word_is (λ same. true≢false (sym (eq-eqb n s.number (one_number same)) ∙ other))
     | inl his ↦
         let number : n ≡ s.number = eqb-true n s.number his in
         let entry = entry_there c s.number s one.there in

@@ -24,35 +24,35 @@ module _ (at : Place) (at_is : at.station ≢ SWITCH_LINK) where
     | inr miss ↦ ap (λ (s : Spot). s.air) (spot-apart u p at spot p_is at_is miss) ∙ other miss
   ]
 
-  same-air : (p : Place) (u : Actors) → Empty u → at ≡ p → (spot_at u p).air ≡ []
-  same-air p u none same = ap (λ (q : Place). (spot_at u q).air) (sym same) ∙ none
+  same_air : (p : Place) (u : Actors) → Empty u → at ≡ p → (spot_at u p).air ≡ []
+  same_air p u none same = ap (λ (q : Place). (spot_at u q).air) (sym same) ∙ none
 
-  never-first : (w : Actors) (p : Place) (first : AirMessage) (others : List AirMessage) → Empty w → (spot_at w p).air ≡ first ∷ others → at ≡ p → others ≡ []
-  never-first w p first others none is same = absurd (let both : first ∷ others ≡ [] = sym is ∙ same-air p w none same in cc)
+  never_first : (w : Actors) (p : Place) (first : AirMessage) (others : List AirMessage) → Empty w → (spot_at w p).air ≡ first ∷ others → at ≡ p → others ≡ []
+  never_first w p first others none is same = absurd (let both : first ∷ others ≡ [] = sym is ∙ same_air p w none same in cc)
 
   -- what the station takes then is no DATA REQUEST for the channel
   abbrev NoDataAt : Actors → Event → Type 0
   NoDataAt w event = (first : OutboxEntry) (others : List OutboxEntry) → event ≡ BaseTakes at.station → outbox_of w at.station ≡ first ∷ others → NoDataEntry at.number first
 
   -- none is added there
-  respot-none : {w u : Actors} {event : Event} {p : Place} {spot : Spot} → NoDataAt w event → Empty u → at ≡ p → Respots w u event p spot → spot.air ≡ []
-  respot-none {u = u} no_data none same (short_up number tenure reached) = same-air tenure.at u none same
-  respot-none {u = u} no_data none same (goes_down tenure first others reached stood) = never-first u tenure.at first others none stood same
-  respot-none no_data none same (is_left number tenure reached) = refl
-  respot-none {u = u} no_data none same (counts number report tenure reached) = same-air tenure.at u none same
-  respot-none {u = u} no_data none same (asks_up station l answer taken) = same-air (place_at station l.channel) u none same
-  respot-none {w} no_data none same (airs station d taken active) =
+  respot_none : {w u : Actors} {event : Event} {p : Place} {spot : Spot} → NoDataAt w event → Empty u → at ≡ p → Respots w u event p spot → spot.air ≡ []
+  respot_none {u = u} no_data none same (short_up number tenure reached) = same_air tenure.at u none same
+  respot_none {u = u} no_data none same (goes_down tenure first others reached stood) = never_first u tenure.at first others none stood same
+  respot_none no_data none same (is_left number tenure reached) = refl
+  respot_none {u = u} no_data none same (counts number report tenure reached) = same_air tenure.at u none same
+  respot_none {u = u} no_data none same (asks_up station l answer taken) = same_air (place_at station l.channel) u none same
+  respot_none {w} no_data none same (airs station d taken active) =
       let no = no_data taken.first taken.others (ap (λ (p : Place). BaseTakes p.station) (sym same)) (ap (λ (p : Place). outbox_of w p.station) same ∙ taken.stood) in
       absurd (no d taken.is (ap (λ (p : Place). p.number) (sym same)))
 
   -- ---- each event
 
-  pub air-step : (w : Actors) (event : Event) → NoDataAt w event → Empty w → Empty (actors_after w event)
-  air-step w event no_data = event-keeps Empty w event (record {
+  pub air_step : (w : Actors) (event : Event) → NoDataAt w event → Empty w → Empty (actors_after w event)
+  air_step w event no_data = event-keeps Empty w event (record {
     puts = λ u number p q _ _ _ none. none;
     joins = λ number initial accepts _ none. none;
     tells = λ u n message _ _ none. based n _ u none;
-    spots = λ u p spot p_is how none. spotted p spot u p_is (λ same. respot-none no_data none same how) (λ _. none);
+    spots = λ u p spot p_is how none. spotted p spot u p_is (λ same. respot_none no_data none same how) (λ _. none);
     pops = λ station others _ none. none;
     activates = λ u s a taken _ none. spotted (place_at s a.channel) _ (with_base s _ u) (up-right s w taken.up).0 (λ _. refl) (λ _. based s _ u none);
     releases = λ u s channel taken none. spotted (place_at s channel) _ (with_base s _ u) (up-right s w taken.up).0 (λ _. refl) (λ _. based s _ u none);

@@ -101,8 +101,8 @@ module _ (settings : Parameters) (done : List Event) where
 
   -- ---- the mobile that asked
 
-  request-up : (item : Item) (items : List Item) (frame : Frame) (request : RequestReference) (delay : ℕ) → world.inbox ≡ item ∷ items → item.what ≡ whats.Frame frame → word_of item.source frame ≡ Asks request delay → 1 ≤ requests_up world request.access
-  request-up item items frame request delay stood is asks =
+  request_up : (item : Item) (items : List Item) (frame : Frame) (request : RequestReference) (delay : ℕ) → world.inbox ≡ item ∷ items → item.what ≡ whats.Frame frame → word_of item.source frame ≡ Asks request delay → 1 ≤ requests_up world request.access
+  request_up item items frame request delay stood is asks =
       let known : IsKnownItem item = (subst (AllByRecursion IsKnownItem) stood (known-inbox settings done)).0 in
       let own : item ≡ record { source = item.source; what = whats.Frame frame } = ap (λ (x : What). record { source = item.source; what = x }) is in
       let said : requests_in request.access (said_by (whats.Frame frame)) ≡ 1 = asking_says item.source frame request delay (subst IsKnownItem own known) asks in
@@ -111,15 +111,15 @@ module _ (settings : Parameters) (done : List Event) where
       let parts = requests-append request.access (said_by item.what) (said_in items) in
       omega (arith, one, all, parts)
 
-  asker-still-asks : (k : ℕ) → AreAllowed settings → AllByRecursion ComesInOctets steps_done → 1 ≤ requests_up world k → StillAsks modulus done world k
-  asker-still-asks k allowed octets some = unanswered_mobiles_ask_new settings done k allowed octets never where
+  asker_still_asks : (k : ℕ) → AreAllowed settings → AllByRecursion ComesInOctets steps_done → 1 ≤ requests_up world k → StillAsks modulus done world k
+  asker_still_asks k allowed octets some = unanswered_mobiles_ask_new settings done k allowed octets never where
     never : WasNeverAnswered settings done k
     never before after whole = none_was_answered_new settings before after k (subst (λ (xs : List Event). 1 ≤ requests_up (actors_after_all (new_actors settings) xs) k) whole some)
 
   -- ---- its channel
 
-  channel-quiet : (source : ℕ) (frame : Frame) (channel : Channel) (request : RequestReference) (delay : ℕ) → AreAllowed settings → AllByRecursion ComesInOctets steps_done → word_of source frame ≡ Asks request delay → access_channel world.controller source ≡ Some channel → IsQuiet world (place_of channel)
-  channel-quiet source frame channel request delay allowed octets asks free =
+  channel_quiet : (source : ℕ) (frame : Frame) (channel : Channel) (request : RequestReference) (delay : ℕ) → AreAllowed settings → AllByRecursion ComesInOctets steps_done → word_of source frame ≡ Asks request delay → access_channel world.controller source ≡ Some channel → IsQuiet world (place_of channel)
+  channel_quiet source frame channel request delay allowed octets asks free =
       let ready : Ready world.controller = subst Ready (sym lives) (life_ready settings steps_done allowed) in
       let offered : IsOffered world.controller.channels world.controller.links channel = offered_free world.controller world.controller.links source 0 Sdcch channel refl ready.holds.shaped free in
       let there = given_there world.controller source channel free in
@@ -136,17 +136,17 @@ module _ (settings : Parameters) (done : List Event) where
   abbrev waiting : List Item → Actors
   waiting items = record world { inbox = items }
 
-  v-controller : (target : Option Tenure) (t : Turn) (u : Actors) → (with_turn target t u).controller ≡ t.next
-  v-controller target t u = turn-leads (λ v. v.controller ≡ t.next) target t u (λ links. refl)
+  v_controller : (target : Option Tenure) (t : Turn) (u : Actors) → (with_turn target t u).controller ≡ t.next
+  v_controller target t u = turn-leads (λ v. v.controller ≡ t.next) target t u (λ links. refl)
 
-  v-coming : (target : Option Tenure) (t : Turn) (u : Actors) (at : Place) → coming_up (with_turn target t u) at ≡ coming_up u at
-  v-coming target t u at = turn-leads (λ v. coming_up v at ≡ coming_up u at) target t u (λ links. refl)
+  v_coming : (target : Option Tenure) (t : Turn) (u : Actors) (at : Place) → coming_up (with_turn target t u) at ≡ coming_up u at
+  v_coming target t u at = turn-leads (λ v. coming_up v at ≡ coming_up u at) target t u (λ links. refl)
 
   coming-behind : (item : Item) (items : List Item) (at : Place) → world.inbox ≡ item ∷ items → coming_up world at ≡ brings_in at item ++ coming_up (waiting items) at
   coming-behind item items at stood = ap (λ (xs : List Item). flat_map (brings_in at) xs ++ made_of at.number (base_of world at.station).messages) stood ∙ append_assoc (brings_in at item) (flat_map (brings_in at) items) (made_of at.number (base_of world at.station).messages)
 
-  turn-quiet : (item : Item) (items : List Item) (target : Option Tenure) (t : Turn) (n : ℕ) (channel : Channel) → world.inbox ≡ item ∷ items → t.outs ≡ out_of n (access_activation channel) ∷ [] → AllByRecursion IsSent t.outs → IsQuiet world (place_of channel) → IsQuiet (with_turn target t (waiting items)) (place_of channel)
-  turn-quiet item items target t n channel stood outs sent quiet = record { nothing_comes = none; none_opens = initials-none v at none; none_commanded = down ∙ quiet.none_commanded } where
+  turn_quiet : (item : Item) (items : List Item) (target : Option Tenure) (t : Turn) (n : ℕ) (channel : Channel) → world.inbox ≡ item ∷ items → t.outs ≡ out_of n (access_activation channel) ∷ [] → AllByRecursion IsSent t.outs → IsQuiet world (place_of channel) → IsQuiet (with_turn target t (waiting items)) (place_of channel)
+  turn_quiet item items target t n channel stood outs sent quiet = record { nothing_comes = none; none_opens = initials-none v at none; none_commanded = down ∙ quiet.none_commanded } where
     at : Place
     at = place_of channel
 
@@ -154,7 +154,7 @@ module _ (settings : Parameters) (done : List Event) where
     v = with_turn target t (waiting items)
 
     none : messages_in (coming_up v at) ≡ []
-    none = ap messages_in (v-coming target t (waiting items) at) ∙ none_behind (brings_in at item) (coming_up (waiting items) at) (ap messages_in (sym (coming-behind item items at stood)) ∙ quiet.nothing_comes)
+    none = ap messages_in (v_coming target t (waiting items) at) ∙ none_behind (brings_in at item) (coming_up (waiting items) at) (ap messages_in (sym (coming-behind item items at stood)) ∙ quiet.nothing_comes)
 
     u : Actors
     u = record (waiting items) { controller = t.next }
@@ -171,17 +171,17 @@ module _ (settings : Parameters) (done : List Event) where
 
   -- ---- it begins
 
-  begun-there : (n : ℕ) (channel : Channel) (request : RequestReference) (delay : ℕ) → n ≡ world.controller.next_number → connection_of (with_connection world.controller channel request delay).next n ≡ Some (new_connection world.controller.next_number channel request delay)
-  begun-there n channel request delay is =
+  begun_there : (n : ℕ) (channel : Channel) (request : RequestReference) (delay : ℕ) → n ≡ world.controller.next_number → connection_of (with_connection world.controller channel request delay).next n ≡ Some (new_connection world.controller.next_number channel request delay)
+  begun_there n channel request delay is =
       let c : Controller = world.controller in
       ap (λ (k : ℕ). connection_of (with_connection c channel request delay).next k) is
       ∙ ap (option_map (λ (e : Entry). e.connection)) (behind_found (new_entry c.settings c.next_number channel request delay) c.entries (find_below c.next_number c.entries numbered.below))
 
-  begins-now : (item : Item) (items : List Item) (frame : Frame) (channel : Channel) (request : RequestReference) (delay : ℕ) → AreAllowed settings → AllByRecursion ComesInOctets steps_done → ComesInOctets (steps.Take item) → world.inbox ≡ item ∷ items → item.what ≡ whats.Frame frame → word_of item.source frame ≡ Asks request delay → access_channel world.controller item.source ≡ Some channel
+  begins_now : (item : Item) (items : List Item) (frame : Frame) (channel : Channel) (request : RequestReference) (delay : ℕ) → AreAllowed settings → AllByRecursion ComesInOctets steps_done → ComesInOctets (steps.Take item) → world.inbox ≡ item ∷ items → item.what ≡ whats.Frame frame → word_of item.source frame ≡ Asks request delay → access_channel world.controller item.source ≡ Some channel
       → take item world.controller ≡ with_connection world.controller channel request delay → Begins modulus done (with_turn (target_in world item.source item.what) (take item world.controller) (waiting items)) (new_connection world.controller.next_number channel request delay)
-  begins-now item items frame channel request delay allowed octets own stood is asks free opens = record {
+  begins_now item items frame channel request delay allowed octets own stood is asks free opens = record {
     had = record {
-      there = ap (λ (d : Controller). connection_of d world.controller.next_number) (v-controller target t (waiting items) ∙ ap (λ (x : Turn). x.next) opens) ∙ begun-there world.controller.next_number channel request delay refl;
+      there = ap (λ (d : Controller). connection_of d world.controller.next_number) (v_controller target t (waiting items) ∙ ap (λ (x : Turn). x.next) opens) ∙ begun_there world.controller.next_number channel request delay refl;
       is_open = tt;
       from_one = numbered.next;
     };
@@ -189,7 +189,7 @@ module _ (settings : Parameters) (done : List Event) where
     one = once.one;
     found = ap (λ (ms : List Mobile). find (has_number request.access) ms) (turn_mobiles target t.outs (record (waiting items) { controller = t.next })) ∙ once.found;
     as_connected = still.as_connected once.one once.found;
-    quiet = turn-quiet item items target t world.controller.next_number channel stood (ap (λ (x : Turn). x.outs) opens) sent (channel-quiet item.source frame channel request delay allowed octets asks free);
+    quiet = turn_quiet item items target t world.controller.next_number channel stood (ap (λ (x : Turn). x.outs) opens) sent (channel_quiet item.source frame channel request delay allowed octets asks free);
     none_names = turn_names request.access target t.outs (record (waiting items) { controller = t.next }) (λ station. still.none_names station) (step_names settings done (steps.Take item) request.access allowed octets own once.unanswered);
   } where
     target : Option Tenure
@@ -199,72 +199,72 @@ module _ (settings : Parameters) (done : List Event) where
     t = take item world.controller
 
     some : 1 ≤ requests_up world request.access
-    some = request-up item items frame request delay stood is asks
+    some = request_up item items frame request delay stood is asks
 
     once : AsksOnce world request.access
     once = requests_come_once_new settings done request.access some
 
     still : StillAsks modulus done world request.access
-    still = asker-still-asks request.access allowed octets some
+    still = asker_still_asks request.access allowed octets some
 
     sent : AllByRecursion IsSent t.outs
     sent = subst (λ (c : Controller). AllByRecursion IsSent (take item c).outs) (sym lives) (life_sends settings steps_done (steps.Take item) allowed octets own)
 
   -- ---- each event
 
-  same-number : (v : Actors) (number : ℕ) → v.controller.next_number ≡ world.controller.next_number → world.controller.next_number ≤ number → HasBegun (Begins modulus done) v number
-  same-number v number same past = not_yet (omega (arith, same, past))
+  same_number : (v : Actors) (number : ℕ) → v.controller.next_number ≡ world.controller.next_number → world.controller.next_number ≤ number → HasBegun (Begins modulus done) v number
+  same_number v number same past = not_yet (omega (arith, same, past))
 
-  take-begins : (item : Item) (items : List Item) (number : ℕ) → AreAllowed settings → AllByRecursion ComesInOctets steps_done → ComesInOctets (steps.Take item) → world.controller.next_number ≤ number → world.inbox ≡ item ∷ items
+  take_begins : (item : Item) (items : List Item) (number : ℕ) → AreAllowed settings → AllByRecursion ComesInOctets steps_done → ComesInOctets (steps.Take item) → world.controller.next_number ≤ number → world.inbox ≡ item ∷ items
       → HasBegun (Begins modulus done) (with_turn (target_in world item.source item.what) (take item world.controller) (waiting items)) number
-  take-begins item items number allowed octets own past stood = by (take_opens world.controller item) where
+  take_begins item items number allowed octets own past stood = by (take_opens world.controller item) where
     v : Actors
     v = with_turn (target_in world item.source item.what) (take item world.controller) (waiting items)
 
     now : v.controller ≡ (take item world.controller).next
-    now = v-controller (target_in world item.source item.what) (take item world.controller) (waiting items)
+    now = v_controller (target_in world item.source item.what) (take item world.controller) (waiting items)
 
     by : Opens world.controller item → HasBegun (Begins modulus done) v number
-    by (opens_none same) = same-number v number (ap (λ (c : Controller). c.next_number) now ∙ same) past
+    by (opens_none same) = same_number v number (ap (λ (c : Controller). c.next_number) now ∙ same) past
     by (opens_one frame channel request delay is asks free opens) =
         let next : v.controller.next_number ≡ world.controller.next_number + 1 = ap (λ (c : Controller). c.next_number) now ∙ ap (λ (x : Turn). x.next.next_number) opens in
         elim (cases_Bool (leb (world.controller.next_number + 1) number)) [
           | inl beyond ↦ (let less = leb-true (world.controller.next_number + 1) number beyond in not_yet (omega (arith, next, less)))
           | inr here ↦
               let less = leb-false (world.controller.next_number + 1) number here in
-              has_begun (new_connection world.controller.next_number channel request delay) (omega (arith, past, less)) (begins-now item items frame channel request delay allowed octets own stood is asks free opens)
+              has_begun (new_connection world.controller.next_number channel request delay) (omega (arith, past, less)) (begins_now item items frame channel request delay allowed octets own stood is asks free opens)
         ]
 
-  handle-begins : (number : ℕ) → AreAllowed settings → AllByRecursion ComesInOctets steps_done → AllByRecursion ComesInOctets (first_taken world.inbox) → world.controller.next_number ≤ number → HasBegun (Begins modulus done) (actors_after world events.Handle) number
+  handle_begins : (number : ℕ) → AreAllowed settings → AllByRecursion ComesInOctets steps_done → AllByRecursion ComesInOctets (first_taken world.inbox) → world.controller.next_number ≤ number → HasBegun (Begins modulus done) (actors_after world events.Handle) number
   unfolding event_after
-  handle-begins number allowed octets own past =
+  handle_begins number allowed octets own past =
       after-taken (λ v. HasBegun (Begins modulus done) v number) (event_after world events.Handle) world
       (handle-leads (λ v. HasBegun (Begins modulus done) v number) world (λ item items stood.
-      take-begins item items number allowed octets (subst (λ (xs : List Item). AllByRecursion ComesInOctets (first_taken xs)) stood own).0 past stood)) (same-number world number refl past)
+      take_begins item items number allowed octets (subst (λ (xs : List Item). AllByRecursion ComesInOctets (first_taken xs)) stood own).0 past stood)) (same_number world number refl past)
 
-  tick-begins : (ms number : ℕ) → world.controller.next_number ≤ number → HasBegun (Begins modulus done) (actors_after world (events.Tick ms)) number
+  tick_begins : (ms number : ℕ) → world.controller.next_number ≤ number → HasBegun (Begins modulus done) (actors_after world (events.Tick ms)) number
   unfolding event_after
-  tick-begins ms number past = same-number (with_turn None (tick ms world.controller) world) number (ap (λ (c : Controller). c.next_number) (v-controller None (tick ms world.controller) world) ∙ tick_numbers ms world.controller) past
+  tick_begins ms number past = same_number (with_turn None (tick ms world.controller) world) number (ap (λ (c : Controller). c.next_number) (v_controller None (tick ms world.controller) world) ∙ tick_numbers ms world.controller) past
 
-  sent-begins : (n number : ℕ) → world.controller.next_number ≤ number → HasBegun (Begins modulus done) (actors_after world (events.AirUp n Zero)) number
+  sent_begins : (n number : ℕ) → world.controller.next_number ≤ number → HasBegun (Begins modulus done) (actors_after world (events.AirUp n Zero)) number
   unfolding event_after
-  sent-begins n number past =
+  sent_begins n number past =
       after-taken (λ v. HasBegun (Begins modulus done) v number) (event_after world (events.AirUp n Zero)) world
-      (air_up-leads (λ v. HasBegun (Begins modulus done) v number) world n Zero (λ p tenure command frame acts sits lent reached. same-number (brought world p tenure.at Zero frame) number refl past)) (same-number world number refl past)
+      (air_up-leads (λ v. HasBegun (Begins modulus done) v number) world n Zero (λ p tenure command frame acts sits lent reached. same_number (brought world p tenure.at Zero frame) number refl past)) (same_number world number refl past)
 
-  passing-begins : (event : Event) (number : ℕ) → is_passing event ≡ true → world.controller.next_number ≤ number → HasBegun (Begins modulus done) (actors_after world event) number
-  passing-begins event number passing past =
+  passing_begins : (event : Event) (number : ℕ) → is_passing event ≡ true → world.controller.next_number ≤ number → HasBegun (Begins modulus done) (actors_after world event) number
+  passing_begins event number passing past =
       let passes : Passes world (actors_after world event) = after-taken (Passes world) (event_after world event) world (event_passes world event passing (good-all (new_actors settings) done (good-new settings))) (passes_itself world) in
-      same-number (actors_after world event) number (ap (λ (c : Controller). c.next_number) passes.controller) past
+      same_number (actors_after world event) number (ap (λ (c : Controller). c.next_number) passes.controller) past
 
-  event-begins : (event : Event) (number : ℕ) → AreAllowed settings → AllByRecursion ComesInOctets steps_done → AllByRecursion ComesInOctets (step_at world event) → world.controller.next_number ≤ number → HasBegun (Begins modulus done) (actors_after world event) number
-  event-begins events.Handle number allowed octets own past = handle-begins number allowed octets own past
-  event-begins (events.Tick ms) number allowed octets own past = tick-begins ms number past
-  event-begins (events.AirUp n Zero) number allowed octets own past = sent-begins n number past
-  event-begins (events.AirUp n Three) number allowed octets own past = passing-begins (events.AirUp n Three) number refl past
-  event-begins event number allowed octets own past = passing-begins event number refl past
+  event_begins : (event : Event) (number : ℕ) → AreAllowed settings → AllByRecursion ComesInOctets steps_done → AllByRecursion ComesInOctets (step_at world event) → world.controller.next_number ≤ number → HasBegun (Begins modulus done) (actors_after world event) number
+  event_begins events.Handle number allowed octets own past = handle_begins number allowed octets own past
+  event_begins (events.Tick ms) number allowed octets own past = tick_begins ms number past
+  event_begins (events.AirUp n Zero) number allowed octets own past = sent_begins n number past
+  event_begins (events.AirUp n Three) number allowed octets own past = passing_begins (events.AirUp n Three) number refl past
+  event_begins event number allowed octets own past = passing_begins event number refl past
 
 pub connections_begin_new : (settings : Parameters) (done : List Event) (event : Event) → ConnectionsBegin settings done event
 connections_begin_new settings done event number allowed octets from_one past =
     let parts = split_steps ComesInOctets (new_actors settings) done event octets in
-    event-begins settings done event number allowed parts.0 parts.1 past
+    event_begins settings done event number allowed parts.0 parts.1 past

@@ -39,7 +39,7 @@ use Rattle.world_laws.proofs.Order.Down.{less_one, stations-all}
 use Rattle.world_laws.proofs.Order.Early.{Fate, fate}
 use Rattle.world_laws.proofs.Order.Early.Fate.{begins, stayed}
 use Rattle.world_laws.proofs.Order.NoData.{NoDataOut, by_each, entries_none, messages_none, pong_none}
-use Rattle.world_laws.proofs.Order.QuietDown.{IsIdle, quiet-step}
+use Rattle.world_laws.proofs.Order.QuietDown.{IsIdle, quiet_step}
 use Rattle.world_laws.proofs.Events.{snoc_actors, snoc_steps, world}
 use Rattle.world_laws.proofs.References.Numbered.{outs_of_one}
 use Rattle.world_laws.specs.References.Taken.{IsEarlyIn}
@@ -105,8 +105,8 @@ module _ (settings : Parameters) (done : List Event) (event : Event) (s : Connec
   pub agree : AllAgree settings (owner_in (new_actors settings) done) w
   agree = λ p least most. (known_new settings done p allowed came.0 least most).agrees
 
-  rests-not : step_at w event ≡ [] → Quiet vv at
-  rests-not none =
+  rests_not : step_at w event ≡ [] → Quiet vv at
+  rests_not none =
       let still : vv.controller ≡ c =
       LivesByTable-new settings (done ++ event ∷ [])
       ∙ ap (λ (ss : List Step). (life settings ss).next) (snoc_steps (new_actors settings) done event ∙ ap (λ (ss : List Step). all_steps (new_actors settings) done ++ ss) none ∙ append-nil (all_steps (new_actors settings) done))
@@ -161,19 +161,19 @@ module _ (settings : Parameters) (done : List Event) (event : Event) (s : Connec
         (λ both. free≢use _ (sym heard_free ∙ ap (hear heard) (sym both) ∙ hear-used heard k)) here_now here_next)
         refl end_is
 
-    of-messages : (k : ℕ) (ms : List Message) → outs_for k (step c x).outs ≡ outs_of k ms → AllByRecursion (IsNotOn at) ms → AllByRecursion (NoDataOut at) (outs_for k (step c x).outs)
-    of-messages k ms is none = subst (AllByRecursion (NoDataOut at)) (sym is) (messages_none at k ms placed.least (subst (AllByRecursion IsSent) is (AllByRecursion-filter IsSent (is_for k) (step c x).outs does.sent)) none)
+    of_messages : (k : ℕ) (ms : List Message) → outs_for k (step c x).outs ≡ outs_of k ms → AllByRecursion (IsNotOn at) ms → AllByRecursion (NoDataOut at) (outs_for k (step c x).outs)
+    of_messages k ms is none = subst (AllByRecursion (NoDataOut at)) (sym is) (messages_none at k ms placed.least (subst (AllByRecursion IsSent) is (AllByRecursion-filter IsSent (is_for k) (step c x).outs does.sent)) none)
 
-    own-none : AllByRecursion (IsNotOn at) does.acts.put
-    own-none = by (fate s.number c.next_number (hears c SWITCH_LINK) (brought_in c s.number x) (connection_of c s.number) does.acts.put s at fine early_then (subst (λ (o : Option Connection). Acts s.number c.next_number (hears c SWITCH_LINK) (brought_in c s.number x) (connection_of c s.number) does.acts.put o) there does.acts.acts)) where
+    own_none : AllByRecursion (IsNotOn at) does.acts.put
+    own_none = by (fate s.number c.next_number (hears c SWITCH_LINK) (brought_in c s.number x) (connection_of c s.number) does.acts.put s at fine early_then (subst (λ (o : Option Connection). Acts s.number c.next_number (hears c SWITCH_LINK) (brought_in c s.number x) (connection_of c s.number) does.acts.put o) there does.acts.acts)) where
       by : Fate at (connection_of c s.number) s does.acts.put → AllByRecursion (IsNotOn at) does.acts.put
       by (stayed now is early_now serving off) = off
       by (begins none put_is) = subst (AllByRecursion (IsNotOn at)) (sym put_is) (tt, tt)
 
     nodata : AllByRecursion (NoDataOut at) (step c x).outs
     nodata = by_each (NoDataOut at) (step c x).outs (outs_of_one c x ready.numbered) (pong_none at) (λ k from_one. elim (cases_Bool (nat_eq s.number k)) [
-      | inl hit ↦ subst (λ (n : ℕ). AllByRecursion (NoDataOut at) (outs_for n (step c x).outs)) (eqb-true s.number k hit) (of-messages s.number does.acts.put does.acts.outs own-none)
-      | inr miss ↦ let other = others k from_one (eqb-false s.number k miss) in of-messages k other.put other.outs other.off
+      | inl hit ↦ subst (λ (n : ℕ). AllByRecursion (NoDataOut at) (outs_for n (step c x).outs)) (eqb-true s.number k hit) (of_messages s.number does.acts.put does.acts.outs own_none)
+      | inr miss ↦ let other = others k from_one (eqb-false s.number k miss) in of_messages k other.put other.outs other.off
     ])
 
     nothing : AllByRecursion (NoDataEntry at.number) (put at.station w event)
@@ -188,26 +188,26 @@ module _ (settings : Parameters) (done : List Event) (event : Event) (s : Connec
     pipe : PipeStep at.station at.number w event v
     pipe = pipe-step at.station at.number w event at_is (less_one at.station (length w.stations) (length settings.cells) placed.least placed.most (stations-all (new_actors settings) done ∙ length-stations_from 1 settings.cells)) before.none
 
-    down-quiet : is_up v at.station ≡ false → outbox_of v at.station ≡ [] → Quiet v at
-    down-quiet down empty =
+    down_quiet : is_up v at.station ≡ false → outbox_of v at.station ≡ [] → Quiet v at
+    down_quiet down empty =
         begun (idle_then (ap (λ (active : List ℕ). is_active active at.number) (down_active at.station w event at_is down) ∙ inactive)) (subst (AllByRecursion (NoDataEntry at.number)) (sym empty) tt)
 
     waiting : is_up w at.station ≡ true → Waits at.number (outbox_of w at.station ++ put at.station w event)
     waiting up = subst (λ (es : List OutboxEntry). Waits at.number (outbox_of w at.station ++ es)) (sym (ap (λ (b : Bool). if b then to_link at.station (outputs w event) else []) up ∙ ap (to_link at.station) puts))
         (begins_waiting (owner_in (new_actors settings) done) w at target s.number before.agrees hearing up why inactive (serves.goes hearing_next) end_is (λ used. unused (hear_use heard (channel_state c at) s.number used)) nodata)
 
-    up-quiet : is_up w at.station ≡ true → OutboxStep at.station w event v → PipeStep at.station at.number w event v → Quiet v at
-    up-quiet up (breaks broken unput gone) p = down-quiet (ap (λ (l : Link). l.up) broken) (ap (λ (l : Link). l.outbox) broken)
-    up-quiet up (goes now all) (stops down left dropped ungiven gone) = down-quiet down dropped
-    up-quiet up (goes now all) (flows acks active) = waits
+    up_quiet : is_up w at.station ≡ true → OutboxStep at.station w event v → PipeStep at.station at.number w event v → Quiet v at
+    up_quiet up (breaks broken unput gone) p = down_quiet (ap (λ (l : Link). l.up) broken) (ap (λ (l : Link). l.outbox) broken)
+    up_quiet up (goes now all) (stops down left dropped ungiven gone) = down_quiet down dropped
+    up_quiet up (goes now all) (flows acks active) = waits
         (active ∙ ap (active_all at.number (is_active_at w at)) untaken ∙ inactive)
         (subst (λ (es : List OutboxEntry). Waits at.number (es ++ outbox_of v at.station)) untaken (subst (Waits at.number) all (waiting up)))
 
-    pub begins-quiet : Quiet vv at
-    begins-quiet = subst (λ (y : Actors). Quiet y at) (sym same) (by (is_up w at.station) refl) where
+    pub begins_quiet : Quiet vv at
+    begins_quiet = subst (λ (y : Actors). Quiet y at) (sym same) (by (is_up w at.station) refl) where
       by : (b : Bool) → is_up w at.station ≡ b → Quiet v at
-      by true up = up-quiet up (outbox-step at.station w event) pipe
-      by false down = quiet-step w event at at_is before.settled.air idle_then nothing pipe (begun (before.settled.air inactive) (subst (AllByRecursion (NoDataEntry at.number)) (sym (before.none down)) tt))
+      by true up = up_quiet up (outbox-step at.station w event) pipe
+      by false down = quiet_step w event at at_is before.settled.air idle_then nothing pipe (begun (before.settled.air inactive) (subst (AllByRecursion (NoDataEntry at.number)) (sym (before.none down)) tt))
 
 pub channels_begin_quiet_new : (settings : Parameters) (done : List Event) (event : Event) → ChannelsBeginQuiet settings done event
 unfolding ServesAt
@@ -219,12 +219,12 @@ channels_begin_quiet_new settings done events.Handle s allowed octets new has ea
   n = s.serving.station
 
   by : (items : List RelayItem) → w.inbox ≡ items → Quiet (world settings (done ++ events.Handle ∷ [])) (place_of s.serving)
-  by [] stood = rests-not settings done events.Handle s allowed octets new has early_then (ap first_taken stood)
+  by [] stood = rests_not settings done events.Handle s allowed octets new has early_then (ap first_taken stood)
   by (item ∷ items) stood =
       let at : Place = place_of s.serving in
       let came = octets_came settings done events.Handle octets in
       let place = placed settings done events.Handle s allowed octets new has early_then in
-      begins-quiet settings done events.Handle s allowed octets new has early_then (steps.Take item) (target_in w item.source item.what) (heard_of at item)
+      begins_quiet settings done events.Handle s allowed octets new has early_then (steps.Take item) (target_in w item.source item.what) (heard_of at item)
       (acknowledgements at.number (flat_map (read_of n) items ++ (base_of w n).messages))
       (subst (λ (xs : List RelayItem). AllByRecursion ComesInOctets (first_taken xs)) stood came.1).0
       (ap (outputs_at w) stood)
@@ -240,9 +240,9 @@ channels_begin_quiet_new settings done (events.Tick ms) s allowed octets new has
     let at : Place = place_of s.serving in
     let came = octets_came settings done (events.Tick ms) octets in
     let place = placed settings done (events.Tick ms) s allowed octets new has early_then in
-    begins-quiet settings done (events.Tick ms) s allowed octets new has early_then (steps.Tick ms) None [] (acknowledgements_up w at) tt refl
+    begins_quiet settings done (events.Tick ms) s allowed octets new has early_then (steps.Tick ms) None [] (acknowledgements_up w at) tt refl
     (ap (λ (x : Actors). x.controller) (snoc_actors (new_actors settings) done (events.Tick ms) ∙ tick_is w ms) ∙ controller-is None (tick ms w.controller) w)
     refl
     (serves_event settings (owner_in (new_actors settings) done) done w (events.Tick ms) refl allowed came.0 came.1 (agree settings done (events.Tick ms) s allowed octets new has early_then) at place.least place.most)
     refl
-channels_begin_quiet_new settings done _ s allowed octets new has early_then = rests-not settings done _ s allowed octets new has early_then refl
+channels_begin_quiet_new settings done _ s allowed octets new has early_then = rests_not settings done _ s allowed octets new has early_then refl

@@ -92,9 +92,9 @@ below_next number c s numbered there few = elim (cases_Bool (leb c.next_number n
   weaker (e ∷ es) past all = (omega (arith, all.0, past), weaker es past all.1)
 
 module _ (p : Parameters) (allowed : AreAllowed p) (number : ℕ) (from_one : 1 ≤ number) where
-  step-fine : (steps : List Step) (s : Step) → AllByRecursion ComesInOctets steps → HasSmallOf (connection_of (life p steps).next number)
+  step_fine : (steps : List Step) (s : Step) → AllByRecursion ComesInOctets steps → HasSmallOf (connection_of (life p steps).next number)
       → (put : List Message) × (outs_for number (step (life p steps).next s).outs ≡ outs_of number put) × IsFineStep number put (connection_of (step (life p steps).next s).next number)
-  step-fine steps s octets small =
+  step_fine steps s octets small =
       let c : Controller = (life p steps).next in
       let numbered = (life_fits p steps number from_one).numbered in
       let does = step_does number c s from_one numbered in (
@@ -104,19 +104,19 @@ module _ (p : Parameters) (allowed : AreAllowed p) (number : ℕ) (from_one : 1 
             (λ old there. below_next number c old numbered there (life_sound p steps allowed octets).next) small does.acts,
       )
 
-  small-through : (done rest : List Step) → AllByRecursion ComesInOctets (done ++ rest) → HasSmallOf (connection_of (life p done).next number) → HasSmallOf (connection_of (life p (done ++ rest)).next number)
+  small_through : (done rest : List Step) → AllByRecursion ComesInOctets (done ++ rest) → HasSmallOf (connection_of (life p done).next number) → HasSmallOf (connection_of (life p (done ++ rest)).next number)
   unfolding life
-  small-through done [] octets small = subst (λ (steps : List Step). HasSmallOf (connection_of (life p steps).next number)) (sym (append-nil done)) small
-  small-through done (s ∷ rest) octets small =
+  small_through done [] octets small = subst (λ (steps : List Step). HasSmallOf (connection_of (life p steps).next number)) (sym (append-nil done)) small
+  small_through done (s ∷ rest) octets small =
       let same : (done ++ s ∷ []) ++ rest ≡ done ++ s ∷ rest = append_assoc done (s ∷ []) rest in
-      let own = step-fine done s (all_left ComesInOctets done (s ∷ rest) octets) small in
+      let own = step_fine done s (all_left ComesInOctets done (s ∷ rest) octets) small in
       subst (λ (steps : List Step). HasSmallOf (connection_of (life p steps).next number)) same
-      (small-through (done ++ s ∷ []) rest (subst (AllByRecursion ComesInOctets) (sym same) octets)
+      (small_through (done ++ s ∷ []) rest (subst (AllByRecursion ComesInOctets) (sym same) octets)
       (subst (λ (c : Controller). HasSmallOf (connection_of c number)) (sym (each-append (new_controller p) done (s ∷ []))) own.2.small))
 
-  small-life : (steps : List Step) → AllByRecursion ComesInOctets steps → HasSmallOf (connection_of (life p steps).next number)
+  small_life : (steps : List Step) → AllByRecursion ComesInOctets steps → HasSmallOf (connection_of (life p steps).next number)
   unfolding life
-  small-life steps octets = small-through [] steps octets tt
+  small_life steps octets = small_through [] steps octets tt
 
 -- ---- each frame of a step
 
@@ -229,5 +229,5 @@ step_fair p steps s allowed octets own =
     let c : Controller = (life p steps).next in
     all_fair (step c s).outs (life_sends p steps s allowed octets own) (outs_of_one c s (life_fits p steps 1 (omega arith)).numbered)
     (all_own (step c s).outs (λ number from_one.
-    let fine = step-fine p allowed number from_one steps s octets (small-life p allowed number from_one steps octets) in
+    let fine = step_fine p allowed number from_one steps s octets (small_life p allowed number from_one steps octets) in
     subst (AllByRecursion IsFineOut) (sym fine.1) (fine_outs number fine.0 fine.2.fine)))

@@ -24,7 +24,7 @@ use Rattle.world_laws.proofs.Order.Avoiding.{OthersPut, others_put}
 use Rattle.world_laws.proofs.Order.Early.{Fate, fate}
 use Rattle.world_laws.proofs.Order.Early.Fate.{begins, stayed}
 use Rattle.world_laws.proofs.Order.NoData.{NoDataOut, by_each, entries_none, messages_none, pong_none}
-use Rattle.world_laws.proofs.Order.QuietDown.{IsIdle, quiet_air, quiet-step}
+use Rattle.world_laws.proofs.Order.QuietDown.{IsIdle, quiet_air, quiet_step}
 use Rattle.world_laws.proofs.Events.{snoc_actors, snoc_steps, world}
 use Rattle.world_laws.proofs.References.Numbered.{outs_of_one}
 use Rattle.world_laws.specs.References.Taken.{IsEarlyIn}
@@ -78,28 +78,28 @@ module _ (settings : Parameters) (done : List Event) (event : Event) (old s : Co
   after = known_new settings (done ++ event ∷ []) at allowed octets placed.least placed.most
 
   -- where it puts no DATA REQUEST for the channel
-  goes-quiet : Quiet w at → AllByRecursion (NoDataEntry at.number) (put at.station w event) → Quiet vv at
-  goes-quiet now nothing =
+  goes_quiet : Quiet w at → AllByRecursion (NoDataEntry at.number) (put at.station w event) → Quiet vv at
+  goes_quiet now nothing =
       subst (λ (x : Actors). Quiet x at) (sym same)
-      (quiet-step w event at at_is before.settled.air (subst (λ (x : Actors). IsIdle x at) same after.settled.air) nothing
+      (quiet_step w event at at_is before.settled.air (subst (λ (x : Actors). IsIdle x at) same after.settled.air) nothing
       (pipe-step at.station at.number w event at_is (less_one at.station (length w.stations) (length settings.cells) placed.least placed.most (stations-all (new_actors settings) done ∙ length-stations_from 1 settings.cells)) before.none) now)
 
-  put-none : (entries : List OutboxEntry) → outputs w event ≡ entries → AllByRecursion (NoDataEntry at.number) (to_link at.station entries) → AllByRecursion (NoDataEntry at.number) (put at.station w event)
-  put-none entries is nothing = by (is_up w at.station) where
+  put_none : (entries : List OutboxEntry) → outputs w event ≡ entries → AllByRecursion (NoDataEntry at.number) (to_link at.station entries) → AllByRecursion (NoDataEntry at.number) (put at.station w event)
+  put_none entries is nothing = by (is_up w at.station) where
     by : (b : Bool) → AllByRecursion (NoDataEntry at.number) (if b then to_link at.station (outputs w event) else [])
     by true = subst (λ (es : List OutboxEntry). AllByRecursion (NoDataEntry at.number) (to_link at.station es)) (sym is) nothing
     by false = tt
 
   -- ---- the controller rests
 
-  rests-quiet : step_at w event ≡ [] → outputs w event ≡ [] → Quiet vv at
-  rests-quiet none nothing =
+  rests_quiet : step_at w event ≡ [] → outputs w event ≡ [] → Quiet vv at
+  rests_quiet none nothing =
       let still : vv.controller ≡ c =
       LivesByTable-new settings (done ++ event ∷ [])
       ∙ ap (λ (ss : List Step). (life settings ss).next) (snoc_steps (new_actors settings) done event ∙ ap (λ (ss : List Step). all_steps (new_actors settings) done ++ ss) none ∙ append-nil (all_steps (new_actors settings) done))
       ∙ sym (LivesByTable-new settings done) in
       let one : s ≡ old = same_Some _ _ (sym has.there ∙ ap (λ (d : Controller). connection_of d s.number) still ∙ ap (connection_of c) number ∙ had.there) in
-      goes-quiet (subst (λ (x : Connection). Quiet w (place_of x.serving)) (sym one) quiet) (put-none [] nothing tt)
+      goes_quiet (subst (λ (x : Connection). Quiet w (place_of x.serving)) (sym one) quiet) (put_none [] nothing tt)
 
   -- ---- it takes a step
 
@@ -119,8 +119,8 @@ module _ (settings : Parameters) (done : List Event) (event : Event) (old s : Co
     destiny : Fate at (connection_of c s.number) s does.acts.put
     destiny = fate s.number c.next_number (hears c SWITCH_LINK) (brought_in c s.number x) (connection_of c s.number) does.acts.put s at fine early_then (subst (λ (o : Option Connection). Acts s.number c.next_number (hears c SWITCH_LINK) (brought_in c s.number x) (connection_of c s.number) does.acts.put o) there does.acts.acts)
 
-    stays-quiet : (now : Connection) → connection_of c s.number ≡ Some now → now.serving ≡ s.serving → AllByRecursion (IsNotOn at) does.acts.put → Quiet vv at
-    stays-quiet now is serving off = goes-quiet (subst (λ (p : Place). Quiet w p) place quiet) (put-none (map (entry_of target) (step c x).outs) puts (entries_none at target (step c x).outs nodata)) where
+    stays_quiet : (now : Connection) → connection_of c s.number ≡ Some now → now.serving ≡ s.serving → AllByRecursion (IsNotOn at) does.acts.put → Quiet vv at
+    stays_quiet now is serving off = goes_quiet (subst (λ (p : Place). Quiet w p) place quiet) (put_none (map (entry_of target) (step c x).outs) puts (entries_none at target (step c x).outs nodata)) where
       place : place_of old.serving ≡ at
       place = ap (λ (y : Connection). place_of y.serving) (same_Some _ _ (sym was ∙ is)) ∙ ap place_of serving
 
@@ -129,24 +129,24 @@ module _ (settings : Parameters) (done : List Event) (event : Event) (old s : Co
 
       others : (k : ℕ) → 1 ≤ k → s.number ≢ k → OthersPut k c x at
       others k from_one differs = subst (λ (d : Controller). channel_state d at ≡ InUse s.number → channel_state (step d x).next at ≡ InUse s.number → OthersPut k d x at) (sym (LivesByTable-new settings done))
-          (λ here_now here_next. others_put settings (all_steps (new_actors settings) done) x s.number k at (InUse s.number) allowed from_one differs (λ both. differs (number-is (sym both))) here_now here_next)
+          (λ here_now here_next. others_put settings (all_steps (new_actors settings) done) x s.number k at (InUse s.number) allowed from_one differs (λ both. differs (number_is (sym both))) here_now here_next)
           used (ap (λ (d : Controller). channel_state d at) (sym next) ∙ used_then) where
-            number-is : {a b : ℕ} → InUse a ≡ InUse b → a ≡ b
-            number-is both = cc
+            number_is : {a b : ℕ} → InUse a ≡ InUse b → a ≡ b
+            number_is both = cc
 
-      of-messages : (k : ℕ) (ms : List Message) → outs_for k (step c x).outs ≡ outs_of k ms → AllByRecursion (IsNotOn at) ms → AllByRecursion (NoDataOut at) (outs_for k (step c x).outs)
-      of-messages k ms is none = subst (AllByRecursion (NoDataOut at)) (sym is) (messages_none at k ms placed.least (subst (AllByRecursion IsSent) is (AllByRecursion-filter IsSent (is_for k) (step c x).outs does.sent)) none)
+      of_messages : (k : ℕ) (ms : List Message) → outs_for k (step c x).outs ≡ outs_of k ms → AllByRecursion (IsNotOn at) ms → AllByRecursion (NoDataOut at) (outs_for k (step c x).outs)
+      of_messages k ms is none = subst (AllByRecursion (NoDataOut at)) (sym is) (messages_none at k ms placed.least (subst (AllByRecursion IsSent) is (AllByRecursion-filter IsSent (is_for k) (step c x).outs does.sent)) none)
 
       nodata : AllByRecursion (NoDataOut at) (step c x).outs
       nodata = by_each (NoDataOut at) (step c x).outs (outs_of_one c x (known settings done old allowed had).ready.numbered) (pong_none at) (λ k from_one. elim (cases_Bool (nat_eq s.number k)) [
-        | inl hit ↦ subst (λ (n : ℕ). AllByRecursion (NoDataOut at) (outs_for n (step c x).outs)) (eqb-true s.number k hit) (of-messages s.number does.acts.put does.acts.outs off)
-        | inr miss ↦ let other = others k from_one (eqb-false s.number k miss) in of-messages k other.put other.outs other.off
+        | inl hit ↦ subst (λ (n : ℕ). AllByRecursion (NoDataOut at) (outs_for n (step c x).outs)) (eqb-true s.number k hit) (of_messages s.number does.acts.put does.acts.outs off)
+        | inr miss ↦ let other = others k from_one (eqb-false s.number k miss) in of_messages k other.put other.outs other.off
       ])
 
-    works-quiet : Quiet vv at
-    works-quiet = by destiny where
+    works_quiet : Quiet vv at
+    works_quiet = by destiny where
       by : Fate at (connection_of c s.number) s does.acts.put → Quiet vv at
-      by (stayed now is early_now serving off) = stays-quiet now is serving off
+      by (stayed now is early_now serving off) = stays_quiet now is serving off
       by (begins none put_is) = absurd (let both : None ≡ Some old = sym none ∙ was in cc)
 
 pub channels_stay_quiet_new : (settings : Parameters) (done : List Event) (event : Event) → ChannelsStayQuiet settings done event
@@ -155,17 +155,17 @@ channels_stay_quiet_new settings done events.Handle old s allowed octets had ear
   w = world settings done
 
   by : (items : List RelayItem) → w.inbox ≡ items → Quiet (world settings (done ++ events.Handle ∷ [])) (place_of s.serving)
-  by [] stood = rests-quiet settings done events.Handle old s allowed octets had early number has early_then quiet (ap first_taken stood) (ap (outputs_at w) stood)
+  by [] stood = rests_quiet settings done events.Handle old s allowed octets had early number has early_then quiet (ap first_taken stood) (ap (outputs_at w) stood)
   by (item ∷ items) stood =
-      works-quiet settings done events.Handle old s allowed octets had early number has early_then quiet (steps.Take item) (target_in w item.source item.what)
+      works_quiet settings done events.Handle old s allowed octets had early number has early_then quiet (steps.Take item) (target_in w item.source item.what)
       (subst (λ (xs : List RelayItem). AllByRecursion ComesInOctets (first_taken xs)) stood (octets_came settings done events.Handle octets).1).0
       (ap (outputs_at w) stood)
       (ap (λ (x : Actors). x.controller) (snoc_actors (new_actors settings) done events.Handle ∙ handle_is w item items stood) ∙ controller-is (target_in w item.source item.what) (take item w.controller) (record w { inbox = items }))
 channels_stay_quiet_new settings done (events.Tick ms) old s allowed octets had early number has early_then quiet =
     let w : Actors = world settings done in
-    works-quiet settings done (events.Tick ms) old s allowed octets had early number has early_then quiet (steps.Tick ms) None tt refl
+    works_quiet settings done (events.Tick ms) old s allowed octets had early number has early_then quiet (steps.Tick ms) None tt refl
     (ap (λ (x : Actors). x.controller) (snoc_actors (new_actors settings) done (events.Tick ms) ∙ tick_is w ms) ∙ controller-is None (tick ms w.controller) w)
-channels_stay_quiet_new settings done _ old s allowed octets had early number has early_then quiet = rests-quiet settings done _ old s allowed octets had early number has early_then quiet refl refl
+channels_stay_quiet_new settings done _ old s allowed octets had early number has early_then quiet = rests_quiet settings done _ old s allowed octets had early number has early_then quiet refl refl
 
 pub quiet_lets_none_go_new : (settings : Parameters) (done : List Event) → QuietLetsNoneGo settings done
 quiet_lets_none_go_new settings done s allowed octets had quiet =

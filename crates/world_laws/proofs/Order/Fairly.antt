@@ -36,28 +36,28 @@ module _ (settings : Parameters) (allowed : AreAllowed settings) (events : List 
   handled [] octets own = tt
   handled (item ∷ items) octets own = entries_fair (target_in w item.source item.what) (take item w.controller).outs (stepped (steps.Take item) octets own.0)
 
-  outputs-fair : (event : Event) → Kind w 0 event → CameInOctets settings events → AllByRecursion ComesInOctets (step_at w event) → AllByRecursion IsFairEntry (outputs w event)
-  outputs-fair event handles octets own = handled w.inbox octets own
-  outputs-fair event (ticks ms) octets own = entries_fair None (tick ms w.controller).outs (stepped (steps.Tick ms) octets own.0)
-  outputs-fair event switch_takes octets own = tt
-  outputs-fair event (station_takes station) octets own = tt
-  outputs-fair event (breaks source) octets own = tt
-  outputs-fair event (beside is not none nothing delivers) octets own = subst (AllByRecursion IsFairEntry) (sym nothing) tt
+  outputs_fair : (event : Event) → Kind w 0 event → CameInOctets settings events → AllByRecursion ComesInOctets (step_at w event) → AllByRecursion IsFairEntry (outputs w event)
+  outputs_fair event handles octets own = handled w.inbox octets own
+  outputs_fair event (ticks ms) octets own = entries_fair None (tick ms w.controller).outs (stepped (steps.Tick ms) octets own.0)
+  outputs_fair event switch_takes octets own = tt
+  outputs_fair event (station_takes station) octets own = tt
+  outputs_fair event (breaks source) octets own = tt
+  outputs_fair event (beside is not none nothing delivers) octets own = subst (AllByRecursion IsFairEntry) (sym nothing) tt
 
-  put-fair : (event : Event) → CameInOctets settings (events ++ event ∷ []) → AllByRecursion IsFairEntry (put SWITCH_LINK w event)
-  put-fair event octets = by (is_up w SWITCH_LINK) where
+  put_fair : (event : Event) → CameInOctets settings (events ++ event ∷ []) → AllByRecursion IsFairEntry (put SWITCH_LINK w event)
+  put_fair event octets = by (is_up w SWITCH_LINK) where
     both : AllByRecursion ComesInOctets (all_steps (new_actors settings) events ++ step_at w event)
     both = subst (AllByRecursion ComesInOctets) (snoc_steps (new_actors settings) events event) octets
 
     fair : AllByRecursion IsFairEntry (outputs w event)
-    fair = outputs-fair event (kind w 0 event) (all_left ComesInOctets (all_steps (new_actors settings) events) (step_at w event) both) (all_right ComesInOctets (all_steps (new_actors settings) events) (step_at w event) both)
+    fair = outputs_fair event (kind w 0 event) (all_left ComesInOctets (all_steps (new_actors settings) events) (step_at w event) both) (all_right ComesInOctets (all_steps (new_actors settings) events) (step_at w event) both)
 
     by : (b : Bool) → AllByRecursion IsFairEntry (if b then to_link SWITCH_LINK (outputs w event) else [])
     by true = AllByRecursion-filter IsFairEntry (λ entry. entry.out.to == SWITCH_LINK) (outputs w event) fair
     by false = tt
 
 pub puts_fairly_new : (settings : Parameters) → PutsFairly settings
-puts_fairly_new settings allowed events event octets = put-fair settings allowed events event octets
+puts_fairly_new settings allowed events event octets = put_fair settings allowed events event octets
 
 pub ComeInOctets-new : (settings : Parameters) (events : List Event) → ComeInOctets settings events
 ComeInOctets-new settings events allowed octets = come_in_fairly_new settings events (puts_fairly_new settings allowed) octets

@@ -82,8 +82,8 @@ module _ (settings : Parameters) (events : List Event) (facts : Facts settings) 
   abbrev m : ℕ
   m = modulus_in settings
 
-  accepts-of : (k : ℕ) (c : SwitchConnection) → connection_of w.switch.connections k ≡ Some c → Accepts m w (first_served (new_actors settings) events c.peer) c.reception.taken
-  accepts-of k c is =
+  accepts_of : (k : ℕ) (c : SwitchConnection) → connection_of w.switch.connections k ≡ Some c → Accepts m w (first_served (new_actors settings) events c.peer) c.reception.taken
+  accepts_of k c is =
       let holds : Holds m w = facts.holds events allowed octets in
       let peer = holds.peers k c is in
       subst (Accepts m w (first_served (new_actors settings) events c.peer)) (ap taken_in peer.1)
@@ -94,7 +94,7 @@ module _ (settings : Parameters) (events : List Event) (facts : Facts settings) 
 
   begins : (k : ℕ) (c : SwitchConnection) (list : List (List ℕ)) → connection_of w.switch.connections k ≡ Some c → accepted_list c.reception.modulus c.reception.taken ≡ list → IsBeginningOfSent (new_actors settings) events k list
   begins k c list is same =
-      let at : Accepts m w (first_served (new_actors settings) events c.peer) c.reception.taken = accepts-of k c is in
+      let at : Accepts m w (first_served (new_actors settings) events c.peer) c.reception.taken = accepts_of k c is in
       record {
         mobile = at.mobile;
         opened = ap (option_and_then (λ (c : SwitchConnection). first_served (new_actors settings) events c.peer)) is ∙ at.opened;
@@ -114,7 +114,7 @@ module _ (settings : Parameters) (events : List Event) (facts : Facts settings) 
     by : (p : Option SwitchConnection) → connection_of w.switch.connections k ≡ p → option_map (λ (c : SwitchConnection). progress c.reception.modulus c.reception.taken) p ≡ Some o → IsSome o
     by None there is = absurd (none-some o is)
     by (Some c) there is =
-        let at : Accepts m w (first_served (new_actors settings) events c.peer) c.reception.taken = accepts-of k c there in
+        let at : Accepts m w (first_served (new_actors settings) events c.peer) c.reception.taken = accepts_of k c there in
         subst IsSome (sym at.goes_on ∙ ap (λ (n : ℕ). progress n c.reception.taken) (sym (modulus-of k c there)) ∙ same_Some (progress c.reception.modulus c.reception.taken) o is) refl
 
 pub runs_are_in_order_new : (settings : Parameters) (events : List Event) → RunsAreInOrder settings events

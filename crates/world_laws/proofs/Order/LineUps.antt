@@ -42,29 +42,29 @@ cut_order taken rest k two rise =
 
 module _ (m : ℕ) (two : 2 ≤ m) (taken : List (List ℕ)) (l : LineUp) (same : line l ≡ flow taken ++ coming l) where
   -- where nothing is lost
-  order-whole : l.is_intact ≡ true → (of_link : List (List ℕ)) → Rise m l.sent 0 (line l ++ flow of_link) (length l.sent) → (order : IsInOrder m l.sent taken (still_to_come l of_link)) × (order.last ≡ length l.sent)
-  order-whole intact of_link rise =
+  order_whole : l.is_intact ≡ true → (of_link : List (List ℕ)) → Rise m l.sent 0 (line l ++ flow of_link) (length l.sent) → (order : IsInOrder m l.sent taken (still_to_come l of_link)) × (order.last ≡ length l.sent)
+  order_whole intact of_link rise =
       let list : line l ++ flow of_link ≡ flow taken ++ still_to_come l of_link =
       ap (λ (xs : List (List ℕ)). xs ++ flow of_link) same ∙ append_assoc (flow taken) (coming l) (flow of_link)
       ∙ ap (λ (b : Bool). flow taken ++ (coming l ++ (if b then flow of_link else []))) (sym intact) in
       cut_order taken (still_to_come l of_link) (length l.sent) two (subst (λ (xs : List (List ℕ)). Rise m l.sent 0 xs (length l.sent)) list rise)
 
   -- where something is
-  order-cut : l.is_intact ≡ false → (of_link : List (List ℕ)) (k : ℕ) → Rise m l.sent 0 (line l) k → (order : IsInOrder m l.sent taken (still_to_come l of_link)) × (order.last ≡ k)
-  order-cut lost of_link k rise =
+  order_cut : l.is_intact ≡ false → (of_link : List (List ℕ)) (k : ℕ) → Rise m l.sent 0 (line l) k → (order : IsInOrder m l.sent taken (still_to_come l of_link)) × (order.last ≡ k)
+  order_cut lost of_link k rise =
       let list : line l ≡ flow taken ++ still_to_come l of_link =
       same ∙ ap (λ (xs : List (List ℕ)). flow taken ++ xs) (sym (append-nil (coming l)))
       ∙ ap (λ (b : Bool). flow taken ++ (coming l ++ (if b then flow of_link else []))) (sym lost) in
       cut_order taken (still_to_come l of_link) k two (subst (λ (xs : List (List ℕ)). Rise m l.sent 0 xs k) list rise)
 
-  places-by : (intact : Bool) → l.is_intact ≡ intact → Follows m l.sent (line l) l.link intact → PlacesRise m taken l
-  places-by true is (goes_on going) =
-      let now = order-whole is (to_be_taken l.link) going.now in
-      let anew = order-whole is (outstanding_messages l.link) going.anew in
+  places_by : (intact : Bool) → l.is_intact ≡ intact → Follows m l.sent (line l) l.link intact → PlacesRise m taken l
+  places_by true is (goes_on going) =
+      let now = order_whole is (to_be_taken l.link) going.now in
+      let anew = order_whole is (outstanding_messages l.link) going.anew in
       record { now = now.0; anew = anew.0; whole_now = λ _. now.1; whole_anew = λ _. anew.1 }
-  places-by false is (rises k rise) =
-      let now = order-cut is (to_be_taken l.link) k rise in
-      let anew = order-cut is (outstanding_messages l.link) k rise in
+  places_by false is (rises k rise) =
+      let now = order_cut is (to_be_taken l.link) k rise in
+      let anew = order_cut is (outstanding_messages l.link) k rise in
       record { now = now.0; anew = anew.0; whole_now = λ intact. absurd (cc (sym is ∙ intact)); whole_anew = λ intact. absurd (cc (sym is ∙ intact)) }
 
 -- ---- of a connection that lives
@@ -78,7 +78,7 @@ line-of w s l same =
 places_of : (m : ℕ) (w : Actors) (mobile : ℕ) (s : Connection) → 2 ≤ m → (l : Lives m w mobile s) → PlacesRise m (taken_of w s.number) (line_up w l.lined.one s)
 places_of m w mobile s two l =
     let line : LineUp = line_up w l.lined.one s in
-    places-by m two (taken_of w s.number) line (line-of w s line refl) line.is_intact refl l.lined.lined.alive.follows
+    places_by m two (taken_of w s.number) line (line-of w s line refl) line.is_intact refl l.lined.lined.alive.follows
 
 -- ---- in a run
 
@@ -98,26 +98,26 @@ module _ (settings : Parameters) (events : List Event) (s : Connection) (had : I
   abbrev opener : Option ℕ
   opener = first_served (new_actors settings) events s.number
 
-  same-one : (other : Connection) → other.number ≡ s.number → connection_of w.controller other.number ≡ Some other → other ≡ s
-  same-one other same there = same_Some other s (sym there ∙ ap (connection_of w.controller) same ∙ had.there)
+  same_one : (other : Connection) → other.number ≡ s.number → connection_of w.controller other.number ≡ Some other → other ≡ s
+  same_one other same there = same_Some other s (sym there ∙ ap (connection_of w.controller) same ∙ had.there)
 
-  lined-up : (mobile : ℕ) (other : Connection) → opener ≡ Some mobile → other ≡ s → Lives (modulus_in settings) w mobile other → IsLinedUp (modulus_in settings) w opener s
-  lined-up mobile other opened is l =
+  lined_up : (mobile : ℕ) (other : Connection) → opener ≡ Some mobile → other ≡ s → Lives (modulus_in settings) w mobile other → IsLinedUp (modulus_in settings) w opener s
+  lined_up mobile other opened is l =
       let own : Lives (modulus_in settings) w mobile s = subst (Lives (modulus_in settings) w mobile) is l in
       record { mobile = mobile; opened = opened; lives = own; places = places_of (modulus_in settings) w mobile s (two_numbers settings) own }
 
-  rises-by : is_up w SWITCH_LINK ≡ true → AreAllowed settings → CameInOctets settings events → Standing (modulus_in settings) w opener s.number
+  rises_by : is_up w SWITCH_LINK ≡ true → AreAllowed settings → CameInOctets settings events → Standing (modulus_in settings) w opener s.number
       → IsLinedUp (modulus_in settings) w opener s ⊎ IsUnheard w s.number
-  rises-by up allowed octets (while_up _ (unborn none past)) = absurd (none-some s (sym (none_given settings events s.number past) ∙ had.there))
-  rises-by up allowed octets (while_up _ (comes mobile other none same coming_so)) =
+  rises_by up allowed octets (while_up _ (unborn none past)) = absurd (none-some s (sym (none_given settings events s.number past) ∙ had.there))
+  rises_by up allowed octets (while_up _ (comes mobile other none same coming_so)) =
       let is_so = ((facts settings).holds events allowed octets).is_coming mobile other coming_so in
-      absurd (cc (sym is_so.1 ∙ ap (λ (c : Connection). has_asked c.state) (same-one other same is_so.0.there) ∙ requested_asked s.state requested))
-  rises-by up allowed octets (while_up _ (lives mobile other opened same l fresh)) = inl (lined-up mobile other opened (same-one other same l.had.there) l)
-  rises-by up allowed octets (while_up _ (ended mobile opened past gone has)) = absurd (gone (subst IsThere (sym had.there) had.is_open))
-  rises-by up allowed octets (while_up _ (unheard u)) = inr u
-  rises-by up allowed octets (once_down down at) = absurd (cc (sym up ∙ down))
+      absurd (cc (sym is_so.1 ∙ ap (λ (c : Connection). has_asked c.state) (same_one other same is_so.0.there) ∙ requested_asked s.state requested))
+  rises_by up allowed octets (while_up _ (lives mobile other opened same l fresh)) = inl (lined_up mobile other opened (same_one other same l.had.there) l)
+  rises_by up allowed octets (while_up _ (ended mobile opened past gone has)) = absurd (gone (subst IsThere (sym had.there) had.is_open))
+  rises_by up allowed octets (while_up _ (unheard u)) = inr u
+  rises_by up allowed octets (once_down down at) = absurd (cc (sym up ∙ down))
 
 pub all_places_rise_new : (settings : Parameters) (events : List Event) → AllPlacesRise settings events
 all_places_rise_new settings events s allowed events_octets up had requested =
     let octets : CameInOctets settings events = ComeInOctets-new settings events allowed events_octets in
-    rises-by settings events s had requested up allowed octets (numbers_stand_new settings events s.number (facts settings) allowed octets had.from_one)
+    rises_by settings events s had requested up allowed octets (numbers_stand_new settings events s.number (facts settings) allowed octets had.from_one)

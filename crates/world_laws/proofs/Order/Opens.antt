@@ -62,13 +62,13 @@ expiry_numbers (Some input) c e = too_numbers c input c (Some e) refl
 
 break_numbers : (source : ℕ) (c : Controller) → Numbers c (on_break source c)
 break_numbers source c = by (source == SWITCH_LINK) where
-  told-all : Turn
-  told-all = each (told (break_of source)) (with_down source c) c.entries
+  told_all : Turn
+  told_all = each (told (break_of source)) (with_down source c) c.entries
 
-  same : told-all.next.next_number ≡ c.next_number
+  same : told_all.next.next_number ≡ c.next_number
   same = each_numbers (told (break_of source)) (λ d e. too_numbers d (break_of source) d (Some e) refl) (with_down source c) c.entries
 
-  by : (b : Bool) → (if b then told-all.next else freed_station source told-all.next).next_number ≡ c.next_number
+  by : (b : Bool) → (if b then told_all.next else freed_station source told_all.next).next_number ≡ c.next_number
   by true = same
   by false = same
 
@@ -101,13 +101,13 @@ pub data Opens (c : Controller) (item : Item) : Type 0 where
 pub take_opens : (c : Controller) (item : Item) → Opens c item
 unfolding take
 take_opens c item = by (is_up c item.source) item.what refl refl where
-  of-word : (frame : Frame) (t : Turn) → item.what ≡ whats.Frame frame → on_what (is_up c item.source) item.source item.what c ≡ t → WordOpens c item.source (word_of item.source frame) t → Opens c item
-  of-word frame t is turns (stays same) = stays (ap (λ (x : Turn). x.next.next_number) turns ∙ same)
-  of-word frame t is turns (begins channel request delay asks free opens) = begins frame channel request delay is asks free (turns ∙ opens)
+  of_word : (frame : Frame) (t : Turn) → item.what ≡ whats.Frame frame → on_what (is_up c item.source) item.source item.what c ≡ t → WordOpens c item.source (word_of item.source frame) t → Opens c item
+  of_word frame t is turns (stays same) = stays (ap (λ (x : Turn). x.next.next_number) turns ∙ same)
+  of_word frame t is turns (begins channel request delay asks free opens) = begins frame channel request delay is asks free (turns ∙ opens)
 
   by : (b : Bool) (what : What) → is_up c item.source ≡ b → item.what ≡ what → Opens c item
   by true (whats.Frame frame) up is =
-      of-word frame (on_word item.source (word_of item.source frame) c) is (ap (λ (b : Bool). on_what b item.source item.what c) up ∙ ap (λ (x : What). on_what true item.source x c) is) (word_opens c item.source (word_of item.source frame))
+      of_word frame (on_word item.source (word_of item.source frame) c) is (ap (λ (b : Bool). on_what b item.source item.what c) up ∙ ap (λ (x : What). on_what true item.source x c) is) (word_opens c item.source (word_of item.source frame))
   by true whats.Down up is = stays (ap (λ (t : Turn). t.next.next_number) (ap (λ (b : Bool). on_what b item.source item.what c) up ∙ ap (λ (x : What). on_what true item.source x c) is) ∙ break_numbers item.source c)
   by false what up is = stays (ap (λ (t : Turn). t.next.next_number) (ap (λ (b : Bool). on_what b item.source item.what c) up))
 

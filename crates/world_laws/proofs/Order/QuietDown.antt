@@ -10,7 +10,7 @@ use Rattle.world_model.specs.Life.{event_after}
 use Rattle.world_model.proofs.Outboxes.Step.{goes}
 use Rattle.world_laws.proofs.Framing.{all_right}
 use Rattle.world_laws.proofs.Targets.Calm.{down_active}
-use Rattle.world_laws.proofs.Order.AirDown.{air-step}
+use Rattle.world_laws.proofs.Order.AirDown.{air_step}
 use Rattle.world_laws.specs.Order.QuietDown.{NoDataEntry, NoDataOn, Quiet, Waits, activates}
 use Rattle.world_laws.specs.Order.QuietDown.Quiet.{begun, waits}
 use Rattle.world_laws.specs.Order.QuietDown.Waits.{here, later}
@@ -81,15 +81,15 @@ module _ (w : Actors) (event : Event) (at : Place) (at_is : at.station ≢ SWITC
   k = at.number
 
   -- the link is down
-  down-quiet : is_active_at w at ≡ false → is_up v n ≡ false → outbox_of v n ≡ [] → Quiet v at
-  down-quiet inactive down empty =
+  down_quiet : is_active_at w at ≡ false → is_up v n ≡ false → outbox_of v n ≡ [] → Quiet v at
+  down_quiet inactive down empty =
       begun (idle_then (ap (λ (active : List ℕ). is_active active k) (down_active n w event at_is down) ∙ inactive)) (subst (AllByRecursion (NoDataEntry k)) (sym empty) tt)
 
-  waits-step : is_active_at w at ≡ false → Waits k (outbox_of w n) → OutboxStep n w event v → PipeStep n k w event v → Quiet v at
+  waits_step : is_active_at w at ≡ false → Waits k (outbox_of w n) → OutboxStep n w event v → PipeStep n k w event v → Quiet v at
   unfolding First
-  waits-step inactive waiting (breaks broken unput none) pipe = down-quiet inactive (ap (λ (l : Link). l.up) broken) (ap (λ (l : Link). l.outbox) broken)
-  waits-step inactive waiting (goes up all) (stops down left dropped ungiven none) = down-quiet inactive down dropped
-  waits-step inactive waiting (goes up all) (flows acks active) = by (taken_by n w event at_is) where
+  waits_step inactive waiting (breaks broken unput none) pipe = down_quiet inactive (ap (λ (l : Link). l.up) broken) (ap (λ (l : Link). l.outbox) broken)
+  waits_step inactive waiting (goes up all) (stops down left dropped ungiven none) = down_quiet inactive down dropped
+  waits_step inactive waiting (goes up all) (flows acks active) = by (taken_by n w event at_is) where
     rest : Waits k (taken n w event ++ outbox_of v n)
     rest = subst (Waits k) all (waits_append k (put n w event) waiting nothing)
 
@@ -99,18 +99,18 @@ module _ (w : Actors) (event : Event) (at : Place) (at_is : at.station ≢ SWITC
     by : TakenBy n w event → Quiet v at
     by (nobody none) = waits (now [] none) (subst (λ (ts : List OutboxEntry). Waits k (ts ++ outbox_of v n)) none rest)
     by (one x xs stood is) = elim (behind_first k x (outbox_of v n) (subst (λ (ts : List OutboxEntry). Waits k (ts ++ outbox_of v n)) is rest)) [
-      | inl own ↦ begun (air-step at at_is w event (λ first others takes stands. subst (NoDataEntry k) (same-first (sym stood ∙ stands)) (no_data k (rsl_in x.out.frame) own.0)) (idle inactive)) own.1
+      | inl own ↦ begun (air_step at at_is w event (λ first others takes stands. subst (NoDataEntry k) (same_first (sym stood ∙ stands)) (no_data k (rsl_in x.out.frame) own.0)) (idle inactive)) own.1
       | inr other ↦ waits (now (x ∷ []) is ∙ stays_inactive k (rsl_in x.out.frame) other.0) other.1
     ] where
-      same-first : {a b : OutboxEntry} {xs ys : List OutboxEntry} → a ∷ xs ≡ b ∷ ys → a ≡ b
-      same-first e = cc
+      same_first : {a b : OutboxEntry} {xs ys : List OutboxEntry} → a ∷ xs ≡ b ∷ ys → a ≡ b
+      same_first e = cc
 
-  begun-step : (spot_at w at).air ≡ [] → AllByRecursion (NoDataEntry k) (outbox_of w n) → OutboxStep n w event v → Quiet v at
-  begun-step none waiting out = begun (air-step at at_is w event (λ first others takes stands. (subst (AllByRecursion (NoDataEntry k)) stands waiting).0) none) (by out) where
+  begun_step : (spot_at w at).air ≡ [] → AllByRecursion (NoDataEntry k) (outbox_of w n) → OutboxStep n w event v → Quiet v at
+  begun_step none waiting out = begun (air_step at at_is w event (λ first others takes stands. (subst (AllByRecursion (NoDataEntry k)) stands waiting).0) none) (by out) where
     by : OutboxStep n w event v → AllByRecursion (NoDataEntry k) (outbox_of v n)
     by (breaks broken unput untaken) = subst (λ (l : Link). AllByRecursion (NoDataEntry k) l.outbox) (sym broken) tt
     by (goes up all) = all_right (NoDataEntry k) (taken n w event) (outbox_of v n) (subst (AllByRecursion (NoDataEntry k)) all (AllByRecursion-append (NoDataEntry k) (outbox_of w n) (put n w event) waiting nothing))
 
-  pub quiet-step : PipeStep n k w event v → Quiet w at → Quiet v at
-  quiet-step pipe (waits inactive waiting) = waits-step inactive waiting (outbox-step n w event) pipe
-  quiet-step pipe (begun none waiting) = begun-step none waiting (outbox-step n w event)
+  pub quiet_step : PipeStep n k w event v → Quiet w at → Quiet v at
+  quiet_step pipe (waits inactive waiting) = waits_step inactive waiting (outbox-step n w event) pipe
+  quiet_step pipe (begun none waiting) = begun_step none waiting (outbox-step n w event)

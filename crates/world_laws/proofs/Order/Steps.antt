@@ -86,14 +86,14 @@ lined_then settings events event mobile s holds had requested alone (station_tak
       by true station_up = holds.stations station mobile s (holds.active s station had requested station_up) lined
       by false station_down = subst (λ (w : Actors). AreLinedUp (modulus_in settings) w mobile s) (sym (station-idle (world settings events) station station_down)) lined
 lined_then settings events event mobile s holds had requested alone (breaks source) not delivers up up_then lined = elim (cases_Bool (nat_eq source SWITCH_LINK)) [
-  | inl hit ↦ absurd (cut-off (eqb-true source SWITCH_LINK hit))
+  | inl hit ↦ absurd (cut_off (eqb-true source SWITCH_LINK hit))
   | inr miss ↦ station_breaks_keep_line_ups_new settings events source mobile s (eqb-false source SWITCH_LINK miss) (holds.end_last s had) lined
 ] where
   w : Actors
   w = world settings events
 
-  cut-off : source ≡ SWITCH_LINK → ⊥
-  cut-off is = true≢false (sym (subst (λ (n : ℕ). is_up (actors_after w (BaseDown n)) SWITCH_LINK ≡ true) is up_then) ∙ break_cuts w up)
+  cut_off : source ≡ SWITCH_LINK → ⊥
+  cut_off is = true≢false (sym (subst (λ (n : ℕ). is_up (actors_after w (BaseDown n)) SWITCH_LINK ≡ true) is up_then) ∙ break_cuts w up)
 lined_then settings events event mobile s holds had requested alone (beside is _ none nothing _) not delivers up up_then lined = mobiles_keep_line_ups_new settings events event mobile s is alone lined
 
 -- ---- a number that is cut off stays so, whatever happens
@@ -139,53 +139,53 @@ module _ (settings : Parameters) (events : List Event) (event : Event) where
   abbrev Then : Option ℕ → ℕ → Type 0
   Then opener number = Standing m v (option_or opener (served_by v number)) number
 
-  emptied-then : is_up v SWITCH_LINK ≡ false → outbox_of v SWITCH_LINK ≡ []
-  emptied-then down = down-outbox SWITCH_LINK w event (outbox-down settings events) down
+  emptied_then : is_up v SWITCH_LINK ≡ false → outbox_of v SWITCH_LINK ≡ []
+  emptied_then down = down-outbox SWITCH_LINK w event (outbox-down settings events) down
 
   -- who was first served stays so
-  first-stays : {opener : Option ℕ} {mobile : ℕ} (number : ℕ) → opener ≡ Some mobile → option_or opener (served_by v number) ≡ Some mobile
-  first-stays number is = ap (λ (o : Option ℕ). option_or o (served_by v number)) is
+  first_stays : {opener : Option ℕ} {mobile : ℕ} (number : ℕ) → opener ≡ Some mobile → option_or opener (served_by v number) ≡ Some mobile
+  first_stays number is = ap (λ (o : Option ℕ). option_or o (served_by v number)) is
 
   -- and where there was none it is who is served now
-  first-now : {opener o : Option ℕ} (number : ℕ) → opener ≡ None → served_by v number ≡ o → option_or opener (served_by v number) ≡ o
-  first-now number none is = ap (λ (o : Option ℕ). option_or o (served_by v number)) none ∙ is
+  first_now : {opener o : Option ℕ} (number : ℕ) → opener ≡ None → served_by v number ≡ o → option_or opener (served_by v number) ≡ o
+  first_now number none is = ap (λ (o : Option ℕ). option_or o (served_by v number)) none ∙ is
 
-  then-up : (opener : Option ℕ) {number : ℕ} → Around → 1 ≤ number → WhileUp m v (option_or opener (served_by v number)) number → Then opener number
-  then-up opener around from_one at = settle from_one around.after emptied-then at
+  then_up : (opener : Option ℕ) {number : ℕ} → Around → 1 ≤ number → WhileUp m v (option_or opener (served_by v number)) number → Then opener number
+  then_up opener around from_one at = settle from_one around.after emptied_then at
 
   -- ---- one that is coming
 
-  coming-then : {opener : Option ℕ} (number : ℕ) → Around → opener ≡ None → (mobile : ℕ) (s : Connection) → s.number ≡ number → IsComingTo m v mobile s → WhileUp m v (option_or opener (served_by v number)) number
-  coming-then number around none mobile s same comes_so =
+  coming_then : {opener : Option ℕ} (number : ℕ) → Around → opener ≡ None → (mobile : ℕ) (s : Connection) → s.number ≡ number → IsComingTo m v mobile s → WhileUp m v (option_or opener (served_by v number)) number
+  coming_then number around none mobile s same comes_so =
       let is_so = around.after.is_coming mobile s comes_so in
-      coming mobile s (first-now number none (subst (λ (n : ℕ). served_by v n ≡ None) same (served-asking v s.number s is_so.0.there is_so.1))) same comes_so
+      coming mobile s (first_now number none (subst (λ (n : ℕ). served_by v n ≡ None) same (served-asking v s.number s is_so.0.there is_so.1))) same comes_so
 
   -- ---- a number that is still to be given
 
-  begun-then : {opener : Option ℕ} (number : ℕ) → Around → 1 ≤ number → opener ≡ None → HasBegun (λ (x : Actors) (t : Connection). IsComingTo m x t.request.access t) v number → Then opener number
-  begun-then {opener} number around from_one none (not_yet past) = then-up opener around from_one (unborn (first-now number none (served-absent v number (none_given_then settings events event number past))) past)
-  begun-then {opener} number around from_one none (begins s same comes_so) = then-up opener around from_one (coming-then number around none s.request.access s same comes_so)
+  begun_then : {opener : Option ℕ} (number : ℕ) → Around → 1 ≤ number → opener ≡ None → HasBegun (λ (x : Actors) (t : Connection). IsComingTo m x t.request.access t) v number → Then opener number
+  begun_then {opener} number around from_one none (not_yet past) = then_up opener around from_one (unborn (first_now number none (served-absent v number (none_given_then settings events event number past))) past)
+  begun_then {opener} number around from_one none (begins s same comes_so) = then_up opener around from_one (coming_then number around none s.request.access s same comes_so)
 
-  came-then : {opener : Option ℕ} (number mobile : ℕ) → Around → 1 ≤ number → opener ≡ None → IsAsking (connection_of w.controller number) → Came (IsComingTo m) m v mobile number → Then opener number
-  came-then {opener} number mobile around from_one none asking (comes s same comes_so) = then-up opener around from_one (coming-then number around none mobile s same comes_so)
-  came-then {opener} number mobile around from_one none asking (requests s same state l is) =
-      then-up opener around from_one (lives mobile s (first-now number none (subst (λ (n : ℕ). served_by v n ≡ Some mobile) same (served-there v s.number s l.had.there ∙ served-confirming v s state ∙ is))) same l (around.after.fresh_first l.lined.one s state))
-  came-then {opener} number mobile around from_one none asking (goes gone) = then-up opener around from_one (unheard (around.at.goes_unheard number from_one asking gone))
+  came_then : {opener : Option ℕ} (number mobile : ℕ) → Around → 1 ≤ number → opener ≡ None → IsAsking (connection_of w.controller number) → Came (IsComingTo m) m v mobile number → Then opener number
+  came_then {opener} number mobile around from_one none asking (comes s same comes_so) = then_up opener around from_one (coming_then number around none mobile s same comes_so)
+  came_then {opener} number mobile around from_one none asking (requests s same state l is) =
+      then_up opener around from_one (lives mobile s (first_now number none (subst (λ (n : ℕ). served_by v n ≡ Some mobile) same (served-there v s.number s l.had.there ∙ served-confirming v s state ∙ is))) same l (around.after.fresh_first l.lined.one s state))
+  came_then {opener} number mobile around from_one none asking (goes gone) = then_up opener around from_one (unheard (around.at.goes_unheard number from_one asking gone))
 
   -- ---- one that ended
 
-  ended-then : {opener : Option ℕ} (number mobile : ℕ) → Around → 1 ≤ number → is_up w SWITCH_LINK ≡ true → opener ≡ Some mobile → number < w.controller.next_number → (IsThere (connection_of w.controller number) → ⊥) → HasEnded m w mobile number → Then opener number
-  ended-then {opener} number mobile around from_one up is past gone has = by (delivers_or (kind w number event) (around.before.delivers number from_one up)) where
+  ended_then : {opener : Option ℕ} (number mobile : ℕ) → Around → 1 ≤ number → is_up w SWITCH_LINK ≡ true → opener ≡ Some mobile → number < w.controller.next_number → (IsThere (connection_of w.controller number) → ⊥) → HasEnded m w mobile number → Then opener number
+  ended_then {opener} number mobile around from_one up is past gone has = by (delivers_or (kind w number event) (around.before.delivers number from_one up)) where
     by : DeliversAt w number event ⊎ IsUnheard v number → Then opener number
     by (inl delivers) =
         let over = around.at.stays_over number from_one past gone in
-        then-up opener around from_one (ended mobile (first-stays number is) over.past over.gone (ended_stay_in_order_new settings events event mobile number delivers over.puts has))
-    by (inr u) = then-up opener around from_one (unheard u)
+        then_up opener around from_one (ended mobile (first_stays number is) over.past over.gone (ended_stay_in_order_new settings events event mobile number delivers over.puts has))
+    by (inr u) = then_up opener around from_one (unheard u)
 
   -- ---- one that lives
 
-  lives-then : {opener : Option ℕ} (mobile : ℕ) (s : Connection) → Around → is_up w SWITCH_LINK ≡ true → opener ≡ Some mobile → (l : Lives m w mobile s) → IsFresh w l.lined.one s → Then opener s.number
-  lives-then {opener} mobile s around up is l is_fresh = by_work (working (kind w s.number event)) where
+  lives_then : {opener : Option ℕ} (mobile : ℕ) (s : Connection) → Around → is_up w SWITCH_LINK ≡ true → opener ≡ Some mobile → (l : Lives m w mobile s) → IsFresh w l.lined.one s → Then opener s.number
+  lives_then {opener} mobile s around up is l is_fresh = by_work (working (kind w s.number event)) where
     from_one : 1 ≤ s.number
     from_one = l.had.from_one
 
@@ -203,7 +203,7 @@ module _ (settings : Parameters) (events : List Event) (event : Event) where
     worked (goes_on next same had requested request lined) =
         let fresh : IsFresh v lined.one next = around.at.fresh mobile s next lined.one l alone agree is_fresh same had lined.found in
         let tells : TargetIsFresh v next = around.after.fresh_tells lined.one next fresh in
-        then-up opener around from_one (lives mobile next (first-stays s.number is) same (record {
+        then_up opener around from_one (lives mobile next (first_stays s.number is) same (record {
           had = had;
           requested = requested;
           asked = ap (λ r. r.access) request ∙ l.asked;
@@ -211,11 +211,11 @@ module _ (settings : Parameters) (events : List Event) (event : Event) where
           fresh = tells;
           opened = around.at.opened mobile s next l alone agree same had tells lined;
         }) fresh)
-    worked (is_over gone has) = then-up opener around from_one (ended mobile (first-stays s.number is) past gone has)
+    worked (is_over gone has) = then_up opener around from_one (ended mobile (first_stays s.number is) past gone has)
 
     -- it doesn't
     quiet : (is_of_controller event ≡ true → ⊥) → v.controller ≡ w.controller → PutsNoMore w s.number event → DeliversAt w s.number event ⊎ IsUnheard v s.number → Then opener s.number
-    quiet not same puts (inr u) = then-up opener around from_one (unheard u)
+    quiet not same puts (inr u) = then_up opener around from_one (unheard u)
     quiet not same puts (inl delivers) = by_link (is_up v SWITCH_LINK) refl where
       had : IsHad v s
       had = record { there = ap (λ (c : Controller). connection_of c s.number) same ∙ l.had.there; is_open = l.had.is_open; from_one = l.had.from_one }
@@ -225,7 +225,7 @@ module _ (settings : Parameters) (events : List Event) (event : Event) where
           let lined : AreLinedUp m v mobile s = lined_then settings events event mobile s around.before l.had l.requested alone (kind w s.number event) not delivers up up_then l.lined in
           let fresh : IsFresh v lined.one s = around.at.fresh mobile s s lined.one l alone agree is_fresh refl had lined.found in
           let tells : TargetIsFresh v s = around.after.fresh_tells lined.one s fresh in
-          while_up up_then (lives mobile s (first-stays s.number is) refl (record {
+          while_up up_then (lives mobile s (first_stays s.number is) refl (record {
             had = had;
             requested = l.requested;
             asked = l.asked;
@@ -234,7 +234,7 @@ module _ (settings : Parameters) (events : List Event) (event : Event) where
             opened = around.at.opened mobile s s l alone agree refl had tells lined;
           }) fresh)
       by_link false down_then =
-          once_down down_then (cut mobile (first-stays s.number is) (ended_stay_in_order_new settings events event mobile s.number delivers puts (line_ups_may_end_new m w mobile s l.lined)) (nothing_waits v s.number (emptied-then down_then)))
+          once_down down_then (cut mobile (first_stays s.number is) (ended_stay_in_order_new settings events event mobile s.number delivers puts (line_ups_may_end_new m w mobile s l.lined)) (nothing_waits v s.number (emptied_then down_then)))
 
     by_work : Working w event → Then opener s.number
     by_work (works of) = worked (around.at.handled mobile s of l agree up)
@@ -243,14 +243,14 @@ module _ (settings : Parameters) (events : List Event) (event : Event) where
   -- ---- all
 
   up-then : {opener : Option ℕ} (number : ℕ) → Around → 1 ≤ number → is_up w SWITCH_LINK ≡ true → WhileUp m w opener number → Then opener number
-  up-then {opener} number around from_one up (unborn none past) = begun-then number around from_one none (around.at.begun number from_one up past)
+  up-then {opener} number around from_one up (unborn none past) = begun_then number around from_one none (around.at.begun number from_one up past)
   up-then {opener} number around from_one up (coming mobile s none same comes_so) =
       let is_so = around.before.is_coming mobile s comes_so in
-      subst (λ (n : ℕ). Then opener n) same (came-then s.number mobile around is_so.0.from_one none (asking_at w s.number s is_so.0.there is_so.1) (around.at.came mobile s up comes_so))
-  up-then {opener} number around from_one up (lives mobile s is same l fresh) = subst (λ (n : ℕ). Then opener n) same (lives-then mobile s around up is l fresh)
-  up-then {opener} number around from_one up (ended mobile is past gone has) = ended-then number mobile around from_one up is past gone has
-  up-then {opener} number around from_one up (unheard u) = then-up opener around from_one (unheard (around.at.stays_unheard number from_one u))
+      subst (λ (n : ℕ). Then opener n) same (came_then s.number mobile around is_so.0.from_one none (asking_at w s.number s is_so.0.there is_so.1) (around.at.came mobile s up comes_so))
+  up-then {opener} number around from_one up (lives mobile s is same l fresh) = subst (λ (n : ℕ). Then opener n) same (lives_then mobile s around up is l fresh)
+  up-then {opener} number around from_one up (ended mobile is past gone has) = ended_then number mobile around from_one up is past gone has
+  up-then {opener} number around from_one up (unheard u) = then_up opener around from_one (unheard (around.at.stays_unheard number from_one u))
 
-  pub stands-then : (opener : Option ℕ) (number : ℕ) → Around → 1 ≤ number → Standing m w opener number → Then opener number
-  stands-then opener number around from_one (while_up up at) = up-then number around from_one up at
-  stands-then opener number around from_one (once_down down at) = once_down (down-after SWITCH_LINK w event down) (cut_then settings events event number down at)
+  pub stands_then : (opener : Option ℕ) (number : ℕ) → Around → 1 ≤ number → Standing m w opener number → Then opener number
+  stands_then opener number around from_one (while_up up at) = up-then number around from_one up at
+  stands_then opener number around from_one (once_down down at) = once_down (down-after SWITCH_LINK w event down) (cut_then settings events event number down at)

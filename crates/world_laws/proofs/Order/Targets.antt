@@ -25,8 +25,8 @@ module _ (settings : Parameters) (events : List Event) (s : Connection) (referen
   opener = first_served (new_actors settings) events s.number
 
   -- a connection of its number is this one
-  same-one : (other : Connection) → other.number ≡ s.number → connection_of w.controller other.number ≡ Some other → other ≡ s
-  same-one other same there = same_Some other s (sym there ∙ ap (connection_of w.controller) same ∙ had.there)
+  same_one : (other : Connection) → other.number ≡ s.number → connection_of w.controller other.number ≡ Some other → other ≡ s
+  same_one other same there = same_Some other s (sym there ∙ ap (connection_of w.controller) same ∙ had.there)
 
   -- one whose mobile was told of it asked the switch
   asked : has_asked s.state ≡ true
@@ -35,17 +35,17 @@ module _ (settings : Parameters) (events : List Event) (s : Connection) (referen
   served : (mobile : ℕ) (other : Connection) → opener ≡ Some mobile → other ≡ s → (l : Lives (modulus_in settings) w mobile other) → IsFreshIn w l.lined.one other.state → IsServed (modulus_in settings) w opener s
   served mobile other opened is l fresh = subst (IsServed (modulus_in settings) w opener) is (record { mobile = mobile; opened = opened; lives = l; fresh = fresh })
 
-  served-by : is_up w SWITCH_LINK ≡ true → AreAllowed settings → CameInOctets settings events → Standing (modulus_in settings) w opener s.number → IsServed (modulus_in settings) w opener s
-  served-by up allowed octets (while_up _ (unborn none past)) = absurd (none-some s (sym (none_given settings events s.number past) ∙ had.there))
-  served-by up allowed octets (while_up _ (coming mobile other none same comes)) =
+  served_by : is_up w SWITCH_LINK ≡ true → AreAllowed settings → CameInOctets settings events → Standing (modulus_in settings) w opener s.number → IsServed (modulus_in settings) w opener s
+  served_by up allowed octets (while_up _ (unborn none past)) = absurd (none-some s (sym (none_given settings events s.number past) ∙ had.there))
+  served_by up allowed octets (while_up _ (coming mobile other none same comes)) =
       let is_so = ((facts settings).holds events allowed octets).is_coming mobile other comes in
-      absurd (cc (sym is_so.1 ∙ ap (λ (c : Connection). has_asked c.state) (same-one other same is_so.0.there) ∙ asked))
-  served-by up allowed octets (while_up _ (lives mobile other opened same l fresh)) = served mobile other opened (same-one other same l.had.there) l fresh
-  served-by up allowed octets (while_up _ (ended mobile opened past gone has)) = absurd (gone (subst IsThere (sym had.there) had.is_open))
-  served-by up allowed octets (while_up _ (unheard u)) = elim (subst IsBeyondAsking live (subst IsUnconfirmed had.there u.unconfirmed)) [ ]
-  served-by up allowed octets (once_down down at) = absurd (cc (sym up ∙ down))
+      absurd (cc (sym is_so.1 ∙ ap (λ (c : Connection). has_asked c.state) (same_one other same is_so.0.there) ∙ asked))
+  served_by up allowed octets (while_up _ (lives mobile other opened same l fresh)) = served mobile other opened (same_one other same l.had.there) l fresh
+  served_by up allowed octets (while_up _ (ended mobile opened past gone has)) = absurd (gone (subst IsThere (sym had.there) had.is_open))
+  served_by up allowed octets (while_up _ (unheard u)) = elim (subst IsBeyondAsking live (subst IsUnconfirmed had.there u.unconfirmed)) [ ]
+  served_by up allowed octets (once_down down at) = absurd (cc (sym up ∙ down))
 
 pub targets_are_fresh : (settings : Parameters) (events : List Event) → TargetsAreFresh settings events
 targets_are_fresh settings events s reference stage allowed events_octets up had live =
     let octets : CameInOctets settings events = ComeInOctets-new settings events allowed events_octets in
-    served-by settings events s reference stage had live up allowed octets (numbers_stand_new settings events s.number (facts settings) allowed octets had.from_one)
+    served_by settings events s reference stage had live up allowed octets (numbers_stand_new settings events s.number (facts settings) allowed octets had.from_one)

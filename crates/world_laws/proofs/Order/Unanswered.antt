@@ -93,8 +93,8 @@ module _ (settings : Parameters) (done : List Event) (k : ℕ) where
   abbrev modulus : ℕ
   modulus = modulus_in settings
 
-  later-one : (event : Event) (p : Mobile) → IsAsItConnected modulus done k p → IsAsItConnected modulus (done ++ event ∷ []) k p
-  later-one event p is = record {
+  later_one : (event : Event) (p : Mobile) → IsAsItConnected modulus done k p → IsAsItConnected modulus (done ++ event ∷ []) k p
+  later_one event p is = record {
     before = is.before;
     station = is.station;
     initial = is.initial;
@@ -107,11 +107,11 @@ module _ (settings : Parameters) (done : List Event) (k : ℕ) where
 
   -- nothing happens
   still : (event : Event) → StillAsks modulus done world k → StillAsks modulus (done ++ event ∷ []) world k
-  still event asks = record { none_names = asks.none_names; as_connected = λ p found. later-one event p (asks.as_connected p found) }
+  still event asks = record { none_names = asks.none_names; as_connected = λ p found. later_one event p (asks.as_connected p found) }
 
   -- neither the controller nor a frame of SAPI 0 takes part, and none connects
-  passing-step : (event : Event) → is_passing event ≡ true → ((j : ℕ) → is_none (mobile_of (actors_after world event) j) ≡ is_none (mobile_of world j)) → StillAsks modulus done world k → StillAsks modulus (done ++ event ∷ []) (actors_after world event) k
-  passing-step event passing there asks = record {
+  passing_step : (event : Event) → is_passing event ≡ true → ((j : ℕ) → is_none (mobile_of (actors_after world event) j) ≡ is_none (mobile_of world j)) → StillAsks modulus done world k → StillAsks modulus (done ++ event ∷ []) (actors_after world event) k
+  passing_step event passing there asks = record {
     none_names = λ station. sub_all (λ (e : OutboxEntry). AssignsAnother k (rsl_in e.out.frame)) (passes.entries station) (asks.none_names station);
     as_connected = λ q found. by q found (mobile_of world k) refl;
   } where
@@ -130,12 +130,12 @@ module _ (settings : Parameters) (done : List Event) (k : ℕ) where
         let one = all.each k p was in
         let own = asks.as_connected p was in
         let is : q ≡ p = same_Some _ _ (sym found ∙ one.1) ∙ goes_asking (ap (λ (x : Mobile). x.seat) own.same) asks.none_names one.2 in
-        subst (IsAsItConnected modulus (done ++ event ∷ []) k) (sym is) (later-one event p own)
+        subst (IsAsItConnected modulus (done ++ event ∷ []) k) (sym is) (later_one event p own)
 
   -- a station takes a mobile's frame
-  sent-step : (number : ℕ) → StillAsks modulus done world k → StillAsks modulus (done ++ events.AirUp number Zero ∷ []) (actors_after world (events.AirUp number Zero)) k
+  sent_step : (number : ℕ) → StillAsks modulus done world k → StillAsks modulus (done ++ events.AirUp number Zero ∷ []) (actors_after world (events.AirUp number Zero)) k
   unfolding event_after
-  sent-step number asks = after-taken P (event_after world event) world (air_up-leads P world number Zero (λ p tenure command frame acts sits lent reached. sent p tenure command frame acts sits)) (still event asks) where
+  sent_step number asks = after-taken P (event_after world event) world (air_up-leads P world number Zero (λ p tenure command frame acts sits lent reached. sent p tenure command frame acts sits)) (still event asks) where
     event : Event
     event = events.AirUp number Zero
 
@@ -154,12 +154,12 @@ module _ (settings : Parameters) (done : List Event) (k : ℕ) where
       by_number x found true hit =
           let own = asks.as_connected p (ap (mobile_of world) (sym (eqb-true number k hit)) ∙ acts) in
           absurd (on_asks (sym sits ∙ ap (λ (y : Mobile). y.seat) own.same))
-      by_number x found false miss = later-one event x (asks.as_connected x (sym (back-other q world.mobiles k (λ is. eqb-false number k miss (sym q_number ∙ is))) ∙ found))
+      by_number x found false miss = later_one event x (asks.as_connected x (sym (back-other q world.mobiles k (λ is. eqb-false number k miss (sym q_number ∙ is))) ∙ found))
 
   -- a mobile connects
-  connect-step : (number station : ℕ) (initial : List ℕ) (accepts : Bool) → StillAsks modulus done world k → StillAsks modulus (done ++ events.Connect number station initial accepts ∷ []) (actors_after world (events.Connect number station initial accepts)) k
+  connect_step : (number station : ℕ) (initial : List ℕ) (accepts : Bool) → StillAsks modulus done world k → StillAsks modulus (done ++ events.Connect number station initial accepts ∷ []) (actors_after world (events.Connect number station initial accepts)) k
   unfolding event_after
-  connect-step number station initial accepts asks = after-taken P (event_after world event) world (connect-leads P world number station initial accepts (λ may. comes may)) (still event asks) where
+  connect_step number station initial accepts asks = after-taken P (event_after world event) world (connect-leads P world number station initial accepts (λ may. comes may)) (still event asks) where
     event : Event
     event = events.Connect number station initial accepts
 
@@ -174,7 +174,7 @@ module _ (settings : Parameters) (done : List Event) (k : ℕ) where
       by : (x : Mobile) → find (has_number k) (world.mobiles ++ new ∷ []) ≡ Some x → (o : Option Mobile) → mobile_of world k ≡ o → IsAsItConnected modulus (done ++ event ∷ []) k x
       by x found (Some p) was =
           let is : x ≡ p = same_Some _ _ (sym found ∙ found-front k p world.mobiles (new ∷ []) was) in
-          subst (IsAsItConnected modulus (done ++ event ∷ []) k) (sym is) (later-one event p (asks.as_connected p was))
+          subst (IsAsItConnected modulus (done ++ event ∷ []) k) (sym is) (later_one event p (asks.as_connected p was))
       by x found None none =
           let is = behind_new k x new world.mobiles none found in
           record {
@@ -192,12 +192,12 @@ module _ (settings : Parameters) (done : List Event) (k : ℕ) where
   turned : (event : Event) (target : Option Tenure) (t : Turn) (u : Actors) → NoneNames u k → u.mobiles ≡ world.mobiles → AllByRecursion (λ out. AssignsAnother k (rsl_in out.frame)) t.outs → StillAsks modulus done world k → StillAsks modulus (done ++ event ∷ []) (with_turn target t u) k
   turned event target t u none mobiles all asks = record {
     none_names = turn_names k target t.outs (record u { controller = t.next }) (λ station. none station) all;
-    as_connected = λ x found. later-one event x (asks.as_connected x (sym (ap (λ (ms : List Mobile). find (has_number k) ms) (turn_mobiles target t.outs (record u { controller = t.next }) ∙ mobiles)) ∙ found));
+    as_connected = λ x found. later_one event x (asks.as_connected x (sym (ap (λ (ms : List Mobile). find (has_number k) ms) (turn_mobiles target t.outs (record u { controller = t.next }) ∙ mobiles)) ∙ found));
   }
 
-  handle-step : AreAllowed settings → AllByRecursion ComesInOctets (all_steps (new_actors settings) done) → AllByRecursion ComesInOctets (first_taken world.inbox) → IsUnanswered world k → StillAsks modulus done world k → StillAsks modulus (done ++ events.Handle ∷ []) (actors_after world events.Handle) k
+  handle_step : AreAllowed settings → AllByRecursion ComesInOctets (all_steps (new_actors settings) done) → AllByRecursion ComesInOctets (first_taken world.inbox) → IsUnanswered world k → StillAsks modulus done world k → StillAsks modulus (done ++ events.Handle ∷ []) (actors_after world events.Handle) k
   unfolding event_after
-  handle-step allowed octets own unanswered asks = after-taken P (event_after world events.Handle) world (handle-leads P world (λ item items stood. handled item items stood)) (still events.Handle asks) where
+  handle_step allowed octets own unanswered asks = after-taken P (event_after world events.Handle) world (handle-leads P world (λ item items stood. handled item items stood)) (still events.Handle asks) where
     P : Actors → Type 0
     P v = StillAsks modulus (done ++ events.Handle ∷ []) v k
 
@@ -206,30 +206,30 @@ module _ (settings : Parameters) (done : List Event) (k : ℕ) where
         turned events.Handle (target_in world item.source item.what) (take item world.controller) (record world { inbox = items }) (λ station. asks.none_names station) refl
         (step_names settings done (steps.Take item) k allowed octets (subst (λ (xs : List Item). AllByRecursion ComesInOctets (first_taken xs)) stood own).0 unanswered) asks
 
-  tick-step : (ms : ℕ) → AreAllowed settings → AllByRecursion ComesInOctets (all_steps (new_actors settings) done) → IsUnanswered world k → StillAsks modulus done world k → StillAsks modulus (done ++ events.Tick ms ∷ []) (actors_after world (events.Tick ms)) k
+  tick_step : (ms : ℕ) → AreAllowed settings → AllByRecursion ComesInOctets (all_steps (new_actors settings) done) → IsUnanswered world k → StillAsks modulus done world k → StillAsks modulus (done ++ events.Tick ms ∷ []) (actors_after world (events.Tick ms)) k
   unfolding event_after
-  tick-step ms allowed octets unanswered asks = turned (events.Tick ms) None (tick ms world.controller) world asks.none_names refl (step_names settings done (steps.Tick ms) k allowed octets tt unanswered) asks
+  tick_step ms allowed octets unanswered asks = turned (events.Tick ms) None (tick ms world.controller) world asks.none_names refl (step_names settings done (steps.Tick ms) k allowed octets tt unanswered) asks
 
-  pushed-there : (source j : ℕ) → is_none (mobile_of (actors_after world (events.BasePush source)) j) ≡ is_none (mobile_of world j)
+  pushed_there : (source j : ℕ) → is_none (mobile_of (actors_after world (events.BasePush source)) j) ≡ is_none (mobile_of world j)
   unfolding event_after
-  pushed-there source j =
+  pushed_there source j =
       after-taken (λ v. is_none (mobile_of v j) ≡ is_none (mobile_of world j)) (event_after world (events.BasePush source)) world
       (push-leads (λ v. is_none (mobile_of v j) ≡ is_none (mobile_of world j)) world source (λ first others. refl) (λ message first. refl)) refl
 
-  broken-there : (source j : ℕ) → is_none (mobile_of (actors_after world (events.BaseDown source)) j) ≡ is_none (mobile_of world j)
+  broken_there : (source j : ℕ) → is_none (mobile_of (actors_after world (events.BaseDown source)) j) ≡ is_none (mobile_of world j)
   unfolding event_after
-  broken-there source j =
+  broken_there source j =
       after-taken (λ v. is_none (mobile_of v j) ≡ is_none (mobile_of world j)) (event_after world (events.BaseDown source)) world
       (broken-leads (λ v. is_none (mobile_of v j) ≡ is_none (mobile_of world j)) world source (λ up switch. refl) (λ up station. refl)) refl
 
-  event-asks : (event : Event) → AreAllowed settings → AllByRecursion ComesInOctets (all_steps (new_actors settings) done) → AllByRecursion ComesInOctets (step_at world event) → IsUnanswered world k → StillAsks modulus done world k → StillAsks modulus (done ++ event ∷ []) (actors_after world event) k
-  event-asks (events.Connect number station initial accepts) allowed octets own unanswered asks = connect-step number station initial accepts asks
-  event-asks (events.AirUp number Zero) allowed octets own unanswered asks = sent-step number asks
-  event-asks (events.BasePush source) allowed octets own unanswered asks = passing-step (events.BasePush source) refl (pushed-there source) asks
-  event-asks events.Handle allowed octets own unanswered asks = handle-step allowed octets own unanswered asks
-  event-asks (events.Tick ms) allowed octets own unanswered asks = tick-step ms allowed octets unanswered asks
-  event-asks (events.BaseDown source) allowed octets own unanswered asks = passing-step (events.BaseDown source) refl (broken-there source) asks
-  event-asks event allowed octets own unanswered asks = passing-step event refl (plain_quiet world event refl).mobiles asks
+  event_asks : (event : Event) → AreAllowed settings → AllByRecursion ComesInOctets (all_steps (new_actors settings) done) → AllByRecursion ComesInOctets (step_at world event) → IsUnanswered world k → StillAsks modulus done world k → StillAsks modulus (done ++ event ∷ []) (actors_after world event) k
+  event_asks (events.Connect number station initial accepts) allowed octets own unanswered asks = connect_step number station initial accepts asks
+  event_asks (events.AirUp number Zero) allowed octets own unanswered asks = sent_step number asks
+  event_asks (events.BasePush source) allowed octets own unanswered asks = passing_step (events.BasePush source) refl (pushed_there source) asks
+  event_asks events.Handle allowed octets own unanswered asks = handle_step allowed octets own unanswered asks
+  event_asks (events.Tick ms) allowed octets own unanswered asks = tick_step ms allowed octets unanswered asks
+  event_asks (events.BaseDown source) allowed octets own unanswered asks = passing_step (events.BaseDown source) refl (broken_there source) asks
+  event_asks event allowed octets own unanswered asks = passing_step event refl (plain_quiet world event refl).mobiles asks
 
 -- ---- all events
 
@@ -243,7 +243,7 @@ asks_through settings k all done (event ∷ rest) w whole is allowed octets late
     (snoc_steps ComesInOctets (new_actors settings) done event octets own)
     (all_right ComesInOctets (step_at w event) (all_steps (actors_after w event) rest) later) never
     (subst (λ (x : Actors). StillAsks (modulus_in settings) (done ++ event ∷ []) (actors_after x event) k) (sym is)
-    (event-asks settings done k event allowed octets own (never done (event ∷ rest) whole) (subst (λ (x : Actors). StillAsks (modulus_in settings) done x k) is asks)))
+    (event_asks settings done k event allowed octets own (never done (event ∷ rest) whole) (subst (λ (x : Actors). StillAsks (modulus_in settings) done x k) is asks)))
 
 new_names : (settings : Parameters) (k : ℕ) → StillAsks (modulus_in settings) [] (new_actors settings) k
 new_names settings k = record { none_names = λ station. none station; as_connected = λ p found. absurd cc } where

@@ -136,14 +136,14 @@ comes_then settings events event mobile s allowed octets up coming = by (is_of_o
         (channels_stay_quiet_new settings events event s next allowed octets coming.0.had coming.0.early same (subst (λ (v : Actors). IsHad v next) (sym snoc) comes-now.had) comes-now.early coming.1),
   )
 
-  came-of : Came (IsComing (modulus_in settings)) (modulus_in settings) (actors_after (world settings events) event) mobile s.number → Came (IsComingTo (modulus_in settings)) (modulus_in settings) (actors_after (world settings events) event) mobile s.number
-  came-of (comes next same comes-now) = comes next same (stays next same comes-now)
-  came-of (requests next same waits lives served) = requests next same waits lives served
-  came-of (goes gone) = goes gone
+  came_of : Came (IsComing (modulus_in settings)) (modulus_in settings) (actors_after (world settings events) event) mobile s.number → Came (IsComingTo (modulus_in settings)) (modulus_in settings) (actors_after (world settings events) event) mobile s.number
+  came_of (comes next same comes-now) = comes next same (stays next same comes-now)
+  came_of (requests next same waits lives served) = requests next same waits lives served
+  came_of (goes gone) = goes gone
 
   by : (b : Bool) → is_of_others event ≡ b → Came (IsComingTo (modulus_in settings)) (modulus_in settings) (actors_after (world settings events) event) mobile s.number
   by true others = comes s refl (stays s refl (others_keep_coming_new settings events event mobile s others allowed known coming.0))
-  by false own = came-of (controller_brings_coming_new settings events event mobile s own allowed octets up known (acknowledgements_agree_new settings events s allowed before coming.0.had) (connections_are_one_each_new settings events) coming.0)
+  by false own = came_of (controller_brings_coming_new settings events event mobile s own allowed octets up known (acknowledgements_agree_new settings events s allowed before coming.0.had) (connections_are_one_each_new settings events) coming.0)
 
 begins_then : (settings : Parameters) (events : List Event) (event : Event) (number : ℕ) → AreAllowed settings → CameInOctets settings (events ++ event ∷ []) → (world settings events).controller.next_number ≤ number
     → HasBegun (λ v s. IsComing (modulus_in settings) v s.request.access s) (actors_after (world settings events) event) number

@@ -259,8 +259,8 @@ channels_are_mobiles_new settings events s allowed octets had =
     owns : Owns w.controller.channels w.controller.links s.number (roles_of s)
     owns = owns_in settings events w s allowed refl had
 
-    is-mobiles : (c : Channel) → channel_state w.controller (place_of c) ≢ Free → is_link_up w.controller.links c.station ≡ true → (Agrees owner w (place_of c) → is_up w c.station ≡ true → owner (tenure_behind w (place_of c)) ≡ s.request.access) → IsMobiles owner w s.request.access c
-    is-mobiles c used hearing own =
+    is_mobiles : (c : Channel) → channel_state w.controller (place_of c) ≢ Free → is_link_up w.controller.links c.station ≡ true → (Agrees owner w (place_of c) → is_up w c.station ≡ true → owner (tenure_behind w (place_of c)) ≡ s.request.access) → IsMobiles owner w s.request.access c
+    is_mobiles c used hearing own =
         let within = range settings events w (place_of c) allowed refl used in
         let agrees = (ran settings events allowed octets).0.agree (place_of c) within.0 within.1 in
         record { last = own agrees; present = λ up active. present_last owner w (place_of c) agrees hearing up active }
@@ -268,7 +268,7 @@ channels_are_mobiles_new settings events s allowed octets had =
     old : (c : Channel) → Contains (undone s.draining) c → IsMobiles owner w s.request.access c
     old c has =
         let state = old_state w.controller.channels w.controller.links s.number s c owns has in
-        is-mobiles c (λ free. free≢release s.number (sym free ∙ state)) (old_linked w.controller.channels w.controller.links s.number s c owns has)
+        is_mobiles c (λ free. free≢release s.number (sym free ∙ state)) (old_linked w.controller.channels w.controller.links s.number s c owns has)
         (λ agrees up. (ran settings events allowed octets).1 s had c has up)
 
     using : (c : Channel) → Contains (s.serving ∷ targets) c → IsMobiles owner w s.request.access c
@@ -276,7 +276,7 @@ channels_are_mobiles_new settings events s allowed octets had =
         let state : channel_state w.controller (place_of c) ≡ InUse s.number = all_contained (λ (x : Channel). state_in w.controller.channels (place_of x) ≡ InUse s.number) (s.serving ∷ targets) c owns.using has in
         let hearing : is_link_up w.controller.links c.station ≡ true = all_contained (λ (x : Channel). is_link_up w.controller.links x.station ≡ true) (s.serving ∷ targets) c
         (all_right (λ (x : Channel). is_link_up w.controller.links x.station ≡ true) (undone s.draining) (s.serving ∷ targets) owns.linked) has in
-        is-mobiles c (λ free. free≢use s.number (sym free ∙ state)) hearing
+        is_mobiles c (λ free. free≢use s.number (sym free ∙ state)) hearing
         (λ agrees up. agrees.own s.number s.request.access hearing state (asks_of w.controller s.number s had.there) (λ down silent. absurd (true≢false (sym up ∙ down))))
 
 -- a mobile on a tenure is its owner

@@ -173,17 +173,17 @@ push_leaves source other w ends = record {
   Same : Actors → Type 0
   Same u = (u.links ≡ w.links) × (u.controller ≡ w.controller)
 
-  made-same : (o : Option Rsl) → Same (unwrap_or (pushed_by_station other o w) w)
-  made-same None = (refl, refl)
-  made-same (Some message) = (refl, refl)
+  made_same : (o : Option Rsl) → Same (unwrap_or (pushed_by_station other o w) w)
+  made_same None = (refl, refl)
+  made_same (Some message) = (refl, refl)
 
-  switch-same : (made : List Sccp) → Same (unwrap_or (pushed_by_switch made w) w)
-  switch-same [] = (refl, refl)
-  switch-same (first ∷ rest) = (refl, refl)
+  switch_same : (made : List Sccp) → Same (unwrap_or (pushed_by_switch made w) w)
+  switch_same [] = (refl, refl)
+  switch_same (first ∷ rest) = (refl, refl)
 
   both : (b : Bool) → Same (unwrap_or (if b then pushed_by_switch w.switch_made w else pushed_by_station other (first_message (base_of w other)) w) w)
-  both true = switch-same w.switch_made
-  both false = made-same (first_message (base_of w other))
+  both true = switch_same w.switch_made
+  both false = made_same (first_message (base_of w other))
 
   up : is_up v source ≡ is_up w source
   up = ap (λ (links : List Link). (get_or links source broken_link).up) (both (other == SWITCH_LINK)).0
@@ -191,20 +191,20 @@ push_leaves source other w ends = record {
   hearing : hears v.controller source ≡ hears w.controller source
   hearing = ap (λ (c : Controller). hears c source) (both (other == SWITCH_LINK)).1
 
-  switch-frames : (made : List Sccp) → NoneIsDown source (map switch_item (first_of made))
-  switch-frames [] = tt
-  switch-frames (first ∷ rest) = (frame_down source (switch_item first) _ refl, tt)
+  switch_frames : (made : List Sccp) → NoneIsDown source (map switch_item (first_of made))
+  switch_frames [] = tt
+  switch_frames (first ∷ rest) = (frame_down source (switch_item first) _ refl, tt)
 
-  station-frames : (o : Option Rsl) → NoneIsDown source (map (station_item other) (option_to_list o))
-  station-frames None = tt
-  station-frames (Some message) = (frame_down source (station_item other message) _ refl, tt)
+  station_frames : (o : Option Rsl) → NoneIsDown source (map (station_item other) (option_to_list o))
+  station_frames None = tt
+  station_frames (Some message) = (frame_down source (station_item other message) _ refl, tt)
 
-  frames-by : (b : Bool) → NoneIsDown source (if b then map switch_item (first_of w.switch_made) else map (station_item other) (option_to_list (first_message (base_of w other))))
-  frames-by true = switch-frames w.switch_made
-  frames-by false = station-frames (first_message (base_of w other))
+  frames_by : (b : Bool) → NoneIsDown source (if b then map switch_item (first_of w.switch_made) else map (station_item other) (option_to_list (first_message (base_of w other))))
+  frames_by true = switch_frames w.switch_made
+  frames_by false = station_frames (first_message (base_of w other))
 
   frames : NoneIsDown source (made_item w other)
-  frames = frames-by (other == SWITCH_LINK)
+  frames = frames_by (other == SWITCH_LINK)
 
   switch-of : (made : List Sccp) → (source ≡ SWITCH_LINK → made ≡ []) → of_source source (map switch_item (first_of made)) ≡ []
   switch-of [] none = refl
@@ -214,12 +214,12 @@ push_leaves source other w ends = record {
   station-of None none = refl
   station-of (Some message) none = other_source source (station_item other message) (ne_eqb other source (λ same. absurd (let empty = none (sym same) in cc)))
 
-  others-by : is_up w source ≡ false → (b : Bool) → (other == SWITCH_LINK) ≡ b → of_source source (if b then map switch_item (first_of w.switch_made) else map (station_item other) (option_to_list (first_message (base_of w other)))) ≡ []
-  others-by down true is = switch-of w.switch_made (λ same. ends.switch_made same down)
-  others-by down false is = station-of (first_message (base_of w other)) (λ same. ap (λ (n : ℕ). first_message (base_of w n)) (sym same) ∙ first-none (base_of w source).messages (ends.station_made (λ switch. eqb-false other SWITCH_LINK is (sym same ∙ switch)) down))
+  others_by : is_up w source ≡ false → (b : Bool) → (other == SWITCH_LINK) ≡ b → of_source source (if b then map switch_item (first_of w.switch_made) else map (station_item other) (option_to_list (first_message (base_of w other)))) ≡ []
+  others_by down true is = switch-of w.switch_made (λ same. ends.switch_made same down)
+  others_by down false is = station-of (first_message (base_of w other)) (λ same. ap (λ (n : ℕ). first_message (base_of w n)) (sym same) ∙ first-none (base_of w source).messages (ends.station_made (λ switch. eqb-false other SWITCH_LINK is (sym same ∙ switch)) down))
 
   others : is_up w source ≡ false → of_source source (made_item w other) ≡ []
-  others down = others-by down (other == SWITCH_LINK) refl
+  others down = others_by down (other == SWITCH_LINK) refl
 
   switch-left : (made : List Sccp) → w.switch_made ≡ [] → made ≡ [] → (unwrap_or (pushed_by_switch made w) w).switch_made ≡ []
   switch-left [] empty is = empty
@@ -236,13 +236,13 @@ push_leaves source other w ends = record {
   switch : w.switch_made ≡ [] → v.switch_made ≡ []
   switch empty = switch-by (other == SWITCH_LINK) empty
 
-  station-by : source ≢ SWITCH_LINK → Plain source w (BasePush other) v → (base_of w source).messages ≡ [] → (base_of v source).messages ≡ []
-  station-by differs (as_before same nothing) empty = ap (λ (b : BaseState). b.messages) same ∙ empty
-  station-by differs (next message first is gave) empty = absurd (let both : None ≡ Some message = sym (first-none (base_of w source).messages empty) ∙ first in cc)
-  station-by differs (ends_now down left nothing) empty = left
+  station_by : source ≢ SWITCH_LINK → Plain source w (BasePush other) v → (base_of w source).messages ≡ [] → (base_of v source).messages ≡ []
+  station_by differs (as_before same nothing) empty = ap (λ (b : BaseState). b.messages) same ∙ empty
+  station_by differs (next message first is gave) empty = absurd (let both : None ≡ Some message = sym (first-none (base_of w source).messages empty) ∙ first in cc)
+  station_by differs (ends_now down left nothing) empty = left
 
   station : source ≢ SWITCH_LINK → (base_of w source).messages ≡ [] → (base_of v source).messages ≡ []
-  station differs empty = station-by differs (pushing source other w differs) empty
+  station differs empty = station_by differs (pushing source other w differs) empty
 
 -- ---- a break
 
@@ -303,15 +303,15 @@ break_ends source other w ends =
       inbox = refl;
       switch_now = λ switch same. absurd (other_is (same ∙ switch));
       switch_left = λ switch empty. empty;
-      station_now = λ differs same. subst (λ (n : ℕ). (base_of (with_base other (after_take_down (base_of (with_link other broken_link w) other)) (with_link other broken_link w)) n).messages ≡ []) same (taken-down (with_link other broken_link w));
+      station_now = λ differs same. subst (λ (n : ℕ). (base_of (with_base other (after_take_down (base_of (with_link other broken_link w) other)) (with_link other broken_link w)) n).messages ≡ []) same (taken_down (with_link other broken_link w));
       station_left = λ differs empty. elim (cases_Bool (nat_eq other source)) [
-        | inl hit ↦ subst (λ (n : ℕ). (base_of (with_base other (after_take_down (base_of (with_link other broken_link w) other)) (with_link other broken_link w)) n).messages ≡ []) (eqb-true other source hit) (taken-down (with_link other broken_link w))
+        | inl hit ↦ subst (λ (n : ℕ). (base_of (with_base other (after_take_down (base_of (with_link other broken_link w) other)) (with_link other broken_link w)) n).messages ≡ []) (eqb-true other source hit) (taken_down (with_link other broken_link w))
         | inr miss ↦ ap (λ (b : BaseState). b.messages) (base-elsewhere (with_link other broken_link w) source other _ differs other_is (λ same. eqb-false other source miss (sym same))) ∙ empty
       ];
     }) up ends)) ends
   where
-    taken-down : (u : Actors) → (base_of (with_base other (after_take_down (base_of u other)) u) other).messages ≡ []
-    taken-down u = elim (base-there u other (after_take_down (base_of u other))) [
+    taken_down : (u : Actors) → (base_of (with_base other (after_take_down (base_of u other)) u) other).messages ≡ []
+    taken_down u = elim (base-there u other (after_take_down (base_of u other))) [
       | inl there ↦ ap (λ (b : BaseState). b.messages) there
       | inr nowhere ↦ ap (λ (b : BaseState). b.messages) nowhere.0
     ]
@@ -340,8 +340,8 @@ take_ends source w item items stands ends = record {
   none_yet = λ now_up. subst (NoneIsDown source) (sym inbox) (subst (NoneIsDown source) stands (ends.none_yet (sym up ∙ now_up))).1;
   switch_made = λ same down. turn-leads (λ (x : Actors). x.switch_made ≡ w.switch_made) target t u (λ links. refl) ∙ ends.switch_made same (sym up ∙ down);
   station_made = λ differs down. turn-leads (λ (x : Actors). (base_of x source).messages ≡ (base_of w source).messages) target t u (λ links. refl) ∙ ends.station_made differs (sym up ∙ down);
-  broke = λ deaf. up ∙ broke-by (hears w.controller source) refl (now deaf);
-  over = λ deaf. ap (of_source source) inbox ∙ over-by (hears w.controller source) refl (now deaf);
+  broke = λ deaf. up ∙ broke_by (hears w.controller source) refl (now deaf);
+  over = λ deaf. ap (of_source source) inbox ∙ over_by (hears w.controller source) refl (now deaf);
 } where
   target : Option Tenure
   target = target_in w item.source item.what
@@ -367,17 +367,17 @@ take_ends source w item items stands ends = record {
   now : hears v.controller source ≡ false → hears t.next source ≡ false
   now deaf = ap (λ (c : Controller). hears c source) (sym (turn-leads (λ (x : Actors). x.controller ≡ t.next) target t u (λ links. refl))) ∙ deaf
 
-  down-by : item ≡ down_of source → (b : Bool) → is_up w source ≡ b → is_up w source ≡ false
-  down-by is true was_up = absurd ((subst (NoneIsDown source) stands (ends.none_yet was_up)).0 is)
-  down-by is false down = down
+  down_by : item ≡ down_of source → (b : Bool) → is_up w source ≡ b → is_up w source ≡ false
+  down_by is true was_up = absurd ((subst (NoneIsDown source) stands (ends.none_yet was_up)).0 is)
+  down_by is false down = down
 
-  broke-by : (b : Bool) → hears w.controller source ≡ b → hears t.next source ≡ false → is_up w source ≡ false
-  broke-by true was deaf = down-by (learns w.controller item source was deaf) (is_up w source) refl
-  broke-by false was deaf = ends.broke was
+  broke_by : (b : Bool) → hears w.controller source ≡ b → hears t.next source ≡ false → is_up w source ≡ false
+  broke_by true was deaf = down_by (learns w.controller item source was deaf) (is_up w source) refl
+  broke_by false was deaf = ends.broke was
 
-  over-by : (b : Bool) → hears w.controller source ≡ b → hears t.next source ≡ false → of_source source items ≡ []
-  over-by true was deaf = stood.0 (learns w.controller item source was deaf)
-  over-by false was deaf = of-behind source item items (ap (of_source source) (sym stands) ∙ ends.over was)
+  over_by : (b : Bool) → hears w.controller source ≡ b → hears t.next source ≡ false → of_source source items ≡ []
+  over_by true was deaf = stood.0 (learns w.controller item source was deaf)
+  over_by false was deaf = of-behind source item items (ap (of_source source) (sym stands) ∙ ends.over was)
 
 handle_ends : (source : ℕ) (w : Actors) → EndsOnce w source → EndsOnce (actors_after w Handle) source
 unfolding event_after

@@ -78,40 +78,40 @@ acts_used number next up brought before after put t d (goes old s input offer r 
 -- ---- its RF CHANNEL RELEASE ACK doesn't come
 
 module _ (channels : States) (links : List Bool) (number k : ℕ) (d : Channel) (state : state_in channels (place_of d) ≡ Releasing k) where
-  freed-never : (roles : Roles) → Owns (with_state (place_of d) Free channels) links number roles → Contains (undone roles.draining) d → ⊥
-  freed-never roles owns has =
+  freed_never : (roles : Roles) → Owns (with_state (place_of d) Free channels) links number roles → Contains (undone roles.draining) d → ⊥
+  freed_never roles owns has =
       free≢release number (sym (state_here channels (place_of d) Free (is_there channels (place_of d) (λ free. free≢release k (sym free ∙ state))))
       ∙ all_contained (λ (c : Channel). state_in (with_state (place_of d) Free channels) (place_of c) ≡ Releasing number) (undone roles.draining) d owns.releasing has)
 
-  still-draining : (begun : Option Target) (roles : Roles) → (with_target begun roles).draining ≡ roles.draining
-  still-draining None roles = refl
-  still-draining (Some target) roles = refl
+  still_draining : (begun : Option Target) (roles : Roles) → (with_target begun roles).draining ≡ roles.draining
+  still_draining None roles = refl
+  still_draining (Some target) roles = refl
 
-  freed-goes : (s : Connection) (input : Input) (offer : Option Channel) (r : Row) → ChangesRoles s input offer r → input ≡ inputs.ReleaseAck (place_of d) → IsOpen r.next.state → Owns channels links number (roles_of s) → Contains (undone r.next.draining) d → ⊥
-  freed-goes s input offer r (goes_on was_open is_open on) by is owns has =
+  freed_goes : (s : Connection) (input : Input) (offer : Option Channel) (r : Row) → ChangesRoles s input offer r → input ≡ inputs.ReleaseAck (place_of d) → IsOpen r.next.state → Owns channels links number (roles_of s) → Contains (undone r.next.draining) d → ⊥
+  freed_goes s input offer r (goes_on was_open is_open on) by is owns has =
       let after : Roles = after_step (step_by (inputs.ReleaseAck (place_of d)) (roles_of s)) (roles_of s) in
-      let same : r.next.draining ≡ after.draining = ap (λ (roles : Roles). roles.draining) on.roles ∙ still-draining on.begun (after_step (step_by input (roles_of s)) (roles_of s))
+      let same : r.next.draining ≡ after.draining = ap (λ (roles : Roles). roles.draining) on.roles ∙ still_draining on.begun (after_step (step_by input (roles_of s)) (roles_of s))
       ∙ ap (λ (i : Input). (after_step (step_by i (roles_of s)) (roles_of s)).draining) by in
-      freed-never after (acknowledged_owns channels links number k (place_of d) (roles_of s) state owns) (subst (λ (ds : List Drain). Contains (undone ds) d) same has)
-  freed-goes s input offer r (ends was_open shut over) by is owns has = absurd (shut is)
-  freed-goes s input offer r (had_ended was_shut shut silent) by is owns has = absurd (shut is)
+      freed_never after (acknowledged_owns channels links number k (place_of d) (roles_of s) state owns) (subst (λ (ds : List Drain). Contains (undone ds) d) same has)
+  freed_goes s input offer r (ends was_open shut over) by is owns has = absurd (shut is)
+  freed_goes s input offer r (had_ended was_shut shut silent) by is owns has = absurd (shut is)
 
-  acts-freed : (next : ℕ) (up : Bool) (before after : Option Connection) (put : List Message) (t : Connection) → Acts number next up (comes (inputs.ReleaseAck (place_of d))) before put after → IsFine before → after ≡ Some t → IsOpen t.state → Contains (undone t.draining) d
+  acts_freed : (next : ℕ) (up : Bool) (before after : Option Connection) (put : List Message) (t : Connection) → Acts number next up (comes (inputs.ReleaseAck (place_of d))) before put after → IsFine before → after ≡ Some t → IsOpen t.state → Contains (undone t.draining) d
       → ((o : Connection) → before ≡ Some o → IsOpen o.state → Owns channels links number (roles_of o)) → ⊥
-  acts-freed next up before after put t (rests silent same none) fine is is_open has owns =
+  acts_freed next up before after put t (rests silent same none) fine is is_open has owns =
       let there : before ≡ Some t = sym same ∙ is in
       let misses = subst (MissesOf (inputs.ReleaseAck (place_of d))) there none in
       let stands : Stands t = (fine_old before t t there ([], refl) fine).1 in
       let stay : step_by (inputs.ReleaseAck (place_of d)) (roles_of t) ≡ stays = subst (ChangesRolesBy t (inputs.ReleaseAck (place_of d)) misses.0) misses.1 (ChangesRoles-row t (inputs.ReleaseAck (place_of d)) misses.0 stands) in
-      freed-never (roles_of t) (subst (λ (role_step : RoleStep). Owns (with_state (place_of d) Free channels) links number (after_step role_step (roles_of t))) stay (acknowledged_owns channels links number k (place_of d) (roles_of t) state (owns t there is_open))) has
-  acts-freed next up before after put t (ages old s was_time was aged silent same) fine is is_open has owns = absurd cc
-  acts-freed next up before after put t (opens begins linked channel request delay is_nothing none put_is same) fine is is_open has owns = absurd cc
-  acts-freed next up before after put t (goes old s input offer r was aged by fits put_is same) fine is is_open has owns =
+      freed_never (roles_of t) (subst (λ (role_step : RoleStep). Owns (with_state (place_of d) Free channels) links number (after_step role_step (roles_of t))) stay (acknowledged_owns channels links number k (place_of d) (roles_of t) state (owns t there is_open))) has
+  acts_freed next up before after put t (ages old s was_time was aged silent same) fine is is_open has owns = absurd cc
+  acts_freed next up before after put t (opens begins linked channel request delay is_nothing none put_is same) fine is is_open has owns = absurd cc
+  acts_freed next up before after put t (goes old s input offer r was aged by fits put_is same) fine is is_open has owns =
       let now : r.next ≡ t = kept_some r.next.state r.next t (sym same ∙ is) in
       let changes = changes_of s input offer r (fine_old before old s was aged fine).1 fits in
       let open_next : IsOpen r.next.state = subst (λ (c : Connection). IsOpen c.state) (sym now) is_open in
       let open_old : IsOpen old.state = subst IsOpen (same_state old s aged) (open_before s input offer r changes open_next) in
-      freed-goes s input offer r changes by open_next (subst (Owns channels links number) (sym (aged_roles old s aged)) (owns old was open_old)) (subst (λ (c : Connection). Contains (undone c.draining) d) (sym now) has)
+      freed_goes s input offer r changes by open_next (subst (Owns channels links number) (sym (aged_roles old s aged)) (owns old was open_old)) (subst (λ (c : Connection). Contains (undone c.draining) d) (sym now) has)
 
 -- ---- of a life of the controller
 
@@ -131,7 +131,7 @@ comes_from p ss s n t d allowed from_one is is_open has =
     record {
       used = used;
       access = ap (λ (q : RequestReference). q.access) stays_same;
-      unfreed = λ k state brings. acts-freed c.channels c.links n k d state c.next_number (hears c SWITCH_LINK) (connection_of c n) (connection_of (step c s).next n) put t
+      unfreed = λ k state brings. acts_freed c.channels c.links n k d state c.next_number (hears c SWITCH_LINK) (connection_of c n) (connection_of (step c s).next n) put t
           (subst (λ (b : Brought). Acts n c.next_number (hears c SWITCH_LINK) b (connection_of c n) put (connection_of (step c s).next n)) brings acts) fine is is_open has
           (λ o there o_open. subst (OwnsOpen c.channels c.links n) there (life_owns p ss n allowed) o_open);
     }

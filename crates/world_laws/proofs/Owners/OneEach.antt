@@ -147,15 +147,15 @@ came_in settings done w s is =
 -- the item that it takes says a request
 begins_said : (c : Controller) (item : Item) (n : ℕ) (t : Connection) → IsKnownItem item → Begins c (steps.Take item) n t → 1 ≤ requests_in t.request.access (said_by item.what)
 begins_said c item n t known begins =
-    let same : item ≡ begins.item = taken-is begins.is in
+    let same : item ≡ begins.item = taken_is begins.is in
     let frame : item.what ≡ whats.Frame begins.frame = ap (λ (i : Item). i.what) same ∙ begins.frame_is in
     let own : item ≡ record { source = item.source; what = whats.Frame begins.frame } = ap (λ (x : What). record { source = item.source; what = x }) frame in
     let said : requests_in t.request.access (said_by (whats.Frame begins.frame)) ≡ 1 = asking_says item.source begins.frame t.request begins.delay (subst IsKnownItem own known) (ap (λ (i : Item). word_of i.source begins.frame) same ∙ begins.asks) in
     let all : requests_in t.request.access (said_by item.what) ≡ 1 = ap (λ (x : What). requests_in t.request.access (said_by x)) frame ∙ said in
     omega (arith, all)
   where
-    taken-is : {a b : Item} → steps.Take a ≡ steps.Take b → a ≡ b
-    taken-is is = cc
+    taken_is : {a b : Item} → steps.Take a ≡ steps.Take b → a ≡ b
+    taken_is is = cc
 
 take_effect : (settings : Parameters) (done : List Event) (w : Actors) (item : Item) (items : List Item) → w ≡ world settings done → w.inbox ≡ item ∷ items → Effect w (with_turn (target_in w item.source item.what) (take item w.controller) (record w { inbox = items }))
 take_effect settings done w item items is stands =
@@ -224,43 +224,43 @@ once_takes : (w v : Actors) (taken : ℕ → ℕ) → ((k : ℕ) → requests_up
 once_takes w v taken fewer there was once = record {
   few = λ k. let less = fewer k in let few = once.few k in omega (arith, less, few);
   known = λ k some. there k ∙ once.known k (let less = fewer k in omega (arith, less, some));
-  owned = λ n t is. owned-by n t (was n t is);
-  alone = λ n m s t is other same. alone-by n m s t (was n s is) (was m t other) same;
+  owned = λ n t is. owned_by n t (was n t is);
+  alone = λ n m s t is other same. alone_by n m s t (was n s is) (was m t other) same;
   nobody = there 0 ∙ once.nobody;
 } where
   least : (a b d e : ℕ) → a + b ≤ d → d ≤ 1 → 1 ≤ b → a ≡ 0
   least a b d e less few some = omega (arith, less, few, some)
 
-  none-left : (k : ℕ) → requests_up w k ≡ 0 → requests_up v k ≡ 0
-  none-left k empty = let less = fewer k in omega (arith, less, empty)
+  none_left : (k : ℕ) → requests_up w k ≡ 0 → requests_up v k ≡ 0
+  none_left k empty = let less = fewer k in omega (arith, less, empty)
 
-  owned-by : (n : ℕ) (t : Connection) → WasOrBegins taken w n t → (requests_up v t.request.access ≡ 0) × (is_none (mobile_of v t.request.access) ≡ false)
-  owned-by n t (inl (s, is, same)) =
+  owned_by : (n : ℕ) (t : Connection) → WasOrBegins taken w n t → (requests_up v t.request.access ≡ 0) × (is_none (mobile_of v t.request.access) ≡ false)
+  owned_by n t (inl (s, is, same)) =
       let before = once.owned n s is in
-      (none-left t.request.access (ap (requests_up w) same ∙ before.0), there t.request.access ∙ ap (λ (k : ℕ). is_none (mobile_of w k)) same ∙ before.1)
-  owned-by n t (inr (some, next)) =
+      (none_left t.request.access (ap (requests_up w) same ∙ before.0), there t.request.access ∙ ap (λ (k : ℕ). is_none (mobile_of w k)) same ∙ before.1)
+  owned_by n t (inr (some, next)) =
       let less = fewer t.request.access in (
         least (requests_up v t.request.access) (taken t.request.access) (requests_up w t.request.access) 0 less (once.few t.request.access) some,
         there t.request.access ∙ once.known t.request.access (omega (arith, less, some)),
       )
 
-  begun-after : (k : ℕ) (n : ℕ) (s : Connection) → connection_of w.controller n ≡ Some s → k ≡ s.request.access → 1 ≤ taken k → ⊥
-  begun-after k n s is same some =
+  begun_after : (k : ℕ) (n : ℕ) (s : Connection) → connection_of w.controller n ≡ Some s → k ≡ s.request.access → 1 ≤ taken k → ⊥
+  begun_after k n s is same some =
       let less = fewer k in
       let nothing : requests_up w k ≡ 0 = ap (requests_up w) same ∙ (once.owned n s is).0 in
       absurd (omega (arith, less, nothing, some))
 
-  alone-by : (n m : ℕ) (s t : Connection) → WasOrBegins taken w n s → WasOrBegins taken w m t → s.request.access ≡ t.request.access → n ≡ m
-  alone-by n m s t (inl (o, is, same)) (inl (p, there_is, same_too)) both = once.alone n m o p is there_is (sym same ∙ both ∙ same_too)
-  alone-by n m s t (inl (o, is, same)) (inr (some, next)) both = absurd (begun-after t.request.access n o is (sym both ∙ same) some)
-  alone-by n m s t (inr (some, next)) (inl (p, is, same)) both = absurd (begun-after s.request.access m p is (both ∙ same) some)
-  alone-by n m s t (inr (some, next)) (inr (some_too, next_too)) both = next ∙ sym next_too
+  alone_by : (n m : ℕ) (s t : Connection) → WasOrBegins taken w n s → WasOrBegins taken w m t → s.request.access ≡ t.request.access → n ≡ m
+  alone_by n m s t (inl (o, is, same)) (inl (p, there_is, same_too)) both = once.alone n m o p is there_is (sym same ∙ both ∙ same_too)
+  alone_by n m s t (inl (o, is, same)) (inr (some, next)) both = absurd (begun_after t.request.access n o is (sym both ∙ same) some)
+  alone_by n m s t (inr (some, next)) (inl (p, is, same)) both = absurd (begun_after s.request.access m p is (both ∙ same) some)
+  alone_by n m s t (inr (some, next)) (inr (some_too, next_too)) both = next ∙ sym next_too
 
 once_connects : (w v : Actors) (number : ℕ) → Connects number w v → v.inbox ≡ w.inbox → Once w → Once v
 once_connects w v number now inbox once = record {
-  few = λ k. few-by k (number == k) refl;
-  known = λ k some. known-by k some (number == k) refl;
-  owned = λ n s is. let before = once.owned n s (ap (λ (c : Controller). connection_of c n) (sym now.controller) ∙ is) in owned-by s.request.access before.0 before.1 (number == s.request.access) refl;
+  few = λ k. few_by k (number == k) refl;
+  known = λ k some. known_by k some (number == k) refl;
+  owned = λ n s is. let before = once.owned n s (ap (λ (c : Controller). connection_of c n) (sym now.controller) ∙ is) in owned_by s.request.access before.0 before.1 (number == s.request.access) refl;
   alone = λ n m s t is other same. once.alone n m s t (ap (λ (c : Controller). connection_of c n) (sym now.controller) ∙ is) (ap (λ (c : Controller). connection_of c m) (sym now.controller) ∙ other) same;
   nobody = now.there 0 ∙ ap (λ (b : Bool). if b then false else is_none (mobile_of w 0)) (ne_eqb number 0 (λ is. (let least = now.from_one in absurd (omega (arith, is, least))))) ∙ once.nobody;
 } where
@@ -276,17 +276,17 @@ once_connects w v number now inbox once = record {
   silent : (k : ℕ) → (number == k) ≡ true → requests_up w k ≡ 0
   silent k is = new_silent w k once (ap (λ (m : ℕ). is_none (mobile_of w m)) (sym (eqb-true number k is)) ∙ now.new)
 
-  few-by : (k : ℕ) (b : Bool) → (number == k) ≡ b → requests_up v k ≤ 1
-  few-by k true is = let less = more k true is in let none = silent k is in omega (arith, less, none)
-  few-by k false is = let less = more k false is in let few = once.few k in omega (arith, less, few)
+  few_by : (k : ℕ) (b : Bool) → (number == k) ≡ b → requests_up v k ≤ 1
+  few_by k true is = let less = more k true is in let none = silent k is in omega (arith, less, none)
+  few_by k false is = let less = more k false is in let few = once.few k in omega (arith, less, few)
 
-  known-by : (k : ℕ) → 1 ≤ requests_up v k → (b : Bool) → (number == k) ≡ b → is_none (mobile_of v k) ≡ false
-  known-by k some true is = now.there k ∙ ap (λ (b : Bool). if b then false else is_none (mobile_of w k)) is
-  known-by k some false is = now.there k ∙ ap (λ (b : Bool). if b then false else is_none (mobile_of w k)) is ∙ once.known k (let less = more k false is in omega (arith, less, some))
+  known_by : (k : ℕ) → 1 ≤ requests_up v k → (b : Bool) → (number == k) ≡ b → is_none (mobile_of v k) ≡ false
+  known_by k some true is = now.there k ∙ ap (λ (b : Bool). if b then false else is_none (mobile_of w k)) is
+  known_by k some false is = now.there k ∙ ap (λ (b : Bool). if b then false else is_none (mobile_of w k)) is ∙ once.known k (let less = more k false is in omega (arith, less, some))
 
-  owned-by : (k : ℕ) → requests_up w k ≡ 0 → is_none (mobile_of w k) ≡ false → (b : Bool) → (number == k) ≡ b → (requests_up v k ≡ 0) × (is_none (mobile_of v k) ≡ false)
-  owned-by k nothing present true is = absurd (true≢false (sym now.new ∙ ap (λ (m : ℕ). is_none (mobile_of w m)) (eqb-true number k is) ∙ present))
-  owned-by k nothing present false is = (
+  owned_by : (k : ℕ) → requests_up w k ≡ 0 → is_none (mobile_of w k) ≡ false → (b : Bool) → (number == k) ≡ b → (requests_up v k ≡ 0) × (is_none (mobile_of v k) ≡ false)
+  owned_by k nothing present true is = absurd (true≢false (sym now.new ∙ ap (λ (m : ℕ). is_none (mobile_of w m)) (eqb-true number k is) ∙ present))
+  owned_by k nothing present false is = (
     (let less = more k false is in omega (arith, less, nothing)),
     now.there k ∙ ap (λ (b : Bool). if b then false else is_none (mobile_of w k)) is ∙ present,
   )
@@ -309,12 +309,12 @@ done_by mobile number w v (takes taken fewer there was) done = record {
   present = there mobile ∙ done.present;
   one = λ n t is same. by n t same (was n t is);
 } where
-  none-taken : 1 ≤ taken mobile → ⊥
-  none-taken some = let less = fewer mobile in let nothing = done.silent in absurd (omega (arith, less, nothing, some))
+  none_taken : 1 ≤ taken mobile → ⊥
+  none_taken some = let less = fewer mobile in let nothing = done.silent in absurd (omega (arith, less, nothing, some))
 
   by : (n : ℕ) (t : Connection) → t.request.access ≡ mobile → WasOrBegins taken w n t → n ≡ number
   by n t same (inl (s, is, access)) = done.one n s is (sym access ∙ same)
-  by n t same (inr (some, next)) = absurd (none-taken (subst (λ (k : ℕ). 1 ≤ taken k) same some))
+  by n t same (inr (some, next)) = absurd (none_taken (subst (λ (k : ℕ). 1 ≤ taken k) same some))
 done_by mobile number w v (one_connects other now inbox) done = record {
   silent =
       let made : requests_in mobile (made_by v.stations) ≤ requests_in mobile (made_by w.stations) + (if false then 1 else 0) = subst (λ (b : Bool). requests_in mobile (made_by v.stations) ≤ requests_in mobile (made_by w.stations) + (if b then 1 else 0)) differs (now.total mobile) in

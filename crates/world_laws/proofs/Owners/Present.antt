@@ -49,11 +49,11 @@ ends_alone k tenure (x ∷ xs) is = elim (one_entry k tenure (rsl_in x.out.frame
       ap (λ (b : Bool). tenure_all k b (tenure_then k true tenure (rsl_in x.out.frame)) xs) stays.1 ∙ ap (λ (n : ℕ). tenure_all k true n xs) stays.2
       ∙ ends_alone k tenure xs (sym (ap (λ (ms : List Rsl). ms ++ due k (is_active_then k true (rsl_in x.out.frame)) xs) stays.0 ∙ ap (λ (b : Bool). due k b xs) stays.1) ∙ is)
   | inr over ↦
-      let rest : due k (is_active_then k true (rsl_in x.out.frame)) xs ≡ [] = behind-same (sym (ap (λ (ms : List Rsl). ms ++ due k (is_active_then k true (rsl_in x.out.frame)) xs) over.0) ∙ is) in
+      let rest : due k (is_active_then k true (rsl_in x.out.frame)) xs ≡ [] = behind_same (sym (ap (λ (ms : List Rsl). ms ++ due k (is_active_then k true (rsl_in x.out.frame)) xs) over.0) ∙ is) in
       none-due k (is_active_then k true (rsl_in x.out.frame)) (tenure_then k true tenure (rsl_in x.out.frame)) xs rest ∙ over.1
 ] where
-  behind-same : {a b : Rsl} {others more : List Rsl} → a ∷ others ≡ b ∷ more → others ≡ more
-  behind-same same = cc
+  behind_same : {a b : Rsl} {others more : List Rsl} → a ∷ others ≡ b ∷ more → others ≡ more
+  behind_same same = cc
 
 -- ---- what is due is the last of what comes
 

@@ -16,10 +16,10 @@ use Rattle.world_laws.specs.References.Over.{TakesOctets}
 use Rattle.world_laws.specs.References.Reads.{AreNothing}
 use Rattle.world_laws.specs.References.Taken.{NamesAlwaysAgree, PeersDiffer}
 use Rattle.world_laws.proofs.References.Events.{IsBeside, Keeps, break_keeps, by_beside, does_keeps, keeps_itself, dropped_same, push_keeps}
-use Rattle.world_laws.proofs.References.FirstTaken.{IsFirst, names-after, peers-after, unheard-after}
+use Rattle.world_laws.proofs.References.FirstTaken.{IsFirst, names_after, peers_after, unheard_after}
 use Rattle.world_laws.proofs.References.Moving.{lived}
 use Rattle.world_laws.proofs.References.Peers.{HaveOwnPeers, own_peers}
-use Rattle.world_laws.proofs.References.Stepping.{Lawful, item-comes, lawful_step, step-keeps}
+use Rattle.world_laws.proofs.References.Stepping.{Lawful, item_comes, lawful_step, step_keeps}
 use Rattle.world_laws.proofs.Events.{snoc_actors, snoc_steps, world}
 use Rattle.world_laws.proofs.Framing.{all_left, all_right}
 
@@ -52,14 +52,14 @@ pub record Before (w : Actors) (event : Event) : Type 0 where
 takes_keeps : (w : Actors) → NamesAgree w → w.controller.next_number ≤ 2 ^ 24 → Keeps w (unwrap_or (after_switch_takes w) w)
 takes_keeps w agree few = after-taken (Keeps w) (after_switch_takes w) w (switch_takes-leads (Keeps w) w (λ first others up stood.
     let h : IsFirst w first others = record { agree = agree; few = few; up = up; stood = stood } in
-    first-keeps first others h)) (keeps_itself w)
+    first_keeps first others h)) (keeps_itself w)
   where
-    first-keeps : (first : OutboxEntry) (others : List OutboxEntry) → IsFirst w first others → Keeps w (switch_took (sccp_in first.out.frame) (with_outbox SWITCH_LINK others w))
-    first-keeps first others h = record {
-      names = λ agree. names-after w first others h;
-      unheard = λ n from_one has unknown. unheard-after w first others h n from_one has unknown;
+    first_keeps : (first : OutboxEntry) (others : List OutboxEntry) → IsFirst w first others → Keeps w (switch_took (sccp_in first.out.frame) (with_outbox SWITCH_LINK others w))
+    first_keeps first others h = record {
+      names = λ agree. names_after w first others h;
+      unheard = λ n from_one has unknown. unheard_after w first others h n from_one has unknown;
       dropped = λ n from_one has closed. dropped_same w (switch_took (sccp_in first.out.frame) (with_outbox SWITCH_LINK others w)) n (same_controller (sccp_in first.out.frame)) has closed;
-      peers = λ differ. peers-after w first others h differ;
+      peers = λ differ. peers_after w first others h differ;
     } where
       same_controller : (o : Option Sccp) → (switch_took o (with_outbox SWITCH_LINK others w)).controller ≡ w.controller
       same_controller None = refl
@@ -68,9 +68,9 @@ takes_keeps w agree few = after-taken (Keeps w) (after_switch_takes w) w (switch
 handle_keeps : (w : Actors) → ((s : Step) → ComesInOctets s → Lawful w.controller s) → (items : List Item) → w.inbox ≡ items → AllByRecursion ComesInOctets (first_taken items) → Keeps w (unwrap_or (handled items w) w)
 handle_keeps w laws [] is own = keeps_itself w
 handle_keeps w laws (item ∷ items) is own =
-    step-keeps w items (target_in w item.source item.what) (steps.Take item) (laws (steps.Take item) own.0)
+    step_keeps w items (target_in w item.source item.what) (steps.Take item) (laws (steps.Take item) own.0)
     (λ n P confirms. (subst (AllByRecursion (ConfirmsBeing P n)) is confirms.waiting).1)
-    (λ n P confirms r comes. item-comes P n r w.controller item (subst (AllByRecursion (ConfirmsBeing P n)) is confirms.waiting).0 comes)
+    (λ n P confirms r comes. item_comes P n r w.controller item (subst (AllByRecursion (ConfirmsBeing P n)) is confirms.waiting).0 comes)
 
 pub keeps : (w : Actors) (event : Event) → Before w event → Keeps w (actors_after w event)
 unfolding event_after FromAir
@@ -79,7 +79,7 @@ keeps w (BasePush source) h = push_keeps w source
 keeps w Handle h = handle_keeps w h.laws w.inbox refl h.octets
 keeps w SwitchTakes h = takes_keeps w h.agree h.few
 keeps w (SwitchDoes action) h = does_keeps w action
-keeps w (Tick ms) h = step-keeps w w.inbox None (steps.Tick ms) (h.laws (steps.Tick ms) h.octets.0) (λ n P confirms. confirms.waiting) (λ n P confirms r comes. absurd comes)
+keeps w (Tick ms) h = step_keeps w w.inbox None (steps.Tick ms) (h.laws (steps.Tick ms) h.octets.0) (λ n P confirms. confirms.waiting) (λ n P confirms r comes. absurd comes)
 keeps w (BaseDown source) h = break_keeps w source
 keeps w event h = beside_after w (event_after w event) (aerial-leads (IsBeside w) w event refl (λ mobiles stations. record { controller_is = refl; switch_is = refl; made_is = refl; inbox_is = refl; outbox_is = refl }))
 

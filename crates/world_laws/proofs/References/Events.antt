@@ -153,18 +153,18 @@ knows_cut k false last xs a runs knows = knows_less k last a knows
 
 -- what waited for the switch is lost
 module _ (w v : Actors) (controller : v.controller ≡ w.controller) (switch : v.switch ≡ w.switch) (outbox : outbox_of v SWITCH_LINK ≡ []) (confirms : (n : ℕ) (P : ℕ → Type 0) → Confirms P w n → Confirms P v n) where
-  cut-unknown : (n : ℕ) → find (is_of_peer n) w.switch.connections ≡ None → Confirms Never w n → IsUnknown v n
-  cut-unknown n none never = record {
+  cut_unknown : (n : ℕ) → find (is_of_peer n) w.switch.connections ≡ None → Confirms Never w n → IsUnknown v n
+  cut_unknown n none never = record {
     none = subst (λ (s : SwitchState). find (is_of_peer n) s.connections ≡ None) (sym switch) none;
     quiet = subst (λ (entries : List OutboxEntry). AreNothing (reads_of n entries)) (sym outbox) tt;
     unconfirmed = confirms n Never never;
   }
 
-  cut-agrees : (n : ℕ) → Agrees w n → Agrees v n
-  cut-agrees n (is_unasked un unknown) = is_unasked (unasked_same w v n controller un) (cut-unknown n unknown.none unknown.unconfirmed)
-  cut-agrees n (is_asking has way) = is_unheard (asked_same w v n controller has) (cut-unknown n way.none way.unconfirmed)
-  cut-agrees n (is_unheard has unknown) = is_unheard (asked_same w v n controller has) (cut-unknown n unknown.none unknown.unconfirmed)
-  cut-agrees n (is_known past known) = is_known (subst (λ (c : Controller). n < c.next_number) (sym controller) past) (record {
+  cut_agrees : (n : ℕ) → Agrees w n → Agrees v n
+  cut_agrees n (is_unasked un unknown) = is_unasked (unasked_same w v n controller un) (cut_unknown n unknown.none unknown.unconfirmed)
+  cut_agrees n (is_asking has way) = is_unheard (asked_same w v n controller has) (cut_unknown n way.none way.unconfirmed)
+  cut_agrees n (is_unheard has unknown) = is_unheard (asked_same w v n controller has) (cut_unknown n unknown.none unknown.unconfirmed)
+  cut_agrees n (is_known past known) = is_known (subst (λ (c : Controller). n < c.next_number) (sym controller) past) (record {
     place = known.place;
     of = known.of;
     last = is_over known.of.stage;
@@ -176,10 +176,10 @@ module _ (w v : Actors) (controller : v.controller ≡ w.controller) (switch : v
         (knows_cut (REFERENCE_BASE + (known.place + 1)) (is_over known.of.stage) known.last (reads_of n (outbox_of w SWITCH_LINK)) (reach_of (controllers w.controller n)) known.runs known.knows);
   })
 
-  cut-keeps : Keeps w v
-  cut-keeps = record {
-    names = λ agree. record { each = λ n from_one. cut-agrees n (agree.each n from_one); right = subst (AllByRecursion (λ (entry : OutboxEntry). IsRight entry.out)) (sym outbox) tt };
-    unheard = λ n from_one has unknown. (asked_same w v n controller has, cut-unknown n unknown.none unknown.unconfirmed);
+  cut_keeps : Keeps w v
+  cut_keeps = record {
+    names = λ agree. record { each = λ n from_one. cut_agrees n (agree.each n from_one); right = subst (AllByRecursion (λ (entry : OutboxEntry). IsRight entry.out)) (sym outbox) tt };
+    unheard = λ n from_one has unknown. (asked_same w v n controller has, cut_unknown n unknown.none unknown.unconfirmed);
     dropped = λ n from_one has closed. dropped_same w v n controller has closed;
     peers = λ differ. subst (λ (s : SwitchState). Differ (peers_of s.connections)) (sym switch) differ;
   }
@@ -187,7 +187,7 @@ module _ (w v : Actors) (controller : v.controller ≡ w.controller) (switch : v
 pub break_keeps : (w : Actors) (source : ℕ) → Keeps w (unwrap_or (after_break w source) w)
 break_keeps w source = after-taken (Keeps w) (after_break w source) w (broken-leads (Keeps w) w source of_switch of_station) (keeps_itself w) where
   of_switch : is_up w source ≡ true → source ≡ SWITCH_LINK → Keeps w (with_item (record { source = source; what = whats.Down }) (record (with_link source broken_link w) { switch_made = [] }))
-  of_switch up is = cut-keeps w (with_item (record { source = source; what = whats.Down }) (record (with_link source broken_link w) { switch_made = [] })) refl refl
+  of_switch up is = cut_keeps w (with_item (record { source = source; what = whats.Down }) (record (with_link source broken_link w) { switch_made = [] })) refl refl
       (ap (λ (l : Link). l.outbox) (subst (λ (x : ℕ). get_or (set w.links source broken_link) x broken_link ≡ broken_link) is (changed_link w.links source broken_link up)))
       (λ n P confirms. record { made = tt; waiting = AllByRecursion-append (ConfirmsBeing P n) w.inbox (record { source = source; what = whats.Down } ∷ []) confirms.waiting (tt, tt) })
 

@@ -16,12 +16,12 @@ use Rattle.world_laws.specs.References.Agree.{IsUnknown, NamesAgree, Runs, Stand
 use Rattle.world_laws.specs.References.Agree.Agrees.{is_unasked, is_asking, is_unheard, is_known}
 use Rattle.world_laws.specs.References.Reads.{AreNothing, IsNothing, Read, asks, carried, data_read, initial_read, nothing, sccp_read}
 use Rattle.world_laws.specs.References.Reads.{carries as read_carries, clears as read_clears, tells as read_tells, odd as read_odd}
-use Rattle.world_laws.proofs.References.OwnTaking.{heeds_data, own-asks, own-data}
+use Rattle.world_laws.proofs.References.OwnTaking.{heeds_data, own_asks, own_data}
 use Rattle.world_laws.proofs.References.Peers.{Differ, HaveOwnPeers, effect_differs, peers_of}
 use Rattle.world_laws.proofs.References.Places.{stands_find}
 use Rattle.world_laws.proofs.References.Right.{other_carries}
 use Rattle.world_laws.proofs.References.Taking.{After, asked_same, same_unknown, Effect, IsSame, Took, after_took, confirms_after}
-use Rattle.world_laws.proofs.References.Taking.{other_keeps, other-none, other_same, other-stands, same_agrees, took_nothing}
+use Rattle.world_laws.proofs.References.Taking.{other_keeps, other_none, other_same, other_stands, same_agrees, took_nothing}
 use Rattle.world_laws.proofs.References.Taking.{took_connections, took_replies}
 use Rattle.world_laws.proofs.References.Taking.Effect.{same}
 
@@ -99,9 +99,9 @@ module _ (w v : Actors) (others : List OutboxEntry) (n : ℕ) (three : n < w.con
   Comes : Option Sccp → Type 0
   Comes o = After w v others (took_connections w.switch.modulus w.switch.connections o) (took_replies w.switch.connections o)
 
-  own-nothing : (o : Option Sccp) → reads_of n (outbox_of w SWITCH_LINK) ≡ sccp_read o ∷ reads_of n others → IsNothing (sccp_read o) → Comes o → Agrees w n → Result o
+  own_nothing : (o : Option Sccp) → reads_of n (outbox_of w SWITCH_LINK) ≡ sccp_read o ∷ reads_of n others → IsNothing (sccp_read o) → Comes o → Agrees w n → Result o
   unfolding Result Comes
-  own-nothing o stood is after agrees =
+  own_nothing o stood is after agrees =
       let cs : List Connection = w.switch.connections in
       let both = nothing_same w.switch.modulus cs o is in
       let now : After w v others cs [] = subst (λ (xs : List Sccp). After w v others cs xs) both.1 (subst (λ (xs : List Connection). After w v others xs (took_replies cs o)) both.0 after) in
@@ -117,82 +117,82 @@ module _ (w v : Actors) (others : List OutboxEntry) (n : ℕ) (three : n < w.con
       subst (λ (xs : List Connection). Took w v n xs (took_replies cs o) (sccp_read o)) (sym both.0)
       (subst (λ (xs : List Sccp). Took w v n cs xs (sccp_read o)) (sym both.1) (took_nothing n (sccp_read o) now is (λ P confirms. confirms_after P n now confirms tt) kept agrees))
 
-  own-request : HasAsked w n → IsOnItsWay w n → (s : ℕ) (user : List ℕ) (q : Option Bssap) → message_in user ≡ q → AsksOnce n (initial_read s q ∷ reads_of n others) → Comes (Some (ConnectionRequest s (Some user)))
+  own_request : HasAsked w n → IsOnItsWay w n → (s : ℕ) (user : List ℕ) (q : Option Bssap) → message_in user ≡ q → AsksOnce n (initial_read s q ∷ reads_of n others) → Comes (Some (ConnectionRequest s (Some user)))
       → Took w v n (took_connections w.switch.modulus w.switch.connections (Some (ConnectionRequest s (Some user)))) (took_replies w.switch.connections (Some (ConnectionRequest s (Some user)))) (initial_read s q)
   unfolding Comes
-  own-request has way s user (Some (Management (bssmap.CompleteLayer3Information cell message))) is once after =
+  own_request has way s user (Some (Management (bssmap.CompleteLayer3Information cell message))) is once after =
       subst (λ (x : ℕ). After w v others (connections_after w.switch.modulus w.switch.connections (ConnectionRequest x (Some user))) (replies w.switch.connections (ConnectionRequest x (Some user)))
       → Took w v n (connections_after w.switch.modulus w.switch.connections (ConnectionRequest x (Some user))) (replies w.switch.connections (ConnectionRequest x (Some user))) (asks x message))
-      (sym once.0) (own-asks w v others n (three has.past) has way.none way.unconfirmed once.1 user message cell is) after
-  own-request has way s user None is once after = absurd once
-  own-request has way s user (Some (Transfer dlci message)) is once after = absurd once
-  own-request has way s user (Some (Management _)) is once after = absurd once
+      (sym once.0) (own_asks w v others n (three has.past) has way.none way.unconfirmed once.1 user message cell is) after
+  own_request has way s user None is once after = absurd once
+  own_request has way s user (Some (Transfer dlci message)) is once after = absurd once
+  own_request has way s user (Some (Management _)) is once after = absurd once
 
-  data-asks : (d : ℕ) (q : Option Bssap) → AsksOnce n (data_read d q ∷ reads_of n others) → ⊥
-  data-asks d None once = once
-  data-asks d (Some (Transfer dlci message)) once = once
-  data-asks d (Some (Management bssmap.ClearComplete)) once = once
-  data-asks d (Some (Management (bssmap.CompleteLayer3Information cell initial))) once = once
-  data-asks d (Some (Management (bssmap.ClearRequest cause))) once = once
-  data-asks d (Some (Management (bssmap.AssignmentRequest channel_type))) once = once
-  data-asks d (Some (Management (bssmap.AssignmentComplete rr_cause))) once = once
-  data-asks d (Some (Management (bssmap.AssignmentFailure cause rr_cause))) once = once
-  data-asks d (Some (Management (bssmap.HandoverPerformed cause cell))) once = once
-  data-asks d (Some (Management (bssmap.ClearCommand cause))) once = once
-  data-asks d (Some (Management (bssmap.SapiNReject dlci cause))) once = once
-  data-asks d (Some (Management bssmap.CipherModeCommand)) once = once
-  data-asks d (Some (Management (bssmap.CipherModeReject cause))) once = once
+  data_asks : (d : ℕ) (q : Option Bssap) → AsksOnce n (data_read d q ∷ reads_of n others) → ⊥
+  data_asks d None once = once
+  data_asks d (Some (Transfer dlci message)) once = once
+  data_asks d (Some (Management bssmap.ClearComplete)) once = once
+  data_asks d (Some (Management (bssmap.CompleteLayer3Information cell initial))) once = once
+  data_asks d (Some (Management (bssmap.ClearRequest cause))) once = once
+  data_asks d (Some (Management (bssmap.AssignmentRequest channel_type))) once = once
+  data_asks d (Some (Management (bssmap.AssignmentComplete rr_cause))) once = once
+  data_asks d (Some (Management (bssmap.AssignmentFailure cause rr_cause))) once = once
+  data_asks d (Some (Management (bssmap.HandoverPerformed cause cell))) once = once
+  data_asks d (Some (Management (bssmap.ClearCommand cause))) once = once
+  data_asks d (Some (Management (bssmap.SapiNReject dlci cause))) once = once
+  data_asks d (Some (Management bssmap.CipherModeCommand)) once = once
+  data_asks d (Some (Management (bssmap.CipherModeReject cause))) once = once
 
-  own-asking : HasAsked w n → IsOnItsWay w n → (o : Option Sccp) → (IsNothing (sccp_read o) → ⊥) → AsksOnce n (sccp_read o ∷ reads_of n others) → Comes o → Result o
+  own_asking : HasAsked w n → IsOnItsWay w n → (o : Option Sccp) → (IsNothing (sccp_read o) → ⊥) → AsksOnce n (sccp_read o ∷ reads_of n others) → Comes o → Result o
   unfolding Result
-  own-asking has way None heeds once after = absurd (heeds tt)
-  own-asking has way (Some (ConnectionRequest s None)) heeds once after = absurd once
-  own-asking has way (Some (ConnectionRequest s (Some user))) heeds once after = own-request has way s user (message_in user) refl once after
-  own-asking has way (Some (DataForm1 d user)) heeds once after = absurd (data-asks d (message_in user) once)
-  own-asking has way (Some (ConnectionConfirm d s)) heeds once after = absurd (heeds tt)
-  own-asking has way (Some (ConnectionRefused d)) heeds once after = absurd (heeds tt)
-  own-asking has way (Some (Released d s)) heeds once after = absurd (heeds tt)
-  own-asking has way (Some (ReleaseComplete d s)) heeds once after = absurd (heeds tt)
+  own_asking has way None heeds once after = absurd (heeds tt)
+  own_asking has way (Some (ConnectionRequest s None)) heeds once after = absurd once
+  own_asking has way (Some (ConnectionRequest s (Some user))) heeds once after = own_request has way s user (message_in user) refl once after
+  own_asking has way (Some (DataForm1 d user)) heeds once after = absurd (data_asks d (message_in user) once)
+  own_asking has way (Some (ConnectionConfirm d s)) heeds once after = absurd (heeds tt)
+  own_asking has way (Some (ConnectionRefused d)) heeds once after = absurd (heeds tt)
+  own_asking has way (Some (Released d s)) heeds once after = absurd (heeds tt)
+  own_asking has way (Some (ReleaseComplete d s)) heeds once after = absurd (heeds tt)
 
-  initial-unheeded : (k : ℕ) (over : Bool) (s : ℕ) (q : Option Bssap) → Heeds k over (initial_read s q) → ⊥
-  initial-unheeded k over s None heeds = heeds
-  initial-unheeded k over s (Some (Transfer dlci message)) heeds = heeds
-  initial-unheeded k over s (Some (Management (bssmap.CompleteLayer3Information cell initial))) heeds = heeds
-  initial-unheeded k over s (Some (Management _)) heeds = heeds
+  initial_unheeded : (k : ℕ) (over : Bool) (s : ℕ) (q : Option Bssap) → Heeds k over (initial_read s q) → ⊥
+  initial_unheeded k over s None heeds = heeds
+  initial_unheeded k over s (Some (Transfer dlci message)) heeds = heeds
+  initial_unheeded k over s (Some (Management (bssmap.CompleteLayer3Information cell initial))) heeds = heeds
+  initial_unheeded k over s (Some (Management _)) heeds = heeds
 
-  own-form : n < w.controller.next_number → (known : IsKnown w n) (d : ℕ) (user : List ℕ) (q : Option Bssap) → message_in user ≡ q → Heeds (REFERENCE_BASE + (known.place + 1)) (is_over known.of.stage) (data_read d q)
+  own_form : n < w.controller.next_number → (known : IsKnown w n) (d : ℕ) (user : List ℕ) (q : Option Bssap) → message_in user ≡ q → Heeds (REFERENCE_BASE + (known.place + 1)) (is_over known.of.stage) (data_read d q)
       → Runs (REFERENCE_BASE + (known.place + 1)) (over_after (is_over known.of.stage) (data_read d q)) (reads_of n others) known.last → Comes (Some (DataForm1 d user))
       → Took w v n (took_connections w.switch.modulus w.switch.connections (Some (DataForm1 d user))) (took_replies w.switch.connections (Some (DataForm1 d user))) (data_read d q)
   unfolding Comes
-  own-form past known d user None is heeds runs after = absurd heeds
-  own-form past known d user (Some q) is heeds runs after =
+  own_form past known d user None is heeds runs after = absurd heeds
+  own_form past known d user (Some q) is heeds runs after =
       let heedful = heeds_data (REFERENCE_BASE + (known.place + 1)) d (is_over known.of.stage) q heeds in
       subst (λ (x : ℕ). IsHeeded (data_read x (Some q)) → Runs (REFERENCE_BASE + (known.place + 1)) (over_after (is_over known.of.stage) (data_read x (Some q))) (reads_of n others) known.last
       → After w v others (connections_after w.switch.modulus w.switch.connections (DataForm1 x user)) (replies w.switch.connections (DataForm1 x user))
       → Took w v n (connections_after w.switch.modulus w.switch.connections (DataForm1 x user)) (replies w.switch.connections (DataForm1 x user)) (data_read x (Some q)))
-      (sym heedful.to) (own-data w v others n past known user q is heedful.living) heedful.heeded runs after
+      (sym heedful.to) (own_data w v others n past known user q is heedful.living) heedful.heeded runs after
 
-  own-known : n < w.controller.next_number → (known : IsKnown w n) (o : Option Sccp) → (IsNothing (sccp_read o) → ⊥) → Runs (REFERENCE_BASE + (known.place + 1)) (is_over known.of.stage) (sccp_read o ∷ reads_of n others) known.last → Comes o → Result o
+  own_known : n < w.controller.next_number → (known : IsKnown w n) (o : Option Sccp) → (IsNothing (sccp_read o) → ⊥) → Runs (REFERENCE_BASE + (known.place + 1)) (is_over known.of.stage) (sccp_read o ∷ reads_of n others) known.last → Comes o → Result o
   unfolding Result
-  own-known past known None heeds runs after = absurd (heeds tt)
-  own-known past known (Some (ConnectionRequest s None)) heeds runs after = absurd runs.0
-  own-known past known (Some (ConnectionRequest s (Some user))) heeds runs after = absurd (initial-unheeded (REFERENCE_BASE + (known.place + 1)) (is_over known.of.stage) s (message_in user) runs.0)
-  own-known past known (Some (DataForm1 d user)) heeds runs after = own-form past known d user (message_in user) refl runs.0 runs.1 after
-  own-known past known (Some (ConnectionConfirm d s)) heeds runs after = absurd (heeds tt)
-  own-known past known (Some (ConnectionRefused d)) heeds runs after = absurd (heeds tt)
-  own-known past known (Some (Released d s)) heeds runs after = absurd (heeds tt)
-  own-known past known (Some (ReleaseComplete d s)) heeds runs after = absurd (heeds tt)
+  own_known past known None heeds runs after = absurd (heeds tt)
+  own_known past known (Some (ConnectionRequest s None)) heeds runs after = absurd runs.0
+  own_known past known (Some (ConnectionRequest s (Some user))) heeds runs after = absurd (initial_unheeded (REFERENCE_BASE + (known.place + 1)) (is_over known.of.stage) s (message_in user) runs.0)
+  own_known past known (Some (DataForm1 d user)) heeds runs after = own_form past known d user (message_in user) refl runs.0 runs.1 after
+  own_known past known (Some (ConnectionConfirm d s)) heeds runs after = absurd (heeds tt)
+  own_known past known (Some (ConnectionRefused d)) heeds runs after = absurd (heeds tt)
+  own_known past known (Some (Released d s)) heeds runs after = absurd (heeds tt)
+  own_known past known (Some (ReleaseComplete d s)) heeds runs after = absurd (heeds tt)
 
-  own-agreed : (o : Option Sccp) → reads_of n (outbox_of w SWITCH_LINK) ≡ sccp_read o ∷ reads_of n others → (IsNothing (sccp_read o) → ⊥) → Comes o → Agrees w n → Result o
-  own-agreed o stood heeds after (is_unasked un unknown) = absurd (heeds (subst AreNothing stood unknown.quiet).0)
-  own-agreed o stood heeds after (is_unheard has unknown) = absurd (heeds (subst AreNothing stood unknown.quiet).0)
-  own-agreed o stood heeds after (is_asking has way) = own-asking has way o heeds (subst (AsksOnce n) stood way.once) after
-  own-agreed o stood heeds after (is_known past known) = own-known past known o heeds (subst (λ (xs : List Read). Runs (REFERENCE_BASE + (known.place + 1)) (is_over known.of.stage) xs known.last) stood known.runs) after
+  own_agreed : (o : Option Sccp) → reads_of n (outbox_of w SWITCH_LINK) ≡ sccp_read o ∷ reads_of n others → (IsNothing (sccp_read o) → ⊥) → Comes o → Agrees w n → Result o
+  own_agreed o stood heeds after (is_unasked un unknown) = absurd (heeds (subst AreNothing stood unknown.quiet).0)
+  own_agreed o stood heeds after (is_unheard has unknown) = absurd (heeds (subst AreNothing stood unknown.quiet).0)
+  own_agreed o stood heeds after (is_asking has way) = own_asking has way o heeds (subst (AsksOnce n) stood way.once) after
+  own_agreed o stood heeds after (is_known past known) = own_known past known o heeds (subst (λ (xs : List Read). Runs (REFERENCE_BASE + (known.place + 1)) (is_over known.of.stage) xs known.last) stood known.runs) after
 
-  own-took : (o : Option Sccp) → reads_of n (outbox_of w SWITCH_LINK) ≡ sccp_read o ∷ reads_of n others → Comes o → Agrees w n → Result o
-  own-took o stood after agrees = elim (nothing_or (sccp_read o)) [
-    | inl is ↦ own-nothing o stood is after agrees
-    | inr heeds ↦ own-agreed o stood heeds after agrees
+  own_took : (o : Option Sccp) → reads_of n (outbox_of w SWITCH_LINK) ≡ sccp_read o ∷ reads_of n others → Comes o → Agrees w n → Result o
+  own_took o stood after agrees = elim (nothing_or (sccp_read o)) [
+    | inl is ↦ own_nothing o stood is after agrees
+    | inr heeds ↦ own_agreed o stood heeds after agrees
   ]
 
 -- ---- any
@@ -221,17 +221,17 @@ module _ (w : Actors) (first : OutboxEntry) (others : List OutboxEntry) (h : IsF
   rights = subst (AllByRecursion (λ (entry : OutboxEntry). IsRight entry.out)) h.stood h.agree.right
 
   -- the entry of this connection, which isn't beyond all that there were
-  own-entry : (n : ℕ) → 1 ≤ n → first.out.conn ≡ n → Took w v n taken_connections taken_replies (reads first.out)
+  own_entry : (n : ℕ) → 1 ≤ n → first.out.conn ≡ n → Took w v n taken_connections taken_replies (reads first.out)
   unfolding Result Comes
-  own-entry n from_one is =
+  own_entry n from_one is =
       let wire : reads_of n (outbox_of w SWITCH_LINK) ≡ reads first.out ∷ reads_of n others = ap (reads_of n) h.stood ∙ first-own n first others is in
-      own-took w v others n less (sccp_in first.out.frame) wire after (h.agree.each n from_one)
+      own_took w v others n less (sccp_in first.out.frame) wire after (h.agree.each n from_one)
     where
       less : n < w.controller.next_number → n < 2 ^ 24
       less past = let few = h.few in omega (arith, past, few)
 
-  zero-or : (m : ℕ) → (m ≡ 0) ⊎ (1 ≤ m)
-  zero-or m = elim (cases_Bool (m == 0)) [
+  zero_or : (m : ℕ) → (m ≡ 0) ⊎ (1 ≤ m)
+  zero_or m = elim (cases_Bool (m == 0)) [
     | inl hit ↦ inl (eqb-true m 0 hit)
     | inr miss ↦ inr (some (eqb-false m 0 miss))
   ] where
@@ -239,9 +239,9 @@ module _ (w : Actors) (first : OutboxEntry) (others : List OutboxEntry) (h : IsF
     some other = omega (arith, other)
 
   effect : Effect first.out.conn w.switch.connections taken_connections taken_replies
-  effect = elim (zero-or first.out.conn) [
+  effect = elim (zero_or first.out.conn) [
     | inl zero ↦ beside (rights.0.beside zero)
-    | inr from_one ↦ (own-entry first.out.conn from_one refl).effect
+    | inr from_one ↦ (own_entry first.out.conn from_one refl).effect
   ] where
     beside : reads first.out ≡ nothing → Effect first.out.conn w.switch.connections taken_connections taken_replies
     beside is =
@@ -249,24 +249,24 @@ module _ (w : Actors) (first : OutboxEntry) (others : List OutboxEntry) (h : IsF
         subst (λ (xs : List Connection). Effect first.out.conn w.switch.connections xs taken_replies) (sym both.0) (subst (λ (xs : List Sccp). Effect first.out.conn w.switch.connections w.switch.connections xs) (sym both.1) same)
 
   -- each has a peer of its own
-  pub peers-after : HaveOwnPeers w → HaveOwnPeers v
-  peers-after differ = subst (λ (xs : List Connection). Differ (peers_of xs)) (sym after.conns) (elim (zero-or first.out.conn) [
+  pub peers_after : HaveOwnPeers w → HaveOwnPeers v
+  peers_after differ = subst (λ (xs : List Connection). Differ (peers_of xs)) (sym after.conns) (elim (zero_or first.out.conn) [
     | inl zero ↦ subst (λ (xs : List Connection). Differ (peers_of xs)) (sym (nothing_same w.switch.modulus w.switch.connections (sccp_in first.out.frame) (subst IsNothing (sym (rights.0.beside zero)) tt)).0) differ
-    | inr from_one ↦ effect_differs first.out.conn w.switch.connections from_one (own-entry first.out.conn from_one refl).effect differ
+    | inr from_one ↦ effect_differs first.out.conn w.switch.connections from_one (own_entry first.out.conn from_one refl).effect differ
   ])
 
-  other-wire : (n : ℕ) → first.out.conn ≢ n → reads_of n others ≡ reads_of n (outbox_of w SWITCH_LINK)
-  other-wire n differ = sym (ap (reads_of n) h.stood ∙ first-other n first others differ)
+  other_wire : (n : ℕ) → first.out.conn ≢ n → reads_of n others ≡ reads_of n (outbox_of w SWITCH_LINK)
+  other_wire n differ = sym (ap (reads_of n) h.stood ∙ first-other n first others differ)
 
-  other-agrees : (n : ℕ) → 1 ≤ n → first.out.conn ≢ n → Agrees v n
-  other-agrees n from_one differ =
-      same_agrees w v n (other_same first.out.conn n differ after effect (other-wire n differ)) (other_keeps first.out.conn n differ after effect) (h.agree.each n from_one)
+  other_agrees : (n : ℕ) → 1 ≤ n → first.out.conn ≢ n → Agrees v n
+  other_agrees n from_one differ =
+      same_agrees w v n (other_same first.out.conn n differ after effect (other_wire n differ)) (other_keeps first.out.conn n differ after effect) (h.agree.each n from_one)
 
-  pub names-after : NamesAgree v
-  names-after = record {
+  pub names_after : NamesAgree v
+  names_after = record {
     each = λ n from_one. elim (cases_Bool (first.out.conn == n)) [
-      | inl hit ↦ (own-entry n from_one (eqb-true first.out.conn n hit)).agrees
-      | inr miss ↦ other-agrees n from_one (eqb-false first.out.conn n miss)
+      | inl hit ↦ (own_entry n from_one (eqb-true first.out.conn n hit)).agrees
+      | inr miss ↦ other_agrees n from_one (eqb-false first.out.conn n miss)
     ];
     right = subst (AllByRecursion (λ (entry : OutboxEntry). IsRight entry.out)) (sym after.rest) rights.1;
   }
@@ -277,43 +277,43 @@ module _ (w : Actors) (first : OutboxEntry) (others : List OutboxEntry) (h : IsF
   took-taken n None = refl
   took-taken n (Some message) = refl
 
-  other-found : (n : ℕ) → first.out.conn ≢ n → Agrees w n → taken_in (find (is_of_peer n) taken_connections) ≡ taken_of w n
-  other-found n differ (is_unasked un unknown) = ap taken_in (other-none w first.out.conn n differ effect unknown.none) ∙ sym (ap taken_in unknown.none)
-  other-found n differ (is_asking has way) = ap taken_in (other-none w first.out.conn n differ effect way.none) ∙ sym (ap taken_in way.none)
-  other-found n differ (is_unheard has unknown) = ap taken_in (other-none w first.out.conn n differ effect unknown.none) ∙ sym (ap taken_in unknown.none)
-  other-found n differ (is_known past known) =
-      ap taken_in (stands_find n known.place known.of taken_connections (other-stands w first.out.conn n differ effect known.place known.of known.stands))
+  other_found : (n : ℕ) → first.out.conn ≢ n → Agrees w n → taken_in (find (is_of_peer n) taken_connections) ≡ taken_of w n
+  other_found n differ (is_unasked un unknown) = ap taken_in (other_none w first.out.conn n differ effect unknown.none) ∙ sym (ap taken_in unknown.none)
+  other_found n differ (is_asking has way) = ap taken_in (other_none w first.out.conn n differ effect way.none) ∙ sym (ap taken_in way.none)
+  other_found n differ (is_unheard has unknown) = ap taken_in (other_none w first.out.conn n differ effect unknown.none) ∙ sym (ap taken_in unknown.none)
+  other_found n differ (is_known past known) =
+      ap taken_in (stands_find n known.place known.of taken_connections (other_stands w first.out.conn n differ effect known.place known.of known.stands))
       ∙ sym (ap taken_in (stands_find n known.place known.of w.switch.connections known.stands))
 
   abbrev Delivers : ℕ → Type 0
   Delivers n = taken_of (switch_took (sccp_in first.out.frame) w) n ≡ taken_of w n ++ carried_for n first.out
 
-  other-delivers : (n : ℕ) → 1 ≤ n → first.out.conn ≢ n → Delivers n
-  other-delivers n from_one differ =
-      took-taken n (sccp_in first.out.frame) ∙ other-found n differ (h.agree.each n from_one) ∙ sym (append-nil (taken_of w n)) ∙ ap (λ (xs : List (List ℕ)). taken_of w n ++ xs) (sym (other_carries n first.out differ))
+  other_delivers : (n : ℕ) → 1 ≤ n → first.out.conn ≢ n → Delivers n
+  other_delivers n from_one differ =
+      took-taken n (sccp_in first.out.frame) ∙ other_found n differ (h.agree.each n from_one) ∙ sym (append-nil (taken_of w n)) ∙ ap (λ (xs : List (List ℕ)). taken_of w n ++ xs) (sym (other_carries n first.out differ))
 
-  own-delivers : (n : ℕ) → 1 ≤ n → first.out.conn ≡ n → Delivers n ⊎ (HasAsked v n × IsUnknown v n)
-  own-delivers n from_one is =
-      let took = own-entry n from_one is in
+  own_delivers : (n : ℕ) → 1 ≤ n → first.out.conn ≡ n → Delivers n ⊎ (HasAsked v n × IsUnknown v n)
+  own_delivers n from_one is =
+      let took = own_entry n from_one is in
       let carries : carried_for n first.out ≡ carried (reads first.out) = subst (λ (x : ℕ). 1 ≤ x → IsHeeded (reads first.out) → carried_for x first.out ≡ carried (reads first.out)) is rights.0.carries_as_read from_one took.heeded in
       elim took.delivers [
         | inl all ↦ inl (took-taken n (sccp_in first.out.frame) ∙ all ∙ ap (λ (xs : List (List ℕ)). taken_of w n ++ xs) (sym carries))
         | inr never ↦ inr never
       ]
 
-  pub delivers-or : (n : ℕ) → 1 ≤ n → (taken_of (switch_took (sccp_in first.out.frame) w) n ≡ taken_of w n ++ carried_for n first.out) ⊎ (HasAsked v n × IsUnknown v n)
-  delivers-or n from_one = elim (cases_Bool (first.out.conn == n)) [
-    | inl hit ↦ own-delivers n from_one (eqb-true first.out.conn n hit)
-    | inr miss ↦ inl (other-delivers n from_one (eqb-false first.out.conn n miss))
+  pub delivers_or : (n : ℕ) → 1 ≤ n → (taken_of (switch_took (sccp_in first.out.frame) w) n ≡ taken_of w n ++ carried_for n first.out) ⊎ (HasAsked v n × IsUnknown v n)
+  delivers_or n from_one = elim (cases_Bool (first.out.conn == n)) [
+    | inl hit ↦ own_delivers n from_one (eqb-true first.out.conn n hit)
+    | inr miss ↦ inl (other_delivers n from_one (eqb-false first.out.conn n miss))
   ]
 
   -- one that the switch never hears of stays so
-  pub unheard-after : (n : ℕ) → 1 ≤ n → HasAsked w n → IsUnknown w n → HasAsked v n × IsUnknown v n
-  unheard-after n from_one has unknown = elim (cases_Bool (first.out.conn == n)) [
+  pub unheard_after : (n : ℕ) → 1 ≤ n → HasAsked w n → IsUnknown w n → HasAsked v n × IsUnknown v n
+  unheard_after n from_one has unknown = elim (cases_Bool (first.out.conn == n)) [
     | inl hit ↦ by (eqb-true first.out.conn n hit)
     | inr miss ↦ (
       asked_same w v n after.controller_is has,
-      same_unknown w v n (other_same first.out.conn n (eqb-false first.out.conn n miss) after effect (other-wire n (eqb-false first.out.conn n miss))) (other_keeps first.out.conn n (eqb-false first.out.conn n miss) after effect) unknown,
+      same_unknown w v n (other_same first.out.conn n (eqb-false first.out.conn n miss) after effect (other_wire n (eqb-false first.out.conn n miss))) (other_keeps first.out.conn n (eqb-false first.out.conn n miss) after effect) unknown,
     )
   ] where
     by : first.out.conn ≡ n → HasAsked v n × IsUnknown v n

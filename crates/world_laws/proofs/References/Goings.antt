@@ -13,63 +13,63 @@ use Rattle.world_laws.proofs.References.NamedRows.{named_row}
 -- ---- one row
 
 module _ (came : ℕ → Type 0) (input : Input) (put : List Message) (comes : (r : ℕ) → input ≡ inputs.ConnectionConfirm r → came r) where
-  from-early : (after : State) → FromEarly put after → Goes came put early (reach_in after)
-  from-early WaitActivation from = stays from
-  from-early WaitEstablish from = stays from
-  from-early Removed from = leaves from
-  from-early WaitConfirm from = asks from
-  from-early (Live reference stage) from = absurd from
-  from-early (Closed clearing) from = absurd from
+  from_early : (after : State) → FromEarly put after → Goes came put early (reach_in after)
+  from_early WaitActivation from = stays from
+  from_early WaitEstablish from = stays from
+  from_early Removed from = leaves from
+  from_early WaitConfirm from = asks from
+  from_early (Live reference stage) from = absurd from
+  from_early (Closed clearing) from = absurd from
 
-  from-waits : (after : State) → FromWaiting input put after → Goes came put waits (reach_in after)
-  from-waits WaitConfirm from = stays from
-  from-waits (Closed (Due cause)) from = fails tt tt from
-  from-waits Removed from = leaves from
-  from-waits (Live reference stage) from = confirmed reference tt (comes reference from.0) from.1
-  from-waits (Closed (WasAsked reference)) from = confirmed reference tt (comes reference from.0) from.1
-  from-waits (Closed Complete) from = absurd from
-  from-waits WaitActivation from = absurd from
-  from-waits WaitEstablish from = absurd from
+  from_waits : (after : State) → FromWaiting input put after → Goes came put waits (reach_in after)
+  from_waits WaitConfirm from = stays from
+  from_waits (Closed (Due cause)) from = fails tt tt from
+  from_waits Removed from = leaves from
+  from_waits (Live reference stage) from = confirmed reference tt (comes reference from.0) from.1
+  from_waits (Closed (WasAsked reference)) from = confirmed reference tt (comes reference from.0) from.1
+  from_waits (Closed Complete) from = absurd from
+  from_waits WaitActivation from = absurd from
+  from_waits WaitEstablish from = absurd from
 
-  from-due : (after : State) → FromWaiting input put after → Goes came put due (reach_in after)
-  from-due WaitConfirm from = fails tt tt from
-  from-due (Closed (Due cause)) from = stays from
-  from-due Removed from = leaves from
-  from-due (Live reference stage) from = confirmed reference tt (comes reference from.0) from.1
-  from-due (Closed (WasAsked reference)) from = confirmed reference tt (comes reference from.0) from.1
-  from-due (Closed Complete) from = absurd from
-  from-due WaitActivation from = absurd from
-  from-due WaitEstablish from = absurd from
+  from_due : (after : State) → FromWaiting input put after → Goes came put due (reach_in after)
+  from_due WaitConfirm from = fails tt tt from
+  from_due (Closed (Due cause)) from = stays from
+  from_due Removed from = leaves from
+  from_due (Live reference stage) from = confirmed reference tt (comes reference from.0) from.1
+  from_due (Closed (WasAsked reference)) from = confirmed reference tt (comes reference from.0) from.1
+  from_due (Closed Complete) from = absurd from
+  from_due WaitActivation from = absurd from
+  from_due WaitEstablish from = absurd from
 
-  from-named : (k : ℕ) (after : State) → FromNamed k put after → Goes came put (named k) (reach_in after)
-  from-named k (Live own stage) from = subst (λ (r : ℕ). Goes came put (named k) (named r)) (sym from.0) (speaks from.1)
-  from-named k (Closed (WasAsked own)) from = subst (λ (r : ℕ). Goes came put (named k) (named r)) (sym from.0) (speaks from.1)
-  from-named k (Closed Complete) from = clears from
-  from-named k Removed from = leaves from
-  from-named k (Closed (Due cause)) from = absurd from
-  from-named k WaitActivation from = absurd from
-  from-named k WaitEstablish from = absurd from
-  from-named k WaitConfirm from = absurd from
+  from_named : (k : ℕ) (after : State) → FromNamed k put after → Goes came put (named k) (reach_in after)
+  from_named k (Live own stage) from = subst (λ (r : ℕ). Goes came put (named k) (named r)) (sym from.0) (speaks from.1)
+  from_named k (Closed (WasAsked own)) from = subst (λ (r : ℕ). Goes came put (named k) (named r)) (sym from.0) (speaks from.1)
+  from_named k (Closed Complete) from = clears from
+  from_named k Removed from = leaves from
+  from_named k (Closed (Due cause)) from = absurd from
+  from_named k WaitActivation from = absurd from
+  from_named k WaitEstablish from = absurd from
+  from_named k WaitConfirm from = absurd from
 
-  from-cleared : (after : State) → FromCleared put after → Goes came put cleared (reach_in after)
-  from-cleared (Closed Complete) from = stays from
-  from-cleared Removed from = leaves from
-  from-cleared (Closed (Due cause)) from = absurd from
-  from-cleared (Closed (WasAsked own)) from = absurd from
-  from-cleared (Live own stage) from = absurd from
-  from-cleared WaitActivation from = absurd from
-  from-cleared WaitEstablish from = absurd from
-  from-cleared WaitConfirm from = absurd from
+  from_cleared : (after : State) → FromCleared put after → Goes came put cleared (reach_in after)
+  from_cleared (Closed Complete) from = stays from
+  from_cleared Removed from = leaves from
+  from_cleared (Closed (Due cause)) from = absurd from
+  from_cleared (Closed (WasAsked own)) from = absurd from
+  from_cleared (Live own stage) from = absurd from
+  from_cleared WaitActivation from = absurd from
+  from_cleared WaitEstablish from = absurd from
+  from_cleared WaitConfirm from = absurd from
 
-  goes-by : (before after : State) → From input put before after → Goes came put (reach_in before) (reach_in after)
-  goes-by WaitActivation after from = from-early after from
-  goes-by WaitEstablish after from = from-early after from
-  goes-by WaitConfirm after from = from-waits after from
-  goes-by (Live k stage) after from = from-named k after from
-  goes-by (Closed (Due cause)) after from = from-due after from
-  goes-by (Closed (WasAsked k)) after from = from-named k after from
-  goes-by (Closed Complete) after from = from-cleared after from
-  goes-by Removed after from = absurd from
+  goes_by : (before after : State) → From input put before after → Goes came put (reach_in before) (reach_in after)
+  goes_by WaitActivation after from = from_early after from
+  goes_by WaitEstablish after from = from_early after from
+  goes_by WaitConfirm after from = from_waits after from
+  goes_by (Live k stage) after from = from_named k after from
+  goes_by (Closed (Due cause)) after from = from_due after from
+  goes_by (Closed (WasAsked k)) after from = from_named k after from
+  goes_by (Closed Complete) after from = from_cleared after from
+  goes_by Removed after from = absurd from
 
 -- a connection that is removed goes
 kept-reach : (state : State) (s : Connection) → s.state ≡ state → reach_of (kept_in state s) ≡ reach_in state
@@ -102,7 +102,7 @@ acts_go {after = after} {put = put} came comes (ages old s is_time was aged sile
 acts_go came comes (opens begins linked channel request delay is_nothing none put_is same) = inl (record { is_next = begins; none = none; is_early = ap reach_of same; quiet = subst AreQuiet (sym put_is) (tt, tt) })
 acts_go {brought = brought} {after = after} {put = put} came comes (goes old s input offer r was aged by fits put_is same) =
     let from : From input r.outs s.state r.next.state = subst (OfRow (λ (q : Row). From input q.outs s.state q.next.state)) fits (named_row s input offer) in
-    let one : Goes came r.outs (reach_in s.state) (reach_in r.next.state) = goes-by came input r.outs (λ k is. comes k (subst (IsBrought brought) is by)) s.state r.next.state from in
+    let one : Goes came r.outs (reach_in s.state) (reach_in r.next.state) = goes_by came input r.outs (λ k is. comes k (subst (IsBrought brought) is by)) s.state r.next.state from in
     let own : Goes came put (reach_in s.state) (reach_in r.next.state) = subst (λ (xs : List Message). Goes came xs (reach_in s.state) (reach_in r.next.state)) (sym put_is) one in
     let whole : Goes came put (reach_in s.state) (reach_of after) = subst (λ (o : Option Connection). Goes came put (reach_in s.state) (reach_of o)) (sym same) (subst (λ (x : Reach). Goes came put (reach_in s.state) x) (sym (kept-reach r.next.state r.next refl)) own) in
     inr (subst (λ (o : Option Connection). Goes came put (reach_of o) (reach_of after)) (sym was) (subst (λ (state : State). Goes came put (reach_in state) (reach_of after)) (same_state old s aged) whole))

@@ -22,7 +22,7 @@ use Rattle.world_laws.specs.References.Reads.{carries as read_carries, clears as
 use Rattle.world_laws.specs.References.Taken.{DroppedAreUnheard, HasNotAsked, IsEarlyIn, IsUnheardOf, SwitchDeliversOrRefuses}
 use Rattle.world_laws.specs.References.Taken.{UnaskedAreUnheardOf, UnheardStayUnheard}
 use Rattle.world_laws.proofs.References.Always.{Before, names_always_agree_new, before_of, keeps}
-use Rattle.world_laws.proofs.References.FirstTaken.{IsFirst, delivers-or, first-other, first-own, names-after}
+use Rattle.world_laws.proofs.References.FirstTaken.{IsFirst, delivers_or, first-other, first-own, names_after}
 use Rattle.world_laws.proofs.References.Places.{stands_find}
 use Rattle.world_laws.proofs.References.Right.{other_carries}
 use Rattle.world_laws.proofs.References.Stepping.{none_beyond}
@@ -172,9 +172,9 @@ not_there w n (is_known less known) more = absurd (omega (arith, more, less))
 
 -- one that is there
 past_now : (w : Actors) (n : ℕ) → Agrees w n → (w.controller.next_number ≤ n → reach_of (connection_of w.controller n) ≡ gone) → reach_of (connection_of w.controller n) ≡ early → n < w.controller.next_number
-past_now w n (is_unasked (inl more) unknown) none is = absurd (gone-early (sym (none more) ∙ is)) where
-  gone-early : gone ≡ early → ⊥
-  gone-early is = absurd cc
+past_now w n (is_unasked (inl more) unknown) none is = absurd (gone_early (sym (none more) ∙ is)) where
+  gone_early : gone ≡ early → ⊥
+  gone_early is = absurd cc
 past_now w n (is_unasked (inr has) unknown) none is = has.0
 past_now w n (is_asking has way) none is = has.past
 past_now w n (is_unheard has unknown) none is = has.past
@@ -209,9 +209,9 @@ delivers_first : (w : Actors) (n : ℕ) (entries : List OutboxEntry) → 1 ≤ n
 delivers_first w n [] from_one agree few up stood = inl tt
 delivers_first w n (first ∷ others) from_one agree few up stood =
     let h : IsFirst w first others = record { agree = agree; few = few; up = up; stood = stood } in
-    elim (delivers-or w first others h n from_one) [
+    elim (delivers_or w first others h n from_one) [
       | inl all ↦ inl all
-      | inr never ↦ inr (subst (λ (v : Actors). IsUnheard v n) (sym (taken_is w first others up stood)) (to_unheard (switch_took (sccp_in first.out.frame) (with_outbox SWITCH_LINK others w)) n from_one (names-after w first others h) never))
+      | inr never ↦ inr (subst (λ (v : Actors). IsUnheard v n) (sym (taken_is w first others up stood)) (to_unheard (switch_took (sccp_in first.out.frame) (with_outbox SWITCH_LINK others w)) n from_one (names_after w first others h) never))
     ]
 
 pub switch_delivers_or_refuses_new : (settings : Parameters) (events : List Event) → SwitchDeliversOrRefuses settings events

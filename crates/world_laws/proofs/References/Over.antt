@@ -74,23 +74,23 @@ put_empty number false entries none = tt
 
 -- the controller of a world whose steps are silent
 module _ (number : ℕ) (w : Actors) (silent : (s : Step) → ComesInOctets s → IsSilent number w.controller s) where
-  put-items : (items : List Item) → AllByRecursion ComesInOctets (first_taken items) → AllByRecursion (λ (entry : OutboxEntry). carried_for number entry.out ≡ []) (outputs_at w items)
-  put-items [] own = tt
-  put-items (item ∷ items) own = entries_empty number (target_in w item.source item.what) (take item w.controller).outs (silent (steps.Take item) own.0).none
+  put_items : (items : List Item) → AllByRecursion ComesInOctets (first_taken items) → AllByRecursion (λ (entry : OutboxEntry). carried_for number entry.out ≡ []) (outputs_at w items)
+  put_items [] own = tt
+  put_items (item ∷ items) own = entries_empty number (target_in w item.source item.what) (take item w.controller).outs (silent (steps.Take item) own.0).none
 
-  put-event : (event : Event) → TakesOctets w event → AllByRecursion (λ (entry : OutboxEntry). carried_for number entry.out ≡ []) (outputs w event)
-  put-event Handle own = put-items w.inbox own
-  put-event (Tick ms) own = entries_empty number None (tick ms w.controller).outs (silent (steps.Tick ms) own.0).none
-  put-event _ own = tt
+  put_event : (event : Event) → TakesOctets w event → AllByRecursion (λ (entry : OutboxEntry). carried_for number entry.out ≡ []) (outputs w event)
+  put_event Handle own = put_items w.inbox own
+  put_event (Tick ms) own = entries_empty number None (tick ms w.controller).outs (silent (steps.Tick ms) own.0).none
+  put_event _ own = tt
 
-  stays-items : IsOver w number → (items : List Item) → AllByRecursion ComesInOctets (first_taken items) → (c : Controller) → c ≡ (each step w.controller (first_taken items)).next → IsOverIn number c
-  stays-items over [] own c is = subst (IsOverIn number) (sym is) (over.past, over.closed)
-  stays-items over (item ∷ items) own c is = let one = silent (steps.Take item) own.0 in subst (IsOverIn number) (sym is) (one.past, one.closed)
+  stays_items : IsOver w number → (items : List Item) → AllByRecursion ComesInOctets (first_taken items) → (c : Controller) → c ≡ (each step w.controller (first_taken items)).next → IsOverIn number c
+  stays_items over [] own c is = subst (IsOverIn number) (sym is) (over.past, over.closed)
+  stays_items over (item ∷ items) own c is = let one = silent (steps.Take item) own.0 in subst (IsOverIn number) (sym is) (one.past, one.closed)
 
-  stays-event : IsOver w number → (event : Event) → TakesOctets w event → (c : Controller) → c ≡ (each step w.controller (step_at w event)).next → IsOverIn number c
-  stays-event over Handle own c is = stays-items over w.inbox own c is
-  stays-event over (Tick ms) own c is = let one = silent (steps.Tick ms) own.0 in subst (IsOverIn number) (sym is) (one.past, one.closed)
-  stays-event over _ own c is = subst (IsOverIn number) (sym is) (over.past, over.closed)
+  stays_event : IsOver w number → (event : Event) → TakesOctets w event → (c : Controller) → c ≡ (each step w.controller (step_at w event)).next → IsOverIn number c
+  stays_event over Handle own c is = stays_items over w.inbox own c is
+  stays_event over (Tick ms) own c is = let one = silent (steps.Tick ms) own.0 in subst (IsOverIn number) (sym is) (one.past, one.closed)
+  stays_event over _ own c is = subst (IsOverIn number) (sym is) (over.past, over.closed)
 
 pub over_puts_no_more_new : (settings : Parameters) (events : List Event) (event : Event) → OverPutsNoMore settings events event
 over_puts_no_more_new settings events event number allowed octets own from_one over =
@@ -99,5 +99,5 @@ over_puts_no_more_new settings events event number allowed octets own from_one o
     let silent : (s : Step) → ComesInOctets s → IsSilent number w.controller s = λ s comes. subst (λ (c : Controller). IsSilent number c s) (sym lives)
     (silent_step settings (all_steps (new_actors settings) events) s number allowed octets comes from_one
     (subst (λ (c : Controller). number < c.next_number) lives over.past) (subst (λ (c : Controller). IsThere (connection_of c number) → ⊥) lives over.closed)) in
-    let after : IsOverIn number (actors_after w event).controller = stays-event number w silent over event own (actors_after w event).controller (moves settings events event ∙ ap (λ (c : Controller). (each step c (step_at w event)).next) (sym lives)) in
-    (put_empty number (is_up w SWITCH_LINK) (outputs w event) (put-event number w silent event own), record { past = after.0; closed = after.1 })
+    let after : IsOverIn number (actors_after w event).controller = stays_event number w silent over event own (actors_after w event).controller (moves settings events event ∙ ap (λ (c : Controller). (each step c (step_at w event)).next) (sym lives)) in
+    (put_empty number (is_up w SWITCH_LINK) (outputs w event) (put_event number w silent event own), record { past = after.0; closed = after.1 })

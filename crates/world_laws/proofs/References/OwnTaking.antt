@@ -112,10 +112,10 @@ module _ (w v : Actors) (others : List OutboxEntry) (n : ℕ) (three : n < 2 ^ 2
     knows = asked_knows (REFERENCE_BASE + (length w.switch.connections + 1)) (reach_of (controllers v.controller n)) (asked_same w v n after.controller_is has).asked;
   }
 
-  pub own-asks : (user message : List ℕ) (cell : CellIdentifier) → message_in user ≡ Some (Management (bssmap.CompleteLayer3Information cell message))
+  pub own_asks : (user message : List ℕ) (cell : CellIdentifier) → message_in user ≡ Some (Management (bssmap.CompleteLayer3Information cell message))
       → After w v others (connections_after w.switch.modulus w.switch.connections (ConnectionRequest n (Some user))) (replies w.switch.connections (ConnectionRequest n (Some user)))
       → Took w v n (connections_after w.switch.modulus w.switch.connections (ConnectionRequest n (Some user))) (replies w.switch.connections (ConnectionRequest n (Some user))) (asks n message)
-  own-asks user message cell read = by (nat_le CONNECTION_LIMIT (length w.switch.connections)) refl where
+  own_asks user message cell read = by (nat_le CONNECTION_LIMIT (length w.switch.connections)) refl where
     takes : taken_in (find (is_of_peer n) (w.switch.connections ++ fresh w.switch.modulus w.switch.connections n user ∷ [])) ≡ taken_of w n ++ message ∷ []
     takes = ap taken_in (stands_find n (length w.switch.connections) (fresh w.switch.modulus w.switch.connections n user) (w.switch.connections ++ fresh w.switch.modulus w.switch.connections n user ∷ []) (push_own n w.switch.connections (fresh w.switch.modulus w.switch.connections n user) none refl)) ∙ ap initial_message_of read
         ∙ sym (ap (λ (o : Option Connection). taken_in o ++ message ∷ []) none)
@@ -190,17 +190,17 @@ module _ (w v : Actors) (others : List OutboxEntry) (n : ℕ) (past : n < w.cont
   reference : ℕ
   reference = REFERENCE_BASE + (known.place + 1)
 
-  confirms-no : (P : ℕ → Type 0) (message : Sccp) → IsNoConfirm message → ConfirmsBy P n message
-  confirms-no P (ConnectionConfirm destination source) none = absurd none
-  confirms-no P (ConnectionRequest source user) none = tt
-  confirms-no P (ConnectionRefused destination) none = tt
-  confirms-no P (Released destination source) none = tt
-  confirms-no P (ReleaseComplete destination source) none = tt
-  confirms-no P (DataForm1 destination user) none = tt
+  confirms_no : (P : ℕ → Type 0) (message : Sccp) → IsNoConfirm message → ConfirmsBy P n message
+  confirms_no P (ConnectionConfirm destination source) none = absurd none
+  confirms_no P (ConnectionRequest source user) none = tt
+  confirms_no P (ConnectionRefused destination) none = tt
+  confirms_no P (Released destination source) none = tt
+  confirms_no P (ReleaseComplete destination source) none = tt
+  confirms_no P (DataForm1 destination user) none = tt
 
-  known-changes : (next : Connection) (r : Read) (o : Option Sccp) → is_over known.of.stage ≡ false → IsHeeded r → Lived known.of next r o → Runs (REFERENCE_BASE + (known.place + 1)) (over_after (is_over known.of.stage) r) (reads_of n others) known.last
+  known_changes : (next : Connection) (r : Read) (o : Option Sccp) → is_over known.of.stage ≡ false → IsHeeded r → Lived known.of next r o → Runs (REFERENCE_BASE + (known.place + 1)) (over_after (is_over known.of.stage) r) (reads_of n others) known.last
       → After w v others (slice_set w.switch.connections known.place next) (option_to_list o) → Took w v n (slice_set w.switch.connections known.place next) (option_to_list o) r
-  known-changes next r o living heeded lives runs after =
+  known_changes next r o living heeded lives runs after =
       let peer : next.peer ≡ n = lives.peer ∙ stands_peer n known.place known.of w.switch.connections known.stands in
       let now = set_own n known.place known.of next w.switch.connections known.stands peer in
       record {
@@ -213,7 +213,7 @@ module _ (w v : Actors) (others : List OutboxEntry) (n : ℕ) (past : n < w.cont
           fits = known.fits;
           runs = subst (λ (entries : List OutboxEntry). Runs (REFERENCE_BASE + (known.place + 1)) (is_over next.stage) (reads_of n entries) known.last) (sym after.rest)
               (subst (λ (b : Bool). Runs (REFERENCE_BASE + (known.place + 1)) b (reads_of n others) known.last) (ap (λ (b : Bool). over_after b r) living ∙ sym lives.stage) runs);
-          confirmed = confirms_after (Only (REFERENCE_BASE + (known.place + 1))) n after known.confirmed (AllByRecursion-so IsNoConfirm (ConfirmsBy (Only (REFERENCE_BASE + (known.place + 1))) n) (confirms-no (Only (REFERENCE_BASE + (known.place + 1)))) (option_to_list o) lives.none);
+          confirmed = confirms_after (Only (REFERENCE_BASE + (known.place + 1))) n after known.confirmed (AllByRecursion-so IsNoConfirm (ConfirmsBy (Only (REFERENCE_BASE + (known.place + 1))) n) (confirms_no (Only (REFERENCE_BASE + (known.place + 1)))) (option_to_list o) lives.none);
           knows = subst (λ (c : Controller). Knows (REFERENCE_BASE + (known.place + 1)) known.last (reach_of (controllers c n))) (sym after.controller_is) known.knows;
         });
         delivers = inl (ap taken_in (stands_find n known.place next (slice_set w.switch.connections known.place next) now) ∙ lives.takes
@@ -221,11 +221,11 @@ module _ (w v : Actors) (others : List OutboxEntry) (n : ℕ) (past : n < w.cont
         heeded = heeded;
       }
 
-  pub own-data : (user : List ℕ) (q : Bssap) → message_in user ≡ Some q → is_over known.of.stage ≡ false → IsHeeded (data_read (REFERENCE_BASE + (known.place + 1)) (Some q))
+  pub own_data : (user : List ℕ) (q : Bssap) → message_in user ≡ Some q → is_over known.of.stage ≡ false → IsHeeded (data_read (REFERENCE_BASE + (known.place + 1)) (Some q))
       → Runs (REFERENCE_BASE + (known.place + 1)) (over_after (is_over known.of.stage) (data_read (REFERENCE_BASE + (known.place + 1)) (Some q))) (reads_of n others) known.last
       → After w v others (connections_after w.switch.modulus w.switch.connections (DataForm1 (REFERENCE_BASE + (known.place + 1)) user)) (replies w.switch.connections (DataForm1 (REFERENCE_BASE + (known.place + 1)) user))
       → Took w v n (connections_after w.switch.modulus w.switch.connections (DataForm1 (REFERENCE_BASE + (known.place + 1)) user)) (replies w.switch.connections (DataForm1 (REFERENCE_BASE + (known.place + 1)) user)) (data_read (REFERENCE_BASE + (known.place + 1)) (Some q))
-  own-data user q read living heeded runs after =
+  own_data user q read living heeded runs after =
       let k : ℕ = REFERENCE_BASE + (known.place + 1) in
       let cs : List Connection = w.switch.connections in
       let slot : connection_of cs (k - REFERENCE_BASE) ≡ Some known.of = stands_slot n known.place known.of cs known.stands in
@@ -240,4 +240,4 @@ module _ (w v : Actors) (others : List OutboxEntry) (n : ℕ) (past : n < w.cont
       subst (λ (xs : List Sccp). After w v others (slice_set cs known.place (connection_after known.of q)) xs) reps (subst (λ (xs : List Connection). After w v others xs (replies cs (DataForm1 k user))) conns after) in
       subst (λ (xs : List Connection). Took w v n xs (replies cs (DataForm1 k user)) (data_read k (Some q))) (sym conns)
       (subst (λ (xs : List Sccp). Took w v n (slice_set cs known.place (connection_after known.of q)) xs (data_read k (Some q))) (sym reps)
-      (known-changes (connection_after known.of q) (data_read k (Some q)) (reply_of known.of q) living heeded lives runs now))
+      (known_changes (connection_after known.of q) (data_read k (Some q)) (reply_of known.of q) living heeded lives runs now))

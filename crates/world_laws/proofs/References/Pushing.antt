@@ -80,48 +80,48 @@ confirm_read d s first second =
 -- ---- words
 
 module _ (P : ℕ → Type 0) (n : ℕ) where
-  of-management : (number : ℕ) (message : Bssmap) → ConfirmsIn P n (management_word number message)
-  of-management number (bssmap.AssignmentRequest channel_type) = tt
-  of-management number (bssmap.ClearCommand cause) = tt
-  of-management number bssmap.CipherModeCommand = tt
-  of-management number _ = tt
+  of_management : (number : ℕ) (message : Bssmap) → ConfirmsIn P n (management_word number message)
+  of_management number (bssmap.AssignmentRequest channel_type) = tt
+  of_management number (bssmap.ClearCommand cause) = tt
+  of_management number bssmap.CipherModeCommand = tt
+  of_management number _ = tt
 
-  of-bssap : (number : ℕ) (r : Result Bssap InterfaceFault) → ConfirmsIn P n (bssap_word number r)
-  of-bssap number (Ok (Management message)) = of-management number message
-  of-bssap number (Ok (Transfer dlci message)) = tt
-  of-bssap number (Err fault) = tt
+  of_bssap : (number : ℕ) (r : Result Bssap InterfaceFault) → ConfirmsIn P n (bssap_word number r)
+  of_bssap number (Ok (Management message)) = of_management number message
+  of_bssap number (Ok (Transfer dlci message)) = tt
+  of_bssap number (Err fault) = tt
 
-  of-other : (r : Result Sccp InterfaceFault) → ((m : Sccp) → r ≡ Ok m → type_of m ≡ kinds.ConnectionConfirm → ⊥) → ConfirmsIn P n (switch_word r)
-  of-other (Ok (ConnectionConfirm d s)) other = absurd (other (ConnectionConfirm d s) refl refl)
-  of-other (Ok (ConnectionRefused d)) other = tt
-  of-other (Ok (Released d s)) other = tt
-  of-other (Ok (DataForm1 d user)) other = of-bssap d (bssap_reading user)
-  of-other (Ok (ConnectionRequest s user)) other = tt
-  of-other (Ok (ReleaseComplete d s)) other = tt
-  of-other (Err fault) other = tt
+  of_other : (r : Result Sccp InterfaceFault) → ((m : Sccp) → r ≡ Ok m → type_of m ≡ kinds.ConnectionConfirm → ⊥) → ConfirmsIn P n (switch_word r)
+  of_other (Ok (ConnectionConfirm d s)) other = absurd (other (ConnectionConfirm d s) refl refl)
+  of_other (Ok (ConnectionRefused d)) other = tt
+  of_other (Ok (Released d s)) other = tt
+  of_other (Ok (DataForm1 d user)) other = of_bssap d (bssap_reading user)
+  of_other (Ok (ConnectionRequest s user)) other = tt
+  of_other (Ok (ReleaseComplete d s)) other = tt
+  of_other (Err fault) other = tt
 
-  read-other : (message : Sccp) → (type_of message ≡ kinds.ConnectionConfirm → ⊥) → ConfirmsIn P n (switch_word (sccp_reading (sccp_text message)))
-  read-other message other = of-other (sccp_reading (sccp_text message)) (λ m is kind. other (sym (content_kind (type_of message) (content_text message) m (sym (text-content message) ∙ is)) ∙ kind))
+  read_other : (message : Sccp) → (type_of message ≡ kinds.ConnectionConfirm → ⊥) → ConfirmsIn P n (switch_word (sccp_reading (sccp_text message)))
+  read_other message other = of_other (sccp_reading (sccp_text message)) (λ m is kind. other (sym (content_kind (type_of message) (content_text message) m (sym (text-content message) ∙ is)) ∙ kind))
 
-  read-made : (message : Sccp) → ConfirmsBy P n message → ConfirmsIn P n (switch_word (sccp_reading (sccp_text message)))
-  read-made (ConnectionConfirm d s) confirms = subst (λ (r : Result Sccp InterfaceFault). ConfirmsIn P n (switch_word r)) (sym (confirm_read d s confirms.0 confirms.1)) confirms.2
-  read-made (ConnectionRequest s user) confirms = read-other (ConnectionRequest s user) (λ is. absurd cc)
-  read-made (ConnectionRefused d) confirms = read-other (ConnectionRefused d) (λ is. absurd cc)
-  read-made (Released d s) confirms = read-other (Released d s) (λ is. absurd cc)
-  read-made (ReleaseComplete d s) confirms = read-other (ReleaseComplete d s) (λ is. absurd cc)
-  read-made (DataForm1 d user) confirms = read-other (DataForm1 d user) (λ is. absurd cc)
+  read_made : (message : Sccp) → ConfirmsBy P n message → ConfirmsIn P n (switch_word (sccp_reading (sccp_text message)))
+  read_made (ConnectionConfirm d s) confirms = subst (λ (r : Result Sccp InterfaceFault). ConfirmsIn P n (switch_word r)) (sym (confirm_read d s confirms.0 confirms.1)) confirms.2
+  read_made (ConnectionRequest s user) confirms = read_other (ConnectionRequest s user) (λ is. absurd cc)
+  read_made (ConnectionRefused d) confirms = read_other (ConnectionRefused d) (λ is. absurd cc)
+  read_made (Released d s) confirms = read_other (Released d s) (λ is. absurd cc)
+  read_made (ReleaseComplete d s) confirms = read_other (ReleaseComplete d s) (λ is. absurd cc)
+  read_made (DataForm1 d user) confirms = read_other (DataForm1 d user) (λ is. absurd cc)
 
   pub switch-item : (message : Sccp) → ConfirmsBy P n message → ConfirmsBeing P n (switch_item message)
   unfolding word_of
-  switch-item message confirms = read-made message confirms
+  switch-item message confirms = read_made message confirms
 
-  of-station : (source : ℕ) (word : Word) → source ≢ SWITCH_LINK → IsFrom source word → ConfirmsIn P n word
-  of-station source (OnConnection d input) station from = absurd (station from.0)
-  of-station source Nothing station from = tt
-  of-station source Ping station from = tt
-  of-station source (Asks request delay) station from = tt
-  of-station source (OnChannel at input) station from = tt
-  of-station source (Reports at number report) station from = tt
+  of_station : (source : ℕ) (word : Word) → source ≢ SWITCH_LINK → IsFrom source word → ConfirmsIn P n word
+  of_station source (OnConnection d input) station from = absurd (station from.0)
+  of_station source Nothing station from = tt
+  of_station source Ping station from = tt
+  of_station source (Asks request delay) station from = tt
+  of_station source (OnChannel at input) station from = tt
+  of_station source (Reports at number report) station from = tt
 
   pub station-item : (source : ℕ) (message : Rsl) → source ≢ SWITCH_LINK → ConfirmsBeing P n (station_item source message)
-  station-item source message station = of-station source (word_by source (station_item source message).what) station (word_from source _)
+  station-item source message station = of_station source (word_by source (station_item source message).what) station (word_from source _)

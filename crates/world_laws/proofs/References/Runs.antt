@@ -117,71 +117,71 @@ unnamed_knows k last cleared un is = absurd un
 unnamed_knows k last gone un is = absurd un
 
 module _ (w v : Actors) (n : ℕ) (put : List Message) (more : List Read) (grows : Grows w v n more) (keeps : (P : ℕ → Type 0) → Confirms P w n → Confirms P v n) (says : Says n put more) where
-  none-there : find (is_of_peer n) w.switch.connections ≡ None → find (is_of_peer n) v.switch.connections ≡ None
-  none-there none = subst (λ (s : SwitchState). find (is_of_peer n) s.connections ≡ None) (sym grows.same) none
+  none_there : find (is_of_peer n) w.switch.connections ≡ None → find (is_of_peer n) v.switch.connections ≡ None
+  none_there none = subst (λ (s : SwitchState). find (is_of_peer n) s.connections ≡ None) (sym grows.same) none
 
-  unknown-more : IsUnknown w n → AreNothing more → IsUnknown v n
-  unknown-more unknown quiet = record {
-    none = none-there unknown.none;
+  unknown_more : IsUnknown w n → AreNothing more → IsUnknown v n
+  unknown_more unknown quiet = record {
+    none = none_there unknown.none;
     quiet = subst AreNothing (sym grows.all) (nothing_more (reads_of n (outbox_of w SWITCH_LINK)) more unknown.quiet quiet);
     unconfirmed = keeps Never unknown.unconfirmed;
   }
 
-  on-way : IsOnItsWay w n → AreNothing more → IsOnItsWay v n
-  on-way way quiet = record {
-    none = none-there way.none;
+  on_way : IsOnItsWay w n → AreNothing more → IsOnItsWay v n
+  on_way way quiet = record {
+    none = none_there way.none;
     once = subst (AsksOnce n) (sym grows.all) (asks_more n (reads_of n (outbox_of w SWITCH_LINK)) more way.once quiet);
     unconfirmed = keeps Never way.unconfirmed;
   }
 
   -- it begins
-  pub begins-agree : Begins w.controller.next_number n put (connection_of w.controller n) (connection_of v.controller n) → Agrees w n → Agrees v n
-  begins-agree begins (is_unasked un unknown) = is_unasked (inr (grows.there begins.is_early, begins.is_early)) (unknown-more unknown (says.quiet begins.quiet))
-  begins-agree begins (is_asking has way) = absurd (let past = has.past in let is = begins.is_next in omega (arith, past, is))
-  begins-agree begins (is_unheard has unknown) = absurd (let past = has.past in let is = begins.is_next in omega (arith, past, is))
-  begins-agree begins (is_known past known) = absurd (let is = begins.is_next in omega (arith, past, is))
+  pub begins_agree : Begins w.controller.next_number n put (connection_of w.controller n) (connection_of v.controller n) → Agrees w n → Agrees v n
+  begins_agree begins (is_unasked un unknown) = is_unasked (inr (grows.there begins.is_early, begins.is_early)) (unknown_more unknown (says.quiet begins.quiet))
+  begins_agree begins (is_asking has way) = absurd (let past = has.past in let is = begins.is_next in omega (arith, past, is))
+  begins_agree begins (is_unheard has unknown) = absurd (let past = has.past in let is = begins.is_next in omega (arith, past, is))
+  begins_agree begins (is_known past known) = absurd (let is = begins.is_next in omega (arith, past, is))
 
-  past-more : n < w.controller.next_number → n < v.controller.next_number
-  past-more past = let rises = grows.numbers in omega (arith, past, rises)
+  past_more : n < w.controller.next_number → n < v.controller.next_number
+  past_more past = let rises = grows.numbers in omega (arith, past, rises)
 
-  has-asked : n < w.controller.next_number → (b : Reach) → reach_of (connection_of v.controller n) ≡ b → IsAsked b → HasAsked v n
-  has-asked past b is asked = record { past = past-more past; asked = subst IsAsked (sym is) asked }
+  has_asked : n < w.controller.next_number → (b : Reach) → reach_of (connection_of v.controller n) ≡ b → IsAsked b → HasAsked v n
+  has_asked past b is asked = record { past = past_more past; asked = subst IsAsked (sym is) asked }
 
   -- it wasn't there
-  goes-none : IsUnknown w n → (b : Reach) → reach_of (connection_of v.controller n) ≡ b → IsAsked b → AreNothing more → Agrees v n
-  goes-none unknown b is asked quiet = elim (cases_Bool (nat_le v.controller.next_number n)) [
-    | inl hit ↦ is_unasked (inl (leb-true v.controller.next_number n hit)) (unknown-more unknown quiet)
-    | inr miss ↦ is_unheard (record { past = less miss; asked = subst IsAsked (sym is) asked }) (unknown-more unknown quiet)
+  goes_none : IsUnknown w n → (b : Reach) → reach_of (connection_of v.controller n) ≡ b → IsAsked b → AreNothing more → Agrees v n
+  goes_none unknown b is asked quiet = elim (cases_Bool (nat_le v.controller.next_number n)) [
+    | inl hit ↦ is_unasked (inl (leb-true v.controller.next_number n hit)) (unknown_more unknown quiet)
+    | inr miss ↦ is_unheard (record { past = less miss; asked = subst IsAsked (sym is) asked }) (unknown_more unknown quiet)
   ] where
     less : nat_le v.controller.next_number n ≡ false → n < v.controller.next_number
     less miss = grind (arith, miss)
 
-  asking-now : n < w.controller.next_number → IsUnknown w n → (b : Reach) → reach_of (connection_of v.controller n) ≡ b → IsAsked b → (more ≡ []) ⊎ ((message : List ℕ) × (more ≡ read_asks n message ∷ [])) → Agrees v n
-  asking-now past unknown b is asked (inl none) = is_unheard (has-asked past b is asked) (unknown-more unknown (subst AreNothing (sym none) tt))
-  asking-now past unknown b is asked (inr (message, one)) = is_asking (has-asked past b is asked) (record {
-    none = none-there unknown.none;
+  asking_now : n < w.controller.next_number → IsUnknown w n → (b : Reach) → reach_of (connection_of v.controller n) ≡ b → IsAsked b → (more ≡ []) ⊎ ((message : List ℕ) × (more ≡ read_asks n message ∷ [])) → Agrees v n
+  asking_now past unknown b is asked (inl none) = is_unheard (has_asked past b is asked) (unknown_more unknown (subst AreNothing (sym none) tt))
+  asking_now past unknown b is asked (inr (message, one)) = is_asking (has_asked past b is asked) (record {
+    none = none_there unknown.none;
     once = subst (AsksOnce n) (sym (grows.all ∙ ap (λ (xs : List Read). reads_of n (outbox_of w SWITCH_LINK) ++ xs) one)) (asks_behind n message (reads_of n (outbox_of w SWITCH_LINK)) unknown.quiet);
     unconfirmed = keeps Never unknown.unconfirmed;
   })
 
   module _ (came : ℕ → Type 0) (told : (P : ℕ → Type 0) → Confirms P w n → (r : ℕ) → came r → P r) where
-    goes-early : n < w.controller.next_number → IsUnknown w n → {a b : Reach} → early ≡ a → reach_of (connection_of v.controller n) ≡ b → Goes came put a b → Agrees v n
-    goes-early past unknown from to (stays quiet) = is_unasked (inr (past-more past, to ∙ sym from)) (unknown-more unknown (says.quiet quiet))
-    goes-early past unknown from to (leaves quiet) = is_unheard (has-asked past gone to tt) (unknown-more unknown (says.quiet quiet))
-    goes-early past unknown {a} from to (fails un_a un_b quiet) = absurd (early_unnamed a from un_a)
-    goes-early past unknown from to (asks asking) = asking-now past unknown waits to tt (says.asking asking)
-    goes-early past unknown {a} from to (confirmed k un_a comes plain) = absurd (early_unnamed a from un_a)
-    goes-early past unknown from to (speaks {reference = k} plain) = absurd (early_named k from)
-    goes-early past unknown from to (clears {reference = k} clearing) = absurd (early_named k from)
+    goes_early : n < w.controller.next_number → IsUnknown w n → {a b : Reach} → early ≡ a → reach_of (connection_of v.controller n) ≡ b → Goes came put a b → Agrees v n
+    goes_early past unknown from to (stays quiet) = is_unasked (inr (past_more past, to ∙ sym from)) (unknown_more unknown (says.quiet quiet))
+    goes_early past unknown from to (leaves quiet) = is_unheard (has_asked past gone to tt) (unknown_more unknown (says.quiet quiet))
+    goes_early past unknown {a} from to (fails un_a un_b quiet) = absurd (early_unnamed a from un_a)
+    goes_early past unknown from to (asks asking) = asking_now past unknown waits to tt (says.asking asking)
+    goes_early past unknown {a} from to (confirmed k un_a comes plain) = absurd (early_unnamed a from un_a)
+    goes_early past unknown from to (speaks {reference = k} plain) = absurd (early_named k from)
+    goes_early past unknown from to (clears {reference = k} clearing) = absurd (early_named k from)
 
-    goes-asked : {a b : Reach} → Confirms Never w n → IsAsked a → Goes came put a b → IsAsked b × AreNothing more
-    goes-asked un asked (stays quiet) = (asked, says.quiet quiet)
-    goes-asked un asked (leaves quiet) = (tt, says.quiet quiet)
-    goes-asked {b = b} un asked (fails un_a un_b quiet) = (asked_unnamed b un_b, says.quiet quiet)
-    goes-asked un asked (asks asking) = absurd asked
-    goes-asked un asked (confirmed k un_a comes plain) = absurd (told Never un k comes)
-    goes-asked un asked (speaks plain) = absurd asked
-    goes-asked un asked (clears clearing) = absurd asked
+    goes_asked : {a b : Reach} → Confirms Never w n → IsAsked a → Goes came put a b → IsAsked b × AreNothing more
+    goes_asked un asked (stays quiet) = (asked, says.quiet quiet)
+    goes_asked un asked (leaves quiet) = (tt, says.quiet quiet)
+    goes_asked {b = b} un asked (fails un_a un_b quiet) = (asked_unnamed b un_b, says.quiet quiet)
+    goes_asked un asked (asks asking) = absurd asked
+    goes_asked un asked (confirmed k un_a comes plain) = absurd (told Never un k comes)
+    goes_asked un asked (speaks plain) = absurd asked
+    goes_asked un asked (clears clearing) = absurd asked
 
     -- the last flag, how it runs on, and what it knows then
     record RunsOn (known : IsKnown w n) (b : Reach) : Type 0 where
@@ -189,40 +189,40 @@ module _ (w v : Actors) (n : ℕ) (put : List Message) (more : List Read) (grows
       on : Runs (REFERENCE_BASE + (known.place + 1)) known.last more then_last
       knows_then : Knows (REFERENCE_BASE + (known.place + 1)) then_last b
 
-    plain-on : (known : IsKnown w n) → known.last ≡ false → ArePlainReads (REFERENCE_BASE + (known.place + 1)) more → (r : ℕ) → r ≡ REFERENCE_BASE + (known.place + 1) → RunsOn known (named r)
-    plain-on known unclear plain r is = record {
+    plain_on : (known : IsKnown w n) → known.last ≡ false → ArePlainReads (REFERENCE_BASE + (known.place + 1)) more → (r : ℕ) → r ≡ REFERENCE_BASE + (known.place + 1) → RunsOn known (named r)
+    plain_on known unclear plain r is = record {
       then_last = false;
       on = subst (λ (b : Bool). Runs (REFERENCE_BASE + (known.place + 1)) b more false) (sym unclear) (plain_runs (REFERENCE_BASE + (known.place + 1)) more plain);
       knows_then = (is, refl);
     }
 
-    clear-on : (known : IsKnown w n) → known.last ≡ false → (more ≡ []) ⊎ ((qs : List Read) × AreNothing qs × (more ≡ qs ++ read_clears (REFERENCE_BASE + (known.place + 1)) ∷ [])) → RunsOn known cleared
-    clear-on known unclear (inl none) = record { then_last = known.last; on = subst (λ (xs : List Read). Runs (REFERENCE_BASE + (known.place + 1)) known.last xs known.last) (sym none) refl; knows_then = tt }
-    clear-on known unclear (inr (qs, quiet, are)) = record {
+    clear_on : (known : IsKnown w n) → known.last ≡ false → (more ≡ []) ⊎ ((qs : List Read) × AreNothing qs × (more ≡ qs ++ read_clears (REFERENCE_BASE + (known.place + 1)) ∷ [])) → RunsOn known cleared
+    clear_on known unclear (inl none) = record { then_last = known.last; on = subst (λ (xs : List Read). Runs (REFERENCE_BASE + (known.place + 1)) known.last xs known.last) (sym none) refl; knows_then = tt }
+    clear_on known unclear (inr (qs, quiet, are)) = record {
       then_last = true;
       on = subst (λ (xs : List Read). Runs (REFERENCE_BASE + (known.place + 1)) known.last xs true) (sym are)
           (subst (λ (b : Bool). Runs (REFERENCE_BASE + (known.place + 1)) b (qs ++ read_clears (REFERENCE_BASE + (known.place + 1)) ∷ []) true) (sym unclear) (clear_runs (REFERENCE_BASE + (known.place + 1)) qs quiet));
       knows_then = tt;
     }
 
-    quiet-on : (known : IsKnown w n) (b : Reach) → Knows (REFERENCE_BASE + (known.place + 1)) known.last b → AreNothing more → RunsOn known b
-    quiet-on known b knows quiet = record { then_last = known.last; on = quiet_runs (REFERENCE_BASE + (known.place + 1)) known.last more quiet; knows_then = knows }
+    quiet_on : (known : IsKnown w n) (b : Reach) → Knows (REFERENCE_BASE + (known.place + 1)) known.last b → AreNothing more → RunsOn known b
+    quiet_on known b knows quiet = record { then_last = known.last; on = quiet_runs (REFERENCE_BASE + (known.place + 1)) known.last more quiet; knows_then = knows }
 
-    goes-known : (known : IsKnown w n) {a b : Reach} → Knows (REFERENCE_BASE + (known.place + 1)) known.last a → Goes came put a b → RunsOn known b
-    goes-known known {a} knows (stays quiet) = quiet-on known a knows (says.quiet quiet)
-    goes-known known knows (leaves quiet) = quiet-on known gone tt (says.quiet quiet)
-    goes-known known {a} {b} knows (fails un_a un_b quiet) = quiet-on known b (unnamed_knows (REFERENCE_BASE + (known.place + 1)) known.last b un_b (knows_unnamed (REFERENCE_BASE + (known.place + 1)) known.last a un_a knows)) (says.quiet quiet)
-    goes-known known knows (asks asking) = absurd knows
-    goes-known known {a} knows (confirmed k un_a comes plain) =
+    goes_known : (known : IsKnown w n) {a b : Reach} → Knows (REFERENCE_BASE + (known.place + 1)) known.last a → Goes came put a b → RunsOn known b
+    goes_known known {a} knows (stays quiet) = quiet_on known a knows (says.quiet quiet)
+    goes_known known knows (leaves quiet) = quiet_on known gone tt (says.quiet quiet)
+    goes_known known {a} {b} knows (fails un_a un_b quiet) = quiet_on known b (unnamed_knows (REFERENCE_BASE + (known.place + 1)) known.last b un_b (knows_unnamed (REFERENCE_BASE + (known.place + 1)) known.last a un_a knows)) (says.quiet quiet)
+    goes_known known knows (asks asking) = absurd knows
+    goes_known known {a} knows (confirmed k un_a comes plain) =
         let is : k ≡ REFERENCE_BASE + (known.place + 1) = told (Only (REFERENCE_BASE + (known.place + 1))) known.confirmed k comes in
-        plain-on known (knows_unnamed (REFERENCE_BASE + (known.place + 1)) known.last a un_a knows) (says.plain (REFERENCE_BASE + (known.place + 1)) known.fits (subst (λ (x : ℕ). ArePlain x put) is plain)) k is
-    goes-known known knows (speaks {reference = k} plain) =
-        plain-on known knows.1 (says.plain (REFERENCE_BASE + (known.place + 1)) known.fits (subst (λ (x : ℕ). ArePlain x put) knows.0 plain)) k knows.0
-    goes-known known knows (clears {reference = k} clearing) =
-        clear-on known knows.1 (says.clearing (REFERENCE_BASE + (known.place + 1)) known.fits (subst (λ (x : ℕ). IsClearing x put) knows.0 clearing))
+        plain_on known (knows_unnamed (REFERENCE_BASE + (known.place + 1)) known.last a un_a knows) (says.plain (REFERENCE_BASE + (known.place + 1)) known.fits (subst (λ (x : ℕ). ArePlain x put) is plain)) k is
+    goes_known known knows (speaks {reference = k} plain) =
+        plain_on known knows.1 (says.plain (REFERENCE_BASE + (known.place + 1)) known.fits (subst (λ (x : ℕ). ArePlain x put) knows.0 plain)) k knows.0
+    goes_known known knows (clears {reference = k} clearing) =
+        clear_on known knows.1 (says.clearing (REFERENCE_BASE + (known.place + 1)) known.fits (subst (λ (x : ℕ). IsClearing x put) knows.0 clearing))
 
-    known-more : (known : IsKnown w n) (b : Reach) → reach_of (connection_of v.controller n) ≡ b → RunsOn known b → IsKnown v n
-    known-more known b to on = record {
+    known_more : (known : IsKnown w n) (b : Reach) → reach_of (connection_of v.controller n) ≡ b → RunsOn known b → IsKnown v n
+    known_more known b to on = record {
       place = known.place;
       of = known.of;
       last = on.then_last;
@@ -235,34 +235,34 @@ module _ (w v : Actors) (n : ℕ) (put : List Message) (more : List Read) (grows
     }
 
     -- one that wasn't there, or is gone, stays so
-    goes-beyond : w.controller.next_number ≤ n → reach_of (connection_of w.controller n) ≡ gone → IsUnknown w n → Goes came put (reach_of (connection_of w.controller n)) (reach_of (connection_of v.controller n)) → Agrees v n
-    goes-beyond beyond none unknown goes =
-        let on = goes-asked {a = gone} {b = reach_of (connection_of v.controller n)} unknown.unconfirmed tt (subst (λ (a : Reach). Goes came put a (reach_of (connection_of v.controller n))) none goes) in
-        goes-none unknown (reach_of (connection_of v.controller n)) refl on.0 on.1
+    goes_beyond : w.controller.next_number ≤ n → reach_of (connection_of w.controller n) ≡ gone → IsUnknown w n → Goes came put (reach_of (connection_of w.controller n)) (reach_of (connection_of v.controller n)) → Agrees v n
+    goes_beyond beyond none unknown goes =
+        let on = goes_asked {a = gone} {b = reach_of (connection_of v.controller n)} unknown.unconfirmed tt (subst (λ (a : Reach). Goes came put a (reach_of (connection_of v.controller n))) none goes) in
+        goes_none unknown (reach_of (connection_of v.controller n)) refl on.0 on.1
 
-    pub goes-agree : (w.controller.next_number ≤ n → reach_of (connection_of w.controller n) ≡ gone) → Goes came put (reach_of (connection_of w.controller n)) (reach_of (connection_of v.controller n)) → Agrees w n → Agrees v n
-    goes-agree none goes (is_unasked (inl beyond) unknown) = goes-beyond beyond (none beyond) unknown goes
-    goes-agree none goes (is_unasked (inr (past, is)) unknown) = goes-early past unknown (sym is) refl goes
-    goes-agree none goes (is_asking has way) =
-        let on = goes-asked way.unconfirmed has.asked goes in
-        is_asking (has-asked has.past (reach_of (connection_of v.controller n)) refl on.0) (on-way way on.1)
-    goes-agree none goes (is_unheard has unknown) =
-        let on = goes-asked unknown.unconfirmed has.asked goes in
-        is_unheard (has-asked has.past (reach_of (connection_of v.controller n)) refl on.0) (unknown-more unknown on.1)
-    goes-agree none goes (is_known past known) = is_known (past-more past) (known-more known (reach_of (connection_of v.controller n)) refl (goes-known known known.knows goes))
+    pub goes_agree : (w.controller.next_number ≤ n → reach_of (connection_of w.controller n) ≡ gone) → Goes came put (reach_of (connection_of w.controller n)) (reach_of (connection_of v.controller n)) → Agrees w n → Agrees v n
+    goes_agree none goes (is_unasked (inl beyond) unknown) = goes_beyond beyond (none beyond) unknown goes
+    goes_agree none goes (is_unasked (inr (past, is)) unknown) = goes_early past unknown (sym is) refl goes
+    goes_agree none goes (is_asking has way) =
+        let on = goes_asked way.unconfirmed has.asked goes in
+        is_asking (has_asked has.past (reach_of (connection_of v.controller n)) refl on.0) (on_way way on.1)
+    goes_agree none goes (is_unheard has unknown) =
+        let on = goes_asked unknown.unconfirmed has.asked goes in
+        is_unheard (has_asked has.past (reach_of (connection_of v.controller n)) refl on.0) (unknown_more unknown on.1)
+    goes_agree none goes (is_known past known) = is_known (past_more past) (known_more known (reach_of (connection_of v.controller n)) refl (goes_known known known.knows goes))
 
     -- one that the switch never hears of stays so
-    pub goes-unheard : Goes came put (reach_of (connection_of w.controller n)) (reach_of (connection_of v.controller n)) → HasAsked w n → IsUnknown w n → HasAsked v n × IsUnknown v n
-    goes-unheard goes has unknown =
-        let on = goes-asked unknown.unconfirmed has.asked goes in
-        (has-asked has.past (reach_of (connection_of v.controller n)) refl on.0, unknown-more unknown on.1)
+    pub goes_unheard : Goes came put (reach_of (connection_of w.controller n)) (reach_of (connection_of v.controller n)) → HasAsked w n → IsUnknown w n → HasAsked v n × IsUnknown v n
+    goes_unheard goes has unknown =
+        let on = goes_asked unknown.unconfirmed has.asked goes in
+        (has_asked has.past (reach_of (connection_of v.controller n)) refl on.0, unknown_more unknown on.1)
 
     -- one that didn't ask stays so, or asks, or goes with nothing on its way
-    pub early-goes : n < w.controller.next_number → IsUnknown w n → {a b : Reach} → early ≡ a → reach_of (connection_of v.controller n) ≡ b → Goes came put a b → (reach_of (connection_of v.controller n) ≡ early) ⊎ (reach_of (connection_of v.controller n) ≡ waits) ⊎ (HasAsked v n × IsUnknown v n)
-    early-goes past unknown from to (stays quiet) = inl (to ∙ sym from)
-    early-goes past unknown from to (leaves quiet) = inr (inr (has-asked past gone to tt, unknown-more unknown (says.quiet quiet)))
-    early-goes past unknown {a} from to (fails un_a un_b quiet) = absurd (early_unnamed a from un_a)
-    early-goes past unknown from to (asks asking) = inr (inl to)
-    early-goes past unknown {a} from to (confirmed k un_a comes plain) = absurd (early_unnamed a from un_a)
-    early-goes past unknown from to (speaks {reference = k} plain) = absurd (early_named k from)
-    early-goes past unknown from to (clears {reference = k} clearing) = absurd (early_named k from)
+    pub early_goes : n < w.controller.next_number → IsUnknown w n → {a b : Reach} → early ≡ a → reach_of (connection_of v.controller n) ≡ b → Goes came put a b → (reach_of (connection_of v.controller n) ≡ early) ⊎ (reach_of (connection_of v.controller n) ≡ waits) ⊎ (HasAsked v n × IsUnknown v n)
+    early_goes past unknown from to (stays quiet) = inl (to ∙ sym from)
+    early_goes past unknown from to (leaves quiet) = inr (inr (has_asked past gone to tt, unknown_more unknown (says.quiet quiet)))
+    early_goes past unknown {a} from to (fails un_a un_b quiet) = absurd (early_unnamed a from un_a)
+    early_goes past unknown from to (asks asking) = inr (inl to)
+    early_goes past unknown {a} from to (confirmed k un_a comes plain) = absurd (early_unnamed a from un_a)
+    early_goes past unknown from to (speaks {reference = k} plain) = absurd (early_named k from)
+    early_goes past unknown from to (clears {reference = k} clearing) = absurd (early_named k from)

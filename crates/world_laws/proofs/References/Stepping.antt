@@ -28,44 +28,44 @@ use Rattle.world_laws.proofs.References.Goings.{Begins, acts_go}
 use Rattle.world_laws.proofs.References.Numbered.{AreOfOne, outs_of_one}
 use Rattle.world_laws.proofs.References.Peers.{Differ, peers_of}
 use Rattle.world_laws.proofs.References.Right.{AreTexts, asking_said, clearing_said, own_put, plain_said, quiet_said, right_out, said}
-use Rattle.world_laws.proofs.References.Runs.{Grows, Says, begins-agree, early-goes, goes-agree, goes-unheard}
+use Rattle.world_laws.proofs.References.Runs.{Grows, Says, begins_agree, early_goes, goes_agree, goes_unheard}
 use Rattle.world_laws.proofs.Others.{entry-out}
 
 -- ---- what comes to a connection
 
 module _ (P : ℕ → Type 0) (n r : ℕ) where
-  held-comes : (o : Option ℕ) (input : Input) → IsBrought (if_held n o input) (inputs.ConnectionConfirm r) → ((holder : ℕ) → o ≡ Some holder → holder ≡ n → inputs.ConnectionConfirm r ≡ input → P r) → P r
-  held-comes None input is by = absurd is
-  held-comes (Some holder) input is by = elim (cases_Bool (holder == n)) [
+  held_comes : (o : Option ℕ) (input : Input) → IsBrought (if_held n o input) (inputs.ConnectionConfirm r) → ((holder : ℕ) → o ≡ Some holder → holder ≡ n → inputs.ConnectionConfirm r ≡ input → P r) → P r
+  held_comes None input is by = absurd is
+  held_comes (Some holder) input is by = elim (cases_Bool (holder == n)) [
     | inl hit ↦ by holder refl (eqb-true holder n hit) (subst (λ (b : Bool). IsBrought (if b then comes input else nothing) (inputs.ConnectionConfirm r)) hit is)
     | inr miss ↦ absurd (subst (λ (b : Bool). IsBrought (if b then comes input else nothing) (inputs.ConnectionConfirm r)) miss is)
   ]
 
-  word-comes : (c : Controller) (source : ℕ) (word : Word) → IsFrom source word → ConfirmsIn P n word → IsBrought (brought_by c n word) (inputs.ConnectionConfirm r) → P r
-  word-comes c source Nothing from confirms is = absurd is
-  word-comes c source Ping from confirms is = absurd is
-  word-comes c source (Asks request delay) from confirms is = absurd is
-  word-comes c source (OnChannel at input) from confirms is = held-comes (holder (channel_state c at)) input is (λ own there same input_is. absurd (subst (IsAtPlace at) (sym input_is) from.1))
-  word-comes c source (Reports at number report) from confirms is = absurd cc
-  word-comes c source (OnConnection destination input) from confirms is = held-comes (Some destination) input is (λ own there same input_is.
+  word_comes : (c : Controller) (source : ℕ) (word : Word) → IsFrom source word → ConfirmsIn P n word → IsBrought (brought_by c n word) (inputs.ConnectionConfirm r) → P r
+  word_comes c source Nothing from confirms is = absurd is
+  word_comes c source Ping from confirms is = absurd is
+  word_comes c source (Asks request delay) from confirms is = absurd is
+  word_comes c source (OnChannel at input) from confirms is = held_comes (holder (channel_state c at)) input is (λ own there same input_is. absurd (subst (IsAtPlace at) (sym input_is) from.1))
+  word_comes c source (Reports at number report) from confirms is = absurd cc
+  word_comes c source (OnConnection destination input) from confirms is = held_comes (Some destination) input is (λ own there same input_is.
       subst (λ (x : Input). ConfirmsIn P n (OnConnection destination x)) (sym input_is) confirms (number own there same)) where
         number : (own : ℕ) → Some destination ≡ Some own → own ≡ n → destination ≡ n
         number own there same = let is : destination ≡ own = cc in is ∙ same
 
-  break-comes : (source : ℕ) → inputs.ConnectionConfirm r ≡ break_of source → P r
-  break-comes source is = by (source == SWITCH_LINK) is where
+  break_comes : (source : ℕ) → inputs.ConnectionConfirm r ≡ break_of source → P r
+  break_comes source is = by (source == SWITCH_LINK) is where
     by : (b : Bool) → inputs.ConnectionConfirm r ≡ (if b then inputs.SwitchDown else inputs.StationDown source) → P r
     by true is = absurd cc
     by false is = absurd cc
 
-  what-comes : (c : Controller) (source : ℕ) (what : What) → ConfirmsIn P n (word_by source what) → IsBrought (brought_with c n source what) (inputs.ConnectionConfirm r) → P r
-  what-comes c source (whats.Frame frame) confirms is = word-comes c source (word_of source frame) (word_from source frame) confirms is
-  what-comes c source whats.Down confirms is = break-comes source is
+  what_comes : (c : Controller) (source : ℕ) (what : What) → ConfirmsIn P n (word_by source what) → IsBrought (brought_with c n source what) (inputs.ConnectionConfirm r) → P r
+  what_comes c source (whats.Frame frame) confirms is = word_comes c source (word_of source frame) (word_from source frame) confirms is
+  what_comes c source whats.Down confirms is = break_comes source is
 
-  pub item-comes : (c : Controller) (item : Item) → ConfirmsBeing P n item → IsBrought (brought_in c n (Take item)) (inputs.ConnectionConfirm r) → P r
-  item-comes c item confirms is = by (hears c item.source) is where
+  pub item_comes : (c : Controller) (item : Item) → ConfirmsBeing P n item → IsBrought (brought_in c n (Take item)) (inputs.ConnectionConfirm r) → P r
+  item_comes c item confirms is = by (hears c item.source) is where
     by : (b : Bool) → IsBrought (if b then brought_with c n item.source item.what else nothing) (inputs.ConnectionConfirm r) → P r
-    by true is = what-comes c item.source item.what confirms is
+    by true is = what_comes c item.source item.what confirms is
     by false is = absurd is
 
 -- ---- the controller's numbers
@@ -213,24 +213,24 @@ module _ (w : Actors) (items : List Item) (target : Option Tenure) (s : Step) (l
     went = subst (λ (c : Controller). Begins w.controller.next_number n put (connection_of w.controller n) (connection_of c n) ⊎ Goes came put (reach_of (connection_of w.controller n)) (reach_of (connection_of c n))) (sym controller_is)
         (acts_go came (λ r is. is) (laws.acts n from_one).acts)
 
-    step-agrees : Agrees w n → Agrees v n
-    step-agrees agrees = elim went [
-      | inl begins ↦ begins-agree w v n put (reads_of n more_entries) grows keeps says begins agrees
-      | inr goes ↦ goes-agree w v n put (reads_of n more_entries) grows keeps says came (told n) (λ beyond. ap reach_of (none_beyond w.controller n laws.numbered beyond)) goes agrees
+    step_agrees : Agrees w n → Agrees v n
+    step_agrees agrees = elim went [
+      | inl begins ↦ begins_agree w v n put (reads_of n more_entries) grows keeps says begins agrees
+      | inr goes ↦ goes_agree w v n put (reads_of n more_entries) grows keeps says came (told n) (λ beyond. ap reach_of (none_beyond w.controller n laws.numbered beyond)) goes agrees
     ]
 
-    step-unheard : HasAsked w n → IsUnknown w n → HasAsked v n × IsUnknown v n
-    step-unheard has unknown = elim went [
+    step_unheard : HasAsked w n → IsUnknown w n → HasAsked v n × IsUnknown v n
+    step_unheard has unknown = elim went [
       | inl begins ↦ absurd (beyond has.past begins.is_next)
-      | inr goes ↦ goes-unheard w v n put (reads_of n more_entries) grows keeps says came (told n) goes has unknown
+      | inr goes ↦ goes_unheard w v n put (reads_of n more_entries) grows keeps says came (told n) goes has unknown
     ] where
       beyond : n < w.controller.next_number → n ≡ w.controller.next_number → ⊥
       beyond past is = omega (arith, past, is)
 
-    step-dropped : IsEarly w n → (IsThere (connection_of v.controller n) → ⊥) → HasAsked v n × IsUnknown v n
-    step-dropped has closed = elim went [
+    step_dropped : IsEarly w n → (IsThere (connection_of v.controller n) → ⊥) → HasAsked v n × IsUnknown v n
+    step_dropped has closed = elim went [
       | inl begins ↦ absurd (beyond has.past begins.is_next)
-      | inr goes ↦ elim (early-goes w v n put (reads_of n more_entries) grows keeps says came (told n) has.past has.unknown (sym has.is_early) refl goes) [
+      | inr goes ↦ elim (early_goes w v n put (reads_of n more_entries) grows keeps says came (told n) has.past has.unknown (sym has.is_early) refl goes) [
         | inl is ↦ absurd (closed (early_there (connection_of v.controller n) is))
         | inr rest ↦ elim rest [
           | inl is ↦ absurd (closed (waits_there (connection_of v.controller n) is))
@@ -241,15 +241,15 @@ module _ (w : Actors) (items : List Item) (target : Option Tenure) (s : Step) (l
       beyond : n < w.controller.next_number → n ≡ w.controller.next_number → ⊥
       beyond past is = omega (arith, past, is)
 
-  pub step-keeps : Keeps w v
-  step-keeps = record {
+  pub step_keeps : Keeps w v
+  step_keeps = record {
     names = λ agree. record {
-      each = λ n from_one. step-agrees n from_one (agree.each n from_one);
+      each = λ n from_one. step_agrees n from_one (agree.each n from_one);
       right = subst (AllByRecursion (λ (entry : OutboxEntry). IsRight entry.out)) (sym joined)
           (AllByRecursion-append (λ (entry : OutboxEntry). IsRight entry.out) (outbox_of w SWITCH_LINK) more_entries agree.right
           (put_rights (is_up w SWITCH_LINK) (map (entry_of target) (step w.controller s).outs) (rights_of target (step w.controller s).outs (outs_of_one w.controller s laws.numbered) laws.sent)));
     };
-    unheard = λ n from_one has unknown. step-unheard n from_one has unknown;
-    dropped = λ n from_one has closed. step-dropped n from_one has closed;
+    unheard = λ n from_one has unknown. step_unheard n from_one has unknown;
+    dropped = λ n from_one has closed. step_dropped n from_one has closed;
     peers = λ differ. subst (λ (s : SwitchState). Differ (peers_of s.connections)) (sym turned.0) differ;
   }

@@ -81,23 +81,23 @@ confirms_after {w} {reps = reps} P n after confirms more = record {
 -- ---- another connection
 
 module _ (w : Actors) (m n : ℕ) (differ : m ≢ n) where
-  other-confirms : {cs : List Connection} {reps : List Sccp} (P : ℕ → Type 0) → Effect m w.switch.connections cs reps → AllByRecursion (ConfirmsBy P n) reps
-  other-confirms P same = tt
-  other-confirms P refuses = (tt, tt)
-  other-confirms P (opens c is empty first second) = ((first, second, λ own. absurd (differ own)), tt)
-  other-confirms P (changes i x own reps got is same_peer none) = AllByRecursion-so IsNoConfirm (ConfirmsBy P n) (confirms_none P n) reps none
+  other_confirms : {cs : List Connection} {reps : List Sccp} (P : ℕ → Type 0) → Effect m w.switch.connections cs reps → AllByRecursion (ConfirmsBy P n) reps
+  other_confirms P same = tt
+  other_confirms P refuses = (tt, tt)
+  other_confirms P (opens c is empty first second) = ((first, second, λ own. absurd (differ own)), tt)
+  other_confirms P (changes i x own reps got is same_peer none) = AllByRecursion-so IsNoConfirm (ConfirmsBy P n) (confirms_none P n) reps none
 
-  pub other-none : {cs : List Connection} {reps : List Sccp} → Effect m w.switch.connections cs reps → find (is_of_peer n) w.switch.connections ≡ None → find (is_of_peer n) cs ≡ None
-  other-none same none = none
-  other-none refuses none = none
-  other-none (opens c is empty first second) none = push_none n w.switch.connections c (λ own. differ (sym is ∙ own)) none
-  other-none (changes i x own reps got is same_peer quiet) none = set-none n w.switch.connections i own (λ mine. differ (sym same_peer ∙ mine)) none
+  pub other_none : {cs : List Connection} {reps : List Sccp} → Effect m w.switch.connections cs reps → find (is_of_peer n) w.switch.connections ≡ None → find (is_of_peer n) cs ≡ None
+  other_none same none = none
+  other_none refuses none = none
+  other_none (opens c is empty first second) none = push_none n w.switch.connections c (λ own. differ (sym is ∙ own)) none
+  other_none (changes i x own reps got is same_peer quiet) none = set-none n w.switch.connections i own (λ mine. differ (sym same_peer ∙ mine)) none
 
-  pub other-stands : {cs : List Connection} {reps : List Sccp} → Effect m w.switch.connections cs reps → (place : ℕ) (c : Connection) → StandsAt n place c w.switch.connections → StandsAt n place c cs
-  other-stands same place c stands = stands
-  other-stands refuses place c stands = stands
-  other-stands (opens x is empty first second) place c stands = push_stands n place c w.switch.connections x stands
-  other-stands (changes i x own reps got is same_peer quiet) place c stands = set_other n place c w.switch.connections i x own got (λ mine. differ (sym is ∙ mine)) (λ mine. differ (sym same_peer ∙ mine)) stands
+  pub other_stands : {cs : List Connection} {reps : List Sccp} → Effect m w.switch.connections cs reps → (place : ℕ) (c : Connection) → StandsAt n place c w.switch.connections → StandsAt n place c cs
+  other_stands same place c stands = stands
+  other_stands refuses place c stands = stands
+  other_stands (opens x is empty first second) place c stands = push_stands n place c w.switch.connections x stands
+  other_stands (changes i x own reps got is same_peer quiet) place c stands = set_other n place c w.switch.connections i x own got (λ mine. differ (sym is ∙ mine)) (λ mine. differ (sym same_peer ∙ mine)) stands
 
 -- ---- the connection is as it was, but for what is its own
 
@@ -141,8 +141,8 @@ same_agrees w v n is keeps (is_known past known) =
 pub other_same : {w v : Actors} {others : List OutboxEntry} {cs : List Connection} {reps : List Sccp} (m n : ℕ) → m ≢ n → After w v others cs reps → Effect m w.switch.connections cs reps → reads_of n others ≡ reads_of n (outbox_of w SWITCH_LINK) → IsSame w v n
 other_same {w} {v} m n differ after effect same_reads = record {
   controller_is = after.controller_is;
-  none = λ none. subst (λ (xs : List Connection). find (is_of_peer n) xs ≡ None) (sym after.conns) (other-none w m n differ effect none);
-  stands = λ place c stands. (c, subst (StandsAt n place c) (sym after.conns) (other-stands w m n differ effect place c stands), refl);
+  none = λ none. subst (λ (xs : List Connection). find (is_of_peer n) xs ≡ None) (sym after.conns) (other_none w m n differ effect none);
+  stands = λ place c stands. (c, subst (StandsAt n place c) (sym after.conns) (other_stands w m n differ effect place c stands), refl);
   quiet = λ quiet. subst AreNothing (sym same_wire) quiet;
   once = λ once. subst (AsksOnce n) (sym same_wire) once;
   runs = λ k over last runs. subst (λ (xs : List Read). Runs k over xs last) (sym same_wire) runs;
@@ -151,7 +151,7 @@ other_same {w} {v} m n differ after effect same_reads = record {
   same_wire = ap (reads_of n) after.rest ∙ same_reads
 
 pub other_keeps : {w v : Actors} {others : List OutboxEntry} {cs : List Connection} {reps : List Sccp} (m n : ℕ) → m ≢ n → After w v others cs reps → Effect m w.switch.connections cs reps → (P : ℕ → Type 0) → Confirms P w n → Confirms P v n
-other_keeps {w} m n differ after effect P confirms = confirms_after P n after confirms (other-confirms w m n differ P effect)
+other_keeps {w} m n differ after effect P confirms = confirms_after P n after confirms (other_confirms w m n differ P effect)
 
 -- ---- its own entry
 

@@ -84,8 +84,8 @@ module _ (owner : Tenure → ℕ) (w : Actors) (at : Place) (agrees : Agrees own
   k = at.number
 
   -- no command is on its way there
-  pub ending-down : (channel_state w.controller at ≡ Free) ⊎ (is_ending w at ≡ true) → going_down w at ≡ []
-  ending-down why = ap (λ (air : List AirMessage). flat_map leading_from_air air ++ flat_map (leading_from_outbox k) (outbox_of w n)) (settled.air idle) ∙ by (is_up w n) refl where
+  pub ending_down : (channel_state w.controller at ≡ Free) ⊎ (is_ending w at ≡ true) → going_down w at ≡ []
+  ending_down why = ap (λ (air : List AirMessage). flat_map leading_from_air air ++ flat_map (leading_from_outbox k) (outbox_of w n)) (settled.air idle) ∙ by (is_up w n) refl where
     idle : is_active_at w at ≡ false
     idle = settled.idle hearing why
 
@@ -108,31 +108,31 @@ module _ (owner : Tenure → ℕ) (w : Actors) (at : Place) (agrees : Agrees own
       | inr acks ↦ inr (acks.0, sym is_heard ∙ alone heard (RfChannelReleaseAck acks.0) acks.1 one acks.2)
     ]
 
-    acks-go : acknowledgements_up w at ≡ acknowledgements k read ++ acknowledgements k (messages_up v n)
-    acks-go = ap (acknowledgements k) goes ∙ acks-append k read (messages_up v n)
+    acks_go : acknowledgements_up w at ≡ acknowledgements k read ++ acknowledgements k (messages_up v n)
+    acks_go = ap (acknowledgements k) goes ∙ acks-append k read (messages_up v n)
 
-    pub freed-down : going_down w at ≡ []
-    freed-down = elim frees [
-      | inl was ↦ ending-down (inl was)
-      | inr acks ↦ ending-down (inr (ap (list_any is_release_ack) (acks-go ∙ ap (λ (ms : List Rsl). ms ++ acknowledgements k (messages_up v n)) acks.1)))
+    pub freed_down : going_down w at ≡ []
+    freed_down = elim frees [
+      | inl was ↦ ending_down (inl was)
+      | inr acks ↦ ending_down (inr (ap (list_any is_release_ack) (acks_go ∙ ap (λ (ms : List Rsl). ms ++ acknowledgements k (messages_up v n)) acks.1)))
     ]
 
-    behind-none : (channel : ℕ) → acknowledgements k read ≡ RfChannelReleaseAck channel ∷ [] → acknowledgements k (messages_up v n) ≡ []
-    behind-none channel is =
+    behind_none : (channel : ℕ) → acknowledgements k read ≡ RfChannelReleaseAck channel ∷ [] → acknowledgements k (messages_up v n) ≡ []
+    behind_none channel is =
         let way = agrees.way hearing in
         let rest : List Rsl = acknowledgements k (messages_up v n) ++ (due k (is_active_at w at) (outbox_of w n) ++ way.lost) in
         let all : to_come w at ++ way.lost ≡ RfChannelReleaseAck channel ∷ rest =
-        ap (λ (xs : List Rsl). xs ++ way.lost) (up_first w at ∙ ap (λ (xs : List Rsl). xs ++ due k (is_active_at w at) (outbox_of w n)) (acks-go ∙ ap (λ (xs : List Rsl). xs ++ acknowledgements k (messages_up v n)) is))
+        ap (λ (xs : List Rsl). xs ++ way.lost) (up_first w at ∙ ap (λ (xs : List Rsl). xs ++ due k (is_active_at w at) (outbox_of w n)) (acks_go ∙ ap (λ (xs : List Rsl). xs ++ acknowledgements k (messages_up v n)) is))
         ∙ ap (λ (xs : List Rsl). RfChannelReleaseAck channel ∷ xs) (append_assoc (acknowledgements k (messages_up v n)) (due k (is_active_at w at) (outbox_of w n)) way.lost) in
         (Both-empty (acknowledgements k (messages_up v n)) (due k (is_active_at w at) (outbox_of w n) ++ way.lost) (sym (comes_end k channel (channel_state w.controller at) (to_come w at ++ way.lost) rest way.comes all))).0
 
-    pub freed-silent : coming_up v at ≡ []
-    freed-silent = coming-read v at ∙ elim frees [
+    pub freed_silent : coming_up v at ≡ []
+    freed_silent = coming-read v at ∙ elim frees [
       | inl was ↦
           let empty : flat_map (brings k) read ++ flat_map (brings k) (messages_up v n) ≡ [] = sym (flat_map-append (brings k) read (messages_up v n)) ∙ ap (flat_map (brings k)) (sym goes) ∙ sym (coming-read w at) ∙ settled.silent hearing was in
           (Both-empty (flat_map (brings k) read) (flat_map (brings k) (messages_up v n)) (sym empty)).1
       | inr acks ↦
           nothing_before k (messages_up v n) []
           (subst (λ (ms : List Rsl). Tenures k false ms ways.end) (sym (append-nil (messages_up v n))) (behind_end k acks.0 read (messages_up v n) (subst (λ (ms : List Rsl). Tenures k ways.within ms ways.end) goes ways.stand) acks.1))
-          (behind-none acks.0 acks.1)
+          (behind_none acks.0 acks.1)
     ]

@@ -26,7 +26,7 @@ use Rattle.world_laws.specs.Targets.Fresh.{BeginWith, IsAwaited, IsFreshIn, IsLe
 use Rattle.world_laws.proofs.Targets.Comings.{Comes, coming, comes_step, elsewhere_coming, is_frame, is_relays, short_coming}
 use Rattle.world_laws.proofs.Targets.Comings.Comes.{begun, same}
 use Rattle.world_laws.proofs.Targets.Downs.{none_down}
-use Rattle.world_laws.proofs.Targets.Givers.{Gives, gives-step, lent_first, still-put}
+use Rattle.world_laws.proofs.Targets.Givers.{Gives, gives_step, lent_first, still_put}
 use Rattle.world_laws.proofs.Targets.Places.{is_place}
 
 -- ---- a frame that the station takes on the channel
@@ -80,64 +80,64 @@ module _ {m : ℕ} (w : Actors) (event : Event) (mobile : ℕ) (p : Mobile) (s :
 
   -- ---- the target, and where mobiles are
 
-  rest-placed : AllByRecursion (λ c. c.station ≢ SWITCH_LINK) (s.serving ∷ target_in s.state)
-  rest-placed = all_right (λ c. c.station ≢ SWITCH_LINK) (undone s.draining) (s.serving ∷ target_in s.state) lined.placed
+  rest_placed : AllByRecursion (λ c. c.station ≢ SWITCH_LINK) (s.serving ∷ target_in s.state)
+  rest_placed = all_right (λ c. c.station ≢ SWITCH_LINK) (undone s.draining) (s.serving ∷ target_in s.state) lined.placed
 
-  rest-apart : AllByRecursion (IsApart s.serving) (target_in s.state)
-  rest-apart = (apart_behind (undone s.draining) (s.serving ∷ target_in s.state) lined.apart).0
+  rest_apart : AllByRecursion (IsApart s.serving) (target_in s.state)
+  rest_apart = (apart_behind (undone s.draining) (s.serving ∷ target_in s.state) lined.apart).0
 
   -- another mobile is elsewhere
-  other-elsewhere : (c : Channel) → target_in s.state ≡ c ∷ [] → (number : ℕ) (x : Mobile) (tenure : Tenure) (command : Option Command) → number ≢ mobile → mobile_of w number ≡ Some x → x.seat ≡ On tenure command → is_reached w tenure ≡ true → is_place tenure.at (place_of c) ≡ false
-  other-elsewhere c is number x tenure command differs acts seat reached =
+  other_elsewhere : (c : Channel) → target_in s.state ≡ c ∷ [] → (number : ℕ) (x : Mobile) (tenure : Tenure) (command : Option Command) → number ≢ mobile → mobile_of w number ≡ Some x → x.seat ≡ On tenure command → is_reached w tenure ≡ true → is_place tenure.at (place_of c) ≡ false
+  other_elsewhere c is number x tenure command differs acts seat reached =
       let all : IsElsewhere (s.serving ∷ target_in s.state) tenure.at = all_right (λ d. is_at tenure.at d ≡ false) (undone s.draining) (s.serving ∷ target_in s.state) (alone number x tenure command differs acts seat reached) in
       (subst (λ (cs : List Channel). IsElsewhere cs tenure.at) is all.1).0
 
   -- the own one: it sits on the serving channel, or came
-  serving-elsewhere : (c : Channel) → target_in s.state ≡ c ∷ [] → (tenure : Tenure) → tenure ≡ tenure_at w (place_of s.serving) → is_place tenure.at (place_of c) ≡ false
-  serving-elsewhere c is tenure there = ap (λ (t : Tenure). is_place t.at (place_of c)) there ∙ (subst (AllByRecursion (IsApart s.serving)) is rest-apart).0
+  serving_elsewhere : (c : Channel) → target_in s.state ≡ c ∷ [] → (tenure : Tenure) → tenure ≡ tenure_at w (place_of s.serving) → is_place tenure.at (place_of c) ≡ false
+  serving_elsewhere c is tenure there = ap (λ (t : Tenure). is_place t.at (place_of c)) there ∙ (subst (AllByRecursion (IsApart s.serving)) is rest_apart).0
 
-  own-of : (number : ℕ) (x : Mobile) → number ≡ mobile → mobile_of w number ≡ Some x → x ≡ p
-  own-of number x is acts = same_Some _ _ (sym acts ∙ ap (mobile_of w) is ∙ found)
+  own_of : (number : ℕ) (x : Mobile) → number ≡ mobile → mobile_of w number ≡ Some x → x ≡ p
+  own_of number x is acts = same_Some _ _ (sym acts ∙ ap (mobile_of w) is ∙ found)
 
   -- ---- a target that is prepared
 
-  seat-prepared : (seat : Seat) (tenure : Tenure) (command : Option Command) → seat ≡ On tenure command → Sits w s.serving None seat → tenure ≡ tenure_at w (place_of s.serving)
-  seat-prepared (On here other) tenure command is (stays there remembers) = ap (λ (x : Seat). tenure_in x tenure) (sym is) ∙ there where
+  seat_prepared : (seat : Seat) (tenure : Tenure) (command : Option Command) → seat ≡ On tenure command → Sits w s.serving None seat → tenure ≡ tenure_at w (place_of s.serving)
+  seat_prepared (On here other) tenure command is (stays there remembers) = ap (λ (x : Seat). tenure_in x tenure) (sym is) ∙ there where
     tenure_in : Seat → Tenure → Tenure
     tenure_in (On t c) d = t
     tenure_in x d = d
-  seat-prepared Asking tenure command is sits = absurd cc
-  seat-prepared (Moving from other) tenure command is sits = absurd cc
-  seat-prepared Gone tenure command is sits = absurd cc
+  seat_prepared Asking tenure command is sits = absurd cc
+  seat_prepared (Moving from other) tenure command is sits = absurd cc
+  seat_prepared Gone tenure command is sits = absurd cc
 
-  frame-prepared : (c : Channel) → target_in s.state ≡ c ∷ [] → commanded_target s.state ≡ None → (number : ℕ) (sapi : Sapi) → coming (place_of c) w ≡ [] → coming (place_of c) (unwrap_or (after_air_up w number sapi) w) ≡ []
-  frame-prepared c is idle number sapi none = after-taken (λ u. coming (place_of c) u ≡ []) (after_air_up w number sapi) w
+  frame_prepared : (c : Channel) → target_in s.state ≡ c ∷ [] → commanded_target s.state ≡ None → (number : ℕ) (sapi : Sapi) → coming (place_of c) w ≡ [] → coming (place_of c) (unwrap_or (after_air_up w number sapi) w) ≡ []
+  frame_prepared c is idle number sapi none = after-taken (λ u. coming (place_of c) u ≡ []) (after_air_up w number sapi) w
       (air_up-leads (λ u. coming (place_of c) u ≡ []) w number sapi (λ x tenure command frame acts seat lent reached. by sapi x tenure command frame acts seat reached ∙ none)) none where
         at_is : c.station ≢ SWITCH_LINK
-        at_is = (subst (AllByRecursion (λ d. d.station ≢ SWITCH_LINK)) is rest-placed.1).0
+        at_is = (subst (AllByRecursion (λ d. d.station ≢ SWITCH_LINK)) is rest_placed.1).0
 
         away : (x : Mobile) (tenure : Tenure) (command : Option Command) → mobile_of w number ≡ Some x → x.seat ≡ On tenure command → is_reached w tenure ≡ true → is_place tenure.at (place_of c) ≡ false
         away x tenure command acts seat reached = elim (cases_Bool (nat_eq number mobile)) [
-          | inr miss ↦ other-elsewhere c is number x tenure command (eqb-false number mobile miss) acts seat reached
-          | inl hit ↦ serving-elsewhere c is tenure (seat-prepared p.seat tenure command (ap (λ (y : Mobile). y.seat) (sym (own-of number x (eqb-true number mobile hit) acts)) ∙ seat) (subst (λ (o : Option Target). Sits w s.serving o p.seat) idle lined.sits))
+          | inr miss ↦ other_elsewhere c is number x tenure command (eqb-false number mobile miss) acts seat reached
+          | inl hit ↦ serving_elsewhere c is tenure (seat_prepared p.seat tenure command (ap (λ (y : Mobile). y.seat) (sym (own_of number x (eqb-true number mobile hit) acts)) ∙ seat) (subst (λ (o : Option Target). Sits w s.serving o p.seat) idle lined.sits))
         ]
 
         by : (sapi : Sapi) (x : Mobile) (tenure : Tenure) (command : Option Command) (frame : List ℕ) → mobile_of w number ≡ Some x → x.seat ≡ On tenure command → is_reached w tenure ≡ true → coming (place_of c) (brought w x tenure.at sapi frame) ≡ coming (place_of c) w
         by Three x tenure command frame acts seat reached = short_coming (place_of c) w x tenure.at frame
         by Zero x tenure command frame acts seat reached = elsewhere_coming (place_of c) w x tenure.at frame at_is (reached-station w tenure reached) (away x tenure command acts seat reached)
 
-  silent-prepared : (c : Channel) → target_in s.state ≡ c ∷ [] → commanded_target s.state ≡ None → (e : Event) → e ≡ event → coming (place_of c) w ≡ [] → coming (place_of c) (actors_after w e) ≡ []
+  silent_prepared : (c : Channel) → target_in s.state ≡ c ∷ [] → commanded_target s.state ≡ None → (e : Event) → e ≡ event → coming (place_of c) w ≡ [] → coming (place_of c) (actors_after w e) ≡ []
   unfolding event_after
-  silent-prepared c is idle (AirUp number sapi) now none = frame-prepared c is idle number sapi none
-  silent-prepared c is idle e now none = by (comes_step (place_of c) w e (subst (AllByRecursion (λ d. d.station ≢ SWITCH_LINK)) is rest-placed.1).0 good (ap is_relays now ∙ beside) refl) where
+  silent_prepared c is idle (AirUp number sapi) now none = frame_prepared c is idle number sapi none
+  silent_prepared c is idle e now none = by (comes_step (place_of c) w e (subst (AllByRecursion (λ d. d.station ≢ SWITCH_LINK)) is rest_placed.1).0 good (ap is_relays now ∙ beside) refl) where
     by : Comes (place_of c) w (actors_after w e) → coming (place_of c) (actors_after w e) ≡ []
     by (same stays_so) = stays_so ∙ none
     by (begun down rest all) = (Both-empty (coming (place_of c) (actors_after w e)) rest (sym none ∙ all)).0
 
   awaited : (c : Channel) → target_in s.state ≡ c ∷ [] → commanded_target s.state ≡ None → IsAwaited w c → IsAwaited v c
   awaited c is idle a = record {
-    silent = silent-prepared c is idle event refl a.silent;
-    uncommanded = none_down (place_of c) w event (subst (AllByRecursion (λ d. d.station ≢ SWITCH_LINK)) is rest-placed.1).0 beside a.uncommanded;
+    silent = silent_prepared c is idle event refl a.silent;
+    uncommanded = none_down (place_of c) w event (subst (AllByRecursion (λ d. d.station ≢ SWITCH_LINK)) is rest_placed.1).0 beside a.uncommanded;
   }
 
   -- ---- a target to which the mobile was commanded
@@ -150,13 +150,13 @@ module _ {m : ℕ} (w : Actors) (event : Event) (mobile : ℕ) (p : Mobile) (s :
     text = complete t.change
 
     at_is : t.channel.station ≢ SWITCH_LINK
-    at_is = (subst (AllByRecursion (λ d. d.station ≢ SWITCH_LINK)) is rest-placed.1).0
+    at_is = (subst (AllByRecursion (λ d. d.station ≢ SWITCH_LINK)) is rest_placed.1).0
 
     sits : Sits w s.serving (Some t) p.seat
     sits = subst (λ (o : Option Target). Sits w s.serving o p.seat) to lined.sits
 
     apart : place_of s.serving ≢ at
-    apart same_place = false≢true (sym (subst (AllByRecursion (IsApart s.serving)) is rest-apart).0 ∙ hit) where
+    apart same_place = false≢true (sym (subst (AllByRecursion (IsApart s.serving)) is rest_apart).0 ∙ hit) where
       hit : is_place (place_of s.serving) at ≡ true
       hit = ap (λ (x : Place). is_place x at) same_place ∙ ap (λ (b : Bool). b && (at.number == at.number)) (eq-eqb at.station at.station refl) ∙ eq-eqb at.number at.number refl
 
@@ -165,33 +165,33 @@ module _ {m : ℕ} (w : Actors) (event : Event) (mobile : ℕ) (p : Mobile) (s :
       serves : tenure ≡ tenure_at w (place_of s.serving) → Seated tenure
       arrived : tenure ≡ tenure_at w at → Seated tenure
 
-    seat-commanded : (seat : Seat) (tenure : Tenure) (command : Option Command) → seat ≡ On tenure command → Sits w s.serving (Some t) seat → Seated tenure
-    seat-commanded (On here other) tenure command same_seat (stays there remembers) = serves (ap (λ (x : Seat). tenure_in x tenure) (sym same_seat) ∙ there) where
+    seat_commanded : (seat : Seat) (tenure : Tenure) (command : Option Command) → seat ≡ On tenure command → Sits w s.serving (Some t) seat → Seated tenure
+    seat_commanded (On here other) tenure command same_seat (stays there remembers) = serves (ap (λ (x : Seat). tenure_in x tenure) (sym same_seat) ∙ there) where
       tenure_in : Seat → Tenure → Tenure
       tenure_in (On a b) d = a
       tenure_in x d = d
-    seat-commanded (On here other) tenure command same_seat (came there) = arrived (ap (λ (x : Seat). tenure_in x tenure) (sym same_seat) ∙ there) where
+    seat_commanded (On here other) tenure command same_seat (came there) = arrived (ap (λ (x : Seat). tenure_in x tenure) (sym same_seat) ∙ there) where
       tenure_in : Seat → Tenure → Tenure
       tenure_in (On a b) d = a
       tenure_in x d = d
-    seat-commanded Asking tenure command same_seat sat = absurd cc
-    seat-commanded (Moving from other) tenure command same_seat sat = absurd cc
-    seat-commanded Gone tenure command same_seat sat = absurd cc
+    seat_commanded Asking tenure command same_seat sat = absurd cc
+    seat_commanded (Moving from other) tenure command same_seat sat = absurd cc
+    seat_commanded Gone tenure command same_seat sat = absurd cc
 
-    still-up : is_up v t.channel.station ≡ true → is_up w t.channel.station ≡ true
-    still-up up = by (is_up w t.channel.station) refl where
+    still_up : is_up v t.channel.station ≡ true → is_up w t.channel.station ≡ true
+    still_up up = by (is_up w t.channel.station) refl where
       by : (b : Bool) → is_up w t.channel.station ≡ b → is_up w t.channel.station ≡ true
       by true there = there
       by false down = absurd (false≢true (sym (down-after t.channel.station w event down) ∙ up))
 
     -- ---- no frame
 
-    quiet-led : is_frame event ≡ false → IsLedBy v q t
-    quiet-led no_frame = by (comes_step at w event at_is good beside no_frame) where
+    quiet_led : is_frame event ≡ false → IsLedBy v q t
+    quiet_led no_frame = by (comes_step at w event at_is good beside no_frame) where
       by : Comes at w v → IsLedBy v q t
       by (same stays_so) = record {
         first = subst (BeginWith text) (sym stays_so) led.first;
-        gives = λ none up. gives-step w mobile p text at found (led.gives (sym stays_so ∙ none) (still-up up)) s.serving t refl refl apart sits event no_frame q found_then;
+        gives = λ none up. gives_step w mobile p text at found (led.gives (sym stays_so ∙ none) (still_up up)) s.serving t refl refl apart sits event no_frame q found_then;
       }
       by (begun down rest all) = record {
         first = begin_front text (coming at v) rest (subst (BeginWith text) all led.first);
@@ -201,19 +201,19 @@ module _ {m : ℕ} (w : Actors) (event : Event) (mobile : ℕ) (p : Mobile) (s :
     -- ---- a frame
 
     -- what is put of another frame, or of another mobile, is elsewhere
-    elsewhere-led : (number : ℕ) (x after : Mobile) (u : Actors) → mobile_of w number ≡ Some x → after.number ≡ x.number → u.mobiles ≡ put_back after w.mobiles → coming at u ≡ coming at w → is_up u t.channel.station ≡ is_up w t.channel.station
+    elsewhere_led : (number : ℕ) (x after : Mobile) (u : Actors) → mobile_of w number ≡ Some x → after.number ≡ x.number → u.mobiles ≡ put_back after w.mobiles → coming at u ≡ coming at w → is_up u t.channel.station ≡ is_up w t.channel.station
         → (x ≡ p → IsOnPlace after.seat at → (IsOnPlace x.seat at) × (after.end.zero ≡ x.end.zero)) → (y : Mobile) → mobile_of u mobile ≡ Some y → IsLedBy u y t
-    elsewhere-led number x after u acts number_is mobiles comes links keeps y found_y = record {
+    elsewhere_led number x after u acts number_is mobiles comes links keeps y found_y = record {
       first = subst (BeginWith text) (sym comes) led.first;
-      gives = λ none up. still-put w mobile p text at found (led.gives (sym comes ∙ none) (sym links ∙ up)) w.mobiles number x after acts number_is refl
+      gives = λ none up. still_put w mobile p text at found (led.gives (sym comes ∙ none) (sym links ∙ up)) w.mobiles number x after acts number_is refl
           (λ own on. let kept = keeps own on in
           ap (λ (link : _). first_in (to_be_taken link)) kept.1 ∙ subst (Gives text at) (sym own) (led.gives (sym comes ∙ none) (sym links ∙ up)) kept.0)
           y (ap (find (has_number mobile)) (sym mobiles) ∙ found_y);
     }
 
     -- the first frame on the target is COMPLETE
-    there-led : (x : Mobile) (tenure : Tenure) (command : Option Command) (frame : List ℕ) → x ≡ p → x.seat ≡ On tenure command → tenure ≡ tenure_at w at → frame_in (frame_answer x.end Zero) ≡ Some frame → is_reached w tenure ≡ true → (y : Mobile) → IsLedBy (brought w x tenure.at Zero frame) y t
-    there-led x tenure command frame own seat there lent reached y =
+    there_led : (x : Mobile) (tenure : Tenure) (command : Option Command) (frame : List ℕ) → x ≡ p → x.seat ≡ On tenure command → tenure ≡ tenure_at w at → frame_in (frame_answer x.end Zero) ≡ Some frame → is_reached w tenure ≡ true → (y : Mobile) → IsLedBy (brought w x tenure.at Zero frame) y t
+    there_led x tenure command frame own seat there lent reached y =
         let here : tenure.at ≡ at = ap (λ (k : Tenure). k.at) there in
         let up : is_station_up w tenure.at.station ≡ true = (reached-up w tenure reached).0 in
         let all : coming at (brought w x tenure.at Zero frame) ≡ coming at w ++ frame ∷ [] =
@@ -225,39 +225,39 @@ module _ {m : ℕ} (w : Actors) (event : Event) (mobile : ℕ) (p : Mobile) (s :
           gives = λ none up_then. absurd (none_last (coming at w) frame (sym all ∙ none));
         }
 
-    frame-led : (number : ℕ) (sapi : Sapi) (y : Mobile) → mobile_of (unwrap_or (after_air_up w number sapi) w) mobile ≡ Some y → IsLedBy (unwrap_or (after_air_up w number sapi) w) y t
-    frame-led number sapi y found_y = after-taken P (after_air_up w number sapi) w (air_up-leads P w number sapi (λ x tenure command frame acts seat lent reached. by sapi x tenure command frame acts seat lent reached)) (λ z found_z. subst (λ (k : Mobile). IsLedBy w k t) (same_Some _ _ (sym found ∙ found_z)) led) y found_y where
+    frame_led : (number : ℕ) (sapi : Sapi) (y : Mobile) → mobile_of (unwrap_or (after_air_up w number sapi) w) mobile ≡ Some y → IsLedBy (unwrap_or (after_air_up w number sapi) w) y t
+    frame_led number sapi y found_y = after-taken P (after_air_up w number sapi) w (air_up-leads P w number sapi (λ x tenure command frame acts seat lent reached. by sapi x tenure command frame acts seat lent reached)) (λ z found_z. subst (λ (k : Mobile). IsLedBy w k t) (same_Some _ _ (sym found ∙ found_z)) led) y found_y where
       P : Actors → Type 0
       P u = (z : Mobile) → mobile_of u mobile ≡ Some z → IsLedBy u z t
 
-      on-serving : (x : Mobile) (tenure : Tenure) (command : Option Command) (frame : List ℕ) → mobile_of w number ≡ Some x → x.seat ≡ On tenure command → is_reached w tenure ≡ true → is_place tenure.at at ≡ false → P (brought w x tenure.at Zero frame)
-      on-serving x tenure command frame acts seat reached away = elsewhere-led number x (record (framed x Zero) { opens = false }) (brought w x tenure.at Zero frame) acts refl refl (elsewhere_coming at w x tenure.at frame at_is (reached-station w tenure reached) away) refl
+      on_serving : (x : Mobile) (tenure : Tenure) (command : Option Command) (frame : List ℕ) → mobile_of w number ≡ Some x → x.seat ≡ On tenure command → is_reached w tenure ≡ true → is_place tenure.at at ≡ false → P (brought w x tenure.at Zero frame)
+      on_serving x tenure command frame acts seat reached away = elsewhere_led number x (record (framed x Zero) { opens = false }) (brought w x tenure.at Zero frame) acts refl refl (elsewhere_coming at w x tenure.at frame at_is (reached-station w tenure reached) away) refl
           (λ own on. absurd (false≢true (sym away ∙ there (subst (λ (z : Seat). IsOnPlace z at) seat on)))) where
             there : tenure.at ≡ at → is_place tenure.at at ≡ true
             there same_place = ap (λ (z : Place). is_place z at) same_place ∙ ap (λ (b : Bool). b && (at.number == at.number)) (eq-eqb at.station at.station refl) ∙ eq-eqb at.number at.number refl
 
-      by-seat : (x : Mobile) (tenure : Tenure) (command : Option Command) (frame : List ℕ) → x ≡ p → mobile_of w number ≡ Some x → x.seat ≡ On tenure command → frame_in (frame_answer x.end Zero) ≡ Some frame → is_reached w tenure ≡ true → Seated tenure → P (brought w x tenure.at Zero frame)
-      by-seat x tenure command frame own acts seat lent reached (serves there) = on-serving x tenure command frame acts seat reached (serving-elsewhere t.channel is tenure there)
-      by-seat x tenure command frame own acts seat lent reached (arrived there) = λ z found_z. there-led x tenure command frame own seat there lent reached z
+      by_seat : (x : Mobile) (tenure : Tenure) (command : Option Command) (frame : List ℕ) → x ≡ p → mobile_of w number ≡ Some x → x.seat ≡ On tenure command → frame_in (frame_answer x.end Zero) ≡ Some frame → is_reached w tenure ≡ true → Seated tenure → P (brought w x tenure.at Zero frame)
+      by_seat x tenure command frame own acts seat lent reached (serves there) = on_serving x tenure command frame acts seat reached (serving_elsewhere t.channel is tenure there)
+      by_seat x tenure command frame own acts seat lent reached (arrived there) = λ z found_z. there_led x tenure command frame own seat there lent reached z
 
       by : (sapi : Sapi) (x : Mobile) (tenure : Tenure) (command : Option Command) (frame : List ℕ) → mobile_of w number ≡ Some x → x.seat ≡ On tenure command → frame_in (frame_answer x.end sapi) ≡ Some frame → is_reached w tenure ≡ true → P (brought w x tenure.at sapi frame)
       by Three x tenure command frame acts seat lent reached =
-          elsewhere-led number x (framed x Three) (brought w x tenure.at Three frame) acts refl refl (short_coming at w x tenure.at frame) refl (λ own on. (on, three_zero x.end))
+          elsewhere_led number x (framed x Three) (brought w x tenure.at Three frame) acts refl refl (short_coming at w x tenure.at frame) refl (λ own on. (on, three_zero x.end))
       by Zero x tenure command frame acts seat lent reached = elim (cases_Bool (nat_eq number mobile)) [
-        | inr miss ↦ on-serving x tenure command frame acts seat reached (other-elsewhere t.channel is number x tenure command (eqb-false number mobile miss) acts seat reached)
+        | inr miss ↦ on_serving x tenure command frame acts seat reached (other_elsewhere t.channel is number x tenure command (eqb-false number mobile miss) acts seat reached)
         | inl hit ↦
-            let own : x ≡ p = own-of number x (eqb-true number mobile hit) acts in
-            by-seat x tenure command frame own acts seat lent reached (seat-commanded p.seat tenure command (ap (λ (z : Mobile). z.seat) (sym own) ∙ seat) sits)
+            let own : x ≡ p = own_of number x (eqb-true number mobile hit) acts in
+            by_seat x tenure command frame own acts seat lent reached (seat_commanded p.seat tenure command (ap (λ (z : Mobile). z.seat) (sym own) ∙ seat) sits)
       ]
 
-  led-by : (t : Target) → target_in s.state ≡ t.channel ∷ [] → commanded_target s.state ≡ Some t → IsLedBy w p t → (e : Event) → e ≡ event → IsLedBy (actors_after w e) q t
+  led_by : (t : Target) → target_in s.state ≡ t.channel ∷ [] → commanded_target s.state ≡ Some t → IsLedBy w p t → (e : Event) → e ≡ event → IsLedBy (actors_after w e) q t
   unfolding event_after
-  led-by t is to led (AirUp number sapi) now = frame-led t is to led number sapi q (ap (λ (x : Event). mobile_of (actors_after w x) mobile) now ∙ found_then)
-  led-by t is to led e now = subst (λ (x : Event). IsLedBy (actors_after w x) q t) (sym now) (quiet-led t is to led (ap is_frame (sym now)))
+  led_by t is to led (AirUp number sapi) now = frame_led t is to led number sapi q (ap (λ (x : Event). mobile_of (actors_after w x) mobile) now ∙ found_then)
+  led_by t is to led e now = subst (λ (x : Event). IsLedBy (actors_after w x) q t) (sym now) (quiet_led t is to led (ap is_frame (sym now)))
 
-  pub beside-fresh : (state : State) → s.state ≡ state → IsFreshIn w p state → IsFreshIn v q state
-  beside-fresh (Live reference (Preparing target)) is fresh = awaited target.channel (ap target_in is) (ap commanded_target is) fresh
-  beside-fresh (Live reference (Changing target)) is fresh = led-by target (ap target_in is) (ap commanded_target is) fresh event refl
-  beside-fresh (Live reference Active) is fresh = tt
-  beside-fresh (Live reference Draining) is fresh = tt
-  beside-fresh _ is fresh = tt
+  pub beside_fresh : (state : State) → s.state ≡ state → IsFreshIn w p state → IsFreshIn v q state
+  beside_fresh (Live reference (Preparing target)) is fresh = awaited target.channel (ap target_in is) (ap commanded_target is) fresh
+  beside_fresh (Live reference (Changing target)) is fresh = led_by target (ap target_in is) (ap commanded_target is) fresh event refl
+  beside_fresh (Live reference Active) is fresh = tt
+  beside_fresh (Live reference Draining) is fresh = tt
+  beside_fresh _ is fresh = tt

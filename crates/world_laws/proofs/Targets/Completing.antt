@@ -79,16 +79,16 @@ module _ (w : Actors) (source : ℕ) (frame : Frame) (items : List Item) (stands
   Says = (cause : RrCause) × (brought_in w.controller n (Take (record { source = source; what = whats.Frame frame })) ≡ comes (inputs.Complete at t.change cause))
 
   -- no initial message is among it
-  no-initial : (m : Rsl) → source ≡ at.station → rsl_in frame ≡ Some m → initial_by at.number m ≡ []
-  no-initial m here says =
+  no_initial : (m : Rsl) → source ≡ at.station → rsl_in frame ≡ Some m → initial_by at.number m ≡ []
+  no_initial m here says =
       let read : messages_up w at.station ≡ (m ∷ []) ++ (flat_map (read_of at.station) items ++ (base_of w at.station).messages) =
       ap (λ (xs : List Item). flat_map (read_of at.station) xs ++ (base_of w at.station).messages) stands
       ∙ ap (λ (b : Bool). ((if b then option_to_list (rsl_in frame) else []) ++ flat_map (read_of at.station) items) ++ (base_of w at.station).messages) (eq-eqb source at.station here)
       ∙ ap (λ (o : Option Rsl). (option_to_list o ++ flat_map (read_of at.station) items) ++ (base_of w at.station).messages) says in
       (Both-empty (initial_by at.number m) (flat_map (initial_by at.number) (flat_map (read_of at.station) items ++ (base_of w at.station).messages)) (sym (ap (flat_map (initial_by at.number)) (sym read) ∙ none))).0
 
-  says-data : (m : Rsl) → source ≡ at.station → rsl_in frame ≡ Some m → messages_in (brings at.number m) ≡ messages_in (brings_in at (record { source = source; what = whats.Frame frame })) → Brings-data at.number m → Says
-  says-data m here says same (as_data d is on zero one) =
+  says_data : (m : Rsl) → source ≡ at.station → rsl_in frame ≡ Some m → messages_in (brings at.number m) ≡ messages_in (brings_in at (record { source = source; what = whats.Frame frame })) → Brings-data at.number m → Says
+  says_data m here says same (as_data d is on zero one) =
       let l3 : d.l3 ≡ complete t.change = begin_here (complete t.change) d.l3 (messages_in (brings_in at (record { source = source; what = whats.Frame frame }))) coming rest (sym same ∙ one) all first in
       let other : source ≢ SWITCH_LINK = (λ switch. station_is (sym here ∙ switch)) in
       let made = known.station other in
@@ -105,14 +105,14 @@ module _ (w : Actors) (source : ℕ) (frame : Frame) (items : List Item) (stands
             ∙ ap (λ (b : Bool). if b then comes (inputs.Complete at t.change complete_is.0) else nothing) (eq-eqb n n refl),
       )
 
-  pub says-complete : (messages_in (brings_in at (record { source = source; what = whats.Frame frame })) ≡ [] → ⊥) → Says
-  says-complete some = by (source == at.station) refl where
+  pub says_complete : (messages_in (brings_in at (record { source = source; what = whats.Frame frame })) ≡ [] → ⊥) → Says
+  says_complete some = by (source == at.station) refl where
     inner : (o : Option Rsl) → rsl_in frame ≡ o → (source == at.station) ≡ true → Says
     inner None says here = absurd (some (ap (λ (b : Bool). messages_in (if b then brings_if at.number (rsl_in frame) else [])) here ∙ ap (λ (o : Option Rsl). messages_in (brings_if at.number o)) says))
     inner (Some m) says here =
         let same : messages_in (brings at.number m) ≡ messages_in (brings_in at (record { source = source; what = whats.Frame frame })) =
         sym (ap (λ (b : Bool). messages_in (if b then brings_if at.number (rsl_in frame) else [])) here ∙ ap (λ (o : Option Rsl). messages_in (brings_if at.number o)) says) in
-        says-data m (eqb-true source at.station here) says same (brings_data at.number m (no-initial m (eqb-true source at.station here) says) (λ nothing_comes. some (sym same ∙ nothing_comes)))
+        says_data m (eqb-true source at.station here) says same (brings_data at.number m (no_initial m (eqb-true source at.station here) says) (λ nothing_comes. some (sym same ∙ nothing_comes)))
 
     by : (b : Bool) → (source == at.station) ≡ b → Says
     by true here = inner (rsl_in frame) refl here

@@ -27,11 +27,11 @@ use Rattle.world_laws.specs.GoingDown.{leading, leading_by, leading_from_air, le
 use Rattle.world_laws.specs.LineUp.Places.{messages_in}
 use Rattle.world_laws.proofs.Acknowledged.{coming-read}
 use Rattle.world_laws.proofs.OrderServes.{Lawful, LeadsOwn}
-use Rattle.world_laws.proofs.OwnerRun.{item-leads, lawful_life, life-settings, serves_event, snoc_steps}
+use Rattle.world_laws.proofs.OwnerRun.{item_leads, lawful_life, life-settings, serves_event, snoc_steps}
 use Rattle.world_laws.specs.Targets.Quiet.{ChannelsAreSettled, FreeChannelsAreQuiet, IsQuiet, IsSettled, StandWithin}
 use Rattle.world_laws.proofs.Targets.AckOne.{IsOneOut, one_item}
 use Rattle.world_laws.proofs.Targets.Air.{IdleAir, idle_air_new, idle_step}
-use Rattle.world_laws.proofs.Targets.Settled.{Frees, comes_free, settled-after}
+use Rattle.world_laws.proofs.Targets.Settled.{Frees, comes_free, settled_after}
 use Rattle.world_laws.proofs.Targets.Ways.{WaysStand, ways_stand_new, heard_read, initials_none}
 use Rattle.world_laws.proofs.Targets.Within.{none_leads, within_none}
 use Rattle.world_laws.proofs.Channels.RoleAcks.{up_first}
@@ -174,9 +174,9 @@ module _ (settings : Parameters) (owner : Tenure → ℕ) (done : List Event) (w
   lives : w.controller ≡ (life settings (all_steps (new_actors settings) done)).next
   lives = ap (λ (x : Actors). x.controller) is ∙ LivesByTable-new settings done
 
-  works-handle : AllAgree settings owner w → AllByRecursion ComesInOctets (first_taken w.inbox) → ServesAt settings owner w Handle → (at : Place) → 1 ≤ at.station → at.station ≤ length settings.cells → Works w Handle at
+  works_handle : AllAgree settings owner w → AllByRecursion ComesInOctets (first_taken w.inbox) → ServesAt settings owner w Handle → (at : Place) → 1 ≤ at.station → at.station ≤ length settings.cells → Works w Handle at
   unfolding ServesAt event_after take
-  works-handle agree own serves at least most = by w.inbox refl where
+  works_handle agree own serves at least most = by w.inbox refl where
     n : ℕ
     n = at.station
 
@@ -217,13 +217,13 @@ module _ (settings : Parameters) (owner : Tenure → ℕ) (done : List Event) (w
       known = (subst (AllByRecursion IsKnownItem) stands (subst (λ (x : Actors). AllByRecursion IsKnownItem x.inbox) (sym is) (known-inbox settings done))).0
 
       entries : StandWithin at.number (active_behind w at) (if is_up w n then entries_to at target t.outs else [])
-      entries = by-link (is_up w n) (hears t.next n) refl refl where
-        by-link : (up hearing : Bool) → is_up w n ≡ up → hears t.next n ≡ hearing → StandWithin at.number (active_behind w at) (if up then entries_to at target t.outs else [])
-        by-link false hearing down h = tt
-        by-link true false up deaf = subst (StandWithin at.number (active_behind w at)) (sym (serving.silent deaf)) tt
-        by-link true true up hearing =
+      entries = by_link (is_up w n) (hears t.next n) refl refl where
+        by_link : (up hearing : Bool) → is_up w n ≡ up → hears t.next n ≡ hearing → StandWithin at.number (active_behind w at) (if up then entries_to at target t.outs else [])
+        by_link false hearing down h = tt
+        by_link true false up deaf = subst (StandWithin at.number (active_behind w at)) (sym (serving.silent deaf)) tt
+        by_link true true up hearing =
             puts_one owner w at target t.outs (agree at least most) (serving.hearing hearing) up (one_item w item.source item.what known)
-            (item-leads settings owner w agree (ap (λ (c : Controller). c.settings) lives ∙ life-settings settings (all_steps (new_actors settings) done)) laws.ready at item.source item.what items least most stands known (serving.hearing hearing) up laws.sent)
+            (item_leads settings owner w agree (ap (λ (c : Controller). c.settings) lives ∙ life-settings settings (all_steps (new_actors settings) done)) laws.ready at item.source item.what items least most stands known (serving.hearing hearing) up laws.sent)
 
       puts : StandWithin at.number (active_behind w at) (put n w Handle)
       puts = subst (λ (all : List Item). StandWithin at.number (active_behind w at) (if is_up w n then to_link n (outs_at all) else [])) (sym stands) entries where
@@ -231,29 +231,29 @@ module _ (settings : Parameters) (owner : Tenure → ℕ) (done : List Event) (w
         outs_at [] = []
         outs_at (x ∷ xs) = map (entry_of (target_in w x.source x.what)) (take x w.controller).outs
 
-  works-tick : (ms : ℕ) → ServesAt settings owner w (events.Tick ms) → (at : Place) → 1 ≤ at.station → at.station ≤ length settings.cells → Works w (events.Tick ms) at
+  works_tick : (ms : ℕ) → ServesAt settings owner w (events.Tick ms) → (at : Place) → 1 ≤ at.station → at.station ≤ length settings.cells → Works w (events.Tick ms) at
   unfolding ServesAt event_after
-  works-tick ms serves at least most = record {
+  works_tick ms serves at least most = record {
     puts = by (is_up w at.station);
-    frees = frees_by owner w (events.Tick ms) at None (tick ms w.controller) [] (tick-controller) (serves at least most) (inl refl) refl;
+    frees = frees_by owner w (events.Tick ms) at None (tick ms w.controller) [] (tick_controller) (serves at least most) (inl refl) refl;
   } where
     by : (b : Bool) → StandWithin at.number (active_behind w at) (if b then to_link at.station (map (entry_of None) (tick ms w.controller).outs) else [])
     by true = within_none at.number (active_behind w at) _ (none_led at.number at.station (tick ms w.controller).outs)
     by false = tt
 
-    tick-controller : (actors_after w (events.Tick ms)).controller ≡ (tick ms w.controller).next
-    tick-controller = (tick-turned w at ms).controller
+    tick_controller : (actors_after w (events.Tick ms)).controller ≡ (tick ms w.controller).next
+    tick_controller = (tick-turned w at ms).controller
 
-  works-event : (event : Event) (later : List Event) → AllByRecursion ComesInOctets (step_at w event) → Right settings owner w (event ∷ later) → (at : Place) → 1 ≤ at.station → at.station ≤ length settings.cells → Works w event at
-  works-event event later own right at least most = kinds (λ (e : Event). AllByRecursion ComesInOctets (step_at w e) → ServesAt settings owner w e → Works w e at)
+  works_event : (event : Event) (later : List Event) → AllByRecursion ComesInOctets (step_at w event) → Right settings owner w (event ∷ later) → (at : Place) → 1 ≤ at.station → at.station ≤ length settings.cells → Works w event at
+  works_event event later own right at least most = kinds (λ (e : Event). AllByRecursion ComesInOctets (step_at w e) → ServesAt settings owner w e → Works w e at)
       (λ e beside _ _. works_rests w e at (beside-rests at w e beside (there-of settings owner w (event ∷ later) at right least most)))
-      (λ octets_now serves. works-handle right.agree octets_now serves at least most)
-      (λ ms _ serves. works-tick ms serves at least most)
+      (λ octets_now serves. works_handle right.agree octets_now serves at least most)
+      (λ ms _ serves. works_tick ms serves at least most)
       (λ station _ _. works_rests w (BaseTakes station) at (takes-rests owner at w station (there-of settings owner w (event ∷ later) at right least most) right.spots (right.agree at least most)))
       event own (serves_event settings owner done w event is allowed octets own right.agree)
 
-  keeps-step : (event : Event) (later : List Event) → AllByRecursion ComesInOctets (step_at w event) → Keeps settings owner w (event ∷ later) → Keeps settings owner (actors_after w event) later
-  keeps-step event later own keeps =
+  keeps_step : (event : Event) (later : List Event) → AllByRecursion ComesInOctets (step_at w event) → Keeps settings owner w (event ∷ later) → Keeps settings owner (actors_after w event) later
+  keeps_step event later own keeps =
       let right : Right settings owner (actors_after w event) later = right-step settings owner w event later (serves_event settings owner done w event is allowed octets own keeps.right.agree) keeps.right in
       let air : IdleAir (actors_after w event) = idle_step w event keeps.air in
       record {
@@ -261,8 +261,8 @@ module _ (settings : Parameters) (owner : Tenure → ℕ) (done : List Event) (w
         air = air;
         settled = λ at least most.
             let there = there-of settings owner w (event ∷ later) at keeps.right least most in
-            let works = works-event event later own keeps.right at least most in
-            settled-after owner w event at (record {
+            let works = works_event event later own keeps.right at least most in
+            settled_after owner w event at (record {
               least = there.station;
               there = there.among;
               none = there.none;
@@ -285,7 +285,7 @@ keeps_through settings owner done (event ∷ rest) w is allowed octets later kee
     keeps_through settings owner (done ++ event ∷ []) rest (actors_after w event) (ap (λ (x : Actors). actors_after x event) is ∙ sym (snoc_actors (new_actors settings) done event)) allowed
     (snoc_steps ComesInOctets (new_actors settings) done event octets (subst (λ (x : Actors). AllByRecursion ComesInOctets (step_at x event)) is own))
     (all_right ComesInOctets (step_at w event) (all_steps (actors_after w event) rest) later)
-    (keeps-step settings owner done w is allowed octets event rest own keeps)
+    (keeps_step settings owner done w is allowed octets event rest own keeps)
 
 keeps_new : (settings : Parameters) (events : List Event) → Keeps settings (owner_in (new_actors settings) events) (new_actors settings) events
 unfolding Follows

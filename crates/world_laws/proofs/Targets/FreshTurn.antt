@@ -24,7 +24,7 @@ use Rattle.world_laws.proofs.OrderServes.{Lawful, use_free}
 use Rattle.world_laws.specs.Targets.Fresh.{BeginWith, IsAwaited, IsFreshIn, IsLedBy, IsOnPlace}
 use Rattle.world_laws.specs.Targets.Quiet.{IsSettled}
 use Rattle.world_laws.proofs.Targets.AckServes.{LeadsOn, ServesOn, entries-none}
-use Rattle.world_laws.proofs.Targets.Begun.{activated_free, freed-down, freed-silent}
+use Rattle.world_laws.proofs.Targets.Begun.{activated_free, freed_down, freed_silent}
 use Rattle.world_laws.proofs.Targets.RoleGoes.{IsComplete, RoleGoes, acts_role, role}
 use Rattle.world_laws.proofs.Targets.RoleGoes.RoleGoes.{keeps, commanded, idle, begins}
 use Rattle.world_laws.proofs.Targets.Ways.{WaysStand}
@@ -102,8 +102,8 @@ module _ {m : ℕ} (settings : Parameters) (owner : Tenure → ℕ) (w v : Actor
   there_then : connection_of v.controller n ≡ Some s2
   there_then = ap (connection_of v.controller) (sym number) ∙ had_then.there
 
-  same-mobile : q ≡ p
-  same-mobile = same_Some _ _ (sym found_then ∙ ap (λ (ms : List Mobile). find (has_number mobile) ms) turn.mobiles ∙ found)
+  same_mobile : q ≡ p
+  same_mobile = same_Some _ _ (sym found_then ∙ ap (λ (ms : List Mobile). find (has_number mobile) ms) turn.mobiles ∙ found)
 
   owns : Owns w.controller.channels w.controller.links n (roles_of s)
   owns = owns_of w.controller n s laws.ready had.there had.is_open
@@ -119,16 +119,16 @@ module _ {m : ℕ} (settings : Parameters) (owner : Tenure → ℕ) (w v : Actor
       ∙ ap (λ (xs : List AirMessage). flat_map leading_from_air (spot_at w at).air ++ xs) (flat_map-append (leading_from_outbox at.number) (outbox_of w at.station) (turn.turned at).entries)
       ∙ sym (append_assoc (flat_map leading_from_air (spot_at w at).air) (flat_map (leading_from_outbox at.number) (outbox_of w at.station)) (flat_map (leading_from_outbox at.number) (turn.turned at).entries))
 
-  none-led : (at : Place) → (ServesOn at w.controller → ⊥) → flat_map (leading_from_outbox at.number) (turn.turned at).entries ≡ []
-  none-led at nobody = by (is_up w at.station) refl where
-    all-silent : (outs : List Out) → AllByRecursion (LeadsOn at w.controller) outs → AllByRecursion (λ out. (d : DataMessage) → said_to at out ≡ Some (DataRequest d) → d.channel ≡ at.number → ⊥) outs
-    all-silent [] all = tt
-    all-silent (out ∷ outs) all = ((λ d says same. nobody (all.0 d says same)), all-silent outs all.1)
+  none_led : (at : Place) → (ServesOn at w.controller → ⊥) → flat_map (leading_from_outbox at.number) (turn.turned at).entries ≡ []
+  none_led at nobody = by (is_up w at.station) refl where
+    all_silent : (outs : List Out) → AllByRecursion (LeadsOn at w.controller) outs → AllByRecursion (λ out. (d : DataMessage) → said_to at out ≡ Some (DataRequest d) → d.channel ≡ at.number → ⊥) outs
+    all_silent [] all = tt
+    all_silent (out ∷ outs) all = ((λ d says same. nobody (all.0 d says same)), all_silent outs all.1)
 
     why : (target ≡ None) ⊎ AllByRecursion (λ out. (d : DataMessage) → said_to at out ≡ Some (DataRequest d) → d.channel ≡ at.number → ⊥) (step w.controller st).outs
     why = elim (turn.leads at) [
       | inl none ↦ inl none
-      | inr all ↦ inr (all-silent (step w.controller st).outs all)
+      | inr all ↦ inr (all_silent (step w.controller st).outs all)
     ]
 
     by : (b : Bool) → is_up w at.station ≡ b → flat_map (leading_from_outbox at.number) (turn.turned at).entries ≡ []
@@ -136,57 +136,57 @@ module _ {m : ℕ} (settings : Parameters) (owner : Tenure → ℕ) (w v : Actor
     by false down = ap (flat_map (leading_from_outbox at.number)) ((turn.turned at).down down)
 
   -- nobody serves on a channel that is the connection's, but isn't its serving one
-  nobody-serves : (at : Place) → channel_state w.controller at ≡ InUse n → place_of s.serving ≢ at → ServesOn at w.controller → ⊥
-  nobody-serves at used apart x =
+  nobody_serves : (at : Place) → channel_state w.controller at ≡ InUse n → place_of s.serving ≢ at → ServesOn at w.controller → ⊥
+  nobody_serves at used apart x =
       let there : connection_of w.controller x.number ≡ Some x.entry.connection = ap (option_map (λ (e : Entry). e.connection)) x.there in
       let theirs : channel_state w.controller at ≡ InUse x.number = ap (state_in w.controller.channels) (sym x.serves) ∙ (owns_of w.controller x.number x.entry.connection laws.ready there x.is_open).using.0 in
       let same : n ≡ x.number = (let both : InUse n ≡ InUse x.number = sym used ∙ theirs in cc) in
       apart (ap (λ (y : Connection). place_of y.serving) (same_Some _ _ (sym had.there ∙ ap (connection_of w.controller) same ∙ there)) ∙ x.serves)
 
-  serving-apart : (c : Channel) → target_in s.state ≡ c ∷ [] → place_of s.serving ≢ place_of c
-  serving-apart c is same = false≢true (sym (subst (AllByRecursion (IsApart s.serving)) is (apart_behind (undone s.draining) (s.serving ∷ target_in s.state) lined.apart).0).0 ∙ hit) where
+  serving_apart : (c : Channel) → target_in s.state ≡ c ∷ [] → place_of s.serving ≢ place_of c
+  serving_apart c is same = false≢true (sym (subst (AllByRecursion (IsApart s.serving)) is (apart_behind (undone s.draining) (s.serving ∷ target_in s.state) lined.apart).0).0 ∙ hit) where
     hit : (s.serving.station == c.station) && (s.serving.number == c.number) ≡ true
     hit = ap (λ (b : Bool). b && (s.serving.number == c.number)) (eq-eqb s.serving.station c.station (ap (λ (x : Place). x.station) same)) ∙ eq-eqb s.serving.number c.number (ap (λ (x : Place). x.number) same)
 
-  target-used : (t : Target) (b : Bool) → target_role s.state ≡ Some (role t b) → channel_state w.controller (place_of t.channel) ≡ InUse n
-  target-used t b is = (subst (λ (o : Option TargetRole). AllByRecursion (λ c. state_in w.controller.channels (place_of c) ≡ InUse n) (target_channels o)) is owns.using.1).0
+  target_used : (t : Target) (b : Bool) → target_role s.state ≡ Some (role t b) → channel_state w.controller (place_of t.channel) ≡ InUse n
+  target_used t b is = (subst (λ (o : Option TargetRole). AllByRecursion (λ c. state_in w.controller.channels (place_of c) ≡ InUse n) (target_channels o)) is owns.using.1).0
 
   -- ---- the target stays prepared
 
   coming-parts : (at : Place) → messages_in (coming_up w at) ≡ messages_in (items at) ++ messages_in (coming_up v at)
   coming-parts at = ap messages_in (turn.comes at) ∙ messages_in-append (items at) (coming_up v at)
 
-  silent-then : (at : Place) → messages_in (coming_up w at) ≡ [] → messages_in (coming_up v at) ≡ []
-  silent-then at none = (Both-empty (messages_in (items at)) (messages_in (coming_up v at)) (sym (sym (coming-parts at) ∙ none))).1
+  silent_then : (at : Place) → messages_in (coming_up w at) ≡ [] → messages_in (coming_up v at) ≡ []
+  silent_then at none = (Both-empty (messages_in (items at)) (messages_in (coming_up v at)) (sym (sym (coming-parts at) ∙ none))).1
 
-  awaited-then : (t : Target) → target_role s.state ≡ Some (role t false) → IsAwaited w t.channel → IsAwaited v t.channel
-  awaited-then t is a = record {
-    silent = silent-then (place_of t.channel) a.silent;
+  awaited_then : (t : Target) → target_role s.state ≡ Some (role t false) → IsAwaited w t.channel → IsAwaited v t.channel
+  awaited_then t is a = record {
+    silent = silent_then (place_of t.channel) a.silent;
     uncommanded =
         downs (place_of t.channel)
         ∙ ap (λ (xs : List AirMessage). xs ++ flat_map (leading_from_outbox t.channel.number) (turn.turned (place_of t.channel)).entries) a.uncommanded
-        ∙ none-led (place_of t.channel) (nobody-serves (place_of t.channel) (target-used t false is) (serving-apart t.channel (role_channel s.state t false is)));
+        ∙ none_led (place_of t.channel) (nobody_serves (place_of t.channel) (target_used t false is) (serving_apart t.channel (role_channel s.state t false is)));
   }
 
   -- ---- the mobile is commanded to it, and isn't there
 
-  not-there : (seat : Seat) (c : Channel) → place_of s.serving ≢ place_of c → Sits w s.serving None seat → IsOnPlace seat (place_of c) → ⊥
-  not-there (On tenure command) c apart (stays there remembers) on = apart (ap (λ (x : Tenure). x.at) (sym there) ∙ on)
-  not-there Asking c apart sits on = on
-  not-there (Moving from command) c apart sits on = on
-  not-there Gone c apart sits on = on
+  not_there : (seat : Seat) (c : Channel) → place_of s.serving ≢ place_of c → Sits w s.serving None seat → IsOnPlace seat (place_of c) → ⊥
+  not_there (On tenure command) c apart (stays there remembers) on = apart (ap (λ (x : Tenure). x.at) (sym there) ∙ on)
+  not_there Asking c apart sits on = on
+  not_there (Moving from command) c apart sits on = on
+  not_there Gone c apart sits on = on
 
-  commanded-then : (t : Target) → target_role s.state ≡ Some (role t false) → IsAwaited w t.channel → IsLedBy v q t
-  commanded-then t is a = record {
-    first = subst (BeginWith (complete t.change)) (sym (silent-then (place_of t.channel) a.silent)) tt;
-    gives = λ none up on. absurd (not-there p.seat t.channel (serving-apart t.channel (role_channel s.state t false is)) (subst (λ (o : Option Target). Sits w s.serving o p.seat) (role_prepared s.state t is) lined.sits)
-        (subst (λ (x : Mobile). IsOnPlace x.seat (place_of t.channel)) same-mobile on));
+  commanded_then : (t : Target) → target_role s.state ≡ Some (role t false) → IsAwaited w t.channel → IsLedBy v q t
+  commanded_then t is a = record {
+    first = subst (BeginWith (complete t.change)) (sym (silent_then (place_of t.channel) a.silent)) tt;
+    gives = λ none up on. absurd (not_there p.seat t.channel (serving_apart t.channel (role_channel s.state t false is)) (subst (λ (o : Option Target). Sits w s.serving o p.seat) (role_prepared s.state t is) lined.sits)
+        (subst (λ (x : Mobile). IsOnPlace x.seat (place_of t.channel)) same_mobile on));
   }
 
   -- ---- the change goes on
 
-  led-then : (t : Target) → target_role s.state ≡ Some (role t true) → (IsComplete (brought_in w.controller n st) (target_role s.state) → ⊥) → IsLedBy w p t → IsLedBy v q t
-  led-then t is no_complete led = by (messages_in (items (place_of t.channel))) refl where
+  led_then : (t : Target) → target_role s.state ≡ Some (role t true) → (IsComplete (brought_in w.controller n st) (target_role s.state) → ⊥) → IsLedBy w p t → IsLedBy v q t
+  led_then t is no_complete led = by (messages_in (items (place_of t.channel))) refl where
     at : Place
     at = place_of t.channel
 
@@ -196,18 +196,18 @@ module _ {m : ℕ} (settings : Parameters) (owner : Tenure → ℕ) (w v : Actor
         let same : messages_in (coming_up v at) ≡ messages_in (coming_up w at) = ap (λ (xs : List (List ℕ)). xs ++ messages_in (coming_up v at)) (sym none_came) ∙ sym (coming-parts at) in
         record {
           first = subst (BeginWith (complete t.change)) (sym same) led.first;
-          gives = subst (λ (x : Mobile). messages_in (coming_up v at) ≡ [] → is_up v t.channel.station ≡ true → IsOnPlace x.seat at → first_in (to_be_taken x.end.zero) ≡ Some (complete t.change)) (sym same-mobile)
+          gives = subst (λ (x : Mobile). messages_in (coming_up v at) ≡ [] → is_up v t.channel.station ≡ true → IsOnPlace x.seat at → first_in (to_be_taken x.end.zero) ≡ Some (complete t.change)) (sym same_mobile)
               (λ none up on. led.gives (sym same ∙ none) (sym (turn.turned at).up ∙ up) on);
         }
 
   -- ---- a change begins: its target was free
 
-  begun-then : (t : Target) (firsts : List Message) → target_role s2.state ≡ Some (role t false) → orders acts.put ≡ firsts ++ change_activation t.change t.channel ∷ [] → IsAwaited v t.channel
-  begun-then t firsts is ordered = record {
-    silent = ap messages_in (freed-silent owner w at b.agrees b.none b.settled b.ways heard_before v (read at.station) (turn.ways at.station) (heard at) (turn.turned at).one (turn.heard_is at) freed);
+  begun_then : (t : Target) (firsts : List Message) → target_role s2.state ≡ Some (role t false) → orders acts.put ≡ firsts ++ change_activation t.change t.channel ∷ [] → IsAwaited v t.channel
+  begun_then t firsts is ordered = record {
+    silent = ap messages_in (freed_silent owner w at b.agrees b.none b.settled b.ways heard_before v (read at.station) (turn.ways at.station) (heard at) (turn.turned at).one (turn.heard_is at) freed);
     uncommanded =
-        downs at ∙ ap (λ (xs : List AirMessage). xs ++ flat_map (leading_from_outbox at.number) (turn.turned at).entries) (freed-down owner w at b.agrees b.none b.settled b.ways heard_before v (read at.station) (turn.ways at.station) (heard at) (turn.turned at).one (turn.heard_is at) freed)
-        ∙ none-led at nobody;
+        downs at ∙ ap (λ (xs : List AirMessage). xs ++ flat_map (leading_from_outbox at.number) (turn.turned at).entries) (freed_down owner w at b.agrees b.none b.settled b.ways heard_before v (read at.station) (turn.ways at.station) (heard at) (turn.turned at).one (turn.heard_is at) freed)
+        ∙ none_led at nobody;
   } where
     at : Place
     at = place_of t.channel
@@ -245,17 +245,17 @@ module _ {m : ℕ} (settings : Parameters) (owner : Tenure → ℕ) (w v : Actor
 
   -- ---- so it stays fresh
 
-  fresh-then : (o : Option TargetRole) → target_role s.state ≡ o → FreshRole w p o → RoleGoes s s2 (brought_in w.controller n st) acts.put → FreshRole v q (target_role s2.state)
-  fresh-then o is was (idle none) = subst (FreshRole v q) (sym none) tt
-  fresh-then o is was (begins t firsts to ordered) = subst (FreshRole v q) (sym to) (begun-then t firsts to ordered)
-  fresh-then o is was (commanded t from to) = subst (FreshRole v q) (sym to) (commanded-then t from (subst (FreshRole w p) (sym is ∙ from) was))
-  fresh-then None is was (keeps same no_complete) = subst (FreshRole v q) (sym (same ∙ is)) tt
-  fresh-then (Some t) is was (keeps same no_complete) = subst (FreshRole v q) (sym (same ∙ is)) (by t.is_commanded refl was) where
+  fresh_then : (o : Option TargetRole) → target_role s.state ≡ o → FreshRole w p o → RoleGoes s s2 (brought_in w.controller n st) acts.put → FreshRole v q (target_role s2.state)
+  fresh_then o is was (idle none) = subst (FreshRole v q) (sym none) tt
+  fresh_then o is was (begins t firsts to ordered) = subst (FreshRole v q) (sym to) (begun_then t firsts to ordered)
+  fresh_then o is was (commanded t from to) = subst (FreshRole v q) (sym to) (commanded_then t from (subst (FreshRole w p) (sym is ∙ from) was))
+  fresh_then None is was (keeps same no_complete) = subst (FreshRole v q) (sym (same ∙ is)) tt
+  fresh_then (Some t) is was (keeps same no_complete) = subst (FreshRole v q) (sym (same ∙ is)) (by t.is_commanded refl was) where
     by : (b : Bool) → t.is_commanded ≡ b → FreshBy w p t.target b → FreshBy v q t.target t.is_commanded
-    by true hit led_so = subst (FreshBy v q t.target) (sym hit) (led-then t.target (is ∙ ap (λ (b : Bool). Some (role t.target b)) hit) no_complete led_so)
-    by false miss a = subst (FreshBy v q t.target) (sym miss) (awaited-then t.target (is ∙ ap (λ (b : Bool). Some (role t.target b)) miss) a)
+    by true hit led_so = subst (FreshBy v q t.target) (sym hit) (led_then t.target (is ∙ ap (λ (b : Bool). Some (role t.target b)) hit) no_complete led_so)
+    by false miss a = subst (FreshBy v q t.target) (sym miss) (awaited_then t.target (is ∙ ap (λ (b : Bool). Some (role t.target b)) miss) a)
 
-  pub turn-fresh : IsFreshIn v q s2.state
-  turn-fresh = of_role v q s2.state (fresh-then (target_role s.state) refl (to_role w p s.state fresh)
+  pub turn_fresh : IsFreshIn v q s2.state
+  turn_fresh = of_role v q s2.state (fresh_then (target_role s.state) refl (to_role w p s.state fresh)
       (acts_role n w.controller.next_number (hears w.controller SWITCH_LINK) (brought_in w.controller n st) (connection_of w.controller n) acts.put (connection_of (step w.controller st).next n) s s2 acts.acts had.there
       (ap (λ (c : Controller). connection_of c n) (sym turn.next) ∙ there_then) stands had.is_open had_then.is_open))

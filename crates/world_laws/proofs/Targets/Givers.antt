@@ -109,11 +109,11 @@ module _ (w : Actors) (mobile : ℕ) (p : Mobile) (text : List ℕ) (at : Place)
   abbrev Still : Actors → Type 0
   Still v = StillIn v.mobiles
 
-  still-same : (ms : List Mobile) → ms ≡ w.mobiles → StillIn ms
-  still-same ms same q is = subst (Gives text at) (same_Some _ _ (sym found ∙ ap (find (has_number mobile)) (sym same) ∙ is)) gives
+  still_same : (ms : List Mobile) → ms ≡ w.mobiles → StillIn ms
+  still_same ms same q is = subst (Gives text at) (same_Some _ _ (sym found ∙ ap (find (has_number mobile)) (sym same) ∙ is)) gives
 
-  pub still-put : (ms : List Mobile) (number : ℕ) (before after : Mobile) → mobile_of w number ≡ Some before → after.number ≡ before.number → ms ≡ w.mobiles → (before ≡ p → Gives text at after) → StillIn (put_back after ms)
-  still-put ms number before after acts same mobiles h q is = elim (cases_Bool (nat_eq number mobile)) [
+  pub still_put : (ms : List Mobile) (number : ℕ) (before after : Mobile) → mobile_of w number ≡ Some before → after.number ≡ before.number → ms ≡ w.mobiles → (before ≡ p → Gives text at after) → StillIn (put_back after ms)
+  still_put ms number before after acts same mobiles h q is = elim (cases_Bool (nat_eq number mobile)) [
     | inl hit ↦
         let one : number ≡ mobile = eqb-true number mobile hit in
         let own : before ≡ p = same_Some _ _ (sym acts ∙ ap (mobile_of w) one ∙ found) in
@@ -130,12 +130,12 @@ module _ (w : Actors) (mobile : ℕ) (p : Mobile) (text : List ℕ) (at : Place)
   ]
 
   -- of another, or of one that isn't there
-  still-elsewhere : (number : ℕ) (before after : Mobile) → mobile_of w number ≡ Some before → after.number ≡ before.number → (before ≡ p → IsOnPlace after.seat at → ⊥) → StillIn (put_back after w.mobiles)
-  still-elsewhere number before after acts same h = still-put w.mobiles number before after acts same refl (λ own on. absurd (h own on))
+  still_elsewhere : (number : ℕ) (before after : Mobile) → mobile_of w number ≡ Some before → after.number ≡ before.number → (before ≡ p → IsOnPlace after.seat at → ⊥) → StillIn (put_back after w.mobiles)
+  still_elsewhere number before after acts same h = still_put w.mobiles number before after acts same refl (λ own on. absurd (h own on))
 
   module _ (serving : Channel) (t : Target) (text_is : text ≡ complete t.change) (at_is : at ≡ place_of t.channel) (apart : place_of serving ≢ at) (sits : Sits w serving (Some t) p.seat) where
-    no-asking : p.seat ≡ Asking → ⊥
-    no-asking is = by p.seat is sits where
+    no_asking : p.seat ≡ Asking → ⊥
+    no_asking is = by p.seat is sits where
       by : (seat : Seat) → seat ≡ Asking → Sits w serving (Some t) seat → ⊥
       by Asking same sat = elim sat [ ]
       by (On tenure command) same sat = absurd cc
@@ -161,24 +161,24 @@ module _ (w : Actors) (mobile : ℕ) (p : Mobile) (text : List ℕ) (at : Place)
         from_in seat d = d
       by Gone same sat = absurd cc
 
-    still-gives : {number : ℕ} {event : Event} {x q : Mobile} → x ≡ p → is_frame event ≡ false → Becomes w number event x q → Gives text at q
-    still-gives own b (queues sapi message x may) = λ on. queued_first x.end sapi message text (subst (Gives text at) (sym own) gives on)
-    still-gives own b (opens x tenure frame lent) = absurd cc
-    still-gives own b (lends x tenure frame lent) = absurd cc
-    still-gives own b (is_acked sapi x) = λ on. acked-first x.end sapi text (subst (Gives text at) (sym own) gives on)
-    still-gives own b (hears x tenure command first others seat reached stood) = λ on.
+    still_gives : {number : ℕ} {event : Event} {x q : Mobile} → x ≡ p → is_frame event ≡ false → Becomes w number event x q → Gives text at q
+    still_gives own b (queues sapi message x may) = λ on. queued_first x.end sapi message text (subst (Gives text at) (sym own) gives on)
+    still_gives own b (opens x tenure frame lent) = absurd cc
+    still_gives own b (lends x tenure frame lent) = absurd cc
+    still_gives own b (is_acked sapi x) = λ on. acked-first x.end sapi text (subst (Gives text at) (sym own) gives on)
+    still_gives own b (hears x tenure command first others seat reached stood) = λ on.
         ap (λ (e : MobileState). first_in (to_be_taken e.zero)) (hearing-end x first) ∙ subst (Gives text at) (sym own) gives (hearing_on x first at on)
-    still-gives own b (misses x) = subst (Gives text at) (sym own) gives
-    still-gives own b (leaves x tenure command seat reached) = λ on. absurd on
-    still-gives own b (arrives x from command seat reached) = λ on.
+    still_gives own b (misses x) = subst (Gives text at) (sym own) gives
+    still_gives own b (leaves x tenure command seat reached) = λ on. absurd on
+    still_gives own b (arrives x from command seat reached) = λ on.
         ap (λ (c : Command). Some (complete c.change)) (moves from command (ap (λ (y : Mobile). y.seat) (sym own) ∙ seat)).0 ∙ ap Some (sym text_is)
-    still-gives own b (returns x from command seat reached) = λ on.
+    still_gives own b (returns x from command seat reached) = λ on.
         absurd (apart (sym (moves from command (ap (λ (y : Mobile). y.seat) (sym own) ∙ seat)).1 ∙ on))
-    still-gives own b (is_seated station x channel asks) = λ on. absurd (no-asking (ap (λ (y : Mobile). y.seat) (sym own) ∙ asks))
+    still_gives own b (is_seated station x channel asks) = λ on. absurd (no_asking (ap (λ (y : Mobile). y.seat) (sym own) ∙ asks))
 
-    pub gives-step : (event : Event) → is_frame event ≡ false → Still (actors_after w event)
-    gives-step event b = event-keeps Still w event (record {
-      puts = λ u number x q acts mobiles how _. still-put u.mobiles number x q acts (became-number how) mobiles (λ own. still-gives own b how);
+    pub gives_step : (event : Event) → is_frame event ≡ false → Still (actors_after w event)
+    gives_step event b = event-keeps Still w event (record {
+      puts = λ u number x q acts mobiles how _. still_put u.mobiles number x q acts (became-number how) mobiles (λ own. still_gives own b how);
       joins = λ number initial accepts _ _ q is.
           subst (Gives text at) (same_Some _ _ (sym (found-front mobile p w.mobiles (connected w.modulus number initial accepts ∷ []) found) ∙ is)) gives;
       tells = λ u n message _ _ so. so;
@@ -190,4 +190,4 @@ module _ (w : Actors) (mobile : ℕ) (p : Mobile) (text : List ℕ) (at : Place)
       rest = λ u inbox controller switch made links so. so;
       next = λ source message _ so. so;
       down = λ source _ _ so. so;
-    }) (still-same w.mobiles refl)
+    }) (still_same w.mobiles refl)

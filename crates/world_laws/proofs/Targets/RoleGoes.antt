@@ -75,22 +75,22 @@ row_goes s x s2 input brought offer r put same next brought_is put_is on = by on
   now roles is = ap (λ (y : Connection). target_role y.state) (sym next) ∙ ap (λ (y : Roles). y.target) is
 
   -- no COMPLETE was brought where another step is done
-  no-complete : (step : RoleStep) → step_by input (roles_of x) ≡ step → (completes ≡ step → ⊥) → IsComplete brought (target_role s.state) → ⊥
-  no-complete step is other (at, change, cause, came, hit) =
+  no_complete : (step : RoleStep) → step_by input (roles_of x) ≡ step → (completes ≡ step → ⊥) → IsComplete brought (target_role s.state) → ⊥
+  no_complete step is other (at, change, cause, came, hit) =
       let says : input ≡ inputs.Complete at change cause = subst (λ (b : Brought). IsBrought b input) came brought_is in
       other (sym (complete_step at change cause (roles_of x) (ap (λ (o : Option TargetRole). is_target_at at o && changes_by change o) old ∙ hit)) ∙ ap (λ (i : Input). step_by i (roles_of x)) (sym says) ∙ is)
 
-  by-step : (step : RoleStep) → step_by input (roles_of x) ≡ step → roles_of r.next ≡ after_step step (roles_of x) → RoleGoes s s2 brought put
-  by-step stays is roles = keeps (now (roles_of x) roles ∙ old) (no-complete stays is (λ e. absurd cc))
-  by-step (leaves place) is roles = keeps (now (after_step (leaves place) (roles_of x)) roles ∙ old) (no-complete (leaves place) is (λ e. absurd cc))
-  by-step commands is roles =
+  by_step : (step : RoleStep) → step_by input (roles_of x) ≡ step → roles_of r.next ≡ after_step step (roles_of x) → RoleGoes s s2 brought put
+  by_step stays is roles = keeps (now (roles_of x) roles ∙ old) (no_complete stays is (λ e. absurd cc))
+  by_step (leaves place) is roles = keeps (now (after_step (leaves place) (roles_of x)) roles ∙ old) (no_complete (leaves place) is (λ e. absurd cc))
+  by_step commands is roles =
       let waits = commands_of input (roles_of x) is in
       commanded waits.0 (sym old ∙ waits.1) (now (after_step commands (roles_of x)) roles ∙ ap commanded_role waits.1)
-  by-step completes is roles = idle (now (after_step completes (roles_of x)) roles ∙ completed-none (roles_of x).target (roles_of x) refl)
-  by-step goes_back is roles = idle (now (after_step goes_back (roles_of x)) roles)
+  by_step completes is roles = idle (now (after_step completes (roles_of x)) roles ∙ completed-none (roles_of x).target (roles_of x) refl)
+  by_step goes_back is roles = idle (now (after_step goes_back (roles_of x)) roles)
 
   by : (begun : Option Target) → roles_of r.next ≡ with_target begun (after_step (step_by input (roles_of x)) (roles_of x)) → orders r.outs ≡ step_orders (step_by input (roles_of x)) (roles_of x) ++ begin_orders begun → RoleGoes s s2 brought put
-  by None roles ordered = by-step (step_by input (roles_of x)) refl roles
+  by None roles ordered = by_step (step_by input (roles_of x)) refl roles
   by (Some t) roles ordered = begins t (step_orders (step_by input (roles_of x)) (roles_of x)) (now (with_target (Some t) (after_step (step_by input (roles_of x)) (roles_of x))) roles) (ap orders put_is ∙ ordered)
 
 -- ---- a step

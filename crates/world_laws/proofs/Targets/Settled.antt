@@ -78,36 +78,36 @@ module _ (owner : Tenure → ℕ) (w : Actors) (event : Event) (at : Place) (a :
 
   -- ---- the line
 
-  line-by : OutboxStep n w event v → PipeStep n k w event v → StandWithin k (is_active_at v at) (outbox_of v n)
-  line-by (goes up all) (flows acks active) =
+  line_by : OutboxStep n w event v → PipeStep n k w event v → StandWithin k (is_active_at v at) (outbox_of v n)
+  line_by (goes up all) (flows acks active) =
       subst (λ (b : Bool). StandWithin k b (outbox_of v n)) (sym active)
       (within_behind k (is_active_at w at) (taken n w event) (outbox_of v n) (subst (StandWithin k (is_active_at w at)) all (within_append k (is_active_at w at) (outbox_of w n) (put n w event) settled.line a.puts)))
-  line-by (breaks broken unput nobody) pipe = subst (λ (l : Link). StandWithin k (is_active_at v at) l.outbox) (sym broken) tt
-  line-by (goes up all) (stops down left dropped ungiven nobody) = subst (StandWithin k (is_active_at v at)) (sym dropped) tt
+  line_by (breaks broken unput nobody) pipe = subst (λ (l : Link). StandWithin k (is_active_at v at) l.outbox) (sym broken) tt
+  line_by (goes up all) (stops down left dropped ungiven nobody) = subst (StandWithin k (is_active_at v at)) (sym dropped) tt
 
   line : StandWithin k (is_active_at v at) (outbox_of v n)
-  line = line-by (outbox-step n w event) (pipe-step n k w event a.least a.there a.none)
+  line = line_by (outbox-step n w event) (pipe-step n k w event a.least a.there a.none)
 
   -- ---- while the link is up
 
-  idle-up : hears v.controller n ≡ true → is_up v n ≡ true → (channel_state v.controller at ≡ Free) ⊎ (is_ending v at ≡ true) → is_active_at v at ≡ false
-  idle-up hearing up why =
+  idle_up : hears v.controller n ≡ true → is_up v n ≡ true → (channel_state v.controller at ≡ Free) ⊎ (is_ending v at ≡ true) → is_active_at v at ≡ false
+  idle_up hearing up why =
       let way = a.agrees.way hearing in
       let all : to_come v at ++ way.lost ≡ acknowledgements_up v at ++ due k (is_active_at v at) (outbox_of v n) = ap (λ (xs : List Rsl). to_come v at ++ xs) (way.all up) ∙ append-nil (to_come v at) ∙ up_first v at in
       let both = comes_idle k (channel_state v.controller at) (to_come v at ++ way.lost) (acknowledgements_up v at) (due k (is_active_at v at) (outbox_of v n)) way.comes all why in
       sym (still_all k (is_active_at v at) (outbox_of v n) both.0) ∙ way.active up ∙ both.1
 
   -- no acknowledgement comes of a free channel
-  none-acks : hears v.controller n ≡ true → channel_state v.controller at ≡ Free → acknowledgements k (messages_up v n) ≡ []
-  none-acks hearing free =
+  none_acks : hears v.controller n ≡ true → channel_state v.controller at ≡ Free → acknowledgements k (messages_up v n) ≡ []
+  none_acks hearing free =
       let way = a.agrees.way hearing in
       let none : to_come v at ++ way.lost ≡ [] = comes_free k (channel_state v.controller at) (to_come v at ++ way.lost) way.comes free in
       (Both-empty (acknowledgements_up v at) (due k (is_active_at v at) (outbox_of v n)) (sym (sym (up_first v at) ∙ (Both-empty (to_come v at) way.lost (sym none)).0))).0
 
-  silent-up : hears v.controller n ≡ true → is_up v n ≡ true → channel_state v.controller at ≡ Free → coming_up v at ≡ []
-  silent-up hearing up free =
-      let none = none-acks hearing free in
-      let outside : a.after.within ≡ false = still_within k (messages_up v n) a.after.stand none ∙ a.after.now up ∙ idle-up hearing up (inl free) in
+  silent_up : hears v.controller n ≡ true → is_up v n ≡ true → channel_state v.controller at ≡ Free → coming_up v at ≡ []
+  silent_up hearing up free =
+      let none = none_acks hearing free in
+      let outside : a.after.within ≡ false = still_within k (messages_up v n) a.after.stand none ∙ a.after.now up ∙ idle_up hearing up (inl free) in
       coming-read v at ∙ nothing_before k (messages_up v n) [] (subst (λ (ms : List Rsl). Tenures k false ms a.after.end) (sym (append-nil (messages_up v n))) (subst (λ (b : Bool). Tenures k b (messages_up v n) a.after.end) outside a.after.stand)) none
 
   -- ---- once it is down
@@ -119,25 +119,25 @@ module _ (owner : Tenure → ℕ) (w : Actors) (event : Event) (at : Place) (a :
     gone : (rest : List Rsl) × (messages_up w n ≡ read ++ (messages_up v n ++ rest))
     gone = ways_down n w event a.least a.good down
 
-    acks-go : acknowledgements_up w at ≡ acknowledgements k read ++ (acknowledgements_up v at ++ acknowledgements k gone.0)
-    acks-go =
+    acks_go : acknowledgements_up w at ≡ acknowledgements k read ++ (acknowledgements_up v at ++ acknowledgements k gone.0)
+    acks_go =
         ap (acknowledgements k) gone.1 ∙ acks-append k read (messages_up v n ++ gone.0)
         ∙ ap (λ (ms : List Rsl). acknowledgements k read ++ ms) (acks-append k (messages_up v n) gone.0)
 
-    was-ending : (channel : ℕ) → acknowledgements k read ≡ RfChannelReleaseAck channel ∷ [] → is_ending w at ≡ true
-    was-ending channel is = ap (list_any is_release_ack) (acks-go ∙ ap (λ (ms : List Rsl). ms ++ (acknowledgements_up v at ++ acknowledgements k gone.0)) is)
+    was_ending : (channel : ℕ) → acknowledgements k read ≡ RfChannelReleaseAck channel ∷ [] → is_ending w at ≡ true
+    was_ending channel is = ap (list_any is_release_ack) (acks_go ∙ ap (λ (ms : List Rsl). ms ++ (acknowledgements_up v at ++ acknowledgements k gone.0)) is)
 
-    still-ending : is_ending v at ≡ true → is_ending w at ≡ true
-    still-ending is = ap (list_any is_release_ack) acks-go ∙ any-middle (acknowledgements k read) (acknowledgements_up v at) (acknowledgements k gone.0) is
+    still_ending : is_ending v at ≡ true → is_ending w at ≡ true
+    still_ending is = ap (list_any is_release_ack) acks_go ∙ any-middle (acknowledgements k read) (acknowledgements_up v at) (acknowledgements k gone.0) is
 
-    idle-down : hears v.controller n ≡ true → (channel_state v.controller at ≡ Free) ⊎ (is_ending v at ≡ true) → is_active_at v at ≡ false
-    idle-down hearing why =
+    idle_down : hears v.controller n ≡ true → (channel_state v.controller at ≡ Free) ⊎ (is_ending v at ≡ true) → is_active_at v at ≡ false
+    idle_down hearing why =
         ap (λ (active : List ℕ). is_active active k) (down_active n w event a.least down)
         ∙ settled.idle (a.frees.hearing hearing) (elim why [
-          | inr ending ↦ inr (still-ending ending)
+          | inr ending ↦ inr (still_ending ending)
           | inl free ↦ elim (a.frees.freed hearing free) [
             | inl was ↦ inl was
-            | inr acks ↦ inr (was-ending acks.0 acks.1)
+            | inr acks ↦ inr (was_ending acks.0 acks.1)
           ]
         ])
 
@@ -146,18 +146,18 @@ module _ (owner : Tenure → ℕ) (w : Actors) (event : Event) (at : Place) (a :
         ap (flat_map (brings k)) gone.1 ∙ flat_map-append (brings k) read (messages_up v n ++ gone.0)
         ∙ ap (λ (xs : List _). flat_map (brings k) read ++ xs) (flat_map-append (brings k) (messages_up v n) gone.0)
 
-    silent-down : hears v.controller n ≡ true → channel_state v.controller at ≡ Free → coming_up v at ≡ []
-    silent-down hearing free = coming-read v at ∙ elim (a.frees.freed hearing free) [
+    silent_down : hears v.controller n ≡ true → channel_state v.controller at ≡ Free → coming_up v at ≡ []
+    silent_down hearing free = coming-read v at ∙ elim (a.frees.freed hearing free) [
       | inl was ↦
           let none : flat_map (brings k) (messages_up w n) ≡ [] = sym (coming-read w at) ∙ settled.silent (a.frees.hearing hearing) was in
           let behind = (Both-empty (flat_map (brings k) read) (flat_map (brings k) (messages_up v n) ++ flat_map (brings k) gone.0) (sym none ∙ brings-go)).1 in
           (Both-empty (flat_map (brings k) (messages_up v n)) (flat_map (brings k) gone.0) (sym behind)).0
       | inr acks ↦
-          nothing_before k (messages_up v n) gone.0 (behind_end k acks.0 read (messages_up v n ++ gone.0) (subst (λ (ms : List Rsl). Tenures k a.before.within ms a.before.end) gone.1 a.before.stand) acks.1) (none-acks hearing free)
+          nothing_before k (messages_up v n) gone.0 (behind_end k acks.0 read (messages_up v n ++ gone.0) (subst (λ (ms : List Rsl). Tenures k a.before.within ms a.before.end) gone.1 a.before.stand) acks.1) (none_acks hearing free)
     ]
 
-  pub settled-after : IsSettled v at
-  settled-after = by (is_up v n) refl where
+  pub settled_after : IsSettled v at
+  settled_after = by (is_up v n) refl where
     by : (b : Bool) → is_up v n ≡ b → IsSettled v at
-    by true up = record { line = line; air = λ idle. a.air at a.least idle; idle = λ hearing why. idle-up hearing up why; silent = λ hearing free. silent-up hearing up free }
-    by false down = record { line = line; air = λ idle. a.air at a.least idle; idle = λ hearing why. idle-down down hearing why; silent = λ hearing free. silent-down down hearing free }
+    by true up = record { line = line; air = λ idle. a.air at a.least idle; idle = λ hearing why. idle_up hearing up why; silent = λ hearing free. silent_up hearing up free }
+    by false down = record { line = line; air = λ idle. a.air at a.least idle; idle = λ hearing why. idle_down down hearing why; silent = λ hearing free. silent_down down hearing free }

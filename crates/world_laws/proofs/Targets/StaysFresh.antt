@@ -34,11 +34,11 @@ use Rattle.world_laws.proofs.OwnerRun.{lawful_life, life-settings, serves_event}
 use Rattle.world_laws.proofs.Standing.{connections_stand_new}
 use Rattle.world_laws.specs.Targets.Fresh.{BeginWith, FreshTells, IsFreshIn, IsLedBy, TargetsStayFresh}
 use Rattle.world_laws.proofs.Targets.AckServes.{ack_item}
-use Rattle.world_laws.proofs.Targets.Beside.{beside-fresh}
+use Rattle.world_laws.proofs.Targets.Beside.{beside_fresh}
 use Rattle.world_laws.proofs.Targets.Comings.{is_relays}
-use Rattle.world_laws.proofs.Targets.Completing.{hits, says-complete}
+use Rattle.world_laws.proofs.Targets.Completing.{hits, says_complete}
 use Rattle.world_laws.proofs.Targets.FreeQuiet.{Keeps, keeps_run}
-use Rattle.world_laws.proofs.Targets.FreshTurn.{Before, TurnOf, owns_of, role_channel, turn-fresh}
+use Rattle.world_laws.proofs.Targets.FreshTurn.{Before, TurnOf, owns_of, role_channel, turn_fresh}
 use Rattle.world_laws.proofs.Targets.RoleGoes.{IsComplete, role}
 use Rattle.world_laws.proofs.Targets.Ways.{ways_stand_new, said-read}
 use Rattle.world_laws.proofs.Events.{snoc_actors, snoc_steps, world}
@@ -83,7 +83,7 @@ module _ (settings : Parameters) (events : List Event) (event : Event) (mobile :
   beside other =
       let same : s2 ≡ s = same_Some _ _ (sym had_then.there ∙ ap (λ (c : Controller). connection_of c s2.number) (same_controller w event other) ∙ ap (connection_of w.controller) number ∙ lives.had.there) in
       subst (λ (x : Connection). IsFreshIn v q x.state) (sym same)
-      (beside-fresh w event mobile p s lives.lined.found lives.lined.lined alone keeps.right.good other q found_then s.state refl fresh)
+      (beside_fresh w event mobile p s lives.lined.found lives.lined.lined alone keeps.right.good other q found_then s.state refl fresh)
 
   -- ---- the controller works
 
@@ -111,8 +111,8 @@ module _ (settings : Parameters) (events : List Event) (event : Event) (mobile :
   stands : Stands s
   stands = connections_stand_new settings events s.number s lives.had.there
 
-  before-of : (st : Step) (target : Option Tenure) (heard : Place → List Rsl) → ((at : Place) → 1 ≤ at.station → at.station ≤ length settings.cells → Serves owner w at target (step w.controller st) (heard at)) → (at : Place) → 1 ≤ at.station → at.station ≤ length settings.cells → Before owner w st target heard at
-  before-of st target heard serves at least most = record {
+  before_of : (st : Step) (target : Option Tenure) (heard : Place → List Rsl) → ((at : Place) → 1 ≤ at.station → at.station ≤ length settings.cells → Serves owner w at target (step w.controller st) (heard at)) → (at : Place) → 1 ≤ at.station → at.station ≤ length settings.cells → Before owner w st target heard at
+  before_of st target heard serves at least most = record {
     agrees = keeps.right.agree at least most;
     none = keeps.right.none at.station;
     settled = keeps.settled at least most;
@@ -122,8 +122,8 @@ module _ (settings : Parameters) (events : List Event) (event : Event) (mobile :
 
   -- ---- an item of the inbox
 
-  target-facts : (t : Target) → target_role s.state ≡ Some (role t true) → (t.channel.station ≢ SWITCH_LINK) × (channel_state w.controller (place_of t.channel) ≡ InUse s.number) × (hears w.controller t.channel.station ≡ true) × (initials_up w (place_of t.channel) ≡ [])
-  target-facts t is =
+  target_facts : (t : Target) → target_role s.state ≡ Some (role t true) → (t.channel.station ≢ SWITCH_LINK) × (channel_state w.controller (place_of t.channel) ≡ InUse s.number) × (hears w.controller t.channel.station ≡ true) × (initials_up w (place_of t.channel) ≡ [])
+  target_facts t is =
       let ready_w : Ready w.controller = subst Ready (sym by_life) (life_ready settings (all_steps (new_actors settings) events) allowed) in
       let owns : Owns w.controller.channels w.controller.links s.number (roles_of s) = owns_of w.controller s.number s ready_w lives.had.there lives.had.is_open in
       let channel : target_in s.state ≡ t.channel ∷ [] = role_channel s.state t true is in (
@@ -143,9 +143,9 @@ module _ (settings : Parameters) (events : List Event) (event : Event) (mobile :
     known : IsKnownItem item
     known = (subst (AllByRecursion IsKnownItem) stood (known-inbox settings events)).0
 
-    turn-of : Lawful w.controller (Take item) → TurnOf w then (Take item) (tenure_in w source what) (λ at. heard_of at item) (λ at. brings_in at item) (λ n. read_of n item)
+    turn_of : Lawful w.controller (Take item) → TurnOf w then (Take item) (tenure_in w source what) (λ at. heard_of at item) (λ at. brings_in at item) (λ n. read_of n item)
     unfolding take
-    turn-of laws = record {
+    turn_of laws = record {
       next = (handle-turned w (place_at 0 0) item items stood).controller;
       mobiles = turn-leads (λ u. u.mobiles ≡ w.mobiles) (tenure_in w source what) (take item w.controller) (record w { inbox = items }) (λ links. refl);
       turned = λ at. handle-turned w at item items stood;
@@ -162,28 +162,28 @@ module _ (settings : Parameters) (events : List Event) (event : Event) (mobile :
       ];
     }
 
-    no-complete : (t : Target) → target_role s.state ≡ Some (role t true) → IsLedBy w p t → (messages_in (brings_in (place_of t.channel) item) ≡ [] → ⊥) → IsComplete (brought_in w.controller s.number (Take item)) (target_role s.state)
-    no-complete t is led some = by what refl where
+    no_complete : (t : Target) → target_role s.state ≡ Some (role t true) → IsLedBy w p t → (messages_in (brings_in (place_of t.channel) item) ≡ [] → ⊥) → IsComplete (brought_in w.controller s.number (Take item)) (target_role s.state)
+    no_complete t is led some = by what refl where
       by : (x : What) → what ≡ x → IsComplete (brought_in w.controller s.number (Take item)) (target_role s.state)
       by whats.Down same = absurd (some (ap (λ (x : What). messages_in (brings_in (place_of t.channel) (record { source = source; what = x }))) same))
       by (whats.Frame frame) same =
-          let says = says-complete w source frame items (stood ∙ ap (λ (x : What). record { source = source; what = x } ∷ items) same) (subst (λ (x : What). IsKnownItem (record { source = source; what = x })) same known) t s.number (target-facts t is).0 (target-facts t is).1 (target-facts t is).2 (target-facts t is).3 (messages_in (coming_up w (place_of t.channel))) (messages_in (coming_up then (place_of t.channel)))
+          let says = says_complete w source frame items (stood ∙ ap (λ (x : What). record { source = source; what = x } ∷ items) same) (subst (λ (x : What). IsKnownItem (record { source = source; what = x })) same known) t s.number (target_facts t is).0 (target_facts t is).1 (target_facts t is).2 (target_facts t is).3 (messages_in (coming_up w (place_of t.channel))) (messages_in (coming_up then (place_of t.channel)))
           (ap messages_in (first_coming w item items (place_of t.channel) stood) ∙ messages_in-append (brings_in (place_of t.channel) item) (coming_up then (place_of t.channel)) ∙ ap (λ (x : What). messages_in (brings_in (place_of t.channel) (record { source = source; what = x })) ++ messages_in (coming_up then (place_of t.channel))) same)
           led.first (λ none. some (ap (λ (x : What). messages_in (brings_in (place_of t.channel) (record { source = source; what = x }))) same ∙ none)) in
           (place_of t.channel, t.change, says.0, ap (λ (x : What). brought_in w.controller s.number (Take (record { source = source; what = x }))) same ∙ says.1, subst (λ (o : Option TargetRole). is_target_at (place_of t.channel) o && changes_by t.change o ≡ true) (sym is) (hits t))
 
-    handled-fresh : ComesInOctets (Take item) → ((at : Place) → 1 ≤ at.station → at.station ≤ length settings.cells → Serves owner w at (tenure_in w source what) (take item w.controller) (heard_of at item)) → v ≡ then → IsFreshIn then q s2.state
-    handled-fresh own serves same =
+    handled_fresh : ComesInOctets (Take item) → ((at : Place) → 1 ≤ at.station → at.station ≤ length settings.cells → Serves owner w at (tenure_in w source what) (take item w.controller) (heard_of at item)) → v ≡ then → IsFreshIn then q s2.state
+    handled_fresh own serves same =
         let laws = laws_on (Take item) own in
-        turn-fresh settings owner w then (Take item) (tenure_in w source what) (λ at. heard_of at item) (λ at. brings_in at item) (λ n. read_of n item) (turn-of laws) (before-of (Take item) (tenure_in w source what) (λ at. heard_of at item) serves) laws
+        turn_fresh settings owner w then (Take item) (tenure_in w source what) (λ at. heard_of at item) (λ at. brings_in at item) (λ n. read_of n item) (turn_of laws) (before_of (Take item) (tenure_in w source what) (λ at. heard_of at item) serves) laws
         (subst (λ (u : Actors). Ready u.controller) same ready_then) (subst (λ (u : Actors). AreUsed u.controller) same used_then) (ap (λ (u : Actors). u.controller.settings) (sym same) ∙ same_settings)
-        mobile p s s2 lives.lined.found lives.lined.lined lives.had (subst (λ (u : Actors). IsHad u s2) same had_then) number stands (acts_on (Take item)) fresh no-complete q (ap (λ (u : Actors). mobile_of u mobile) (sym same) ∙ found_then)
+        mobile p s s2 lives.lined.found lives.lined.lined lives.had (subst (λ (u : Actors). IsHad u s2) same had_then) number stands (acts_on (Take item)) fresh no_complete q (ap (λ (u : Actors). mobile_of u mobile) (sym same) ∙ found_then)
 
   -- ---- the events
 
-  handle-fresh : event ≡ Handle → IsFreshIn v q s2.state
+  handle_fresh : event ≡ Handle → IsFreshIn v q s2.state
   unfolding event_after ServesAt
-  handle-fresh is = by w.inbox refl where
+  handle_fresh is = by w.inbox refl where
     now : v ≡ actors_after w Handle
     now = ap (actors_after w) is
 
@@ -199,11 +199,11 @@ module _ (settings : Parameters) (events : List Event) (event : Event) (mobile :
     by (item ∷ items) stood =
         let same : v ≡ handled_by w item items = now ∙ ap (λ (all : List Item). unwrap_or (handled all w) w) stood in
         let own : ComesInOctets (Take item) = (subst (λ (all : List Item). AllByRecursion ComesInOctets (first_taken all)) stood (subst (λ (e : Event). AllByRecursion ComesInOctets (step_at w e)) is own_octets)).0 in
-        subst (λ (u : Actors). IsFreshIn u q s2.state) (sym same) (handled-fresh item.source item.what items stood own (λ at least most. serving item items stood at least most) same)
+        subst (λ (u : Actors). IsFreshIn u q s2.state) (sym same) (handled_fresh item.source item.what items stood own (λ at least most. serving item items stood at least most) same)
 
-  tick-fresh : (ms : ℕ) → event ≡ Tick ms → IsFreshIn v q s2.state
+  tick_fresh : (ms : ℕ) → event ≡ Tick ms → IsFreshIn v q s2.state
   unfolding event_after ServesAt
-  tick-fresh ms is =
+  tick_fresh ms is =
       let then : Actors = with_turn None (tick ms w.controller) w in
       let same : v ≡ then = ap (actors_after w) is in
       let own : ComesInOctets (steps.Tick ms) = tt in
@@ -220,17 +220,17 @@ module _ (settings : Parameters) (events : List Event) (event : Event) (mobile :
         leads = λ at. inl refl;
       } in
       subst (λ (u : Actors). IsFreshIn u q s2.state) (sym same)
-      (turn-fresh settings owner w then (steps.Tick ms) None (λ at. []) (λ at. []) (λ n. []) turn (before-of (steps.Tick ms) None (λ at. []) (λ at least most. serving at least most)) laws
+      (turn_fresh settings owner w then (steps.Tick ms) None (λ at. []) (λ at. []) (λ n. []) turn (before_of (steps.Tick ms) None (λ at. []) (λ at least most. serving at least most)) laws
       (subst (λ (u : Actors). Ready u.controller) same ready_then) (subst (λ (u : Actors). AreUsed u.controller) same used_then) (ap (λ (u : Actors). u.controller.settings) (sym same) ∙ same_settings)
       mobile p s s2 lives.lined.found lives.lined.lined lives.had (subst (λ (u : Actors). IsHad u s2) same had_then) number stands (acts_on (steps.Tick ms)) fresh (λ t to led some. absurd (some refl)) q (ap (λ (u : Actors). mobile_of u mobile) (sym same) ∙ found_then))
 
-  pub stays-fresh : (e : Event) → event ≡ e → IsFreshIn v q s2.state
-  stays-fresh Handle is = handle-fresh is
-  stays-fresh (Tick ms) is = tick-fresh ms is
-  stays-fresh e is = beside (ap is_relays is)
+  pub stays_fresh : (e : Event) → event ≡ e → IsFreshIn v q s2.state
+  stays_fresh Handle is = handle_fresh is
+  stays_fresh (Tick ms) is = tick_fresh ms is
+  stays_fresh e is = beside (ap is_relays is)
 
 pub targets_stay_fresh_new : (settings : Parameters) (events : List Event) (event : Event) → TargetsStayFresh settings events event
-targets_stay_fresh_new settings events event mobile s s2 q allowed octets lives alone fresh number had found = stays-fresh settings events event mobile s s2 q allowed octets lives alone fresh number had found event refl
+targets_stay_fresh_new settings events event mobile s s2 q allowed octets lives alone fresh number had found = stays_fresh settings events event mobile s s2 q allowed octets lives alone fresh number had found event refl
 
 -- ---- so the target is fresh
 
