@@ -14,10 +14,10 @@ use Rattle.dtap_codec.specs.declared.rr_fault.RrFault.{RrFault}
 use Rattle.dtap_codec.specs.declared.rr_fault.RrFault.TheVariants.{Memory, Short, UnknownRr}
 use Rattle.dtap_codec.specs.declared.rr_type.RrType.{RrType}
 use Rattle.dtap_codec.specs.declared.rr_type.RrType.TheVariants as types
-use Rattle.dtap_codec.specs.declared.rr_type.TheConstants.{PSEUDO_LENGTH, IMMEDIATE_ASSIGNMENT, PAGING_RESPONSE}
+use Rattle.dtap_codec.specs.declared.rr_type.TheConstants.{PSEUDO_LENGTH, IMMEDIATE_ASSIGNMENT}
 use Rattle.dtap_codec.specs.RrFaults.{IsText, HasFault}
 use Rattle.dtap_codec.specs.RrReading.{three_at, handover_command_at, assignment_command_at, cause_at, immediate_assignment_at, measurement_report_at, content_at, known_type, typed_at, pseudo_at, rr_reading}
-use Rattle.dtap_codec.specs.RrType.{rr_type}
+use Rattle.dtap_codec.specs.RrType.{rr_octet, rr_type}
 use Rattle.dtap_codec.proofs.RrGrammar.{rr_again, rr_ok}
 
 -- ---- octets that are put behind others
@@ -144,7 +144,7 @@ typed_by octet rest (Some kind) e =
 
 typed_told : (octets : List ℕ) → Told typed_at octets (typed_at octets)
 unfolding typed_at octet_at rr_type
-typed_told [] = (PAGING_RESPONSE ∷ [], octets_one PAGING_RESPONSE [] (omega arith) (octets_zeros 0), refl)
+typed_told [] = (rr_octet types.PagingResponse ∷ [], octets_one (rr_octet types.PagingResponse) [] (omega arith) (octets_zeros 0), refl)
 typed_told (octet ∷ rest) = typed_by octet rest (rr_type octet) refl
 
 behind_discriminator : (octets : List ℕ) → Told pseudo_at (RADIO_RESOURCE ∷ octets) (pseudo_at (RADIO_RESOURCE ∷ octets))
@@ -170,7 +170,7 @@ plain_told octets = lifted typed_at rr_reading octets (RADIO_RESOURCE ∷ octets
 
 reading_told : (octets : List ℕ) → Told rr_reading octets (rr_reading octets)
 unfolding rr_reading octet_at typed_at rr_type
-reading_told [] = (RADIO_RESOURCE ∷ PAGING_RESPONSE ∷ [], octets_one RADIO_RESOURCE (PAGING_RESPONSE ∷ []) (omega arith) (octets_one PAGING_RESPONSE [] (omega arith) (octets_zeros 0)), refl)
+reading_told [] = (RADIO_RESOURCE ∷ rr_octet types.PagingResponse ∷ [], octets_one RADIO_RESOURCE (rr_octet types.PagingResponse ∷ []) (omega arith) (octets_one (rr_octet types.PagingResponse) [] (omega arith) (octets_zeros 0)), refl)
 reading_told (first ∷ rest) = elim (cases_eq first PSEUDO_LENGTH) [
   | inl same ↦ subst (λ (n : ℕ). Told rr_reading (n ∷ rest) (rr_reading (n ∷ rest))) (sym same) (lifted pseudo_at rr_reading rest (PSEUDO_LENGTH ∷ rest) (λ behind. refl) (pseudo_told rest))
   | inr other ↦ elim (cases_eq first RADIO_RESOURCE) [

@@ -18,7 +18,7 @@ use Rattle.dtap_codec.specs.declared.rr_fault.RrFault.{RrFault}
 use Rattle.dtap_codec.specs.declared.rr_fault.RrFault.TheVariants.{Short, UnknownRr}
 use Rattle.dtap_codec.specs.declared.rr_type.RrType.{RrType}
 use Rattle.dtap_codec.specs.declared.rr_type.RrType.TheVariants as types
-use Rattle.dtap_codec.specs.declared.rr_type.TheConstants.{PSEUDO_LENGTH, RR_TYPES, HANDOVER_COMMAND, ASSIGNMENT_COMMAND, HANDOVER_COMPLETE, HANDOVER_FAILURE, ASSIGNMENT_COMPLETE, ASSIGNMENT_FAILURE, CHANNEL_RELEASE, IMMEDIATE_ASSIGNMENT, MEASUREMENT_REPORT}
+use Rattle.dtap_codec.specs.declared.rr_type.TheConstants.{PSEUDO_LENGTH, RR_TYPES, IMMEDIATE_ASSIGNMENT}
 use Rattle.dtap_codec.specs.Rr.{cell_text, channel_text, CellFits, ChannelFits, IsHandoverCommand, IsAssignmentCommand, IsCauseOf, IsImmediateAssignment, IsMeasurementReport, IsRr, RrFits}
 use Rattle.dtap_codec.specs.RrReading.{three_at, cause_of, cell_of, channel_of, handover_command_at, assignment_command_at, cause_at, immediate_assignment_at, measurement_report_at, content_at, known_type, rr_discriminator, typed_at, pseudo_at, plain_at, rr_reading}
 use Rattle.dtap_codec.specs.RrText.{rr_text}
@@ -160,7 +160,7 @@ rr_again octets (PagingResponse rest) is = ap rr_reading is
 along : (octets : List ℕ) (m message : RrMessage) → (let r : Result RrMessage RrFault = Ok m in r) ≡ Ok message → IsRr octets m → IsRr octets message
 along octets m message e is = subst (λ (x : RrMessage). IsRr octets x) (ok_is {A = RrMessage} {F = RrFault} m message e) is
 
-handover_ok : (octets rest : List ℕ) (message : RrMessage) → octets ≡ RADIO_RESOURCE ∷ HANDOVER_COMMAND ∷ rest → AreOctets rest → handover_command_at rest ≡ Ok message → IsRr octets message
+handover_ok : (octets rest : List ℕ) (message : RrMessage) → octets ≡ RADIO_RESOURCE ∷ rr_octet types.HandoverCommand ∷ rest → AreOctets rest → handover_command_at rest ≡ Ok message → IsRr octets message
 unfolding handover_command_at
 handover_ok octets rest message is fits e =
     let a = bind_ok (octet_at Short rest) _ message e in
@@ -181,15 +181,15 @@ handover_ok octets rest message is fits e =
       bits = c.0.1 / 4 % 8;
       power = f.0.0;
       more = f.0.1;
-      is = is ∙ ap (λ (xs : List ℕ). RADIO_RESOURCE ∷ HANDOVER_COMMAND ∷ xs) (ha.is ∙ ap (λ (xs : List ℕ). a.0.0 ∷ xs) (hb.is ∙ ap (λ (xs : List ℕ). b.0.0 ∷ xs) (hc.is ∙ ap (λ (xs : List ℕ). c.0.0 ∷ c.0.1 ∷ c.0.2 ∷ xs) behind)))
-          ∙ ap (λ (xs : List ℕ). RADIO_RESOURCE ∷ HANDOVER_COMMAND ∷ (xs ++ (c.0.0 ∷ c.0.1 ∷ c.0.2 ∷ tail))) (sym cell.0)
-          ∙ ap (λ (xs : List ℕ). RADIO_RESOURCE ∷ HANDOVER_COMMAND ∷ (cell_text (cell_of a.0.0 b.0.0) ++ (xs ++ tail))) (sym channel.0);
+      is = is ∙ ap (λ (xs : List ℕ). RADIO_RESOURCE ∷ rr_octet types.HandoverCommand ∷ xs) (ha.is ∙ ap (λ (xs : List ℕ). a.0.0 ∷ xs) (hb.is ∙ ap (λ (xs : List ℕ). b.0.0 ∷ xs) (hc.is ∙ ap (λ (xs : List ℕ). c.0.0 ∷ c.0.1 ∷ c.0.2 ∷ xs) behind)))
+          ∙ ap (λ (xs : List ℕ). RADIO_RESOURCE ∷ rr_octet types.HandoverCommand ∷ (xs ++ (c.0.0 ∷ c.0.1 ∷ c.0.2 ∷ tail))) (sym cell.0)
+          ∙ ap (λ (xs : List ℕ). RADIO_RESOURCE ∷ rr_octet types.HandoverCommand ∷ (cell_text (cell_of a.0.0 b.0.0) ++ (xs ++ tail))) (sym channel.0);
       three_bits = three_bits c.0.1;
       cell_fits = cell.1;
       channel_fits = channel.1;
     })
 
-assignment_ok : (octets rest : List ℕ) (message : RrMessage) → octets ≡ RADIO_RESOURCE ∷ ASSIGNMENT_COMMAND ∷ rest → AreOctets rest → assignment_command_at rest ≡ Ok message → IsRr octets message
+assignment_ok : (octets rest : List ℕ) (message : RrMessage) → octets ≡ RADIO_RESOURCE ∷ rr_octet types.AssignmentCommand ∷ rest → AreOctets rest → assignment_command_at rest ≡ Ok message → IsRr octets message
 unfolding assignment_command_at
 assignment_ok octets rest message is fits e =
     let c = bind_ok (three_at rest) _ message e in
@@ -201,19 +201,19 @@ assignment_ok octets rest message is fits e =
       bits = c.0.1 / 4 % 8;
       power = f.0.0;
       more = f.0.1;
-      is = is ∙ ap (λ (xs : List ℕ). RADIO_RESOURCE ∷ ASSIGNMENT_COMMAND ∷ xs) (hc.is ∙ ap (λ (xs : List ℕ). c.0.0 ∷ c.0.1 ∷ c.0.2 ∷ xs) hf.is) ∙ ap (λ (xs : List ℕ). RADIO_RESOURCE ∷ ASSIGNMENT_COMMAND ∷ (xs ++ f.0.0 ∷ f.0.1)) (sym channel.0);
+      is = is ∙ ap (λ (xs : List ℕ). RADIO_RESOURCE ∷ rr_octet types.AssignmentCommand ∷ xs) (hc.is ∙ ap (λ (xs : List ℕ). c.0.0 ∷ c.0.1 ∷ c.0.2 ∷ xs) hf.is) ∙ ap (λ (xs : List ℕ). RADIO_RESOURCE ∷ rr_octet types.AssignmentCommand ∷ (xs ++ f.0.0 ∷ f.0.1)) (sym channel.0);
       three_bits = three_bits c.0.1;
       channel_fits = channel.1;
     })
 
-cause_ok : (kind : ℕ) (octets rest : List ℕ) (cause : RrCause) → octets ≡ RADIO_RESOURCE ∷ kind ∷ rest → AreOctets rest → cause_at rest ≡ Ok cause → IsCauseOf kind octets cause
+cause_ok : (kind : RrType) (octets rest : List ℕ) (cause : RrCause) → octets ≡ RADIO_RESOURCE ∷ rr_octet kind ∷ rest → AreOctets rest → cause_at rest ≡ Ok cause → IsCauseOf kind octets cause
 unfolding cause_at
 cause_ok kind octets rest cause is fits e =
     let a = bind_ok (octet_at Short rest) _ cause e in
     let ha = front_ok rest a.0 fits a.1 in
-    subst (λ (c : RrCause). IsCauseOf kind octets c) (ok_is {A = RrCause} {F = RrFault} (cause_of a.0.0) cause a.2) (record { more = a.0.1; is = is ∙ ap (λ (xs : List ℕ). RADIO_RESOURCE ∷ kind ∷ xs) ha.is })
+    subst (λ (c : RrCause). IsCauseOf kind octets c) (ok_is {A = RrCause} {F = RrFault} (cause_of a.0.0) cause a.2) (record { more = a.0.1; is = is ∙ ap (λ (xs : List ℕ). RADIO_RESOURCE ∷ rr_octet kind ∷ xs) ha.is })
 
-report_ok : (octets rest : List ℕ) (message : RrMessage) → octets ≡ RADIO_RESOURCE ∷ MEASUREMENT_REPORT ∷ rest → measurement_report_at rest ≡ Ok message → IsRr octets message
+report_ok : (octets rest : List ℕ) (message : RrMessage) → octets ≡ RADIO_RESOURCE ∷ rr_octet types.MeasurementReport ∷ rest → measurement_report_at rest ≡ Ok message → IsRr octets message
 unfolding measurement_report_at
 report_ok octets rest message is e =
     let a = bind_ok (split_at Short REPORT_LENGTH rest) _ message e in
@@ -221,18 +221,18 @@ report_ok octets rest message is e =
     let long = f.long in
     along octets (MeasurementReport a.0.0) message a.2 (record {
       more = drop REPORT_LENGTH rest;
-      is = is ∙ ap (λ (xs : List ℕ). RADIO_RESOURCE ∷ MEASUREMENT_REPORT ∷ xs) (sym (take-append-drop REPORT_LENGTH rest) ∙ ap (λ (xs : List ℕ). xs ++ drop REPORT_LENGTH rest) f.front);
+      is = is ∙ ap (λ (xs : List ℕ). RADIO_RESOURCE ∷ rr_octet types.MeasurementReport ∷ xs) (sym (take-append-drop REPORT_LENGTH rest) ∙ ap (λ (xs : List ℕ). xs ++ drop REPORT_LENGTH rest) f.front);
       whole = omega (arith, length-take REPORT_LENGTH rest, ap length f.front, long);
     })
 
 content_ok : (kind : RrType) (octets rest : List ℕ) (message : RrMessage) → octets ≡ RADIO_RESOURCE ∷ rr_octet kind ∷ rest → AreOctets rest → content_at kind rest ≡ Ok message → IsRr octets message
 content_ok types.HandoverCommand octets rest message is fits e = handover_ok octets rest message is fits e
 content_ok types.AssignmentCommand octets rest message is fits e = assignment_ok octets rest message is fits e
-content_ok types.HandoverComplete octets rest message is fits e = let a = bind_ok (cause_at rest) _ message e in along octets (HandoverComplete a.0) message a.2 (cause_ok HANDOVER_COMPLETE octets rest a.0 is fits a.1)
-content_ok types.HandoverFailure octets rest message is fits e = let a = bind_ok (cause_at rest) _ message e in along octets (HandoverFailure a.0) message a.2 (cause_ok HANDOVER_FAILURE octets rest a.0 is fits a.1)
-content_ok types.AssignmentComplete octets rest message is fits e = let a = bind_ok (cause_at rest) _ message e in along octets (AssignmentComplete a.0) message a.2 (cause_ok ASSIGNMENT_COMPLETE octets rest a.0 is fits a.1)
-content_ok types.AssignmentFailure octets rest message is fits e = let a = bind_ok (cause_at rest) _ message e in along octets (AssignmentFailure a.0) message a.2 (cause_ok ASSIGNMENT_FAILURE octets rest a.0 is fits a.1)
-content_ok types.ChannelRelease octets rest message is fits e = let a = bind_ok (cause_at rest) _ message e in along octets (ChannelRelease a.0) message a.2 (cause_ok CHANNEL_RELEASE octets rest a.0 is fits a.1)
+content_ok types.HandoverComplete octets rest message is fits e = let a = bind_ok (cause_at rest) _ message e in along octets (HandoverComplete a.0) message a.2 (cause_ok types.HandoverComplete octets rest a.0 is fits a.1)
+content_ok types.HandoverFailure octets rest message is fits e = let a = bind_ok (cause_at rest) _ message e in along octets (HandoverFailure a.0) message a.2 (cause_ok types.HandoverFailure octets rest a.0 is fits a.1)
+content_ok types.AssignmentComplete octets rest message is fits e = let a = bind_ok (cause_at rest) _ message e in along octets (AssignmentComplete a.0) message a.2 (cause_ok types.AssignmentComplete octets rest a.0 is fits a.1)
+content_ok types.AssignmentFailure octets rest message is fits e = let a = bind_ok (cause_at rest) _ message e in along octets (AssignmentFailure a.0) message a.2 (cause_ok types.AssignmentFailure octets rest a.0 is fits a.1)
+content_ok types.ChannelRelease octets rest message is fits e = let a = bind_ok (cause_at rest) _ message e in along octets (ChannelRelease a.0) message a.2 (cause_ok types.ChannelRelease octets rest a.0 is fits a.1)
 content_ok types.ImmediateAssignment octets rest message is fits e = absurd cc
 content_ok types.MeasurementReport octets rest message is fits e = report_ok octets rest message is e
 content_ok types.PagingResponse octets rest message is fits e = along octets (PagingResponse rest) message e is
@@ -351,5 +351,5 @@ rr_text_ok (ImmediateAssignment channel request advance) h =
       six_bits = h.2;
       whole = omega arith;
     }
-rr_text_ok (MeasurementReport value) h = record { more = []; is = ap (λ (xs : List ℕ). RADIO_RESOURCE ∷ MEASUREMENT_REPORT ∷ xs) (sym (append-nil value)); whole = h }
+rr_text_ok (MeasurementReport value) h = record { more = []; is = ap (λ (xs : List ℕ). RADIO_RESOURCE ∷ rr_octet types.MeasurementReport ∷ xs) (sym (append-nil value)); whole = h }
 rr_text_ok (PagingResponse rest) h = refl

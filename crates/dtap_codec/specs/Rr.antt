@@ -8,7 +8,10 @@ use Rattle.dtap_codec.specs.declared.rr.RrCause.{RrCause}
 use Rattle.dtap_codec.specs.declared.rr.RrMessage.{RrMessage}
 use Rattle.dtap_codec.specs.declared.rr.RrMessage.TheVariants.{HandoverCommand, AssignmentCommand, HandoverComplete, HandoverFailure, AssignmentComplete, AssignmentFailure, ChannelRelease, ImmediateAssignment, MeasurementReport, PagingResponse}
 use Rattle.dtap_codec.specs.declared.rr.TheConstants.{IMMEDIATE_END_LENGTH}
-use Rattle.dtap_codec.specs.declared.rr_type.TheConstants.{PSEUDO_LENGTH, HANDOVER_COMMAND, ASSIGNMENT_COMMAND, HANDOVER_COMPLETE, HANDOVER_FAILURE, ASSIGNMENT_COMPLETE, ASSIGNMENT_FAILURE, CHANNEL_RELEASE, IMMEDIATE_ASSIGNMENT, MEASUREMENT_REPORT, PAGING_RESPONSE}
+use Rattle.dtap_codec.specs.declared.rr_type.RrType.{RrType}
+use Rattle.dtap_codec.specs.declared.rr_type.RrType.TheVariants as types
+use Rattle.dtap_codec.specs.declared.rr_type.TheConstants.{PSEUDO_LENGTH, IMMEDIATE_ASSIGNMENT}
+use Rattle.dtap_codec.specs.RrType.{rr_octet}
 
 -- two high bits of the ARFCN, three of the NCC, three of the BCC; the low eight bits of the ARFCN
 -- (clause 10.5.2.2)
@@ -34,7 +37,7 @@ pub record IsHandoverCommand (octets : List ℕ) (cell : CellDescription) (chann
   pub bits : ℕ
   pub power : ℕ
   pub more : List ℕ
-  pub is : octets ≡ RADIO_RESOURCE ∷ HANDOVER_COMMAND ∷ (cell_text cell ++ (channel_text bits channel ++ reference ∷ power ∷ more))
+  pub is : octets ≡ RADIO_RESOURCE ∷ rr_octet types.HandoverCommand ∷ (cell_text cell ++ (channel_text bits channel ++ reference ∷ power ∷ more))
   pub three_bits : bits < 8
   pub cell_fits : CellFits cell
   pub channel_fits : ChannelFits channel
@@ -43,14 +46,14 @@ pub record IsAssignmentCommand (octets : List ℕ) (channel : ChannelDescription
   pub bits : ℕ
   pub power : ℕ
   pub more : List ℕ
-  pub is : octets ≡ RADIO_RESOURCE ∷ ASSIGNMENT_COMMAND ∷ (channel_text bits channel ++ power ∷ more)
+  pub is : octets ≡ RADIO_RESOURCE ∷ rr_octet types.AssignmentCommand ∷ (channel_text bits channel ++ power ∷ more)
   pub three_bits : bits < 8
   pub channel_fits : ChannelFits channel
 
 -- a message of this type that has a cause alone
-pub record IsCauseOf (kind : ℕ) (octets : List ℕ) (cause : RrCause) : Type 0 where
+pub record IsCauseOf (kind : RrType) (octets : List ℕ) (cause : RrCause) : Type 0 where
   pub more : List ℕ
-  pub is : octets ≡ RADIO_RESOURCE ∷ kind ∷ cause.0 ∷ more
+  pub is : octets ≡ RADIO_RESOURCE ∷ rr_octet kind ∷ cause.0 ∷ more
 
 -- page mode, channel, request reference, timing advance below two bits, and the last octets
 pub record IsImmediateAssignment (octets : List ℕ) (channel : ChannelDescription) (request : List ℕ) (advance : ℕ) : Type 0 where
@@ -67,21 +70,21 @@ pub record IsImmediateAssignment (octets : List ℕ) (channel : ChannelDescripti
 
 pub record IsMeasurementReport (octets value : List ℕ) : Type 0 where
   pub more : List ℕ
-  pub is : octets ≡ RADIO_RESOURCE ∷ MEASUREMENT_REPORT ∷ (value ++ more)
+  pub is : octets ≡ RADIO_RESOURCE ∷ rr_octet types.MeasurementReport ∷ (value ++ more)
   pub whole : length value ≡ REPORT_LENGTH
 
 -- The octets are a text of the message; what follows its parts isn't looked at.
 abbrev pub IsRr : List ℕ → RrMessage → Type 0
 IsRr octets (HandoverCommand cell channel reference) = IsHandoverCommand octets cell channel reference
 IsRr octets (AssignmentCommand channel) = IsAssignmentCommand octets channel
-IsRr octets (HandoverComplete cause) = IsCauseOf HANDOVER_COMPLETE octets cause
-IsRr octets (HandoverFailure cause) = IsCauseOf HANDOVER_FAILURE octets cause
-IsRr octets (AssignmentComplete cause) = IsCauseOf ASSIGNMENT_COMPLETE octets cause
-IsRr octets (AssignmentFailure cause) = IsCauseOf ASSIGNMENT_FAILURE octets cause
-IsRr octets (ChannelRelease cause) = IsCauseOf CHANNEL_RELEASE octets cause
+IsRr octets (HandoverComplete cause) = IsCauseOf types.HandoverComplete octets cause
+IsRr octets (HandoverFailure cause) = IsCauseOf types.HandoverFailure octets cause
+IsRr octets (AssignmentComplete cause) = IsCauseOf types.AssignmentComplete octets cause
+IsRr octets (AssignmentFailure cause) = IsCauseOf types.AssignmentFailure octets cause
+IsRr octets (ChannelRelease cause) = IsCauseOf types.ChannelRelease octets cause
 IsRr octets (ImmediateAssignment channel request advance) = IsImmediateAssignment octets channel request advance
 IsRr octets (MeasurementReport value) = IsMeasurementReport octets value
-IsRr octets (PagingResponse rest) = octets ≡ RADIO_RESOURCE ∷ PAGING_RESPONSE ∷ rest
+IsRr octets (PagingResponse rest) = octets ≡ RADIO_RESOURCE ∷ rr_octet types.PagingResponse ∷ rest
 
 -- the numbers of a message fit their bits
 abbrev pub RrFits : RrMessage → Type 0

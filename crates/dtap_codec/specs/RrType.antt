@@ -5,19 +5,19 @@ use Rattle.dtap_codec.specs.declared.rr.RrMessage.{RrMessage}
 use Rattle.dtap_codec.specs.declared.rr.RrMessage.TheVariants.{HandoverCommand, AssignmentCommand, HandoverComplete, HandoverFailure, AssignmentComplete, AssignmentFailure, ChannelRelease, ImmediateAssignment, MeasurementReport, PagingResponse}
 use Rattle.dtap_codec.specs.declared.rr_type.RrType.{RrType}
 use Rattle.dtap_codec.specs.declared.rr_type.RrType.TheVariants as types
-use Rattle.dtap_codec.specs.declared.rr_type.TheConstants.{RR_TYPES, HANDOVER_COMMAND, ASSIGNMENT_COMMAND, HANDOVER_COMPLETE, HANDOVER_FAILURE, ASSIGNMENT_COMPLETE, ASSIGNMENT_FAILURE, CHANNEL_RELEASE, IMMEDIATE_ASSIGNMENT, MEASUREMENT_REPORT, PAGING_RESPONSE}
+use Rattle.dtap_codec.specs.declared.rr_type.TheConstants.{RR_TYPES}
 
 abbrev pub rr_octet : RrType → ℕ
-rr_octet types.HandoverCommand = HANDOVER_COMMAND
-rr_octet types.AssignmentCommand = ASSIGNMENT_COMMAND
-rr_octet types.HandoverComplete = HANDOVER_COMPLETE
-rr_octet types.HandoverFailure = HANDOVER_FAILURE
-rr_octet types.AssignmentComplete = ASSIGNMENT_COMPLETE
-rr_octet types.AssignmentFailure = ASSIGNMENT_FAILURE
-rr_octet types.ChannelRelease = CHANNEL_RELEASE
-rr_octet types.ImmediateAssignment = IMMEDIATE_ASSIGNMENT
-rr_octet types.MeasurementReport = MEASUREMENT_REPORT
-rr_octet types.PagingResponse = PAGING_RESPONSE
+rr_octet types.HandoverCommand = 0x2b
+rr_octet types.AssignmentCommand = 0x2e
+rr_octet types.HandoverComplete = 0x2c
+rr_octet types.HandoverFailure = 0x28
+rr_octet types.AssignmentComplete = 0x29
+rr_octet types.AssignmentFailure = 0x2f
+rr_octet types.ChannelRelease = 0x0d
+rr_octet types.ImmediateAssignment = 0x3f
+rr_octet types.MeasurementReport = 0x15
+rr_octet types.PagingResponse = 0x27
 
 -- the type with this octet, where it is known
 unfoldable pub rr_type : ℕ → Option RrType
