@@ -6,7 +6,6 @@ use Rattle.rsl_codec.specs.declared.rsl.Rsl.TheVariants as messages
 use Rattle.rsl_codec.specs.declared.rsl_type.RslType.{RslType}
 use Rattle.rsl_codec.specs.declared.rsl_type.RslType.TheVariants.{DataRequest, DataIndication, ErrorIndication, EstablishRequest, EstablishConfirm, EstablishIndication, ReleaseRequest, ReleaseConfirm, ReleaseIndication, ChannelRequired, ImmediateAssignCommand, ChannelActivation, ChannelActivationAck, ChannelActivationNack, ConnectionFailure, HandoverDetection, MeasurementResult, RfChannelRelease, RfChannelReleaseAck}
 use Rattle.rsl_codec.specs.declared.rsl_type.TheConstants.{RSL_TYPES, RADIO_LINK, RADIO_LINK_TRANSPARENT, DEDICATED_CHANNEL, COMMON_CHANNEL}
-use Rattle.rsl_codec.specs.declared.rsl_type.TheConstants as octets
 
 -- the message discriminator, as it is written
 abbrev pub rsl_discriminator : RslType → ℕ
@@ -32,25 +31,25 @@ rsl_discriminator RfChannelReleaseAck = DEDICATED_CHANNEL
 
 -- the message type
 abbrev pub rsl_octet : RslType → ℕ
-rsl_octet DataRequest = octets.DATA_REQUEST
-rsl_octet DataIndication = octets.DATA_INDICATION
-rsl_octet ErrorIndication = octets.ERROR_INDICATION
-rsl_octet EstablishRequest = octets.ESTABLISH_REQUEST
-rsl_octet EstablishConfirm = octets.ESTABLISH_CONFIRM
-rsl_octet EstablishIndication = octets.ESTABLISH_INDICATION
-rsl_octet ReleaseRequest = octets.RELEASE_REQUEST
-rsl_octet ReleaseConfirm = octets.RELEASE_CONFIRM
-rsl_octet ReleaseIndication = octets.RELEASE_INDICATION
-rsl_octet ChannelRequired = octets.CHANNEL_REQUIRED
-rsl_octet ImmediateAssignCommand = octets.IMMEDIATE_ASSIGN_COMMAND
-rsl_octet ChannelActivation = octets.CHANNEL_ACTIVATION
-rsl_octet ChannelActivationAck = octets.CHANNEL_ACTIVATION_ACK
-rsl_octet ChannelActivationNack = octets.CHANNEL_ACTIVATION_NACK
-rsl_octet ConnectionFailure = octets.CONNECTION_FAILURE
-rsl_octet HandoverDetection = octets.HANDOVER_DETECTION
-rsl_octet MeasurementResult = octets.MEASUREMENT_RESULT
-rsl_octet RfChannelRelease = octets.RF_CHANNEL_RELEASE
-rsl_octet RfChannelReleaseAck = octets.RF_CHANNEL_RELEASE_ACK
+rsl_octet DataRequest = 0x01
+rsl_octet DataIndication = 0x02
+rsl_octet ErrorIndication = 0x03
+rsl_octet EstablishRequest = 0x04
+rsl_octet EstablishConfirm = 0x05
+rsl_octet EstablishIndication = 0x06
+rsl_octet ReleaseRequest = 0x07
+rsl_octet ReleaseConfirm = 0x08
+rsl_octet ReleaseIndication = 0x09
+rsl_octet ChannelRequired = 0x13
+rsl_octet ImmediateAssignCommand = 0x16
+rsl_octet ChannelActivation = 0x21
+rsl_octet ChannelActivationAck = 0x22
+rsl_octet ChannelActivationNack = 0x23
+rsl_octet ConnectionFailure = 0x24
+rsl_octet HandoverDetection = 0x27
+rsl_octet MeasurementResult = 0x28
+rsl_octet RfChannelRelease = 0x2e
+rsl_octet RfChannelReleaseAck = 0x33
 
 -- the type with this discriminator, whatever its bit 1, and this message type
 unfoldable pub rsl_type : ℕ → ℕ → Option RslType

@@ -13,70 +13,36 @@ pub const DEDICATED_CHANNEL: u8 = 0x08;
 /// The message discriminator of common channel management.
 pub const COMMON_CHANNEL: u8 = 0x0c;
 
-// The message types (TS 48.058 clause 9.2).
-
-pub const DATA_REQUEST: u8 = 0x01;
-
-pub const DATA_INDICATION: u8 = 0x02;
-
-pub const ERROR_INDICATION: u8 = 0x03;
-
-pub const ESTABLISH_REQUEST: u8 = 0x04;
-
-pub const ESTABLISH_CONFIRM: u8 = 0x05;
-
-pub const ESTABLISH_INDICATION: u8 = 0x06;
-
-pub const RELEASE_REQUEST: u8 = 0x07;
-
-pub const RELEASE_CONFIRM: u8 = 0x08;
-
-pub const RELEASE_INDICATION: u8 = 0x09;
-
-pub const CHANNEL_REQUIRED: u8 = 0x13;
-
-pub const IMMEDIATE_ASSIGN_COMMAND: u8 = 0x16;
-
-pub const CHANNEL_ACTIVATION: u8 = 0x21;
-
-pub const CHANNEL_ACTIVATION_ACK: u8 = 0x22;
-
-pub const CHANNEL_ACTIVATION_NACK: u8 = 0x23;
-
-pub const CONNECTION_FAILURE: u8 = 0x24;
-
-pub const HANDOVER_DETECTION: u8 = 0x27;
-
-pub const MEASUREMENT_RESULT: u8 = 0x28;
-
-pub const RF_CHANNEL_RELEASE: u8 = 0x2e;
-
-pub const RF_CHANNEL_RELEASE_ACK: u8 = 0x33;
-
-/// The type of a message: its message discriminator with its message type (TS 48.058 clauses 9.1
-/// and 9.2).
+/// The type of a message, with its octet (TS 48.058 clause 9.2): from `01` on radio link layer
+/// management, from `10` on common channel management, from `20` on dedicated channel management.
 #[derive(Clone, Copy)]
 pub enum RslType {
-    DataRequest,
-    DataIndication,
-    ErrorIndication,
-    EstablishRequest,
-    EstablishConfirm,
-    EstablishIndication,
-    ReleaseRequest,
-    ReleaseConfirm,
-    ReleaseIndication,
-    ChannelRequired,
-    ImmediateAssignCommand,
-    ChannelActivation,
-    ChannelActivationAck,
-    ChannelActivationNack,
-    ConnectionFailure,
-    HandoverDetection,
-    MeasurementResult,
-    RfChannelRelease,
-    RfChannelReleaseAck,
+    DataRequest = 0x01,
+    DataIndication = 0x02,
+    ErrorIndication = 0x03,
+    EstablishRequest = 0x04,
+    EstablishConfirm = 0x05,
+    EstablishIndication = 0x06,
+    ReleaseRequest = 0x07,
+    ReleaseConfirm = 0x08,
+    ReleaseIndication = 0x09,
+    ChannelRequired = 0x13,
+    ImmediateAssignCommand = 0x16,
+    ChannelActivation = 0x21,
+    ChannelActivationAck = 0x22,
+    ChannelActivationNack = 0x23,
+    ConnectionFailure = 0x24,
+    HandoverDetection = 0x27,
+    MeasurementResult = 0x28,
+    RfChannelRelease = 0x2e,
+    RfChannelReleaseAck = 0x33,
 }
+
+/// Message type of a CHANNEL ACTIVATION.
+pub const CHANNEL_ACTIVATION: u8 = RslType::ChannelActivation as u8;
+
+/// Message type of an RF CHANNEL RELEASE.
+pub const RF_CHANNEL_RELEASE: u8 = RslType::RfChannelRelease as u8;
 
 /// The types that are known.
 pub const RSL_TYPES: [RslType; 19] = [
@@ -131,27 +97,7 @@ impl RslType {
     pub fn octet(self) -> u8
         ensures { result ≡ rsl_octet self }
     {
-        match self {
-            RslType::DataRequest => DATA_REQUEST,
-            RslType::DataIndication => DATA_INDICATION,
-            RslType::ErrorIndication => ERROR_INDICATION,
-            RslType::EstablishRequest => ESTABLISH_REQUEST,
-            RslType::EstablishConfirm => ESTABLISH_CONFIRM,
-            RslType::EstablishIndication => ESTABLISH_INDICATION,
-            RslType::ReleaseRequest => RELEASE_REQUEST,
-            RslType::ReleaseConfirm => RELEASE_CONFIRM,
-            RslType::ReleaseIndication => RELEASE_INDICATION,
-            RslType::ChannelRequired => CHANNEL_REQUIRED,
-            RslType::ImmediateAssignCommand => IMMEDIATE_ASSIGN_COMMAND,
-            RslType::ChannelActivation => CHANNEL_ACTIVATION,
-            RslType::ChannelActivationAck => CHANNEL_ACTIVATION_ACK,
-            RslType::ChannelActivationNack => CHANNEL_ACTIVATION_NACK,
-            RslType::ConnectionFailure => CONNECTION_FAILURE,
-            RslType::HandoverDetection => HANDOVER_DETECTION,
-            RslType::MeasurementResult => MEASUREMENT_RESULT,
-            RslType::RfChannelRelease => RF_CHANNEL_RELEASE,
-            RslType::RfChannelReleaseAck => RF_CHANNEL_RELEASE_ACK,
-        }
+        self as u8
     }
 
     /// The type with this discriminator, whatever its bit 1, and this message type; none where it
