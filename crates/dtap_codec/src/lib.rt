@@ -9,13 +9,12 @@ pub use message::{
 pub use number::{Modulus, number_of, with_number, without_number};
 pub use report::{Neighbour, REPORT_LENGTH, Report};
 pub use rr::{
-    Arfcn, CellDescription, ChannelDescription, ChannelOctet, ColourCode, RrCause, RrMessage,
-    TimingAdvance,
+    CellDescription, ChannelDescription, ChannelOctet, RrCause, RrMessage, rr_text_is_read,
 };
 pub use rr_fault::RrFault;
 pub use rr_type::RrType;
-pub use rr_writer::rr_text_is_read;
 pub use sapi::Sapi;
+pub use values::{Arfcn, ColourCode, TimingAdvance};
 
 mod bits;
 mod message;
@@ -23,7 +22,6 @@ mod number;
 mod report;
 mod rr;
 mod rr_fault;
-mod rr_reader;
 mod rr_type;
-mod rr_writer;
 mod sapi;
+mod values;

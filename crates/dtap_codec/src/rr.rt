@@ -1,118 +1,23 @@
-ghost use Rattle.std.specs.Prelude.{◌≡◌, ◌<◌};
+ghost use Rattle.std.specs.Prelude.{◌≡◌, ◌++◌, ◌⊎◌, IfErr, IfOk, OnErr, OnOk, Ok, Err};
+ghost use Rattle.std.specs.Result.{result_err};
+ghost use Rattle.octets.specs.Answer.{Gives, result_map};
+ghost use Rattle.octets.specs.Refusal.{RefusesBy};
+ghost use Rattle.dtap_codec.specs.declared.rr.RrMessage.{RrMessage as RrValue};
+ghost use Rattle.dtap_codec.specs.Rr.{IsRr, RrFits, cell_text, channel_text};
+ghost use Rattle.dtap_codec.specs.RrFaults.{HasFault};
+ghost use Rattle.dtap_codec.specs.RrReading as reading;
+ghost use Rattle.dtap_codec.specs.RrText.{content_text, front_text, rr_text};
+ghost use Rattle.dtap_codec.specs.RrType.{rr_octet, type_of};
 
+use crate::message::RADIO_RESOURCE;
 use crate::report::REPORT_LENGTH;
-use crate::rr_type::RrType;
-use octets::Octets;
-use std::marker::Model;
-
-/// An absolute radio frequency channel number, ARFCN, of 10 bits. Contracts see the number.
-#[derive(Clone, Copy)]
-pub struct Arfcn {
-    number: u16,
-}
-
-impl Model for Arfcn {
-    ghost use Rattle.std.specs.Prelude.{ℕ, ◌<◌};
-
-    ghost Value = { ℕ };
-
-    ghost view = { λ arfcn. arfcn.number };
-
-    ghost inverse = { λ number. record { number = number } };
-
-    ghost invariant = { λ arfcn. arfcn.number < 1024 };
-}
-
-impl Arfcn {
-    /// The channel with this number.
-    pub fn new(number: u16) -> Arfcn
-        requires { number < 1024 }
-        ensures { result ≡ number }
-    {
-        Arfcn { number }
-    }
-
-    /// The number, below 1024.
-    pub fn number(self) -> u16
-        ensures number { result ≡ self }
-        ensures ten_bits { result < 1024 }
-    {
-        self.number
-    }
-}
-
-/// A code of three bits: a training sequence code, TSC, a network colour code, NCC, or a base
-/// station colour code, BCC. Contracts see the number.
-#[derive(Clone, Copy)]
-pub struct ColourCode {
-    code: u8,
-}
-
-impl Model for ColourCode {
-    ghost use Rattle.std.specs.Prelude.{ℕ, ◌<◌};
-
-    ghost Value = { ℕ };
-
-    ghost view = { λ colour. colour.code };
-
-    ghost inverse = { λ code. record { code = code } };
-
-    ghost invariant = { λ colour. colour.code < 8 };
-}
-
-impl ColourCode {
-    /// The code with this number.
-    pub fn new(code: u8) -> ColourCode
-        requires { code < 8 }
-        ensures { result ≡ code }
-    {
-        ColourCode { code }
-    }
-
-    /// The number, below 8.
-    pub fn number(self) -> u8
-        ensures number { result ≡ self }
-        ensures three_bits { result < 8 }
-    {
-        self.code
-    }
-}
-
-/// A timing advance of 6 bits, in steps of 48/13 microseconds. Contracts see the number.
-#[derive(Clone, Copy)]
-pub struct TimingAdvance {
-    steps: u8,
-}
-
-impl Model for TimingAdvance {
-    ghost use Rattle.std.specs.Prelude.{ℕ, ◌<◌};
-
-    ghost Value = { ℕ };
-
-    ghost view = { λ advance. advance.steps };
-
-    ghost inverse = { λ steps. record { steps = steps } };
-
-    ghost invariant = { λ advance. advance.steps < 64 };
-}
-
-impl TimingAdvance {
-    /// The advance of so many steps.
-    pub fn new(steps: u8) -> TimingAdvance
-        requires { steps < 64 }
-        ensures { result ≡ steps }
-    {
-        TimingAdvance { steps }
-    }
-
-    /// The steps, below 64.
-    pub fn steps(self) -> u8
-        ensures steps { result ≡ self }
-        ensures six_bits { result < 64 }
-    {
-        self.steps
-    }
-}
+use crate::rr_fault::RrFault;
+use crate::rr_type::{IMMEDIATE_ASSIGNMENT, PSEUDO_LENGTH, RrType};
+use crate::values::{Arfcn, ColourCode, TimingAdvance};
+use octets::front::{octet, split};
+use octets::text::{TEXT_ROOM, hand_over};
+use octets::{Memory, Octets};
+use std::alloc::Global;
 
 /// The octet of a channel number: channel type, subchannel and timeslot. It takes every octet.
 #[derive(Clone, Copy)]
@@ -214,8 +119,29 @@ pub enum RrMessage {
 }
 
 impl RrMessage {
-    ghost use Rattle.std.specs.Prelude.{◌≡◌};
-    ghost use Rattle.dtap_codec.specs.RrType.{type_of};
+    /// Reads a message of radio resource management. What follows its parts isn't looked at, nor
+    /// are the power command, hopping and spare bits, and in an IMMEDIATE ASSIGNMENT the page mode
+    /// and what follows the timing advance.
+    ///
+    /// The faults, in the order in which they are looked for: `Short` without an octet, or with a
+    /// pseudo length alone; `UnknownRr` where the octet then isn't 06; `Short` without a type;
+    /// `UnknownRr` for a type that isn't known there; `Short` where octets are missing. `Memory`
+    /// comes last.
+    pub fn read(alloc: Global, octets: &[u8]) -> Result<RrMessage, RrFault>
+        // What is answered is what the octets are read as.
+        ensures reads { Gives RrFault.Memory (λ v. v) result (reading.rr_reading octets.now) }
+        // What is read is what the octets are a text of.
+        ensures found { IfOk result (λ message. IsRr octets.now message) }
+        // What the octets are a text of is read, unless memory runs out.
+        ensures only { (message : RrValue) → IsRr octets.now message → (result ≡ Ok message) ⊎ (result ≡ Err RrFault.Memory) }
+        // A refusal is the first fault, and memory runs out only where there is none.
+        ensures refused { RefusesBy RrFault.Memory result (result_err (reading.rr_reading octets.now)) }
+        // Short are octets that are no text, but octets behind them would make one of them; where
+        // no octets behind them would, the fault is UnknownRr; memory is needed for a text alone.
+        ensures fault { IfErr result (λ fault. HasFault octets.now fault) }
+    {
+        read_message(alloc, octets)
+    }
 
     /// The type of the message.
     pub fn kind(&self) -> RrType
@@ -234,4 +160,269 @@ impl RrMessage {
             RrMessage::PagingResponse { .. } => RrType::PagingResponse,
         }
     }
+
+    /// Appends the text of the message: no optional element, power command and page mode 00. An
+    /// `Err` changes nothing.
+    pub fn write(&self, alloc: Global, text: &mut Vec<u8>) -> Result<(), Memory>
+        ensures ok { OnOk result (text.new.items ≡ text.old.items ++ rr_text self.now) }
+        ensures err { OnErr result (text.new.items ≡ text.old.items) }
+    {
+        let written = text_of(alloc, self)?;
+        hand_over(written, text)
+    }
 }
+
+#[tactic(auto, unfolding(crate::specs::RrReading::rr_reading))]
+fn read_message(alloc: Global, octets: &[u8]) -> Result<RrMessage, RrFault>
+    ensures { Gives RrFault.Memory (λ v. v) result (reading.rr_reading octets.now) }
+{
+    let (first, rest) = octet(octets, RrFault::Short)?;
+    if first == PSEUDO_LENGTH {
+        return read_pseudo(rest);
+    }
+    discriminator(first)?;
+    read_typed(alloc, rest)
+}
+
+#[tactic(auto, unfolding(crate::specs::RrReading::pseudo_at))]
+fn read_pseudo(octets: &[u8]) -> Result<RrMessage, RrFault>
+    ensures { result ≡ reading.pseudo_at octets.now }
+{
+    let (first, rest) = octet(octets, RrFault::Short)?;
+    discriminator(first)?;
+    let (kind, rest) = octet(rest, RrFault::Short)?;
+    if kind != IMMEDIATE_ASSIGNMENT {
+        return Err(RrFault::UnknownRr);
+    }
+    read_immediate_assignment(rest)
+}
+
+// The octet, where it is the discriminator without a skip indicator.
+fn discriminator(octet: u8) -> Result<u8, RrFault>
+    ensures { result ≡ reading.rr_discriminator octet }
+{
+    if octet == RADIO_RESOURCE {
+        Ok(octet)
+    } else {
+        Err(RrFault::UnknownRr)
+    }
+}
+
+#[tactic(auto, unfolding(crate::specs::RrReading::typed_at))]
+fn read_typed(alloc: Global, octets: &[u8]) -> Result<RrMessage, RrFault>
+    ensures { Gives RrFault.Memory (λ v. v) result (reading.typed_at octets.now) }
+{
+    let (first, rest) = octet(octets, RrFault::Short)?;
+    let kind = RrType::of_octet(first).ok_or(RrFault::UnknownRr)?;
+    read_content(alloc, kind, rest)
+}
+
+fn read_content(alloc: Global, kind: RrType, octets: &[u8]) -> Result<RrMessage, RrFault>
+    ensures { Gives RrFault.Memory (λ v. v) result (reading.content_at kind octets.now) }
+{
+    match kind {
+        RrType::HandoverCommand => read_handover_command(octets),
+        RrType::AssignmentCommand => read_assignment_command(octets),
+        RrType::HandoverComplete => Ok(RrMessage::HandoverComplete {
+            cause: read_cause(octets)?,
+        }),
+        RrType::HandoverFailure => Ok(RrMessage::HandoverFailure {
+            cause: read_cause(octets)?,
+        }),
+        RrType::AssignmentComplete => Ok(RrMessage::AssignmentComplete {
+            cause: read_cause(octets)?,
+        }),
+        RrType::AssignmentFailure => Ok(RrMessage::AssignmentFailure {
+            cause: read_cause(octets)?,
+        }),
+        RrType::ChannelRelease => Ok(RrMessage::ChannelRelease {
+            cause: read_cause(octets)?,
+        }),
+        RrType::ImmediateAssignment => Err(RrFault::UnknownRr),
+        RrType::MeasurementReport => read_measurement_report(octets),
+        RrType::PagingResponse => Ok(RrMessage::PagingResponse {
+            rest: Octets::copy(alloc, octets)?,
+        }),
+    }
+}
+
+#[tactic(auto, unfolding(crate::specs::RrReading::handover_command_at))]
+fn read_handover_command(octets: &[u8]) -> Result<RrMessage, RrFault>
+    ensures { result ≡ reading.handover_command_at octets.now }
+{
+    let (first, rest) = octet(octets, RrFault::Short)?;
+    let (second, rest) = octet(rest, RrFault::Short)?;
+    let (channel, code, low, rest) = three(rest)?;
+    let (reference, rest) = octet(rest, RrFault::Short)?;
+    let _power = octet(rest, RrFault::Short)?;
+    Ok(RrMessage::HandoverCommand {
+        cell: cell_description(first, second),
+        channel: channel_description(channel, code, low),
+        reference,
+    })
+}
+
+#[tactic(auto, unfolding(crate::specs::RrReading::assignment_command_at))]
+fn read_assignment_command(octets: &[u8]) -> Result<RrMessage, RrFault>
+    ensures { result ≡ reading.assignment_command_at octets.now }
+{
+    let (channel, code, low, rest) = three(octets)?;
+    let _power = octet(rest, RrFault::Short)?;
+    Ok(RrMessage::AssignmentCommand {
+        channel: channel_description(channel, code, low),
+    })
+}
+
+#[tactic(auto, unfolding(crate::specs::RrReading::immediate_assignment_at))]
+fn read_immediate_assignment(octets: &[u8]) -> Result<RrMessage, RrFault>
+    ensures { result ≡ reading.immediate_assignment_at octets.now }
+{
+    let (_page_mode, rest) = octet(octets, RrFault::Short)?;
+    let (channel, code, low, rest) = three(rest)?;
+    let (first, second, third, rest) = three(rest)?;
+    let (advance, rest) = octet(rest, RrFault::Short)?;
+    let _end = split(rest, IMMEDIATE_END_LENGTH, RrFault::Short)?;
+    Ok(RrMessage::ImmediateAssignment {
+        channel: channel_description(channel, code, low),
+        request_reference: [first, second, third],
+        timing_advance: TimingAdvance::new(advance % 64),
+    })
+}
+
+#[tactic(auto, unfolding(crate::specs::RrReading::measurement_report_at))]
+fn read_measurement_report(octets: &[u8]) -> Result<RrMessage, RrFault>
+    ensures { result ≡ reading.measurement_report_at octets.now }
+{
+    match octets.first_chunk::<REPORT_LENGTH>() {
+        Some(value) => Ok(RrMessage::MeasurementReport { value: *value }),
+        None => Err(RrFault::Short),
+    }
+}
+
+// The three octets at the front, and the octets behind them.
+#[tactic(auto, unfolding(crate::specs::RrReading::three_at))]
+fn three(octets: &[u8]) -> Result<(u8, u8, u8, &[u8]), RrFault>
+    ensures { result_map (λ p. (p.0, p.1, p.2, p.3.now)) result ≡ reading.three_at octets.now }
+{
+    let (first, rest) = octet(octets, RrFault::Short)?;
+    let (second, rest) = octet(rest, RrFault::Short)?;
+    let (third, rest) = octet(rest, RrFault::Short)?;
+    Ok((first, second, third, rest))
+}
+
+// The cause that a message has alone.
+#[tactic(auto, unfolding(crate::specs::RrReading::cause_at))]
+fn read_cause(octets: &[u8]) -> Result<RrCause, RrFault>
+    ensures { result ≡ reading.cause_at octets.now }
+{
+    let (cause, _rest) = octet(octets, RrFault::Short)?;
+    Ok(RrCause(cause))
+}
+
+// The text of a message.
+fn text_of(alloc: Global, message: &RrMessage) -> Result<Vec<u8>, Memory>
+    ensures { IfOk result (λ text. text.items ≡ rr_text message.now) }
+{
+    let mut text = Vec::with_capacity(alloc, TEXT_ROOM)?;
+    put_front(&mut text, message.kind())?;
+    put_content(&mut text, message)?;
+    Ok(text)
+}
+
+// Appends a message up to its type: a pseudo length before an IMMEDIATE ASSIGNMENT, the
+// discriminator and the type.
+fn put_front(text: &mut Vec<u8>, kind: RrType) -> Result<(), Memory>
+    ensures { OnOk result (text.new.items ≡ text.old.items ++ front_text (rr_octet kind)) }
+{
+    let octet = kind.octet();
+    if octet == IMMEDIATE_ASSIGNMENT {
+        text.push(PSEUDO_LENGTH)?;
+    }
+    text.extend_from_slice(&[RADIO_RESOURCE, octet])?;
+    Ok(())
+}
+
+// Appends what stands behind the type.
+fn put_content(text: &mut Vec<u8>, message: &RrMessage) -> Result<(), Memory>
+    ensures { OnOk result (text.new.items ≡ text.old.items ++ content_text message.now) }
+{
+    match message {
+        RrMessage::HandoverCommand {
+            cell,
+            channel,
+            reference,
+        } => {
+            put_cell(text, *cell)?;
+            put_channel(text, *channel)?;
+            text.extend_from_slice(&[*reference, HIGHEST_POWER])?;
+        }
+        RrMessage::AssignmentCommand { channel } => {
+            put_channel(text, *channel)?;
+            text.push(HIGHEST_POWER)?;
+        }
+        RrMessage::HandoverComplete { cause }
+        | RrMessage::HandoverFailure { cause }
+        | RrMessage::AssignmentComplete { cause }
+        | RrMessage::AssignmentFailure { cause }
+        | RrMessage::ChannelRelease { cause } => text.push(cause.0)?,
+        RrMessage::ImmediateAssignment {
+            channel,
+            request_reference,
+            timing_advance,
+        } => {
+            text.push(NORMAL_PAGING)?;
+            put_channel(text, *channel)?;
+            text.extend_from_slice(request_reference)?;
+            text.push(timing_advance.steps())?;
+            text.extend_from_slice(&IMMEDIATE_END)?;
+        }
+        RrMessage::MeasurementReport { value } => text.extend_from_slice(value)?,
+        RrMessage::PagingResponse { rest } => text.extend_from_slice(rest.as_slice())?,
+    }
+    Ok(())
+}
+
+fn cell_description(first: u8, second: u8) -> CellDescription
+    ensures { result ≡ reading.cell_of first second }
+{
+    CellDescription {
+        arfcn: Arfcn::new(u16::from_be_bytes([first / 64, second])),
+        ncc: ColourCode::new(first / 8 % 8),
+        bcc: ColourCode::new(first % 8),
+    }
+}
+
+fn put_cell(text: &mut Vec<u8>, cell: CellDescription) -> Result<(), Memory>
+    ensures { OnOk result (text.new.items ≡ text.old.items ++ cell_text cell) }
+{
+    let [high, low] = cell.arfcn.number().to_be_bytes();
+    let codes = cell.ncc.number() * 8 + cell.bcc.number();
+    text.extend_from_slice(&[high * 64 + codes, low])?;
+    Ok(())
+}
+
+fn channel_description(channel: u8, code: u8, low: u8) -> ChannelDescription
+    ensures { result ≡ reading.channel_of channel code low }
+{
+    ChannelDescription {
+        channel: ChannelOctet(channel),
+        tsc: ColourCode::new(code / 32),
+        arfcn: Arfcn::new(u16::from_be_bytes([code % 4, low])),
+    }
+}
+
+fn put_channel(text: &mut Vec<u8>, channel: ChannelDescription) -> Result<(), Memory>
+    ensures { OnOk result (text.new.items ≡ text.old.items ++ channel_text 0 channel) }
+{
+    let [high, low] = channel.arfcn.number().to_be_bytes();
+    let second = channel.tsc.number() * 32 + high;
+    text.extend_from_slice(&[channel.channel.0, second, low])?;
+    Ok(())
+}
+
+/// Law: what is written of a message of radio resource management is a text of it, and is read as
+/// that message.
+pub fn rr_text_is_read()
+    ensures text { (message : RrValue) → RrFits message → IsRr (rr_text message) message }
+    ensures read { (message : RrValue) → RrFits message → reading.rr_reading (rr_text message) ≡ Ok message }
+{}

@@ -1,5 +1,5 @@
 use Rattle.dtap_codec.proofs.RrGrammar.{rr_again, rr_text_ok}
-use Rattle.dtap_codec.proofs.rr_writer.rr_text_is_read.Goals as goal
+use Rattle.dtap_codec.proofs.rr.rr_text_is_read.Goals as goal
 
 pub returns-clause-text : goal.returns-clause-text
 returns-clause-text c = rr_text_ok
