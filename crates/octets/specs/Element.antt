@@ -70,4 +70,5 @@ pub record BreaksOff (table : List Entry) (octets : List ℕ) : Type 0 where
 abbrev pub AreElements : List Entry → List ℕ → List Element → Bool → Type 0
 AreElements table octets [] is_cut = MatchBool is_cut (BreaksOff table octets) (Stops table octets)
 AreElements table octets (e ∷ es) is_cut =
-    (text rest : List ℕ) × IsElement table e text × (octets ≡ text ++ rest) × AreElements table rest es is_cut
+    (text rest : List ℕ) × IsElement table e text × (octets ≡ text ++ rest) ×
+    AreElements table rest es is_cut

@@ -10,7 +10,8 @@ octet_at fault (octet ∷ rest) = Ok (octet, rest)
 
 -- this many octets
 abbrev pub split_at : {F : Type 0} → F → ℕ → List ℕ → Result (List ℕ × List ℕ) F
-split_at fault size octets = if nat_lt (length octets) size then Err fault else Ok (take size octets, drop size octets)
+split_at fault size octets =
+    if nat_lt (length octets) size then Err fault else Ok (take size octets, drop size octets)
 
 -- a value with a length octet before it
 unfoldable pub counted_at : {F : Type 0} → F → List ℕ → Result (List ℕ × List ℕ) F

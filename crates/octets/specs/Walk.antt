@@ -51,7 +51,8 @@ finding es is_cut = record { elements = es; is_cut = is_cut }
 abbrev pub finding_by : Result (Option (Element × List ℕ)) Cut → (List ℕ → Finding) → Finding
 finding_by (Err e) go = record { elements = []; is_cut = true }
 finding_by (Ok None) go = record { elements = []; is_cut = false }
-finding_by (Ok (Some f)) go = record { elements = f.0 ∷ (go f.1).elements; is_cut = (go f.1).is_cut }
+finding_by (Ok (Some f)) go =
+    record { elements = f.0 ∷ (go f.1).elements; is_cut = (go f.1).is_cut }
 
 -- no more steps than this
 abbrev pub walk_within : List Entry → ℕ → List ℕ → Finding

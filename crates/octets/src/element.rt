@@ -75,7 +75,8 @@ pub fn format_of(table: &[Entry], id: u8) -> Option<Format>
 /// The element at the front of the octets; none at their end, or at an identifier outside the
 /// table.
 fn front<'a>(table: &[Entry], octets: &'a [u8]) -> Result<Option<Found<'a>>, Cut>
-    ensures { result_map (option_map (λ f. (element f.id f.value.now, f.rest.now))) result ≡ front_of table.now octets.now }
+    ensures { result_map (option_map (λ f. (element f.id f.value.now, f.rest.now))) result ≡
+        front_of table.now octets.now }
 {
     let Some((id, rest)) = octets.split_first() else {
         return Ok(None);
@@ -129,7 +130,8 @@ pub fn first_value<'a>(table: &[Entry], octets: &'a [u8], id: u8) -> Option<&'a 
 /// as it is, whatever its size.
 pub fn append(text: &mut Vec<u8>, format: Format, id: u8, value: &[u8]) -> Result<(), Memory>
     requires { HasLength format (length value.now) }
-    ensures ok { OnOk result (text.new.items ≡ text.old.items ++ element_text format (element id value.now)) }
+    ensures ok { OnOk result
+        (text.new.items ≡ text.old.items ++ element_text format (element id value.now)) }
     ensures err { OnErr result (text.new.items ≡ text.old.items) }
 {
     let size = value.len();
@@ -155,8 +157,10 @@ pub fn elements_are_one()
         AreElements table octets (walk table octets).elements (walk table octets).is_cut }
     ensures only { (table : List Entry) (octets : List ℕ) (es : List Element) (is_cut : Bool) →
         AreElements table octets es is_cut → walk table octets ≡ finding es is_cut }
-    ensures sized { (table : List Entry) (octets : List ℕ) (es : List Element) (is_cut : Bool) (id : ℕ) (value : List ℕ) →
-        AreOctets octets → AreElements table octets es is_cut → first_of id es ≡ Some value → IsSized table id value }
+    ensures sized { (table : List Entry) (octets : List ℕ) (es : List Element) (is_cut : Bool)
+        (id : ℕ) (value : List ℕ) →
+        AreOctets octets → AreElements table octets es is_cut → first_of id es ≡ Some value →
+        IsSized table id value }
 {}
 
 /// Law: the elements of fields, written one behind the other, are elements that carry these fields,
@@ -164,5 +168,6 @@ pub fn elements_are_one()
 pub fn written_fields_are_carried()
     ensures { (table : List Entry) (fields : List Field) (more : List ℕ) →
         AllFit table fields → are_distinct fields ≡ true → Stops table more →
-        (es : List Element) × AreElements table (fields_text table fields ++ more) es false × Carries es fields }
+        (es : List Element) × AreElements table (fields_text table fields ++ more) es false ×
+        Carries es fields }
 {}
