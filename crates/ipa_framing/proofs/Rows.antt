@@ -29,10 +29,10 @@ relayed : frame_text (frame 0xfd (hex "06 80 00 01 00 01 05 01 00 02 03 45")) �
 relayed = refl
 
 -- the high octet of the length comes first
-long_body : frame_text (frame 0xff (replicate 258 0x33)) ≡ 0x01 ∷ 0x02 ∷ 0xff ∷ replicate 258 0x33
+long_body : frame_text (frame 0xff (replicate 258 0x33)) ≡ hex "01 02 ff" ++ replicate 258 0x33
 long_body = refl
 
-longest : frame_text (frame 0x00 (replicate 2048 0x33)) ≡ 0x08 ∷ 0x00 ∷ 0x00 ∷ replicate 2048 0x33
+longest : frame_text (frame 0x00 (replicate 2048 0x33)) ≡ hex "08 00 00" ++ replicate 2048 0x33
 longest = refl
 
 longest_is_written : write_fault (frame 0x00 (replicate 2048 0x33)) ≡ None

@@ -21,7 +21,8 @@ write_fault f = if nat_lt MAX_BODY (length f.body) then Some TooLong else None
 -- a frame that was started and isn't whole yet: fewer than two octets of length, or fewer octets
 -- than they say
 abbrev pub IsPartial : List ℕ → Type 0
-IsPartial (high ∷ low ∷ octets) = (256 * high + low ≤ MAX_BODY) × (length octets < 1 + (256 * high + low))
+IsPartial (high ∷ low ∷ octets) =
+    (256 * high + low ≤ MAX_BODY) × (length octets < 1 + (256 * high + low))
 IsPartial octets = Unit {0}
 
 -- the length of a frame that no link carries

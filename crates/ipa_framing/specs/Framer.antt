@@ -17,7 +17,8 @@ new_framer = record { octets = []; failed = false }
 
 -- Feeding a piece appends it; it is refused as too long exactly after a frame was.
 abbrev pub Feeds : {X : Type 0} → FramerState → List ℕ → Result X FrameFault → FramerState → Type 0
-Feeds old piece (Ok _) new = (old.failed ≡ false) × (new ≡ record { octets = old.octets ++ piece; failed = false })
+Feeds old piece (Ok _) new =
+    (old.failed ≡ false) × (new ≡ record { octets = old.octets ++ piece; failed = false })
 Feeds old piece (Err TooLong) new = (old.failed ≡ true) × (new ≡ old)
 Feeds old piece (Err Memory) new = (old.failed ≡ false) × (new ≡ old)
 
@@ -30,8 +31,10 @@ BeginsWith octets f rest = IsFrame f × (octets ≡ frame_text f ++ rest)
 abbrev pub Takes : FramerState → Result (Option Frame) FrameFault → FramerState → Type 0
 Takes old (Ok (Some f)) new = BeginsWith old.octets f new.octets × (new.failed ≡ old.failed)
 Takes old (Ok None) new = IsPartial old.octets × (new ≡ old)
-Takes old (Err TooLong) new = IsTooLong old.octets × (new ≡ record { octets = old.octets; failed = true })
-Takes old (Err Memory) new = ((f : Frame) × (rest : List ℕ) × BeginsWith old.octets f rest) × (new ≡ old)
+Takes old (Err TooLong) new =
+    IsTooLong old.octets × (new ≡ record { octets = old.octets; failed = true })
+Takes old (Err Memory) new =
+    ((f : Frame) × (rest : List ℕ) × BeginsWith old.octets f rest) × (new ≡ old)
 
 -- ---- any list of calls
 

@@ -13,7 +13,8 @@ FrontFrame = ℕ × List ℕ × List ℕ
 
 abbrev pub body_at : ℕ → List ℕ → Option FrontFrame
 body_at size [] = None
-body_at size (stream ∷ octets) = if nat_lt (length octets) size then None else Some (stream, take size octets, drop size octets)
+body_at size (stream ∷ octets) =
+    if nat_lt (length octets) size then None else Some (stream, take size octets, drop size octets)
 
 abbrev pub front_by_size : ℕ → List ℕ → Result (Option FrontFrame) FrameFault
 front_by_size size octets = if nat_lt MAX_BODY size then Err TooLong else Ok (body_at size octets)

@@ -42,8 +42,10 @@ struct FrontFrame<'a> {
 
 /// The frame at the front of the octets; none while they are fewer than it has.
 fn front(octets: &[u8]) -> Result<Option<FrontFrame<'_>>, FrameFault>
-    ensures found { result_map (option_map (λ f. (f.stream, f.body.now, f.rest.now))) result ≡ front_of octets.now }
-    ensures is { FrontIs octets.now (result_map (option_map (λ f. (f.stream, f.body.now, f.rest.now))) result) }
+    ensures found { result_map (option_map (λ f. (f.stream, f.body.now, f.rest.now))) result ≡
+        front_of octets.now }
+    ensures is { FrontIs octets.now
+        (result_map (option_map (λ f. (f.stream, f.body.now, f.rest.now))) result) }
 {
     let [high, low, behind @ ..] = octets else {
         return Ok(None);
@@ -109,7 +111,8 @@ impl Framer {
     /// How many octets are held of a frame that has only been started: those behind the whole
     /// frames that wait to be taken.
     pub fn rest(&self) -> usize
-        ensures { (frames : List FrameValue) (rest : List ℕ) → Splits self.now.octets frames rest → result ≡ length rest }
+        ensures { (frames : List FrameValue) (rest : List ℕ) → Splits self.now.octets frames rest →
+            result ≡ length rest }
     {
         let mut octets = self.buffer.as_slice();
         loop {
@@ -128,10 +131,14 @@ impl Framer {
 pub fn stream_is_its_frames()
     ensures split { (stream : List ℕ) → AreOctets stream →
         (frames : List FrameValue) × (rest : List ℕ) × Splits stream frames rest }
-    ensures only { (stream : List ℕ) (frames : List FrameValue) (rest : List ℕ) (others : List FrameValue) (other : List ℕ) →
-        Splits stream frames rest → Splits stream others other → (frames ≡ others) × (rest ≡ other) }
-    ensures calls { (calls : List Call) (framer : FramerState) (frames : List FrameValue) (rest : List ℕ) →
-        Run new_framer calls framer → Splits framer.octets frames rest → Splits (octets_of calls) (frames_of calls ++ frames) rest }
+    ensures only { (stream : List ℕ) (frames : List FrameValue) (rest : List ℕ)
+        (others : List FrameValue) (other : List ℕ) →
+        Splits stream frames rest → Splits stream others other →
+        (frames ≡ others) × (rest ≡ other) }
+    ensures calls { (calls : List Call) (framer : FramerState) (frames : List FrameValue)
+        (rest : List ℕ) →
+        Run new_framer calls framer → Splits framer.octets frames rest →
+        Splits (octets_of calls) (frames_of calls ++ frames) rest }
     ensures refused { (calls : List Call) (framer : FramerState) →
         Run new_framer calls framer → framer.failed ≡ true → IsTooLong framer.octets }
 {}
