@@ -46,7 +46,8 @@ not_of_the_flow : map is_flow_message ([] ∷ hex "03" ∷ hex "06 45" ∷ hex "
 not_of_the_flow = refl
 
 -- of the sixteen protocols three: 3, 5 and B
-protocols_of_the_flow : map is_flow_protocol (0x0 ∷ 0x1 ∷ 0x2 ∷ 0x3 ∷ 0x4 ∷ 0x5 ∷ 0x6 ∷ 0x7 ∷ 0x8 ∷ 0x9 ∷ 0xa ∷ 0xb ∷ 0xc ∷ 0xd ∷ 0xe ∷ 0xf ∷ []) ≡
+protocols_of_the_flow : map is_flow_protocol
+    (0x0 ∷ 0x1 ∷ 0x2 ∷ 0x3 ∷ 0x4 ∷ 0x5 ∷ 0x6 ∷ 0x7 ∷ 0x8 ∷ 0x9 ∷ 0xa ∷ 0xb ∷ 0xc ∷ 0xd ∷ 0xe ∷ 0xf ∷ []) ≡
     false ∷ false ∷ false ∷ true ∷ false ∷ true ∷ false ∷ false ∷ false ∷ false ∷ false ∷ true ∷ false ∷ false ∷ false ∷ false ∷ []
 protocols_of_the_flow = refl
 
@@ -126,12 +127,16 @@ rising = next at_0 (other refl (next at_1 (again refl at_1 (over 2))))
 
 -- ---- types
 
-octets_of_types : map rr_octet (types.HandoverCommand ∷ types.AssignmentCommand ∷ types.HandoverComplete ∷ types.HandoverFailure ∷ types.AssignmentComplete ∷ types.AssignmentFailure ∷ types.ChannelRelease ∷ types.ImmediateAssignment ∷ types.MeasurementReport ∷ types.PagingResponse ∷ []) ≡
+octets_of_types : map rr_octet
+    (types.HandoverCommand ∷ types.AssignmentCommand ∷ types.HandoverComplete ∷ types.HandoverFailure ∷ types.AssignmentComplete ∷
+    types.AssignmentFailure ∷ types.ChannelRelease ∷ types.ImmediateAssignment ∷ types.MeasurementReport ∷ types.PagingResponse ∷ []) ≡
     hex "2b 2e 2c 28 29 2f 0d 3f 15 27"
 octets_of_types = refl
 
 types_of_octets : map rr_type (hex "2b 2e 2c 28 29 2f 0d 3f 15 27 99 2d") ≡
-    Some types.HandoverCommand ∷ Some types.AssignmentCommand ∷ Some types.HandoverComplete ∷ Some types.HandoverFailure ∷ Some types.AssignmentComplete ∷ Some types.AssignmentFailure ∷ Some types.ChannelRelease ∷ Some types.ImmediateAssignment ∷ Some types.MeasurementReport ∷ Some types.PagingResponse ∷ None ∷ None ∷ []
+    Some types.HandoverCommand ∷ Some types.AssignmentCommand ∷ Some types.HandoverComplete ∷ Some types.HandoverFailure ∷
+    Some types.AssignmentComplete ∷ Some types.AssignmentFailure ∷ Some types.ChannelRelease ∷ Some types.ImmediateAssignment ∷
+    Some types.MeasurementReport ∷ Some types.PagingResponse ∷ None ∷ None ∷ []
 unfolding rr_type
 types_of_octets = refl
 
@@ -260,7 +265,9 @@ handover_command_text = refl
 assignment_command_text : rr_text (AssignmentCommand the_channel) ≡ hex "06 2e 41 c2 14 00"
 assignment_command_text = refl
 
-cause_texts : map rr_text (HandoverComplete (cause 0x00) ∷ HandoverFailure (cause 0x03) ∷ AssignmentComplete (cause 0x01) ∷ AssignmentFailure (cause 0x6f) ∷ ChannelRelease (cause 0xff) ∷ []) ≡
+cause_texts : map rr_text
+    (HandoverComplete (cause 0x00) ∷ HandoverFailure (cause 0x03) ∷ AssignmentComplete (cause 0x01) ∷ AssignmentFailure (cause 0x6f) ∷
+    ChannelRelease (cause 0xff) ∷ []) ≡
     hex "06 2c 00" ∷ hex "06 28 03" ∷ hex "06 29 01" ∷ hex "06 2f 6f" ∷ hex "06 0d ff" ∷ []
 cause_texts = refl
 
@@ -283,7 +290,18 @@ abbrev six_entries : List Neighbour
 six_entries = entry 10 1 18 ∷ entry 21 2 27 ∷ entry 32 4 36 ∷ entry 43 8 45 ∷ entry 54 16 54 ∷ entry 63 31 9 ∷ []
 
 abbrev a_report : ℕ → Report
-a_report no_ncell = record { ba_used = 1; dtx_used = true; rxlev_full = 33; valid = true; rxlev_sub = 44; rxqual_full = 2; rxqual_sub = 5; no_ncell = no_ncell; entries = six_entries }
+a_report no_ncell =
+    record {
+      ba_used = 1;
+      dtx_used = true;
+      rxlev_full = 33;
+      valid = true;
+      rxlev_sub = 44;
+      rxqual_full = 2;
+      rxqual_sub = 5;
+      no_ncell = no_ncell;
+      entries = six_entries;
+    }
 
 -- a valid report: the bit of MEAS-VALID is 0
 valid_report : IsReport sixteen (a_report 6)
@@ -297,7 +315,17 @@ nothing = entry 0 0 0
 
 -- a report that isn't valid, without a list of neighbours
 invalid_report : IsReport (hex "14 55 f3 d7 02 40 00 00 00 00 00 00 00 00 00 00 99")
-    (record { ba_used = 0; dtx_used = false; rxlev_full = 20; valid = false; rxlev_sub = 21; rxqual_full = 7; rxqual_sub = 1; no_ncell = 7; entries = entry 23 0 18 ∷ nothing ∷ nothing ∷ nothing ∷ nothing ∷ nothing ∷ [] })
+    (record {
+      ba_used = 0;
+      dtx_used = false;
+      rxlev_full = 20;
+      valid = false;
+      rxlev_sub = 21;
+      rxqual_full = 7;
+      rxqual_sub = 1;
+      no_ncell = 7;
+      entries = entry 23 0 18 ∷ nothing ∷ nothing ∷ nothing ∷ nothing ∷ nothing ∷ [];
+    })
 invalid_report = record {
   enough = omega arith;
   value = record { second = 0; third = 1; six = refl; fit = search arith; text = refl };

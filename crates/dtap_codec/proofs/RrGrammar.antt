@@ -3,6 +3,7 @@ use Rattle.std.proofs.Common.{◌≡◌, ℕ, suc, ◌+◌, ◌*◌, ◌/◌, �
 use Rattle.std.specs.List.{find}
 use Rattle.std.proofs.lemmas.Bool.{cases_eq, ne_eqb, le-ltb, eqb-true}
 use Rattle.std.proofs.lemmas.List.{take_at, take-append-drop, length-append, length-take}
+use Rattle.octets.specs.Answer.{◌>>=◌}
 use Rattle.octets.specs.Element.{AreOctets}
 use Rattle.octets.specs.Front.{octet_at, split_at}
 use Rattle.octets.proofs.Steps.{bind_ok, ok_is, passed, octet_ok, split_ok}
@@ -225,14 +226,22 @@ report_ok octets rest message is e =
       whole = omega (arith, length-take REPORT_LENGTH rest, ap length f.front, long);
     })
 
+-- a message that has a cause alone
+with_cause_ok : (kind : RrType) (message_of : RrCause → RrMessage) (octets rest : List ℕ) (message : RrMessage) →
+    ((cause : RrCause) → IsCauseOf kind octets cause → IsRr octets (message_of cause)) → octets ≡ RADIO_RESOURCE ∷ rr_octet kind ∷ rest →
+    AreOctets rest → (cause_at rest >>= (λ cause. Ok (message_of cause))) ≡ Ok message → IsRr octets message
+with_cause_ok kind message_of octets rest message its is fits e =
+    let a = bind_ok (cause_at rest) _ message e in
+    along octets (message_of a.0) message a.2 (its a.0 (cause_ok kind octets rest a.0 is fits a.1))
+
 content_ok : (kind : RrType) (octets rest : List ℕ) (message : RrMessage) → octets ≡ RADIO_RESOURCE ∷ rr_octet kind ∷ rest → AreOctets rest → content_at kind rest ≡ Ok message → IsRr octets message
 content_ok types.HandoverCommand octets rest message is fits e = handover_ok octets rest message is fits e
 content_ok types.AssignmentCommand octets rest message is fits e = assignment_ok octets rest message is fits e
-content_ok types.HandoverComplete octets rest message is fits e = let a = bind_ok (cause_at rest) _ message e in along octets (HandoverComplete a.0) message a.2 (cause_ok types.HandoverComplete octets rest a.0 is fits a.1)
-content_ok types.HandoverFailure octets rest message is fits e = let a = bind_ok (cause_at rest) _ message e in along octets (HandoverFailure a.0) message a.2 (cause_ok types.HandoverFailure octets rest a.0 is fits a.1)
-content_ok types.AssignmentComplete octets rest message is fits e = let a = bind_ok (cause_at rest) _ message e in along octets (AssignmentComplete a.0) message a.2 (cause_ok types.AssignmentComplete octets rest a.0 is fits a.1)
-content_ok types.AssignmentFailure octets rest message is fits e = let a = bind_ok (cause_at rest) _ message e in along octets (AssignmentFailure a.0) message a.2 (cause_ok types.AssignmentFailure octets rest a.0 is fits a.1)
-content_ok types.ChannelRelease octets rest message is fits e = let a = bind_ok (cause_at rest) _ message e in along octets (ChannelRelease a.0) message a.2 (cause_ok types.ChannelRelease octets rest a.0 is fits a.1)
+content_ok types.HandoverComplete octets rest message is fits e = with_cause_ok types.HandoverComplete (λ c. HandoverComplete c) octets rest message (λ c h. h) is fits e
+content_ok types.HandoverFailure octets rest message is fits e = with_cause_ok types.HandoverFailure (λ c. HandoverFailure c) octets rest message (λ c h. h) is fits e
+content_ok types.AssignmentComplete octets rest message is fits e = with_cause_ok types.AssignmentComplete (λ c. AssignmentComplete c) octets rest message (λ c h. h) is fits e
+content_ok types.AssignmentFailure octets rest message is fits e = with_cause_ok types.AssignmentFailure (λ c. AssignmentFailure c) octets rest message (λ c h. h) is fits e
+content_ok types.ChannelRelease octets rest message is fits e = with_cause_ok types.ChannelRelease (λ c. ChannelRelease c) octets rest message (λ c h. h) is fits e
 content_ok types.ImmediateAssignment octets rest message is fits e = absurd cc
 content_ok types.MeasurementReport octets rest message is fits e = report_ok octets rest message is e
 content_ok types.PagingResponse octets rest message is fits e = along octets (PagingResponse rest) message e is

@@ -10,7 +10,8 @@ discriminator (first ∷ rest) = Some (first % 16)
 -- call control, mobility management and supplementary services share one flow
 abbrev pub is_flow_protocol : ℕ → Bool
 is_flow_protocol protocol =
-    (protocol == CALL_CONTROL) || (protocol == MOBILITY_MANAGEMENT) || (protocol == SUPPLEMENTARY_SERVICES)
+    (protocol == CALL_CONTROL) || (protocol == MOBILITY_MANAGEMENT) ||
+    (protocol == SUPPLEMENTARY_SERVICES)
 
 -- a message of the flow has at least the two octets of its header
 abbrev pub is_flow_message : List ℕ → Bool

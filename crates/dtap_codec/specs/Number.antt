@@ -13,7 +13,8 @@ count_of Two = 2
 -- bits 8 and 7 of the second octet, modulo m (bit 7 where m is 2); none where the message isn't of
 -- the flow
 abbrev pub number_in : ℕ → List ℕ → Option ℕ
-number_in m (first ∷ second ∷ rest) = if is_flow_protocol (first % 16) then Some ((second / 64) % m) else None
+number_in m (first ∷ second ∷ rest) =
+    if is_flow_protocol (first % 16) then Some ((second / 64) % m) else None
 number_in m _ = None
 
 -- the message with this number: bits 6 to 1 of the second octet and all other octets stay

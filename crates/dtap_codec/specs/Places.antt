@@ -8,7 +8,8 @@ use Rattle.dtap_codec.specs.Number.{with_number, without_number}
 -- these messages, which stand from place k on, each with its place modulo m
 abbrev pub with_numbers_from : ℕ → ℕ → List (List ℕ) → List (List ℕ)
 with_numbers_from m k [] = []
-with_numbers_from m k (message ∷ messages) = with_number (k % m) message ∷ with_numbers_from m (k + 1) messages
+with_numbers_from m k (message ∷ messages) =
+    with_number (k % m) message ∷ with_numbers_from m (k + 1) messages
 
 -- a message of the flow whose number is cleared
 pub record IsClear (message : List ℕ) : Type 0 where
@@ -32,6 +33,9 @@ pub record Carries (m : ℕ) (sent : List (List ℕ)) (k : ℕ) (x : List ℕ) :
 -- the next place comes, or the last one again.
 pub data Rise (m : ℕ) (sent : List (List ℕ)) : ℕ → List (List ℕ) → ℕ → Type 0 where
   over : (n : ℕ) → Rise m sent n [] n
-  other : {n k : ℕ} {x : List ℕ} {xs : List (List ℕ)} → is_flow_message x ≡ false → Rise m sent n xs k → Rise m sent n (x ∷ xs) k
-  next : {n k : ℕ} {x : List ℕ} {xs : List (List ℕ)} → Carries m sent n x → Rise m sent (n + 1) xs k → Rise m sent n (x ∷ xs) k
-  again : {n k p : ℕ} {x : List ℕ} {xs : List (List ℕ)} → n ≡ p + 1 → Carries m sent p x → Rise m sent n xs k → Rise m sent n (x ∷ xs) k
+  other : {n k : ℕ} {x : List ℕ} {xs : List (List ℕ)} → is_flow_message x ≡ false →
+      Rise m sent n xs k → Rise m sent n (x ∷ xs) k
+  next : {n k : ℕ} {x : List ℕ} {xs : List (List ℕ)} → Carries m sent n x →
+      Rise m sent (n + 1) xs k → Rise m sent n (x ∷ xs) k
+  again : {n k p : ℕ} {x : List ℕ} {xs : List (List ℕ)} → n ≡ p + 1 → Carries m sent p x →
+      Rise m sent n xs k → Rise m sent n (x ∷ xs) k

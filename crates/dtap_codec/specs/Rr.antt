@@ -33,11 +33,14 @@ pub record ChannelFits (c : ChannelDescription) : Type 0 where
   pub tsc : c.tsc < 8
   pub arfcn : c.arfcn < 1024
 
-pub record IsHandoverCommand (octets : List ℕ) (cell : CellDescription) (channel : ChannelDescription) (reference : ℕ) : Type 0 where
+pub record IsHandoverCommand (octets : List ℕ) (cell : CellDescription)
+    (channel : ChannelDescription) (reference : ℕ) : Type 0 where
   pub bits : ℕ
   pub power : ℕ
   pub more : List ℕ
-  pub is : octets ≡ RADIO_RESOURCE ∷ rr_octet types.HandoverCommand ∷ (cell_text cell ++ (channel_text bits channel ++ reference ∷ power ∷ more))
+  pub is : octets ≡
+      RADIO_RESOURCE ∷ rr_octet types.HandoverCommand ∷
+      (cell_text cell ++ (channel_text bits channel ++ reference ∷ power ∷ more))
   pub three_bits : bits < 8
   pub cell_fits : CellFits cell
   pub channel_fits : ChannelFits channel
@@ -46,7 +49,9 @@ pub record IsAssignmentCommand (octets : List ℕ) (channel : ChannelDescription
   pub bits : ℕ
   pub power : ℕ
   pub more : List ℕ
-  pub is : octets ≡ RADIO_RESOURCE ∷ rr_octet types.AssignmentCommand ∷ (channel_text bits channel ++ power ∷ more)
+  pub is : octets ≡
+      RADIO_RESOURCE ∷ rr_octet types.AssignmentCommand ∷
+      (channel_text bits channel ++ power ∷ more)
   pub three_bits : bits < 8
   pub channel_fits : ChannelFits channel
 
@@ -56,12 +61,15 @@ pub record IsCauseOf (kind : RrType) (octets : List ℕ) (cause : RrCause) : Typ
   pub is : octets ≡ RADIO_RESOURCE ∷ rr_octet kind ∷ cause.0 ∷ more
 
 -- page mode, channel, request reference, timing advance below two bits, and the last octets
-pub record IsImmediateAssignment (octets : List ℕ) (channel : ChannelDescription) (request : List ℕ) (advance : ℕ) : Type 0 where
+pub record IsImmediateAssignment (octets : List ℕ) (channel : ChannelDescription) (request : List ℕ)
+    (advance : ℕ) : Type 0 where
   pub page_mode : ℕ
   pub bits : ℕ
   pub high : ℕ
   pub last : List ℕ
-  pub is : octets ≡ PSEUDO_LENGTH ∷ RADIO_RESOURCE ∷ IMMEDIATE_ASSIGNMENT ∷ page_mode ∷ (channel_text bits channel ++ (request ++ (high * 64 + advance) ∷ last))
+  pub is : octets ≡
+      PSEUDO_LENGTH ∷ RADIO_RESOURCE ∷ IMMEDIATE_ASSIGNMENT ∷ page_mode ∷
+      (channel_text bits channel ++ (request ++ (high * 64 + advance) ∷ last))
   pub three_bits : bits < 8
   pub channel_fits : ChannelFits channel
   pub three : length request ≡ 3
@@ -75,14 +83,16 @@ pub record IsMeasurementReport (octets value : List ℕ) : Type 0 where
 
 -- The octets are a text of the message; what follows its parts isn't looked at.
 abbrev pub IsRr : List ℕ → RrMessage → Type 0
-IsRr octets (HandoverCommand cell channel reference) = IsHandoverCommand octets cell channel reference
+IsRr octets (HandoverCommand cell channel reference) =
+    IsHandoverCommand octets cell channel reference
 IsRr octets (AssignmentCommand channel) = IsAssignmentCommand octets channel
 IsRr octets (HandoverComplete cause) = IsCauseOf types.HandoverComplete octets cause
 IsRr octets (HandoverFailure cause) = IsCauseOf types.HandoverFailure octets cause
 IsRr octets (AssignmentComplete cause) = IsCauseOf types.AssignmentComplete octets cause
 IsRr octets (AssignmentFailure cause) = IsCauseOf types.AssignmentFailure octets cause
 IsRr octets (ChannelRelease cause) = IsCauseOf types.ChannelRelease octets cause
-IsRr octets (ImmediateAssignment channel request advance) = IsImmediateAssignment octets channel request advance
+IsRr octets (ImmediateAssignment channel request advance) =
+    IsImmediateAssignment octets channel request advance
 IsRr octets (MeasurementReport value) = IsMeasurementReport octets value
 IsRr octets (PagingResponse rest) = octets ≡ RADIO_RESOURCE ∷ rr_octet types.PagingResponse ∷ rest
 
@@ -90,6 +100,7 @@ IsRr octets (PagingResponse rest) = octets ≡ RADIO_RESOURCE ∷ rr_octet types
 abbrev pub RrFits : RrMessage → Type 0
 RrFits (HandoverCommand cell channel reference) = CellFits cell × ChannelFits channel
 RrFits (AssignmentCommand channel) = ChannelFits channel
-RrFits (ImmediateAssignment channel request advance) = ChannelFits channel × (length request ≡ 3) × (advance < 64)
+RrFits (ImmediateAssignment channel request advance) =
+    ChannelFits channel × (length request ≡ 3) × (advance < 64)
 RrFits (MeasurementReport value) = length value ≡ REPORT_LENGTH
 RrFits _ = Unit {0}

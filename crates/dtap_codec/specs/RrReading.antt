@@ -34,12 +34,14 @@ channel_octet octet = record { 0 = octet }
 
 -- two bits of the ARFCN, three of the NCC, three of the BCC; the low eight bits of the ARFCN
 abbrev pub cell_of : ℕ → ℕ → CellDescription
-cell_of first second = record { arfcn = 256 * (first / 64) + second; ncc = first / 8 % 8; bcc = first % 8 }
+cell_of first second =
+    record { arfcn = 256 * (first / 64) + second; ncc = first / 8 % 8; bcc = first % 8 }
 
 -- the channel's octet; three bits of the TSC, three that aren't looked at, two of the ARFCN; its
 -- low eight bits
 abbrev pub channel_of : ℕ → ℕ → ℕ → ChannelDescription
-channel_of first second third = record { channel = channel_octet first; tsc = second / 32; arfcn = 256 * (second % 4) + third }
+channel_of first second third =
+    record { channel = channel_octet first; tsc = second / 32; arfcn = 256 * (second % 4) + third }
 
 unfoldable pub handover_command_at : List ℕ → Result RrMessage RrFault
 handover_command_at octets = do
@@ -48,7 +50,8 @@ handover_command_at octets = do
   channel ← three_at second.1
   reference ← octet_at Short channel.3
   power ← octet_at Short reference.1
-  Ok (HandoverCommand (cell_of first.0 second.0) (channel_of channel.0 channel.1 channel.2) reference.0)
+  Ok (HandoverCommand (cell_of first.0 second.0)
+      (channel_of channel.0 channel.1 channel.2) reference.0)
 
 unfoldable pub assignment_command_at : List ℕ → Result RrMessage RrFault
 assignment_command_at octets = do
@@ -70,7 +73,8 @@ immediate_assignment_at octets = do
   request ← three_at channel.3
   advance ← octet_at Short request.3
   rest ← split_at Short IMMEDIATE_END_LENGTH advance.1
-  Ok (ImmediateAssignment (channel_of channel.0 channel.1 channel.2) (request.0 ∷ request.1 ∷ request.2 ∷ []) (advance.0 % 64))
+  Ok (ImmediateAssignment (channel_of channel.0 channel.1 channel.2)
+      (request.0 ∷ request.1 ∷ request.2 ∷ []) (advance.0 % 64))
 
 unfoldable pub measurement_report_at : List ℕ → Result RrMessage RrFault
 measurement_report_at octets = do
@@ -81,10 +85,13 @@ measurement_report_at octets = do
 abbrev pub content_at : RrType → List ℕ → Result RrMessage RrFault
 content_at types.HandoverCommand octets = handover_command_at octets
 content_at types.AssignmentCommand octets = assignment_command_at octets
-content_at types.HandoverComplete octets = cause_at octets >>= (λ cause. Ok (HandoverComplete cause))
+content_at types.HandoverComplete octets =
+    cause_at octets >>= (λ cause. Ok (HandoverComplete cause))
 content_at types.HandoverFailure octets = cause_at octets >>= (λ cause. Ok (HandoverFailure cause))
-content_at types.AssignmentComplete octets = cause_at octets >>= (λ cause. Ok (AssignmentComplete cause))
-content_at types.AssignmentFailure octets = cause_at octets >>= (λ cause. Ok (AssignmentFailure cause))
+content_at types.AssignmentComplete octets =
+    cause_at octets >>= (λ cause. Ok (AssignmentComplete cause))
+content_at types.AssignmentFailure octets =
+    cause_at octets >>= (λ cause. Ok (AssignmentFailure cause))
 content_at types.ChannelRelease octets = cause_at octets >>= (λ cause. Ok (ChannelRelease cause))
 content_at types.ImmediateAssignment octets = Err UnknownRr
 content_at types.MeasurementReport octets = measurement_report_at octets

@@ -10,18 +10,22 @@ use Rattle.dtap_codec.specs.RrType.{rr_octet, type_of}
 
 -- a message up to its type, whose octet this is: an IMMEDIATE ASSIGNMENT alone has a pseudo length
 abbrev pub front_text : ℕ → List ℕ
-front_text kind = if kind == IMMEDIATE_ASSIGNMENT then PSEUDO_LENGTH ∷ RADIO_RESOURCE ∷ kind ∷ [] else RADIO_RESOURCE ∷ kind ∷ []
+front_text kind =
+    if kind == IMMEDIATE_ASSIGNMENT then PSEUDO_LENGTH ∷ RADIO_RESOURCE ∷ kind ∷ []
+    else RADIO_RESOURCE ∷ kind ∷ []
 
 -- what stands behind the type
 abbrev pub content_text : RrMessage → List ℕ
-content_text (HandoverCommand cell channel reference) = cell_text cell ++ (channel_text 0 channel ++ reference ∷ HIGHEST_POWER ∷ [])
+content_text (HandoverCommand cell channel reference) =
+    cell_text cell ++ (channel_text 0 channel ++ reference ∷ HIGHEST_POWER ∷ [])
 content_text (AssignmentCommand channel) = channel_text 0 channel ++ HIGHEST_POWER ∷ []
 content_text (HandoverComplete cause) = cause.0 ∷ []
 content_text (HandoverFailure cause) = cause.0 ∷ []
 content_text (AssignmentComplete cause) = cause.0 ∷ []
 content_text (AssignmentFailure cause) = cause.0 ∷ []
 content_text (ChannelRelease cause) = cause.0 ∷ []
-content_text (ImmediateAssignment channel request advance) = NORMAL_PAGING ∷ (channel_text 0 channel ++ (request ++ advance ∷ IMMEDIATE_END))
+content_text (ImmediateAssignment channel request advance) =
+    NORMAL_PAGING ∷ (channel_text 0 channel ++ (request ++ advance ∷ IMMEDIATE_END))
 content_text (MeasurementReport value) = value
 content_text (PagingResponse rest) = rest
 

@@ -28,7 +28,8 @@ impl Bits {
         requires some { 0 < width }
         requires octet { width ≤ 8 }
         requires enough { width ≤ self.old.left }
-        ensures { Begin (field width result ∷ []) self.old.left self.old.number self.new.left self.new.number }
+        ensures { Begin (field width result ∷ []) self.old.left self.old.number
+            self.new.left self.new.number }
     {
         let left = self.left - width;
         let taken = self.number >> left;

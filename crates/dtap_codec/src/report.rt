@@ -63,7 +63,8 @@ impl Report {
         ensures found { IfOk result (λ report. IsReport octets.now report) }
         // What the octets are the text of is read, so they are the text of one report at most.
         ensures only { (report : ReportValue) → IsReport octets.now report → result ≡ Ok report }
-        ensures refused { IfErr result (λ fault. (fault ≡ RrFault.Short) × (length octets.now < REPORT_LENGTH)) }
+        ensures refused { IfErr result
+            (λ fault. (fault ≡ RrFault.Short) × (length octets.now < REPORT_LENGTH)) }
     {
         let value = octets.first_chunk::<REPORT_LENGTH>().ok_or(RrFault::Short)?;
         Ok(report_of(*value))
@@ -136,7 +137,8 @@ fn take_entries(mut bits: Bits) -> [Neighbour; REPORT_ENTRIES]
 // Reads the 17 bits of an entry.
 fn take_neighbour(bits: &mut Bits) -> Neighbour
     requires { 17 ≤ bits.old.left }
-    ensures { Begin (entry_fields result) bits.old.left bits.old.number bits.new.left bits.new.number }
+    ensures { Begin (entry_fields result) bits.old.left bits.old.number
+        bits.new.left bits.new.number }
 {
     let rxlev = bits.take(6);
     let bcch_freq = bits.take(5);

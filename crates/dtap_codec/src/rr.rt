@@ -27,7 +27,11 @@ pub struct ChannelOctet(pub u8);
 #[derive(Clone, Copy)]
 pub struct RrCause(pub u8);
 
-/// A channel without frequency hopping (TS 44.018 clause 10.5.2.5).
+/// A channel without frequency hopping (TS 44.018 clause 10.5.2.5). Its bits, the high one first:
+///
+/// ```text
+/// cccccccc ttt---aa aaaaaaaa   c channel, t TSC, a ARFCN; the others are 0 where it is written
+/// ```
 #[derive(Clone, Copy)]
 pub struct ChannelDescription {
     pub channel: ChannelOctet,
@@ -36,7 +40,11 @@ pub struct ChannelDescription {
 }
 
 /// A cell, by the channel that carries its broadcast and its base station identity code (TS 44.018
-/// clause 10.5.2.2).
+/// clause 10.5.2.2). Its bits, the high one first:
+///
+/// ```text
+/// aannnbbb aaaaaaaa   a ARFCN, n NCC, b BCC
+/// ```
 #[derive(Clone, Copy)]
 pub struct CellDescription {
     pub arfcn: Arfcn,
@@ -76,42 +84,55 @@ pub const IMMEDIATE_END: [u8; IMMEDIATE_END_LENGTH] = [
     PADDING,
 ];
 
-/// A message of radio resource management (TS 44.018 clause 9.1).
+/// A message of radio resource management (TS 44.018 clause 9.1), with its octets: those that are
+/// fixed, in hexadecimal, and each part with how many octets it has.
 #[derive(Drop)]
 pub enum RrMessage {
+    /// `06 2b cell:2 channel:3 reference:1 power:1`
     HandoverCommand {
         cell: CellDescription,
         channel: ChannelDescription,
         /// The handover reference.
         reference: u8,
     },
+    /// `06 2e channel:3 power:1`
     AssignmentCommand {
         channel: ChannelDescription,
     },
+    /// `06 2c cause:1`
     HandoverComplete {
         cause: RrCause,
     },
+    /// `06 28 cause:1`
     HandoverFailure {
         cause: RrCause,
     },
+    /// `06 29 cause:1`
     AssignmentComplete {
         cause: RrCause,
     },
+    /// `06 2f cause:1`
     AssignmentFailure {
         cause: RrCause,
     },
+    /// `06 0d cause:1`
     ChannelRelease {
         cause: RrCause,
     },
+    /// `2d 06 3f page_mode:1 channel:3 request_reference:3 timing_advance:1 end:12`
     ImmediateAssignment {
         channel: ChannelDescription,
         request_reference: [u8; 3],
         timing_advance: TimingAdvance,
     },
+    /// `06 15 value:16`
+    ///
     /// The value of the report is kept as it is; `Report::read` reads it.
     MeasurementReport {
         value: [u8; REPORT_LENGTH],
     },
+    /// `06 27 rest`
+    ///
     /// What follows the type isn't looked at.
     PagingResponse {
         rest: Octets,
@@ -133,9 +154,11 @@ impl RrMessage {
         // What is read is what the octets are a text of.
         ensures found { IfOk result (λ message. IsRr octets.now message) }
         // What the octets are a text of is read, unless memory runs out.
-        ensures only { (message : RrValue) → IsRr octets.now message → (result ≡ Ok message) ⊎ (result ≡ Err RrFault.Memory) }
+        ensures only { (message : RrValue) → IsRr octets.now message →
+            (result ≡ Ok message) ⊎ (result ≡ Err RrFault.Memory) }
         // A refusal is the first fault, and memory runs out only where there is none.
-        ensures refused { RefusesBy RrFault.Memory result (result_err (reading.rr_reading octets.now)) }
+        ensures refused { RefusesBy RrFault.Memory result
+            (result_err (reading.rr_reading octets.now)) }
         // Short are octets that are no text, but octets behind them would make one of them; where
         // no octets behind them would, the fault is UnknownRr; memory is needed for a text alone.
         ensures fault { IfErr result (λ fault. HasFault octets.now fault) }
@@ -424,5 +447,6 @@ fn put_channel(text: &mut Vec<u8>, channel: ChannelDescription) -> Result<(), Me
 /// that message.
 pub fn rr_text_is_read()
     ensures text { (message : RrValue) → RrFits message → IsRr (rr_text message) message }
-    ensures read { (message : RrValue) → RrFits message → reading.rr_reading (rr_text message) ≡ Ok message }
+    ensures read { (message : RrValue) → RrFits message →
+        reading.rr_reading (rr_text message) ≡ Ok message }
 {}
