@@ -1,5 +1,5 @@
 -- Definitions against literal octets (TS 48.058 clauses 8 and 9).
-use Rattle.std.proofs.Common.{◌≡◌, ℕ, Bool, List, [], ◌∷◌, length, map, replicate, true, false, Some, None, Ok, Err, refl}
+use Rattle.std.proofs.Common.{◌≡◌, ℕ, Bool, List, [], ◌∷◌, ◌++◌, length, map, replicate, true, false, Some, None, Ok, Err, refl}
 use Rattle.octets.proofs.Hex.{hex}
 use Rattle.octets.specs.declared.element.Format.TheVariants.{Tv, Tlv, TlvE}
 use Rattle.octets.specs.Element.{format_in}
@@ -22,19 +22,30 @@ use Rattle.rsl_codec.specs.RslType.{rsl_discriminator, rsl_octet, rsl_type}
 -- ---- the types: discriminator and octet of each
 
 abbrev all_types : List RslType
-all_types = types.DataRequest ∷ types.DataIndication ∷ types.ErrorIndication ∷ types.EstablishRequest ∷ types.EstablishConfirm ∷ types.EstablishIndication ∷ types.ReleaseRequest ∷ types.ReleaseConfirm ∷ types.ReleaseIndication ∷ types.ChannelRequired ∷ types.ImmediateAssignCommand ∷ types.ChannelActivation ∷ types.ChannelActivationAck ∷ types.ChannelActivationNack ∷ types.ConnectionFailure ∷ types.HandoverDetection ∷ types.MeasurementResult ∷ types.RfChannelRelease ∷ types.RfChannelReleaseAck ∷ []
+all_types = types.DataRequest ∷ types.DataIndication ∷ types.ErrorIndication ∷ types.EstablishRequest ∷ types.EstablishConfirm ∷
+    types.EstablishIndication ∷ types.ReleaseRequest ∷ types.ReleaseConfirm ∷ types.ReleaseIndication ∷ types.ChannelRequired ∷
+    types.ImmediateAssignCommand ∷ types.ChannelActivation ∷ types.ChannelActivationAck ∷ types.ChannelActivationNack ∷
+    types.ConnectionFailure ∷ types.HandoverDetection ∷ types.MeasurementResult ∷ types.RfChannelRelease ∷ types.RfChannelReleaseAck ∷ []
 
 written_pairs : map {B = ℕ × ℕ} (λ kind. (rsl_discriminator kind, rsl_octet kind)) all_types ≡
-    (0x03, 0x01) ∷ (0x03, 0x02) ∷ (0x02, 0x03) ∷ (0x02, 0x04) ∷ (0x02, 0x05) ∷ (0x02, 0x06) ∷ (0x02, 0x07) ∷ (0x02, 0x08) ∷ (0x02, 0x09) ∷ (0x0c, 0x13) ∷ (0x0c, 0x16) ∷ (0x08, 0x21) ∷ (0x08, 0x22) ∷ (0x08, 0x23) ∷ (0x08, 0x24) ∷ (0x08, 0x27) ∷ (0x08, 0x28) ∷ (0x08, 0x2e) ∷ (0x08, 0x33) ∷ []
+    (0x03, 0x01) ∷ (0x03, 0x02) ∷ (0x02, 0x03) ∷ (0x02, 0x04) ∷ (0x02, 0x05) ∷ (0x02, 0x06) ∷ (0x02, 0x07) ∷ (0x02, 0x08) ∷ (0x02, 0x09) ∷
+    (0x0c, 0x13) ∷ (0x0c, 0x16) ∷ (0x08, 0x21) ∷ (0x08, 0x22) ∷ (0x08, 0x23) ∷ (0x08, 0x24) ∷ (0x08, 0x27) ∷ (0x08, 0x28) ∷
+    (0x08, 0x2e) ∷ (0x08, 0x33) ∷ []
 written_pairs = refl
 
-read_pairs : map (λ (p : ℕ × ℕ). rsl_type p.0 p.1) ((0x03, 0x01) ∷ (0x03, 0x02) ∷ (0x02, 0x03) ∷ (0x02, 0x04) ∷ (0x02, 0x05) ∷ (0x02, 0x06) ∷ (0x02, 0x07) ∷ (0x02, 0x08) ∷ (0x02, 0x09) ∷ (0x0c, 0x13) ∷ (0x0c, 0x16) ∷ (0x08, 0x21) ∷ (0x08, 0x22) ∷ (0x08, 0x23) ∷ (0x08, 0x24) ∷ (0x08, 0x27) ∷ (0x08, 0x28) ∷ (0x08, 0x2e) ∷ (0x08, 0x33) ∷ []) ≡
+read_pairs : map (λ (p : ℕ × ℕ). rsl_type p.0 p.1)
+    ((0x03, 0x01) ∷ (0x03, 0x02) ∷ (0x02, 0x03) ∷ (0x02, 0x04) ∷ (0x02, 0x05) ∷ (0x02, 0x06) ∷ (0x02, 0x07) ∷ (0x02, 0x08) ∷ (0x02, 0x09) ∷
+    (0x0c, 0x13) ∷ (0x0c, 0x16) ∷ (0x08, 0x21) ∷ (0x08, 0x22) ∷ (0x08, 0x23) ∷ (0x08, 0x24) ∷ (0x08, 0x27) ∷ (0x08, 0x28) ∷ (0x08, 0x2e) ∷
+    (0x08, 0x33) ∷ []) ≡
     map (λ kind. Some kind) all_types
 unfolding rsl_type
 read_pairs = refl
 
 -- bit 1 of the discriminator isn't looked at
-read_pairs_of_other_bit_1 : map (λ (p : ℕ × ℕ). rsl_type p.0 p.1) ((0x02, 0x01) ∷ (0x02, 0x02) ∷ (0x03, 0x03) ∷ (0x03, 0x04) ∷ (0x03, 0x05) ∷ (0x03, 0x06) ∷ (0x03, 0x07) ∷ (0x03, 0x08) ∷ (0x03, 0x09) ∷ (0x0d, 0x13) ∷ (0x0d, 0x16) ∷ (0x09, 0x21) ∷ (0x09, 0x22) ∷ (0x09, 0x23) ∷ (0x09, 0x24) ∷ (0x09, 0x27) ∷ (0x09, 0x28) ∷ (0x09, 0x2e) ∷ (0x09, 0x33) ∷ []) ≡
+read_pairs_of_other_bit_1 : map (λ (p : ℕ × ℕ). rsl_type p.0 p.1)
+    ((0x02, 0x01) ∷ (0x02, 0x02) ∷ (0x03, 0x03) ∷ (0x03, 0x04) ∷ (0x03, 0x05) ∷ (0x03, 0x06) ∷ (0x03, 0x07) ∷ (0x03, 0x08) ∷ (0x03, 0x09) ∷
+    (0x0d, 0x13) ∷ (0x0d, 0x16) ∷ (0x09, 0x21) ∷ (0x09, 0x22) ∷ (0x09, 0x23) ∷ (0x09, 0x24) ∷ (0x09, 0x27) ∷ (0x09, 0x28) ∷ (0x09, 0x2e) ∷
+    (0x09, 0x33) ∷ []) ≡
     map (λ kind. Some kind) all_types
 unfolding rsl_type
 read_pairs_of_other_bit_1 = refl
@@ -56,7 +67,8 @@ unknown_discriminators = refl
 -- ---- the elements
 
 formats : map (λ id. format_in ELEMENTS id) (hex "01 02 03 04 06 08 09 0a 0b 11 13 14 16 19 1a 1b 2b") ≡
-    Some (Tv 1) ∷ Some (Tv 1) ∷ Some (Tv 1) ∷ Some (Tv 1) ∷ Some Tlv ∷ Some (Tv 2) ∷ Some (Tv 1) ∷ Some (Tv 2) ∷ Some TlvE ∷ Some (Tv 1) ∷ Some (Tv 3) ∷ Some (Tv 1) ∷ Some Tlv ∷ Some Tlv ∷ Some Tlv ∷ Some (Tv 1) ∷ Some Tlv ∷ []
+    Some (Tv 1) ∷ Some (Tv 1) ∷ Some (Tv 1) ∷ Some (Tv 1) ∷ Some Tlv ∷ Some (Tv 2) ∷ Some (Tv 1) ∷ Some (Tv 2) ∷ Some TlvE ∷ Some (Tv 1) ∷
+    Some (Tv 3) ∷ Some (Tv 1) ∷ Some Tlv ∷ Some Tlv ∷ Some Tlv ∷ Some (Tv 1) ∷ Some Tlv ∷ []
 formats = refl
 
 unknown_identifiers : map (λ id. format_in ELEMENTS id) (hex "00 05 07 0c 12 1c 2a") ≡ None ∷ None ∷ None ∷ None ∷ None ∷ None ∷ None ∷ []
@@ -74,12 +86,14 @@ needed_elements : map needed all_types ≡
 needed_elements = refl
 
 with_l3 : map has_l3 all_types ≡
-    true ∷ true ∷ false ∷ false ∷ false ∷ true ∷ false ∷ false ∷ false ∷ false ∷ false ∷ false ∷ false ∷ false ∷ false ∷ false ∷ true ∷ false ∷ false ∷ []
+    true ∷ true ∷ false ∷ false ∷ false ∷ true ∷ false ∷ false ∷ false ∷ false ∷ false ∷ false ∷ false ∷ false ∷ false ∷ false ∷ true ∷
+    false ∷ false ∷ []
 with_l3 = refl
 
 -- the faults of elements, in the order in which they are looked for
 order_of_faults : map (λ (cause : Bool × RslFault). cause.1) (element_causes types.DataRequest []) ≡
-    faults.MissingElement 0x01 ∷ faults.MissingElement 0x02 ∷ faults.MissingElement 0x0b ∷ faults.BadChannel ∷ faults.Short ∷ faults.TooLong ∷ []
+    faults.MissingElement 0x01 ∷ faults.MissingElement 0x02 ∷ faults.MissingElement 0x0b ∷ faults.BadChannel ∷ faults.Short ∷
+    faults.TooLong ∷ []
 order_of_faults = refl
 
 -- ---- channel numbers: TCH/F, TCH/H, SDCCH/4, SDCCH/8, RACH, PCH and AGCH
@@ -111,15 +125,18 @@ activation_types = refl
 abbrev Stands : List ℕ → Rsl → Type 0
 Stands octets message = (rsl_reading octets ≡ Ok message) × (rsl_text message ≡ octets)
 
-data_request : Stands (hex "03 01 01 41 02 00 0b 00 06 06 2e 0a 20 14 00") (messages.DataRequest (record { channel = 0x41; link = 0x00; l3 = hex "06 2e 0a 20 14 00" }))
+data_request : Stands (hex "03 01 01 41 02 00 0b 00 06 06 2e 0a 20 14 00")
+    (messages.DataRequest (record { channel = 0x41; link = 0x00; l3 = hex "06 2e 0a 20 14 00" }))
 unfolding rsl_reading message_at elements_of breaks_off rsl_type walk data_at rsl_element_text
 data_request = (refl, refl)
 
-data_indication : Stands (hex "03 02 01 0a 02 43 0b 00 03 06 2c 00") (messages.DataIndication (record { channel = 0x0a; link = 0x43; l3 = hex "06 2c 00" }))
+data_indication : Stands (hex "03 02 01 0a 02 43 0b 00 03 06 2c 00")
+    (messages.DataIndication (record { channel = 0x0a; link = 0x43; l3 = hex "06 2c 00" }))
 unfolding rsl_reading message_at elements_of breaks_off rsl_type walk data_at rsl_element_text
 data_indication = (refl, refl)
 
-error_indication : Stands (hex "02 03 01 41 02 03 16 01 01") (messages.ErrorIndication (record { channel = 0x41; link = 0x03; cause = Some (record { 0 = hex "01" }) }))
+error_indication : Stands (hex "02 03 01 41 02 03 16 01 01")
+    (messages.ErrorIndication (record { channel = 0x41; link = 0x03; cause = Some (record { 0 = hex "01" }) }))
 unfolding rsl_reading message_at elements_of breaks_off rsl_type walk error_at rsl_element_text
 error_indication = (refl, refl)
 
@@ -135,15 +152,18 @@ establish_confirm : Stands (hex "02 05 01 41 02 03") (messages.EstablishConfirm 
 unfolding rsl_reading message_at elements_of breaks_off rsl_type walk link_at rsl_element_text
 establish_confirm = (refl, refl)
 
-establish_indication : Stands (hex "02 06 01 41 02 00 0b 00 03 05 24 71") (messages.EstablishIndication (record { channel = 0x41; link = 0x00; l3 = Some (hex "05 24 71") }))
+establish_indication : Stands (hex "02 06 01 41 02 00 0b 00 03 05 24 71")
+    (messages.EstablishIndication (record { channel = 0x41; link = 0x00; l3 = Some (hex "05 24 71") }))
 unfolding rsl_reading message_at elements_of breaks_off rsl_type walk establishment_at rsl_element_text
 establish_indication = (refl, refl)
 
-establish_indication_alone : Stands (hex "02 06 01 41 02 03") (messages.EstablishIndication (record { channel = 0x41; link = 0x03; l3 = None }))
+establish_indication_alone : Stands (hex "02 06 01 41 02 03")
+    (messages.EstablishIndication (record { channel = 0x41; link = 0x03; l3 = None }))
 unfolding rsl_reading message_at elements_of breaks_off rsl_type walk establishment_at rsl_element_text
 establish_indication_alone = (refl, refl)
 
-release_request : Stands (hex "02 07 01 41 02 03 14 01") (messages.ReleaseRequest (record { channel = 0x41; link = 0x03; mode = record { 0 = 0x01 } }))
+release_request : Stands (hex "02 07 01 41 02 03 14 01")
+    (messages.ReleaseRequest (record { channel = 0x41; link = 0x03; mode = record { 0 = 0x01 } }))
 unfolding rsl_reading message_at elements_of breaks_off rsl_type walk release_at rsl_element_text
 release_request = (refl, refl)
 
@@ -155,23 +175,36 @@ release_indication : Stands (hex "02 09 01 41 02 03") (messages.ReleaseIndicatio
 unfolding rsl_reading message_at elements_of breaks_off rsl_type walk link_at rsl_element_text
 release_indication = (refl, refl)
 
-channel_required : Stands (hex "0c 13 01 88 13 7f 01 02 11 05") (messages.ChannelRequired (record { channel = 0x88; reference = record { access = 0x7f; frame = 0x0102 }; access_delay = record { 0 = 0x05 } }))
+channel_required : Stands (hex "0c 13 01 88 13 7f 01 02 11 05")
+    (messages.ChannelRequired
+    (record { channel = 0x88; reference = record { access = 0x7f; frame = 0x0102 }; access_delay = record { 0 = 0x05 } }))
 unfolding rsl_reading message_at elements_of breaks_off rsl_type walk channel_required_at rsl_element_text
 channel_required = (refl, refl)
 
-immediate_assign_command : Stands (hex "0c 16 01 90 2b 04 2d 06 3f 00") (messages.ImmediateAssignCommand (record { channel = 0x90; information = hex "2d 06 3f 00" }))
+immediate_assign_command : Stands (hex "0c 16 01 90 2b 04 2d 06 3f 00")
+    (messages.ImmediateAssignCommand (record { channel = 0x90; information = hex "2d 06 3f 00" }))
 unfolding rsl_reading message_at elements_of breaks_off rsl_type walk assignment_at rsl_element_text
 immediate_assign_command = (refl, refl)
 
-channel_activation : Stands (hex "08 21 01 41 03 00 06 04 00 03 01 00") (messages.ChannelActivation (record { channel = 0x41; activation = record { 0 = 0x00 }; mode = record { 0 = hex "00 03 01 00" }; reference = None }))
+channel_activation : Stands (hex "08 21 01 41 03 00 06 04 00 03 01 00")
+    (messages.ChannelActivation
+    (record { channel = 0x41; activation = record { 0 = 0x00 }; mode = record { 0 = hex "00 03 01 00" }; reference = None }))
 unfolding rsl_reading message_at elements_of breaks_off rsl_type walk activation_at rsl_element_text
 channel_activation = (refl, refl)
 
-channel_activation_for_handover : Stands (hex "08 21 01 0a 03 02 06 04 00 01 08 01 09 07") (messages.ChannelActivation (record { channel = 0x0a; activation = record { 0 = 0x02 }; mode = record { 0 = hex "00 01 08 01" }; reference = Some (record { 0 = 0x07 }) }))
+channel_activation_for_handover : Stands (hex "08 21 01 0a 03 02 06 04 00 01 08 01 09 07")
+    (messages.ChannelActivation
+    (record {
+      channel = 0x0a;
+      activation = record { 0 = 0x02 };
+      mode = record { 0 = hex "00 01 08 01" };
+      reference = Some (record { 0 = 0x07 });
+    }))
 unfolding rsl_reading message_at elements_of breaks_off rsl_type walk activation_at rsl_element_text
 channel_activation_for_handover = (refl, refl)
 
-channel_activation_ack : Stands (hex "08 22 01 41 08 01 02") (messages.ChannelActivationAck (record { channel = 0x41; frame = Some (record { 0 = 0x0102 }) }))
+channel_activation_ack : Stands (hex "08 22 01 41 08 01 02")
+    (messages.ChannelActivationAck (record { channel = 0x41; frame = Some (record { 0 = 0x0102 }) }))
 unfolding rsl_reading message_at elements_of breaks_off rsl_type walk activation_ack_at rsl_element_text
 channel_activation_ack = (refl, refl)
 
@@ -179,11 +212,13 @@ channel_activation_ack_alone : Stands (hex "08 22 01 41") (messages.ChannelActiv
 unfolding rsl_reading message_at elements_of breaks_off rsl_type walk activation_ack_at rsl_element_text
 channel_activation_ack_alone = (refl, refl)
 
-channel_activation_nack : Stands (hex "08 23 01 41 1a 01 20") (messages.ChannelActivationNack (record { channel = 0x41; cause = Some (record { 0 = hex "20" }) }))
+channel_activation_nack : Stands (hex "08 23 01 41 1a 01 20")
+    (messages.ChannelActivationNack (record { channel = 0x41; cause = Some (record { 0 = hex "20" }) }))
 unfolding rsl_reading message_at elements_of breaks_off rsl_type walk failure_at rsl_element_text
 channel_activation_nack = (refl, refl)
 
-connection_failure : Stands (hex "08 24 01 41 1a 01 01") (messages.ConnectionFailure (record { channel = 0x41; cause = Some (record { 0 = hex "01" }) }))
+connection_failure : Stands (hex "08 24 01 41 1a 01 01")
+    (messages.ConnectionFailure (record { channel = 0x41; cause = Some (record { 0 = hex "01" }) }))
 unfolding rsl_reading message_at elements_of breaks_off rsl_type walk failure_at rsl_element_text
 connection_failure = (refl, refl)
 
@@ -191,7 +226,8 @@ connection_failure_alone : Stands (hex "08 24 01 41") (messages.ConnectionFailur
 unfolding rsl_reading message_at elements_of breaks_off rsl_type walk failure_at rsl_element_text
 connection_failure_alone = (refl, refl)
 
-handover_detection : Stands (hex "08 27 01 41 11 05") (messages.HandoverDetection (record { channel = 0x41; access_delay = Some (record { 0 = 0x05 }) }))
+handover_detection : Stands (hex "08 27 01 41 11 05")
+    (messages.HandoverDetection (record { channel = 0x41; access_delay = Some (record { 0 = 0x05 }) }))
 unfolding rsl_reading message_at elements_of breaks_off rsl_type walk detection_at rsl_element_text
 handover_detection = (refl, refl)
 
@@ -199,11 +235,22 @@ handover_detection_alone : Stands (hex "08 27 01 41") (messages.HandoverDetectio
 unfolding rsl_reading message_at elements_of breaks_off rsl_type walk detection_at rsl_element_text
 handover_detection_alone = (refl, refl)
 
-measurement_result : Stands (hex "08 28 01 41 1b 05 19 03 14 15 00 04 06 0a 01 02 0b 00 02 06 15") (messages.MeasurementResult (record { channel = 0x41; number = record { 0 = 0x05 }; uplink = Some (record { 0 = hex "14 15 00" }); bs_power = Some (record { 0 = 0x06 }); l1 = Some (record { 0 = 0x0102 }); l3 = Some (hex "06 15") }))
+measurement_result : Stands (hex "08 28 01 41 1b 05 19 03 14 15 00 04 06 0a 01 02 0b 00 02 06 15")
+    (messages.MeasurementResult
+    (record {
+      channel = 0x41;
+      number = record { 0 = 0x05 };
+      uplink = Some (record { 0 = hex "14 15 00" });
+      bs_power = Some (record { 0 = 0x06 });
+      l1 = Some (record { 0 = 0x0102 });
+      l3 = Some (hex "06 15");
+    }))
 unfolding rsl_reading message_at elements_of breaks_off rsl_type walk measurement_result_at rsl_element_text
 measurement_result = (refl, refl)
 
-measurement_result_alone : Stands (hex "08 28 01 41 1b 05") (messages.MeasurementResult (record { channel = 0x41; number = record { 0 = 0x05 }; uplink = None; bs_power = None; l1 = None; l3 = None }))
+measurement_result_alone : Stands (hex "08 28 01 41 1b 05")
+    (messages.MeasurementResult
+    (record { channel = 0x41; number = record { 0 = 0x05 }; uplink = None; bs_power = None; l1 = None; l3 = None }))
 unfolding rsl_reading message_at elements_of breaks_off rsl_type walk measurement_result_at rsl_element_text
 measurement_result_alone = (refl, refl)
 
@@ -380,11 +427,12 @@ empty_l3_of_establish : rsl_reading (hex "02 06 01 41 02 00 0b 00 00") ≡ Err f
 unfolding rsl_reading message_at elements_of breaks_off rsl_type walk establishment_at
 empty_l3_of_establish = refl
 
-l3_of_251 : rsl_reading (0x03 ∷ 0x02 ∷ 0x01 ∷ 0x41 ∷ 0x02 ∷ 0x00 ∷ 0x0b ∷ 0x00 ∷ 0xfb ∷ replicate 251 0x33) ≡ Ok (messages.DataIndication (record { channel = 0x41; link = 0x00; l3 = replicate 251 0x33 }))
+l3_of_251 : rsl_reading (hex "03 02 01 41 02 00 0b 00 fb" ++ replicate 251 0x33) ≡
+    Ok (messages.DataIndication (record { channel = 0x41; link = 0x00; l3 = replicate 251 0x33 }))
 unfolding rsl_reading message_at elements_of breaks_off rsl_type walk data_at
 l3_of_251 = refl
 
-l3_of_252 : rsl_reading (0x03 ∷ 0x02 ∷ 0x01 ∷ 0x41 ∷ 0x02 ∷ 0x00 ∷ 0x0b ∷ 0x00 ∷ 0xfc ∷ replicate 252 0x33) ≡ Err faults.TooLong
+l3_of_252 : rsl_reading (hex "03 02 01 41 02 00 0b 00 fc" ++ replicate 252 0x33) ≡ Err faults.TooLong
 unfolding rsl_reading message_at elements_of breaks_off rsl_type walk data_at
 l3_of_252 = refl
 
@@ -397,10 +445,20 @@ abbrev failure_of : ℕ → Rsl
 failure_of size = messages.ConnectionFailure (record { channel = 0x41; cause = Some (record { 0 = replicate size 0x33 }) })
 
 abbrev measurement_of : ℕ → ℕ → Rsl
-measurement_of uplink l3 = messages.MeasurementResult (record { channel = 0x41; number = record { 0 = 0 }; uplink = Some (record { 0 = replicate uplink 0x33 }); bs_power = None; l1 = None; l3 = Some (replicate l3 0x33) })
+measurement_of uplink l3 =
+    messages.MeasurementResult
+    (record {
+      channel = 0x41;
+      number = record { 0 = 0 };
+      uplink = Some (record { 0 = replicate uplink 0x33 });
+      bs_power = None;
+      l1 = None;
+      l3 = Some (replicate l3 0x33);
+    })
 
 -- L3 information of no octet, one, 251 and 252
-l3_faults : map (λ size. rsl_write_fault (data_of size)) (0 ∷ 1 ∷ 251 ∷ 252 ∷ []) ≡ Some faults.Short ∷ None ∷ None ∷ Some faults.TooLong ∷ []
+l3_faults : map (λ size. rsl_write_fault (data_of size)) (0 ∷ 1 ∷ 251 ∷ 252 ∷ []) ≡
+    Some faults.Short ∷ None ∷ None ∷ Some faults.TooLong ∷ []
 unfolding rsl_write_fault
 l3_faults = refl
 
@@ -410,7 +468,8 @@ unfolding rsl_write_fault
 value_faults = refl
 
 -- an empty L3 information comes first
-write_faults_of_both : map (λ (sizes : ℕ × ℕ). rsl_write_fault (measurement_of sizes.0 sizes.1)) ((256, 0) ∷ (256, 252) ∷ (255, 252) ∷ (256, 1) ∷ (255, 251) ∷ []) ≡
+write_faults_of_both : map (λ (sizes : ℕ × ℕ). rsl_write_fault (measurement_of sizes.0 sizes.1))
+    ((256, 0) ∷ (256, 252) ∷ (255, 252) ∷ (256, 1) ∷ (255, 251) ∷ []) ≡
     Some faults.Short ∷ Some faults.TooLong ∷ Some faults.TooLong ∷ Some faults.TooLong ∷ None ∷ []
 unfolding rsl_write_fault
 write_faults_of_both = refl

@@ -40,43 +40,63 @@ abbrev pub link_fields : Link → List Field
 link_fields m = octet_field CHANNEL_NUMBER m.channel ∷ octet_field LINK_IDENTIFIER m.link ∷ []
 
 abbrev pub data_fields : Data → List Field
-data_fields m = octet_field CHANNEL_NUMBER m.channel ∷ octet_field LINK_IDENTIFIER m.link ∷ field L3_INFORMATION (Some m.l3) ∷ []
+data_fields m =
+    octet_field CHANNEL_NUMBER m.channel ∷ octet_field LINK_IDENTIFIER m.link ∷
+    field L3_INFORMATION (Some m.l3) ∷ []
 
 abbrev pub error_fields : ErrorReport → List Field
-error_fields m = octet_field CHANNEL_NUMBER m.channel ∷ octet_field LINK_IDENTIFIER m.link ∷ field RLM_CAUSE (option_map (λ c. c.0) m.cause) ∷ []
+error_fields m =
+    octet_field CHANNEL_NUMBER m.channel ∷ octet_field LINK_IDENTIFIER m.link ∷
+    field RLM_CAUSE (option_map (λ c. c.0) m.cause) ∷ []
 
 abbrev pub establishment_fields : Establishment → List Field
-establishment_fields m = octet_field CHANNEL_NUMBER m.channel ∷ octet_field LINK_IDENTIFIER m.link ∷ field L3_INFORMATION m.l3 ∷ []
+establishment_fields m =
+    octet_field CHANNEL_NUMBER m.channel ∷ octet_field LINK_IDENTIFIER m.link ∷
+    field L3_INFORMATION m.l3 ∷ []
 
 abbrev pub release_fields : Release → List Field
-release_fields m = octet_field CHANNEL_NUMBER m.channel ∷ octet_field LINK_IDENTIFIER m.link ∷ octet_field RELEASE_MODE m.mode.0 ∷ []
+release_fields m =
+    octet_field CHANNEL_NUMBER m.channel ∷ octet_field LINK_IDENTIFIER m.link ∷
+    octet_field RELEASE_MODE m.mode.0 ∷ []
 
 abbrev pub channel_required_fields : ChannelRequired → List Field
-channel_required_fields m = octet_field CHANNEL_NUMBER m.channel ∷ field REQUEST_REFERENCE (Some (reference_value m.reference)) ∷ octet_field ACCESS_DELAY m.access_delay.0 ∷ []
+channel_required_fields m =
+    octet_field CHANNEL_NUMBER m.channel ∷
+    field REQUEST_REFERENCE (Some (reference_value m.reference)) ∷
+    octet_field ACCESS_DELAY m.access_delay.0 ∷ []
 
 abbrev pub assignment_fields : ImmediateAssignment → List Field
-assignment_fields m = octet_field CHANNEL_NUMBER m.channel ∷ field FULL_IMMEDIATE_ASSIGN (Some m.information) ∷ []
+assignment_fields m =
+    octet_field CHANNEL_NUMBER m.channel ∷ field FULL_IMMEDIATE_ASSIGN (Some m.information) ∷ []
 
 abbrev pub activation_fields : Activation → List Field
 activation_fields m =
-    octet_field CHANNEL_NUMBER m.channel ∷ octet_field ACTIVATION_TYPE m.activation.0 ∷ field CHANNEL_MODE (Some m.mode.0)
+    octet_field CHANNEL_NUMBER m.channel ∷ octet_field ACTIVATION_TYPE m.activation.0 ∷
+    field CHANNEL_MODE (Some m.mode.0)
     ∷ field HANDOVER_REFERENCE (option_map (λ r. octet_value r.0) m.reference) ∷ []
 
 abbrev pub activation_ack_fields : ActivationAck → List Field
-activation_ack_fields m = octet_field CHANNEL_NUMBER m.channel ∷ field FRAME_NUMBER (option_map (λ n. number_value n.0) m.frame) ∷ []
+activation_ack_fields m =
+    octet_field CHANNEL_NUMBER m.channel ∷
+    field FRAME_NUMBER (option_map (λ n. number_value n.0) m.frame) ∷ []
 
 abbrev pub failure_fields : Failure → List Field
-failure_fields m = octet_field CHANNEL_NUMBER m.channel ∷ field CAUSE (option_map (λ c. c.0) m.cause) ∷ []
+failure_fields m =
+    octet_field CHANNEL_NUMBER m.channel ∷ field CAUSE (option_map (λ c. c.0) m.cause) ∷ []
 
 abbrev pub detection_fields : Detection → List Field
-detection_fields m = octet_field CHANNEL_NUMBER m.channel ∷ field ACCESS_DELAY (option_map (λ d. octet_value d.0) m.access_delay) ∷ []
+detection_fields m =
+    octet_field CHANNEL_NUMBER m.channel ∷
+    field ACCESS_DELAY (option_map (λ d. octet_value d.0) m.access_delay) ∷ []
 
 -- what the mobile and its link say of the downlink
 abbrev pub downlink_fields : MeasurementResult → List Field
 downlink_fields m =
-    field BS_POWER (option_map (λ p. octet_value p.0) m.bs_power) ∷ field L1_INFORMATION (option_map (λ i. number_value i.0) m.l1)
+    field BS_POWER (option_map (λ p. octet_value p.0) m.bs_power) ∷
+    field L1_INFORMATION (option_map (λ i. number_value i.0) m.l1)
     ∷ field L3_INFORMATION m.l3 ∷ []
 
 abbrev pub measurement_result_fields : MeasurementResult → List Field
 measurement_result_fields m =
-    octet_field CHANNEL_NUMBER m.channel ∷ octet_field MEASUREMENT_NUMBER m.number.0 ∷ field UPLINK_MEASUREMENTS (option_map (λ u. u.0) m.uplink) ∷ downlink_fields m
+    octet_field CHANNEL_NUMBER m.channel ∷ octet_field MEASUREMENT_NUMBER m.number.0 ∷
+    field UPLINK_MEASUREMENTS (option_map (λ u. u.0) m.uplink) ∷ downlink_fields m

@@ -62,20 +62,28 @@ is_bad_channel value = not (is_channel (slice_index value 0))
 
 abbrev pub l3_causes : Bool → List Element → List (Bool × RslFault)
 l3_causes false es = []
-l3_causes true es = (has_value (λ l3. length l3 == 0) es L3_INFORMATION, Short) ∷ (has_value (λ l3. nat_lt MESSAGE_LIMIT (length l3)) es L3_INFORMATION, TooLong) ∷ []
+l3_causes true es =
+    (has_value (λ l3. length l3 == 0) es L3_INFORMATION, Short) ∷
+    (has_value (λ l3. nat_lt MESSAGE_LIMIT (length l3)) es L3_INFORMATION, TooLong) ∷ []
 
 -- what is wrong with elements of a message of this type, each condition with its fault
 abbrev pub element_causes : RslType → List Element → List (Bool × RslFault)
-element_causes kind es = map (λ id. (lacks es id, MissingElement id)) (needed kind) ++ ((has_value is_bad_channel es CHANNEL_NUMBER, BadChannel) ∷ l3_causes (has_l3 kind) es)
+element_causes kind es =
+    map (λ id. (lacks es id, MissingElement id)) (needed kind) ++
+    ((has_value is_bad_channel es CHANNEL_NUMBER, BadChannel) ∷ l3_causes (has_l3 kind) es)
 
 -- The first fault of octets: they end before the type, no message has their discriminator and type,
 -- or else, whatever the elements behind the type are, the first cause that holds of them: one is
 -- cut, or what is wrong with them.
 pub data FirstFault : List ℕ → Option RslFault → Type 0 where
   ends : (octets : List ℕ) → length octets < 2 → FirstFault octets (Some Short)
-  unknown : (discriminator octet : ℕ) (body : List ℕ) → rsl_type discriminator octet ≡ None → FirstFault (discriminator ∷ octet ∷ body) (Some UnknownType)
-  known : (discriminator octet : ℕ) (body : List ℕ) (kind : RslType) (es : List Element) (is_cut : Bool) → rsl_type discriminator octet ≡ Some kind → AreElements ELEMENTS body es is_cut
-      → FirstFault (discriminator ∷ octet ∷ body) (first_that_holds ((is_cut, Short) ∷ element_causes kind es))
+  unknown : (discriminator octet : ℕ) (body : List ℕ) → rsl_type discriminator octet ≡ None →
+      FirstFault (discriminator ∷ octet ∷ body) (Some UnknownType)
+  known : (discriminator octet : ℕ) (body : List ℕ) (kind : RslType) (es : List Element)
+      (is_cut : Bool) → rsl_type discriminator octet ≡ Some kind →
+      AreElements ELEMENTS body es is_cut →
+      FirstFault (discriminator ∷ octet ∷ body)
+      (first_that_holds ((is_cut, Short) ∷ element_causes kind es))
 
 -- The result refuses octets with their first fault, and runs out of memory only where they have
 -- none.

@@ -72,7 +72,7 @@ optional_l3_at (Some value) = do
   l3 ← l3_at value
   Ok (Some l3)
 
--- ---- each message: the elements that it needs, in written order, then the channel number, then its L3 information
+-- ---- each message: elements that it needs in written order, channel number, L3 information
 
 unfoldable pub channel_only_at : List Element → Result ℕ RslFault
 channel_only_at es = do
@@ -100,7 +100,11 @@ error_at es = do
   number ← needed_value CHANNEL_NUMBER es
   link ← needed_value LINK_IDENTIFIER es
   channel ← channel_at number
-  Ok (record { channel = channel; link = octet_of link; cause = option_map (λ v. record { 0 = v }) (first_of RLM_CAUSE es) })
+  Ok (record {
+    channel = channel;
+    link = octet_of link;
+    cause = option_map (λ v. record { 0 = v }) (first_of RLM_CAUSE es);
+  })
 
 unfoldable pub establishment_at : List Element → Result Establishment RslFault
 establishment_at es = do
@@ -124,7 +128,11 @@ channel_required_at es = do
   request ← needed_value REQUEST_REFERENCE es
   delay ← needed_value ACCESS_DELAY es
   channel ← channel_at number
-  Ok (record { channel = channel; reference = reference_of request; access_delay = record { 0 = octet_of delay } })
+  Ok (record {
+    channel = channel;
+    reference = reference_of request;
+    access_delay = record { 0 = octet_of delay };
+  })
 
 unfoldable pub assignment_at : List Element → Result ImmediateAssignment RslFault
 assignment_at es = do
@@ -150,7 +158,10 @@ unfoldable pub activation_ack_at : List Element → Result ActivationAck RslFaul
 activation_ack_at es = do
   number ← needed_value CHANNEL_NUMBER es
   channel ← channel_at number
-  Ok (record { channel = channel; frame = option_map (λ v. record { 0 = number_of v }) (first_of FRAME_NUMBER es) })
+  Ok (record {
+    channel = channel;
+    frame = option_map (λ v. record { 0 = number_of v }) (first_of FRAME_NUMBER es);
+  })
 
 unfoldable pub failure_at : List Element → Result Failure RslFault
 failure_at es = do
@@ -162,7 +173,10 @@ unfoldable pub detection_at : List Element → Result Detection RslFault
 detection_at es = do
   number ← needed_value CHANNEL_NUMBER es
   channel ← channel_at number
-  Ok (record { channel = channel; access_delay = option_map (λ v. record { 0 = octet_of v }) (first_of ACCESS_DELAY es) })
+  Ok (record {
+    channel = channel;
+    access_delay = option_map (λ v. record { 0 = octet_of v }) (first_of ACCESS_DELAY es);
+  })
 
 unfoldable pub measurement_result_at : List Element → Result MeasurementResult RslFault
 measurement_result_at es = do
@@ -181,7 +195,9 @@ measurement_result_at es = do
 
 -- the elements of DATA REQUEST and DATA INDICATION, in written order
 abbrev pub data_elements : ℕ → ℕ → List ℕ → List Element
-data_elements channel link l3 = element CHANNEL_NUMBER (channel ∷ []) ∷ element LINK_IDENTIFIER (link ∷ []) ∷ element L3_INFORMATION l3 ∷ []
+data_elements channel link l3 =
+    element CHANNEL_NUMBER (channel ∷ []) ∷ element LINK_IDENTIFIER (link ∷ []) ∷
+    element L3_INFORMATION l3 ∷ []
 
 -- ---- any message
 
@@ -191,24 +207,36 @@ message_at types.DataIndication es = result_map (λ m. messages.DataIndication m
 message_at types.ErrorIndication es = result_map (λ m. messages.ErrorIndication m) (error_at es)
 message_at types.EstablishRequest es = result_map (λ m. messages.EstablishRequest m) (link_at es)
 message_at types.EstablishConfirm es = result_map (λ m. messages.EstablishConfirm m) (link_at es)
-message_at types.EstablishIndication es = result_map (λ m. messages.EstablishIndication m) (establishment_at es)
+message_at types.EstablishIndication es =
+    result_map (λ m. messages.EstablishIndication m) (establishment_at es)
 message_at types.ReleaseRequest es = result_map (λ m. messages.ReleaseRequest m) (release_at es)
 message_at types.ReleaseConfirm es = result_map (λ m. messages.ReleaseConfirm m) (link_at es)
 message_at types.ReleaseIndication es = result_map (λ m. messages.ReleaseIndication m) (link_at es)
-message_at types.ChannelRequired es = result_map (λ m. messages.ChannelRequired m) (channel_required_at es)
-message_at types.ImmediateAssignCommand es = result_map (λ m. messages.ImmediateAssignCommand m) (assignment_at es)
-message_at types.ChannelActivation es = result_map (λ m. messages.ChannelActivation m) (activation_at es)
-message_at types.ChannelActivationAck es = result_map (λ m. messages.ChannelActivationAck m) (activation_ack_at es)
-message_at types.ChannelActivationNack es = result_map (λ m. messages.ChannelActivationNack m) (failure_at es)
-message_at types.ConnectionFailure es = result_map (λ m. messages.ConnectionFailure m) (failure_at es)
-message_at types.HandoverDetection es = result_map (λ m. messages.HandoverDetection m) (detection_at es)
-message_at types.MeasurementResult es = result_map (λ m. messages.MeasurementResult m) (measurement_result_at es)
-message_at types.RfChannelRelease es = result_map (λ c. messages.RfChannelRelease c) (channel_only_at es)
-message_at types.RfChannelReleaseAck es = result_map (λ c. messages.RfChannelReleaseAck c) (channel_only_at es)
+message_at types.ChannelRequired es =
+    result_map (λ m. messages.ChannelRequired m) (channel_required_at es)
+message_at types.ImmediateAssignCommand es =
+    result_map (λ m. messages.ImmediateAssignCommand m) (assignment_at es)
+message_at types.ChannelActivation es =
+    result_map (λ m. messages.ChannelActivation m) (activation_at es)
+message_at types.ChannelActivationAck es =
+    result_map (λ m. messages.ChannelActivationAck m) (activation_ack_at es)
+message_at types.ChannelActivationNack es =
+    result_map (λ m. messages.ChannelActivationNack m) (failure_at es)
+message_at types.ConnectionFailure es =
+    result_map (λ m. messages.ConnectionFailure m) (failure_at es)
+message_at types.HandoverDetection es =
+    result_map (λ m. messages.HandoverDetection m) (detection_at es)
+message_at types.MeasurementResult es =
+    result_map (λ m. messages.MeasurementResult m) (measurement_result_at es)
+message_at types.RfChannelRelease es =
+    result_map (λ c. messages.RfChannelRelease c) (channel_only_at es)
+message_at types.RfChannelReleaseAck es =
+    result_map (λ c. messages.RfChannelReleaseAck c) (channel_only_at es)
 
 abbrev pub rsl_reading_by : Option RslType → List ℕ → Result Rsl RslFault
 rsl_reading_by None body = Err faults.UnknownType
-rsl_reading_by (Some kind) body = if breaks_off body then Err faults.Short else message_at kind (elements_of body)
+rsl_reading_by (Some kind) body =
+    if breaks_off body then Err faults.Short else message_at kind (elements_of body)
 
 unfoldable pub rsl_reading : List ℕ → Result Rsl RslFault
 rsl_reading (discriminator ∷ octet ∷ body) = rsl_reading_by (rsl_type discriminator octet) body

@@ -1,33 +1,11 @@
 -- The types of the messages (TS 48.058 clauses 9.1 and 9.2).
-use Rattle.std.specs.Prelude.{ℕ, ◌/◌, ◌==◌, ◌&&◌, Option}
+use Rattle.std.specs.Prelude.{ℕ, ◌/◌, Bool, true, false, ◌==◌, ◌&&◌, nat_lt, if◌then◌else◌, Option}
 use Rattle.std.specs.List.{find}
 use Rattle.rsl_codec.specs.declared.rsl.Rsl.{Rsl}
 use Rattle.rsl_codec.specs.declared.rsl.Rsl.TheVariants as messages
 use Rattle.rsl_codec.specs.declared.rsl_type.RslType.{RslType}
 use Rattle.rsl_codec.specs.declared.rsl_type.RslType.TheVariants.{DataRequest, DataIndication, ErrorIndication, EstablishRequest, EstablishConfirm, EstablishIndication, ReleaseRequest, ReleaseConfirm, ReleaseIndication, ChannelRequired, ImmediateAssignCommand, ChannelActivation, ChannelActivationAck, ChannelActivationNack, ConnectionFailure, HandoverDetection, MeasurementResult, RfChannelRelease, RfChannelReleaseAck}
-use Rattle.rsl_codec.specs.declared.rsl_type.TheConstants.{RSL_TYPES, RADIO_LINK, RADIO_LINK_TRANSPARENT, DEDICATED_CHANNEL, COMMON_CHANNEL}
-
--- the message discriminator, as it is written
-abbrev pub rsl_discriminator : RslType → ℕ
-rsl_discriminator DataRequest = RADIO_LINK_TRANSPARENT
-rsl_discriminator DataIndication = RADIO_LINK_TRANSPARENT
-rsl_discriminator ErrorIndication = RADIO_LINK
-rsl_discriminator EstablishRequest = RADIO_LINK
-rsl_discriminator EstablishConfirm = RADIO_LINK
-rsl_discriminator EstablishIndication = RADIO_LINK
-rsl_discriminator ReleaseRequest = RADIO_LINK
-rsl_discriminator ReleaseConfirm = RADIO_LINK
-rsl_discriminator ReleaseIndication = RADIO_LINK
-rsl_discriminator ChannelRequired = COMMON_CHANNEL
-rsl_discriminator ImmediateAssignCommand = COMMON_CHANNEL
-rsl_discriminator ChannelActivation = DEDICATED_CHANNEL
-rsl_discriminator ChannelActivationAck = DEDICATED_CHANNEL
-rsl_discriminator ChannelActivationNack = DEDICATED_CHANNEL
-rsl_discriminator ConnectionFailure = DEDICATED_CHANNEL
-rsl_discriminator HandoverDetection = DEDICATED_CHANNEL
-rsl_discriminator MeasurementResult = DEDICATED_CHANNEL
-rsl_discriminator RfChannelRelease = DEDICATED_CHANNEL
-rsl_discriminator RfChannelReleaseAck = DEDICATED_CHANNEL
+use Rattle.rsl_codec.specs.declared.rsl_type.TheConstants.{RSL_TYPES, FIRST_COMMON_CHANNEL, FIRST_DEDICATED_CHANNEL, RADIO_LINK, RADIO_LINK_TRANSPARENT, DEDICATED_CHANNEL, COMMON_CHANNEL}
 
 -- the message type
 abbrev pub rsl_octet : RslType → ℕ
@@ -51,9 +29,29 @@ rsl_octet MeasurementResult = 0x28
 rsl_octet RfChannelRelease = 0x2e
 rsl_octet RfChannelReleaseAck = 0x33
 
+-- a base station passes what such a message carries on as it is
+abbrev pub is_transparent : RslType → Bool
+is_transparent DataRequest = true
+is_transparent DataIndication = true
+is_transparent _ = false
+
+-- the message discriminator of a message type, by the group that it stands in
+abbrev pub discriminator_by : Bool → ℕ → ℕ
+discriminator_by true octet = RADIO_LINK_TRANSPARENT
+discriminator_by false octet =
+    if nat_lt octet FIRST_COMMON_CHANNEL then RADIO_LINK
+    else if nat_lt octet FIRST_DEDICATED_CHANNEL then COMMON_CHANNEL
+    else DEDICATED_CHANNEL
+
+-- the message discriminator, as it is written
+abbrev pub rsl_discriminator : RslType → ℕ
+rsl_discriminator kind = discriminator_by (is_transparent kind) (rsl_octet kind)
+
 -- the type with this discriminator, whatever its bit 1, and this message type
 unfoldable pub rsl_type : ℕ → ℕ → Option RslType
-rsl_type discriminator octet = find (λ kind. (rsl_discriminator kind / 2 == discriminator / 2) && (rsl_octet kind == octet)) RSL_TYPES
+rsl_type discriminator octet =
+    find (λ kind.
+    (rsl_discriminator kind / 2 == discriminator / 2) && (rsl_octet kind == octet)) RSL_TYPES
 
 -- the type of a message
 abbrev pub type_of : Rsl → RslType

@@ -12,6 +12,8 @@ use octets::{Memory, Octets};
 use std::alloc::Global;
 
 /// CHANNEL REQUIRED (TS 48.058 clause 8.5.3): a mobile asked for a channel on the RACH.
+///
+/// `01 channel:1 13 reference:3 11 access_delay:1`
 #[derive(Drop)]
 pub struct ChannelRequired {
     pub channel: ChanNo,
@@ -20,6 +22,8 @@ pub struct ChannelRequired {
 }
 
 /// IMMEDIATE ASSIGN COMMAND (TS 48.058 clause 8.5.6): an IMMEDIATE ASSIGNMENT for the AGCH.
+///
+/// `01 channel:1 2b length:1 information`
 #[derive(Drop)]
 pub struct ImmediateAssignment {
     pub channel: ChanNo,
@@ -44,7 +48,9 @@ impl ChannelRequired {
     }
 
     pub(crate) fn put(&self, text: &mut Vec<u8>) -> Result<(), Memory>
-        ensures { OnOk result (text.new.items ≡ text.old.items ++ rsl_fields_text (channel_required_fields self.now)) }
+        ensures { OnOk result
+            (text.new.items ≡ text.old.items ++
+            rsl_fields_text (channel_required_fields self.now)) }
     {
         put(text, CHANNEL_NUMBER, &[self.channel.octet()])?;
         put_reference(text, REQUEST_REFERENCE, self.reference)?;
@@ -69,7 +75,8 @@ impl ImmediateAssignment {
 
     pub(crate) fn put(&self, text: &mut Vec<u8>) -> Result<(), Memory>
         requires { length self.now.information ≤ LENGTH_LIMIT }
-        ensures { OnOk result (text.new.items ≡ text.old.items ++ rsl_fields_text (assignment_fields self.now)) }
+        ensures { OnOk result
+            (text.new.items ≡ text.old.items ++ rsl_fields_text (assignment_fields self.now)) }
     {
         put(text, CHANNEL_NUMBER, &[self.channel.octet()])?;
         put(text, FULL_IMMEDIATE_ASSIGN, self.information.as_slice())

@@ -22,6 +22,8 @@ use octets::{Memory, Octets};
 use std::alloc::Global;
 
 /// CHANNEL ACTIVATION (TS 48.058 clause 8.4.1).
+///
+/// `01 channel:1 03 activation:1 06 length:1 mode 09 reference:1`
 #[derive(Drop)]
 pub struct Activation {
     pub channel: ChanNo,
@@ -32,6 +34,8 @@ pub struct Activation {
 }
 
 /// CHANNEL ACTIVATION ACKNOWLEDGE (TS 48.058 clause 8.4.2).
+///
+/// `01 channel:1 08 frame:2`
 #[derive(Drop)]
 pub struct ActivationAck {
     pub channel: ChanNo,
@@ -40,6 +44,8 @@ pub struct ActivationAck {
 
 /// CHANNEL ACTIVATION NEGATIVE ACKNOWLEDGE and CONNECTION FAILURE INDICATION (TS 48.058 clauses
 /// 8.4.3 and 8.4.4).
+///
+/// `01 channel:1 1a length:1 cause`
 #[derive(Drop)]
 pub struct Failure {
     pub channel: ChanNo,
@@ -48,6 +54,8 @@ pub struct Failure {
 
 /// HANDOVER DETECTION (TS 48.058 clause 8.4.7): the mobile accessed the channel that it was handed
 /// over to.
+///
+/// `01 channel:1 11 access_delay:1`
 #[derive(Drop)]
 pub struct Detection {
     pub channel: ChanNo,
@@ -55,6 +63,8 @@ pub struct Detection {
 }
 
 /// MEASUREMENT RESULT (TS 48.058 clause 8.4.8): what the station and the mobile measured.
+///
+/// `01 channel:1 1b number:1 19 length:1 uplink 04 bs_power:1 0a l1:2 0b length:2 l3`
 #[derive(Drop)]
 pub struct MeasurementResult {
     pub channel: ChanNo,
@@ -77,7 +87,8 @@ pub(crate) fn read_channel(body: &[u8]) -> Result<ChanNo, RslFault>
 }
 
 pub(crate) fn put_channel(text: &mut Vec<u8>, channel: ChanNo) -> Result<(), Memory>
-    ensures { OnOk result (text.new.items ≡ text.old.items ++ rsl_fields_text (channel_fields channel)) }
+    ensures { OnOk result
+        (text.new.items ≡ text.old.items ++ rsl_fields_text (channel_fields channel)) }
 {
     put(text, CHANNEL_NUMBER, &[channel.octet()])
 }
@@ -102,7 +113,8 @@ impl Activation {
 
     pub(crate) fn put(&self, text: &mut Vec<u8>) -> Result<(), Memory>
         requires { length self.now.mode.0 ≤ LENGTH_LIMIT }
-        ensures { OnOk result (text.new.items ≡ text.old.items ++ rsl_fields_text (activation_fields self.now)) }
+        ensures { OnOk result
+            (text.new.items ≡ text.old.items ++ rsl_fields_text (activation_fields self.now)) }
     {
         put(text, CHANNEL_NUMBER, &[self.channel.octet()])?;
         put(text, ACTIVATION_TYPE, &[self.activation.0])?;
@@ -127,7 +139,8 @@ impl ActivationAck {
     }
 
     pub(crate) fn put(&self, text: &mut Vec<u8>) -> Result<(), Memory>
-        ensures { OnOk result (text.new.items ≡ text.old.items ++ rsl_fields_text (activation_ack_fields self.now)) }
+        ensures { OnOk result
+            (text.new.items ≡ text.old.items ++ rsl_fields_text (activation_ack_fields self.now)) }
     {
         put(text, CHANNEL_NUMBER, &[self.channel.octet()])?;
         put_number(text, FRAME_NUMBER, self.frame.map(|frame| frame.0))
@@ -147,7 +160,8 @@ impl Failure {
 
     pub(crate) fn put(&self, text: &mut Vec<u8>) -> Result<(), Memory>
         requires { ForSome self.now.cause (λ c. length c.0 ≤ LENGTH_LIMIT) }
-        ensures { OnOk result (text.new.items ≡ text.old.items ++ rsl_fields_text (failure_fields self.now)) }
+        ensures { OnOk result
+            (text.new.items ≡ text.old.items ++ rsl_fields_text (failure_fields self.now)) }
     {
         put(text, CHANNEL_NUMBER, &[self.channel.octet()])?;
         put_octets(text, CAUSE, self.cause.as_ref().map(|cause| &cause.0))
@@ -169,7 +183,8 @@ impl Detection {
     }
 
     pub(crate) fn put(&self, text: &mut Vec<u8>) -> Result<(), Memory>
-        ensures { OnOk result (text.new.items ≡ text.old.items ++ rsl_fields_text (detection_fields self.now)) }
+        ensures { OnOk result
+            (text.new.items ≡ text.old.items ++ rsl_fields_text (detection_fields self.now)) }
     {
         put(text, CHANNEL_NUMBER, &[self.channel.octet()])?;
         put_octet(text, ACCESS_DELAY, self.access_delay.map(|delay| delay.0))
@@ -179,7 +194,8 @@ impl Detection {
 impl MeasurementResult {
     #[tactic(auto, unfolding(crate::specs::RslReading::measurement_result_at))]
     pub(crate) fn read(alloc: Global, body: &[u8]) -> Result<MeasurementResult, RslFault>
-        ensures { Gives RslFault.Memory (λ m. m) result (measurement_result_at (elements_of body.now)) }
+        ensures { Gives RslFault.Memory (λ m. m) result
+            (measurement_result_at (elements_of body.now)) }
     {
         let channel_octet = needed_value(body, CHANNEL_NUMBER)?;
         let result_number = needed_value(body, MEASUREMENT_NUMBER)?;
@@ -201,7 +217,9 @@ impl MeasurementResult {
     pub(crate) fn put(&self, text: &mut Vec<u8>) -> Result<(), Memory>
         requires uplink { ForSome self.now.uplink (λ u. length u.0 ≤ LENGTH_LIMIT) }
         requires l3 { ForSome self.now.l3 (λ l. length l ≤ LENGTH_LIMIT) }
-        ensures { OnOk result (text.new.items ≡ text.old.items ++ rsl_fields_text (measurement_result_fields self.now)) }
+        ensures { OnOk result
+            (text.new.items ≡ text.old.items ++
+            rsl_fields_text (measurement_result_fields self.now)) }
     {
         put(text, CHANNEL_NUMBER, &[self.channel.octet()])?;
         put(text, MEASUREMENT_NUMBER, &[self.number.0])?;
@@ -216,7 +234,8 @@ impl MeasurementResult {
     /// Appends what the mobile and its link say of the downlink.
     fn put_downlink(&self, text: &mut Vec<u8>) -> Result<(), Memory>
         requires { ForSome self.now.l3 (λ l. length l ≤ LENGTH_LIMIT) }
-        ensures { OnOk result (text.new.items ≡ text.old.items ++ rsl_fields_text (downlink_fields self.now)) }
+        ensures { OnOk result
+            (text.new.items ≡ text.old.items ++ rsl_fields_text (downlink_fields self.now)) }
     {
         put_octet(text, BS_POWER, self.bs_power.map(|power| power.0))?;
         put_number(text, L1_INFORMATION, self.l1.map(|l1| l1.0))?;

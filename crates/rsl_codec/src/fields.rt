@@ -17,7 +17,8 @@ use std::alloc::Global;
 /// is these three elements in written order. Nearly all messages have such a body, and it needs no
 /// walk.
 pub(crate) fn data_values(body: &[u8]) -> Option<(u8, u8, &[u8])>
-    ensures { IfSome result (λ v. walk ELEMENTS body.now ≡ finding (data_elements v.0 v.1 v.2.now) false) }
+    ensures { IfSome result
+        (λ v. walk ELEMENTS body.now ≡ finding (data_elements v.0 v.1 v.2.now) false) }
 {
     let [first, channel, second, link, third, high, low, l3 @ ..] = body else {
         return None;
@@ -120,7 +121,8 @@ pub(crate) fn l3(alloc: Global, value: &[u8]) -> Result<Octets, RslFault>
 
 /// A copy of an L3 information that may be absent.
 pub(crate) fn optional_l3(alloc: Global, value: Option<&[u8]>) -> Result<Option<Octets>, RslFault>
-    ensures { Gives RslFault.Memory (λ x. x) result (optional_l3_at (option_map (λ v. v.now) value.entry)) }
+    ensures { Gives RslFault.Memory (λ x. x) result
+        (optional_l3_at (option_map (λ v. v.now) value.entry)) }
 {
     match value {
         Some(value) => Ok(Some(l3(alloc, value)?)),
@@ -142,7 +144,8 @@ pub(crate) fn put(text: &mut Vec<u8>, id: u8, value: &[u8]) -> Result<(), Memory
 
 /// Appends an element of one octet, where it is there.
 pub(crate) fn put_octet(text: &mut Vec<u8>, id: u8, octet: Option<u8>) -> Result<(), Memory>
-    ensures { OnOk result (text.new.items ≡ text.old.items ++ rsl_field_text id (option_map octet_value octet)) }
+    ensures { OnOk result
+        (text.new.items ≡ text.old.items ++ rsl_field_text id (option_map octet_value octet)) }
 {
     match octet {
         Some(octet) => put(text, id, &[octet]),
@@ -152,7 +155,8 @@ pub(crate) fn put_octet(text: &mut Vec<u8>, id: u8, octet: Option<u8>) -> Result
 
 /// Appends an element of two octets, where it is there.
 pub(crate) fn put_number(text: &mut Vec<u8>, id: u8, number: Option<u16>) -> Result<(), Memory>
-    ensures { OnOk result (text.new.items ≡ text.old.items ++ rsl_field_text id (option_map number_value number)) }
+    ensures { OnOk result
+        (text.new.items ≡ text.old.items ++ rsl_field_text id (option_map number_value number)) }
 {
     match number {
         Some(number) => put(text, id, &number.to_be_bytes()),
@@ -163,7 +167,9 @@ pub(crate) fn put_number(text: &mut Vec<u8>, id: u8, number: Option<u16>) -> Res
 /// Appends an element of octets, where it is there.
 pub(crate) fn put_octets(text: &mut Vec<u8>, id: u8, octets: Option<&Octets>) -> Result<(), Memory>
     requires { ForSome octets (λ o. length o.now ≤ LENGTH_LIMIT) }
-    ensures { OnOk result (text.new.items ≡ text.old.items ++ rsl_field_text id (option_map (λ o. o.now) octets.entry)) }
+    ensures { OnOk result
+        (text.new.items ≡ text.old.items ++
+        rsl_field_text id (option_map (λ o. o.now) octets.entry)) }
 {
     match octets {
         Some(octets) => put(text, id, octets.as_slice()),
@@ -177,7 +183,8 @@ pub(crate) fn put_reference(
     id: u8,
     reference: RequestReference,
 ) -> Result<(), Memory>
-    ensures { OnOk result (text.new.items ≡ text.old.items ++ rsl_element_text id (reference_value reference)) }
+    ensures { OnOk result
+        (text.new.items ≡ text.old.items ++ rsl_element_text id (reference_value reference)) }
 {
     let [high, low] = reference.frame.to_be_bytes();
     put(text, id, &[reference.access, high, low])

@@ -17,6 +17,8 @@ use octets::{Memory, Octets};
 use std::alloc::Global;
 
 /// DATA REQUEST and DATA INDICATION (TS 48.058 clauses 8.3.1 and 8.3.2): L3 information on a link.
+///
+/// `01 channel:1 02 link:1 0b length:2 l3`
 #[derive(Drop)]
 pub struct Data {
     pub channel: ChanNo,
@@ -27,6 +29,8 @@ pub struct Data {
 
 /// A message that names a link alone: ESTABLISH REQUEST and CONFIRM, RELEASE CONFIRM and INDICATION
 /// (TS 48.058 clauses 8.3.4 to 8.3.9).
+///
+/// `01 channel:1 02 link:1`
 #[derive(Drop)]
 pub struct Link {
     pub channel: ChanNo,
@@ -34,6 +38,8 @@ pub struct Link {
 }
 
 /// ERROR INDICATION (TS 48.058 clause 8.3.3): layer 2 met a protocol error on a link.
+///
+/// `01 channel:1 02 link:1 16 length:1 cause`
 #[derive(Drop)]
 pub struct ErrorReport {
     pub channel: ChanNo,
@@ -43,6 +49,8 @@ pub struct ErrorReport {
 
 /// ESTABLISH INDICATION (TS 48.058 clause 8.3.6): the mobile established a link, perhaps with its
 /// first message.
+///
+/// `01 channel:1 02 link:1 0b length:2 l3`
 #[derive(Drop)]
 pub struct Establishment {
     pub channel: ChanNo,
@@ -52,6 +60,8 @@ pub struct Establishment {
 }
 
 /// RELEASE REQUEST (TS 48.058 clause 8.3.7).
+///
+/// `01 channel:1 02 link:1 14 mode:1`
 #[derive(Drop)]
 pub struct Release {
     pub channel: ChanNo,
@@ -73,7 +83,8 @@ impl Data {
     // From these elements.
     #[tactic(auto, unfolding(crate::specs::RslReading::data_at))]
     fn of(alloc: Global, channel: u8, link: u8, text: &[u8]) -> Result<Data, RslFault>
-        ensures { Gives RslFault.Memory (λ m. m) result (data_at (data_elements channel link text.now)) }
+        ensures { Gives RslFault.Memory (λ m. m) result
+            (data_at (data_elements channel link text.now)) }
     {
         let channel = ChanNo::read(channel)?;
         let l3 = l3(alloc, text)?;
@@ -97,7 +108,8 @@ impl Data {
 
     pub(crate) fn put(&self, text: &mut Vec<u8>) -> Result<(), Memory>
         requires { length self.now.l3 ≤ LENGTH_LIMIT }
-        ensures { OnOk result (text.new.items ≡ text.old.items ++ rsl_fields_text (data_fields self.now)) }
+        ensures { OnOk result
+            (text.new.items ≡ text.old.items ++ rsl_fields_text (data_fields self.now)) }
     {
         put(text, CHANNEL_NUMBER, &[self.channel.octet()])?;
         put(text, LINK_IDENTIFIER, &[self.link.octet()])?;
@@ -118,7 +130,8 @@ impl Link {
     }
 
     pub(crate) fn put(&self, text: &mut Vec<u8>) -> Result<(), Memory>
-        ensures { OnOk result (text.new.items ≡ text.old.items ++ rsl_fields_text (link_fields self.now)) }
+        ensures { OnOk result
+            (text.new.items ≡ text.old.items ++ rsl_fields_text (link_fields self.now)) }
     {
         put(text, CHANNEL_NUMBER, &[self.channel.octet()])?;
         put(text, LINK_IDENTIFIER, &[self.link.octet()])
@@ -144,7 +157,8 @@ impl ErrorReport {
 
     pub(crate) fn put(&self, text: &mut Vec<u8>) -> Result<(), Memory>
         requires { ForSome self.now.cause (λ c. length c.0 ≤ LENGTH_LIMIT) }
-        ensures { OnOk result (text.new.items ≡ text.old.items ++ rsl_fields_text (error_fields self.now)) }
+        ensures { OnOk result
+            (text.new.items ≡ text.old.items ++ rsl_fields_text (error_fields self.now)) }
     {
         put(text, CHANNEL_NUMBER, &[self.channel.octet()])?;
         put(text, LINK_IDENTIFIER, &[self.link.octet()])?;
@@ -167,7 +181,8 @@ impl Establishment {
 
     pub(crate) fn put(&self, text: &mut Vec<u8>) -> Result<(), Memory>
         requires { ForSome self.now.l3 (λ l. length l ≤ LENGTH_LIMIT) }
-        ensures { OnOk result (text.new.items ≡ text.old.items ++ rsl_fields_text (establishment_fields self.now)) }
+        ensures { OnOk result
+            (text.new.items ≡ text.old.items ++ rsl_fields_text (establishment_fields self.now)) }
     {
         put(text, CHANNEL_NUMBER, &[self.channel.octet()])?;
         put(text, LINK_IDENTIFIER, &[self.link.octet()])?;
@@ -194,7 +209,8 @@ impl Release {
     }
 
     pub(crate) fn put(&self, text: &mut Vec<u8>) -> Result<(), Memory>
-        ensures { OnOk result (text.new.items ≡ text.old.items ++ rsl_fields_text (release_fields self.now)) }
+        ensures { OnOk result
+            (text.new.items ≡ text.old.items ++ rsl_fields_text (release_fields self.now)) }
     {
         put(text, CHANNEL_NUMBER, &[self.channel.octet()])?;
         put(text, LINK_IDENTIFIER, &[self.link.octet()])?;

@@ -25,7 +25,9 @@ use std::alloc::Global;
 /// A message between a base station and its controller (TS 48.058 clause 8).
 ///
 /// It is an octet with the message discriminator, an octet with the message type, and elements in
-/// any order, each an identifier with its value.
+/// any order, each an identifier with its value. With each message stand its elements as they are
+/// written: identifiers in hexadecimal, and each value, where it is there, with how many octets it
+/// has.
 #[derive(Drop)]
 pub enum Rsl {
     DataRequest(Data),
@@ -45,9 +47,9 @@ pub enum Rsl {
     ConnectionFailure(Failure),
     HandoverDetection(Detection),
     MeasurementResult(MeasurementResult),
-    /// The channel that is to be released.
+    /// `01 channel:1`: the channel that is to be released.
     RfChannelRelease(ChanNo),
-    /// The channel that was released.
+    /// `01 channel:1`: the channel that was released.
     RfChannelReleaseAck(ChanNo),
 }
 
@@ -112,7 +114,8 @@ impl Rsl {
         // What is read is what the octets are a text of.
         ensures found { IfOk result (λ v. IsRsl octets.now v) }
         // What the octets are a text of is read, unless memory runs out.
-        ensures only { (v : RslValue) → IsRsl octets.now v → ((result ≡ Ok v) ⊎ (result ≡ Err RslFault.Memory)) }
+        ensures only { (v : RslValue) → IsRsl octets.now v →
+            ((result ≡ Ok v) ⊎ (result ≡ Err RslFault.Memory)) }
         // A refusal is the first fault, and memory runs out only where there is none.
         ensures refused { RefusesBy RslFault.Memory result (result_err (rsl_reading octets.now)) }
         // The first fault is that of the first cause that holds of the elements behind the type.
@@ -196,7 +199,8 @@ impl Rsl {
     #[tactic(auto, unfolding(crate::specs::RslText::rsl_write_fault))]
     fn put(&self, text: &mut Vec<u8>) -> Result<(), Memory>
         requires { rsl_write_fault self.now ≡ None }
-        ensures { OnOk result (text.new.items ≡ text.old.items ++ rsl_fields_text (fields self.now)) }
+        ensures { OnOk result
+            (text.new.items ≡ text.old.items ++ rsl_fields_text (fields self.now)) }
     {
         match self {
             Rsl::DataRequest(data) => data.put(text),
@@ -251,7 +255,8 @@ impl Rsl {
 /// Law: what is written of a lawful message is a text of it, and is read as it, whatever follows
 /// that begins with no identifier of the table.
 pub fn rsl_text_is_read()
-    ensures text { (v : RslValue) (more : List ℕ) → IsLawful v → rsl_write_fault v ≡ None → Stops ELEMENTS more →
+    ensures text { (v : RslValue) (more : List ℕ) → IsLawful v → rsl_write_fault v ≡ None →
+        Stops ELEMENTS more →
         IsRsl (rsl_text v ++ more) v }
     ensures read { (v : RslValue) (octets : List ℕ) → IsRsl octets v → rsl_reading octets ≡ Ok v }
 {}

@@ -1,5 +1,5 @@
 ghost use Rattle.std.specs.Prelude.{◌≡◌};
-ghost use Rattle.rsl_codec.specs.RslType.{rsl_discriminator, rsl_octet, rsl_type};
+ghost use Rattle.rsl_codec.specs.RslType.{is_transparent, rsl_discriminator, rsl_octet, rsl_type};
 
 /// The message discriminator of radio link layer management (TS 48.058 clause 9.1).
 pub const RADIO_LINK: u8 = 0x02;
@@ -13,8 +13,14 @@ pub const DEDICATED_CHANNEL: u8 = 0x08;
 /// The message discriminator of common channel management.
 pub const COMMON_CHANNEL: u8 = 0x0c;
 
-/// The type of a message, with its octet (TS 48.058 clause 9.2): from `01` on radio link layer
-/// management, from `10` on common channel management, from `20` on dedicated channel management.
+/// The first message type of common channel management (TS 48.058 clause 9.2). Those below are of
+/// radio link layer management.
+pub const FIRST_COMMON_CHANNEL: u8 = 0x10;
+
+/// The first message type of dedicated channel management.
+pub const FIRST_DEDICATED_CHANNEL: u8 = 0x20;
+
+/// The type of a message, with its octet (TS 48.058 clause 9.2).
 #[derive(Clone, Copy)]
 pub enum RslType {
     DataRequest = 0x01,
@@ -68,28 +74,26 @@ pub const RSL_TYPES: [RslType; 19] = [
 ];
 
 impl RslType {
-    /// The message discriminator, as it is written.
+    /// Whether a base station passes what such a message carries on as it is.
+    fn is_transparent(self) -> bool
+        ensures { result ≡ is_transparent self }
+    {
+        matches!(self, RslType::DataRequest | RslType::DataIndication)
+    }
+
+    /// The message discriminator, as it is written: that of the types around its own.
     pub fn discriminator(self) -> u8
         ensures { result ≡ rsl_discriminator self }
     {
-        match self {
-            RslType::DataRequest | RslType::DataIndication => RADIO_LINK_TRANSPARENT,
-            RslType::ErrorIndication
-            | RslType::EstablishRequest
-            | RslType::EstablishConfirm
-            | RslType::EstablishIndication
-            | RslType::ReleaseRequest
-            | RslType::ReleaseConfirm
-            | RslType::ReleaseIndication => RADIO_LINK,
-            RslType::ChannelRequired | RslType::ImmediateAssignCommand => COMMON_CHANNEL,
-            RslType::ChannelActivation
-            | RslType::ChannelActivationAck
-            | RslType::ChannelActivationNack
-            | RslType::ConnectionFailure
-            | RslType::HandoverDetection
-            | RslType::MeasurementResult
-            | RslType::RfChannelRelease
-            | RslType::RfChannelReleaseAck => DEDICATED_CHANNEL,
+        let octet = self.octet();
+        if self.is_transparent() {
+            RADIO_LINK_TRANSPARENT
+        } else if octet < FIRST_COMMON_CHANNEL {
+            RADIO_LINK
+        } else if octet < FIRST_DEDICATED_CHANNEL {
+            COMMON_CHANNEL
+        } else {
+            DEDICATED_CHANNEL
         }
     }
 
