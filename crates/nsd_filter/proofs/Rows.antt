@@ -72,7 +72,8 @@ in_turn m progress (number ∷ numbers) = judgement m progress number ∷ in_tur
 two_in_turn : in_turn (count_of Two) (Some 0) (1 ∷ 0 ∷ 0 ∷ 1 ∷ []) ≡ Duplicate ∷ Accept ∷ Duplicate ∷ Accept ∷ []
 two_in_turn = refl
 
-by_tests : (a d : Bool) (accepted number : ℕ) → number < 2 → (number == accepted % 2) ≡ a → (number == (accepted + 1) % 2) ≡ d → cond a Accept (cond d Duplicate Gap) ≢ Gap
+by_tests : (a d : Bool) (accepted number : ℕ) → number < 2 → (number == accepted % 2) ≡ a → (number == (accepted + 1) % 2) ≡ d →
+    cond a Accept (cond d Duplicate Gap) ≢ Gap
 by_tests true d accepted number within next before = λ e. absurd cc
 by_tests false true accepted number within next before = λ e. absurd cc
 by_tests false false accepted number within next before =

@@ -8,4 +8,5 @@ pub record FilterState : Type 0 where
 
 -- The state is that of a flow which has come so far.
 abbrev pub StandsFor : FilterState → Option ℕ → Type 0
-StandsFor state progress = state.expected ≡ option_map (λ accepted. accepted % state.modulus) progress
+StandsFor state progress =
+    state.expected ≡ option_map (λ accepted. accepted % state.modulus) progress

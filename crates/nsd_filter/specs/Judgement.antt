@@ -10,7 +10,8 @@ use Rattle.nsd_filter.specs.declared.verdict.Verdict.TheVariants.{Accept, Duplic
 abbrev pub judgement : ℕ → Option ℕ → ℕ → Verdict
 judgement m None number = Gap
 judgement m (Some accepted) number =
-    if number == accepted % m then Accept else (if number == (accepted + (m - 1)) % m then Duplicate else Gap)
+    if number == accepted % m then Accept
+    else (if number == (accepted + (m - 1)) % m then Duplicate else Gap)
 
 -- how far the flow has come after a message with this verdict
 abbrev pub progress_by : Verdict → Option ℕ → Option ℕ

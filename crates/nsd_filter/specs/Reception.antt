@@ -1,5 +1,5 @@
 -- What the network's end of a connection keeps.
-use Rattle.std.specs.Prelude.{◌≡◌, ℕ, List}
+use Rattle.std.specs.Prelude.{◌≡◌, ℕ, List, [], ◌∷◌, ◌++◌}
 use Rattle.nsd_filter.specs.AcceptedList.{accepted_list, progress, not_of_the_flow}
 use Rattle.nsd_filter.specs.Filter.{FilterState, StandsFor}
 
@@ -8,8 +8,14 @@ pub record ReceptionState : Type 0 where
   pub modulus : ℕ
   pub taken : List (List ℕ)
 
+-- the same with this message taken behind the others
+abbrev pub with_taken : List ℕ → ReceptionState → ReceptionState
+with_taken message reception =
+    record { modulus = reception.modulus; taken = reception.taken ++ message ∷ [] }
+
 -- the filter and both lists are those of the messages taken
-pub record IsKept (m : ℕ) (filter : FilterState) (taken accepted others : List (List ℕ)) : Type 0 where
+pub record IsKept (m : ℕ) (filter : FilterState)
+    (taken accepted others : List (List ℕ)) : Type 0 where
   pub modulus : filter.modulus ≡ m
   pub stands : StandsFor filter (progress m taken)
   pub accepts : accepted ≡ accepted_list m taken

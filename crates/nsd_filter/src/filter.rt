@@ -24,9 +24,13 @@ impl Model for Filter {
 
     ghost Value = { FilterState };
 
-    ghost view = { λ filter. record { modulus = count_of filter.modulus; expected = filter.expected } };
+    ghost view = { λ filter. record {
+      modulus = count_of filter.modulus;
+      expected = filter.expected;
+    } };
 
-    ghost invariant = { λ filter. ForSome filter.expected (λ number. number < count_of filter.modulus) };
+    ghost invariant = { λ filter. ForSome filter.expected
+        (λ number. number < count_of filter.modulus) };
 }
 
 impl Filter {
@@ -46,8 +50,10 @@ impl Filter {
         requires { number < self.old.modulus }
 
         // The verdict is right for each number of accepted messages that this state stands for.
-        ensures verdict { (progress : Option ℕ) → StandsFor self.old progress → result ≡ judgement self.old.modulus progress number }
-        ensures after { (progress : Option ℕ) → StandsFor self.old progress → StandsFor self.new (progress_after self.old.modulus progress number) }
+        ensures verdict { (progress : Option ℕ) → StandsFor self.old progress →
+            result ≡ judgement self.old.modulus progress number }
+        ensures after { (progress : Option ℕ) → StandsFor self.old progress →
+            StandsFor self.new (progress_after self.old.modulus progress number) }
         ensures modulus { self.new.modulus ≡ self.old.modulus }
     {
         let count = self.modulus.count();
@@ -66,7 +72,8 @@ impl Filter {
 
     /// Whether a gap was found.
     pub fn is_broken(&self) -> bool
-        ensures { (progress : Option ℕ) → StandsFor self.now progress → IsTrue result ↔ (progress ≡ None) }
+        ensures { (progress : Option ℕ) → StandsFor self.now progress →
+            IsTrue result ↔ (progress ≡ None) }
     {
         self.expected.is_none()
     }

@@ -8,6 +8,8 @@ ghost use Rattle.nsd_filter.specs.AcceptedList.{accepted_list, progress};
 /// are accepted, once and in order, and no gap is found. It holds for each modulus from 2, and is a
 /// law on lists alone.
 pub fn accepts_in_order()
-    ensures accepted { (m : ℕ) (sent messages : List (List ℕ)) (k : ℕ) → 2 ≤ m → Rise m sent 0 messages k → accepted_list m messages ≡ take k sent }
-    ensures no_gap { (m : ℕ) (sent messages : List (List ℕ)) (k : ℕ) → 2 ≤ m → Rise m sent 0 messages k → progress m messages ≢ None }
+    ensures accepted { (m : ℕ) (sent messages : List (List ℕ)) (k : ℕ) → 2 ≤ m →
+        Rise m sent 0 messages k → accepted_list m messages ≡ take k sent }
+    ensures no_gap { (m : ℕ) (sent messages : List (List ℕ)) (k : ℕ) → 2 ≤ m →
+        Rise m sent 0 messages k → progress m messages ≢ None }
 {}

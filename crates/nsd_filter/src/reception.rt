@@ -1,6 +1,7 @@
 ghost use Rattle.std.specs.Prelude.{◌≡◌, [], ◌∷◌, ◌++◌, ◌<◌, OnOk, OnErr, Some, None, vec_len, vec_capacity};
 ghost use Rattle.dtap_codec.specs.Number.{count_of, number_in};
 ghost use Rattle.nsd_filter.specs.AcceptedList.{accepted_list, delivery_by, not_of_the_flow};
+ghost use Rattle.nsd_filter.specs.Reception.{with_taken};
 
 use crate::{Filter, Verdict};
 use dtap_codec::{Modulus, number_of, without_number};
@@ -26,9 +27,13 @@ impl Model for Reception {
 
     ghost Value = { ReceptionState };
 
-    ghost view = { λ reception. record { modulus = count_of reception.modulus; taken = reception.taken.items } };
+    ghost view = { λ reception. record {
+      modulus = count_of reception.modulus;
+      taken = reception.taken.items;
+    } };
 
-    ghost invariant = { λ reception. IsKept (count_of reception.modulus) reception.filter reception.taken.items reception.accepted.items reception.unnumbered.items };
+    ghost invariant = { λ reception. IsKept (count_of reception.modulus) reception.filter
+        reception.taken.items reception.accepted.items reception.unnumbered.items };
 }
 
 impl Reception {
@@ -48,7 +53,7 @@ impl Reception {
 
     /// Takes the next message.
     pub fn take(&mut self, message: Octets) -> Result<(), Memory>
-        ensures ok { OnOk result (self.new ≡ record { modulus = self.old.modulus; taken = self.old.taken ++ message ∷ [] }) }
+        ensures ok { OnOk result (self.new ≡ with_taken message self.old) }
         ensures err { OnErr result (self.new ≡ self.old) }
     {
         match number_of(message.as_slice(), self.modulus) {
@@ -60,7 +65,7 @@ impl Reception {
     /// Takes a message of the flow with this number.
     fn take_numbered(&mut self, message: Octets, number: u8) -> Result<(), Memory>
         requires { number_in self.old.modulus message ≡ Some number }
-        ensures ok { OnOk result (self.new ≡ record { modulus = self.old.modulus; taken = self.old.taken ++ message ∷ [] }) }
+        ensures ok { OnOk result (self.new ≡ with_taken message self.old) }
         ensures err { OnErr result (self.new ≡ self.old) }
     {
         self.taken.reserve(1)?;
@@ -75,7 +80,7 @@ impl Reception {
     /// Takes a message that isn't of the flow.
     fn take_unnumbered(&mut self, message: Octets) -> Result<(), Memory>
         requires { number_in self.old.modulus message ≡ None }
-        ensures ok { OnOk result (self.new ≡ record { modulus = self.old.modulus; taken = self.old.taken ++ message ∷ [] }) }
+        ensures ok { OnOk result (self.new ≡ with_taken message self.old) }
         ensures err { OnErr result (self.new ≡ self.old) }
     {
         self.taken.reserve(1)?;
