@@ -1,5 +1,5 @@
 -- Definitions against literal octets: what is read of them, and what is written.
-use Rattle.std.proofs.Common.{◌≡◌, ℕ, Bool, List, length, map, [], ◌∷◌, true, false, replicate, Some, None, Ok, Err, refl}
+use Rattle.std.proofs.Common.{◌≡◌, ℕ, Bool, List, length, map, [], ◌∷◌, ◌++◌, true, false, replicate, Some, None, Ok, Err, refl}
 use Rattle.std.specs.Prelude.{slice_index}
 use Rattle.octets.proofs.Hex.{hex}
 use Rattle.octets.specs.Causes.{first_that_holds}
@@ -228,10 +228,14 @@ unfolding sccp_reading octet_at sccp_type reference_at references_at fixed_refer
 request_alone = refl
 
 -- the octets behind the type that each message always has: references, class, cause, pointers
-fixed_octets : map fixed (sccp_kinds.ConnectionRequest ∷ sccp_kinds.ConnectionConfirm ∷ sccp_kinds.ConnectionRefused ∷ sccp_kinds.Released ∷ sccp_kinds.ReleaseComplete ∷ sccp_kinds.DataForm1 ∷ []) ≡ 6 ∷ 8 ∷ 5 ∷ 8 ∷ 6 ∷ 5 ∷ []
+fixed_octets : map fixed
+    (sccp_kinds.ConnectionRequest ∷ sccp_kinds.ConnectionConfirm ∷ sccp_kinds.ConnectionRefused ∷ sccp_kinds.Released ∷
+    sccp_kinds.ReleaseComplete ∷ sccp_kinds.DataForm1 ∷ []) ≡ 6 ∷ 8 ∷ 5 ∷ 8 ∷ 6 ∷ 5 ∷ []
 fixed_octets = refl
 
-with_parts : map has_parts (sccp_kinds.ConnectionRequest ∷ sccp_kinds.ConnectionConfirm ∷ sccp_kinds.ConnectionRefused ∷ sccp_kinds.Released ∷ sccp_kinds.ReleaseComplete ∷ sccp_kinds.DataForm1 ∷ []) ≡ true ∷ false ∷ false ∷ false ∷ false ∷ true ∷ []
+with_parts : map has_parts
+    (sccp_kinds.ConnectionRequest ∷ sccp_kinds.ConnectionConfirm ∷ sccp_kinds.ConnectionRefused ∷ sccp_kinds.Released ∷
+    sccp_kinds.ReleaseComplete ∷ sccp_kinds.DataForm1 ∷ []) ≡ true ∷ false ∷ false ∷ false ∷ false ∷ true ∷ []
 with_parts = refl
 
 -- a pointer to a value: itself, past the end, to a value that is cut, to a whole one
@@ -241,7 +245,8 @@ parts : map (λ (octets : List ℕ). first_that_holds (part_causes (slice_index 
 parts = refl
 
 -- a pointer to options: none, past the end, to options that are cut, to whole ones
-options : map (λ (p : ℕ × Bool). first_that_holds (option_causes p.0 (p.0 ∷ 0x0f ∷ []) p.1)) ((0, true) ∷ (2, true) ∷ (1, true) ∷ (1, false) ∷ []) ≡ None ∷ Some BadPointer ∷ Some Short ∷ None ∷ []
+options : map (λ (p : ℕ × Bool). first_that_holds (option_causes p.0 (p.0 ∷ 0x0f ∷ []) p.1))
+    ((0, true) ∷ (2, true) ∷ (1, true) ∷ (1, false) ∷ []) ≡ None ∷ Some BadPointer ∷ Some Short ∷ None ∷ []
 options = refl
 
 -- ---- SCCP, written
@@ -350,7 +355,8 @@ unfolding bssap_reading octet_at management_at transfer_at bssmap_type message_a
 first_of_repeated_elements = refl
 
 -- each format of the table
-other_elements_are_passed_over : bssap_reading (hex "00 1d 20 01 aa bb 06 01 cc 07 02 dd ee 0b 01 a0 05 01 a1 17 01 a2 18 a3 15 a4 21 ff 04 01 09")
+other_elements_are_passed_over : bssap_reading
+    (hex "00 1d 20 01 aa bb 06 01 cc 07 02 dd ee 0b 01 a0 05 01 a1 17 01 a2 18 a3 15 a4 21 ff 04 01 09")
     ≡ Ok (Management (ClearCommand (cause_of (hex "09"))))
 unfolding bssap_reading octet_at management_at transfer_at bssmap_type message_at breaks_off elements_of walk needed_value needed_octet rr_cause_in layer3_at cause_at assignment_request_at assignment_complete_at assignment_failure_at handover_performed_at reject_at complete_layer3_at
 other_elements_are_passed_over = refl
@@ -464,15 +470,18 @@ empty_layer3_information : bssap_reading (hex "00 05 57 05 00 17 00") ≡ Err Sh
 unfolding bssap_reading octet_at management_at transfer_at bssmap_type message_at breaks_off elements_of walk needed_value needed_octet rr_cause_in layer3_at cause_at assignment_request_at assignment_complete_at assignment_failure_at handover_performed_at reject_at complete_layer3_at
 empty_layer3_information = refl
 
-layer3_information_of_251_octets : content_at kinds.CompleteLayer3Information (element 0x05 [] ∷ element 0x17 (replicate 251 7) ∷ []) ≡ Ok (CompleteLayer3Information (cell_of []) (replicate 251 7))
+layer3_information_of_251_octets : content_at kinds.CompleteLayer3Information (element 0x05 [] ∷ element 0x17 (replicate 251 7) ∷ []) ≡
+    Ok (CompleteLayer3Information (cell_of []) (replicate 251 7))
 unfolding bssap_reading octet_at management_at transfer_at bssmap_type message_at breaks_off elements_of walk needed_value needed_octet rr_cause_in layer3_at cause_at assignment_request_at assignment_complete_at assignment_failure_at handover_performed_at reject_at complete_layer3_at
 layer3_information_of_251_octets = refl
 
-layer3_information_of_252_octets : content_at kinds.CompleteLayer3Information (element 0x05 [] ∷ element 0x17 (replicate 252 7) ∷ []) ≡ Err TooLong
+layer3_information_of_252_octets : content_at kinds.CompleteLayer3Information (element 0x05 [] ∷ element 0x17 (replicate 252 7) ∷ []) ≡
+    Err TooLong
 unfolding bssap_reading octet_at management_at transfer_at bssmap_type message_at breaks_off elements_of walk needed_value needed_octet rr_cause_in layer3_at cause_at assignment_request_at assignment_complete_at assignment_failure_at handover_performed_at reject_at complete_layer3_at
 layer3_information_of_252_octets = refl
 
-layer3_information_of_252_octets_without_cell : content_at kinds.CompleteLayer3Information (element 0x17 (replicate 252 7) ∷ []) ≡ Err (MissingElement 0x05)
+layer3_information_of_252_octets_without_cell : content_at kinds.CompleteLayer3Information (element 0x17 (replicate 252 7) ∷ []) ≡
+    Err (MissingElement 0x05)
 unfolding bssap_reading octet_at management_at transfer_at bssmap_type message_at breaks_off elements_of walk needed_value needed_octet rr_cause_in layer3_at cause_at assignment_request_at assignment_complete_at assignment_failure_at handover_performed_at reject_at complete_layer3_at
 layer3_information_of_252_octets_without_cell = refl
 
@@ -484,15 +493,15 @@ transfer_on_sapi_0 : bssap_reading (hex "01 80 01 05") ≡ Ok (Transfer 0x80 (he
 unfolding bssap_reading octet_at management_at transfer_at bssmap_type message_at breaks_off elements_of walk needed_value needed_octet rr_cause_in layer3_at cause_at assignment_request_at assignment_complete_at assignment_failure_at handover_performed_at reject_at complete_layer3_at
 transfer_on_sapi_0 = refl
 
-transfer_of_251_octets : bssap_reading (0x01 ∷ 0x00 ∷ 0xfb ∷ replicate 251 7) ≡ Ok (Transfer 0x00 (replicate 251 7))
+transfer_of_251_octets : bssap_reading (hex "01 00 fb" ++ replicate 251 7) ≡ Ok (Transfer 0x00 (replicate 251 7))
 unfolding bssap_reading octet_at management_at transfer_at bssmap_type message_at breaks_off elements_of walk needed_value needed_octet rr_cause_in layer3_at cause_at assignment_request_at assignment_complete_at assignment_failure_at handover_performed_at reject_at complete_layer3_at
 transfer_of_251_octets = refl
 
-transfer_of_252_octets : bssap_reading (0x01 ∷ 0x00 ∷ 0xfc ∷ replicate 252 7) ≡ Err TooLong
+transfer_of_252_octets : bssap_reading (hex "01 00 fc" ++ replicate 252 7) ≡ Err TooLong
 unfolding bssap_reading octet_at management_at transfer_at bssmap_type message_at breaks_off elements_of walk needed_value needed_octet rr_cause_in layer3_at cause_at assignment_request_at assignment_complete_at assignment_failure_at handover_performed_at reject_at complete_layer3_at
 transfer_of_252_octets = refl
 
-transfer_of_252_octets_cut : bssap_reading (0x01 ∷ 0x00 ∷ 0xfc ∷ replicate 251 7) ≡ Err Short
+transfer_of_252_octets_cut : bssap_reading (hex "01 00 fc" ++ replicate 251 7) ≡ Err Short
 unfolding bssap_reading octet_at management_at transfer_at bssmap_type message_at breaks_off elements_of walk needed_value needed_octet rr_cause_in layer3_at cause_at assignment_request_at assignment_complete_at assignment_failure_at handover_performed_at reject_at complete_layer3_at
 transfer_of_252_octets_cut = refl
 
@@ -522,7 +531,9 @@ sapi_2_without_length = refl
 
 -- the elements that each message of BSSMAP needs, in written order
 abbrev all_types : List BssmapType
-all_types = kinds.AssignmentRequest ∷ kinds.AssignmentComplete ∷ kinds.AssignmentFailure ∷ kinds.HandoverPerformed ∷ kinds.ClearCommand ∷ kinds.ClearComplete ∷ kinds.ClearRequest ∷ kinds.SapiNReject ∷ kinds.CipherModeCommand ∷ kinds.CompleteLayer3Information ∷ kinds.CipherModeReject ∷ []
+all_types = kinds.AssignmentRequest ∷ kinds.AssignmentComplete ∷ kinds.AssignmentFailure ∷ kinds.HandoverPerformed ∷ kinds.ClearCommand ∷
+    kinds.ClearComplete ∷ kinds.ClearRequest ∷ kinds.SapiNReject ∷ kinds.CipherModeCommand ∷ kinds.CompleteLayer3Information ∷
+    kinds.CipherModeReject ∷ []
 
 needed_elements : map needed all_types ≡
     hex "0b" ∷ [] ∷ hex "04" ∷ hex "04 05" ∷ hex "04" ∷ [] ∷ hex "04" ∷ hex "18 04" ∷ [] ∷ hex "05 17" ∷ hex "04" ∷ []
@@ -596,13 +607,15 @@ cause_of_252 = refl
 cause_of_253 : bssap_write_fault (Management (ClearCommand (cause_of (replicate 253 7)))) ≡ Some TooLong
 cause_of_253 = refl
 
-layer3_information_of_none_in_long_message : bssap_write_fault (Management (CompleteLayer3Information (cell_of (replicate 255 7)) [])) ≡ Some Short
+layer3_information_of_none_in_long_message : bssap_write_fault (Management (CompleteLayer3Information (cell_of (replicate 255 7)) [])) ≡
+    Some Short
 layer3_information_of_none_in_long_message = refl
 
 layer3_information_of_240 : bssap_write_fault (Management (CompleteLayer3Information (cell_of (replicate 10 7)) (replicate 240 7))) ≡ None
 layer3_information_of_240 = refl
 
-layer3_information_of_241 : bssap_write_fault (Management (CompleteLayer3Information (cell_of (replicate 10 7)) (replicate 241 7))) ≡ Some TooLong
+layer3_information_of_241 : bssap_write_fault (Management (CompleteLayer3Information (cell_of (replicate 10 7)) (replicate 241 7))) ≡
+    Some TooLong
 layer3_information_of_241 = refl
 
 -- ---- values

@@ -33,7 +33,8 @@ fields ClearComplete = []
 fields (ClearRequest cause) = cause_field cause ∷ []
 fields (SapiNReject dlci cause) = field DLCI (Some (dlci.0 ∷ [])) ∷ cause_field cause ∷ []
 fields CipherModeCommand = []
-fields (CompleteLayer3Information cell layer3) = field CELL_IDENTIFIER (Some cell.0) ∷ field LAYER_3_INFORMATION (Some layer3) ∷ []
+fields (CompleteLayer3Information cell layer3) =
+    field CELL_IDENTIFIER (Some cell.0) ∷ field LAYER_3_INFORMATION (Some layer3) ∷ []
 fields (CipherModeReject cause) = cause_field cause ∷ []
 
 -- its layer 3 message, where it has one

@@ -37,7 +37,8 @@ lacks es id = is_none (first_of id es)
 -- what is wrong with a layer 3 message, where there is one
 abbrev pub layer3_causes : Option (List ℕ) → List (Bool × InterfaceFault)
 layer3_causes None = []
-layer3_causes (Some message) = (length message == 0, Short) ∷ (nat_lt MESSAGE_LIMIT (length message), TooLong) ∷ []
+layer3_causes (Some message) =
+    (length message == 0, Short) ∷ (nat_lt MESSAGE_LIMIT (length message), TooLong) ∷ []
 
 -- the layer 3 message that a message of this type has as an element
 abbrev pub layer3_in : BssmapType → List Element → Option (List ℕ)
@@ -46,20 +47,41 @@ layer3_in _ es = None
 
 -- what is wrong with elements of a message of this type, each condition with its fault
 abbrev pub element_causes : BssmapType → List Element → List (Bool × InterfaceFault)
-element_causes kind es = map (λ id. (lacks es id, MissingElement id)) (needed kind) ++ layer3_causes (layer3_in kind es)
+element_causes kind es =
+    map (λ id. (lacks es id, MissingElement id)) (needed kind) ++ layer3_causes (layer3_in kind es)
+
+-- what is wrong with BSSMAP of this length and of a type that is known
+abbrev pub management_causes : ℕ → List ℕ → Bool → BssmapType → List Element →
+    List (Bool × InterfaceFault)
+management_causes size rest is_cut kind es =
+    (nat_lt (length rest) size, Short) ∷ (is_cut, Short) ∷ element_causes kind es
+
+-- what is wrong with DTAP of this DLCI and this length
+abbrev pub transfer_causes : ℕ → ℕ → List ℕ → List (Bool × InterfaceFault)
+transfer_causes dlci size rest =
+    (not (is_dlci dlci), UnknownType) ∷ (nat_lt (length rest) size, Short) ∷
+    layer3_causes (Some (take size rest))
 
 -- The first fault of octets. BSSMAP is a length, and so many octets, of which the first is the type
 -- and the others are elements. DTAP is a DLCI, a length, and so many octets.
 pub data FirstFault : List ℕ → Option InterfaceFault → Type 0 where
   nothing : FirstFault [] (Some Short)
-  other : (first : ℕ) (rest : List ℕ) → first ≢ MANAGEMENT → first ≢ TRANSFER → FirstFault (first ∷ rest) (Some UnknownType)
+  other : (first : ℕ) (rest : List ℕ) → first ≢ MANAGEMENT → first ≢ TRANSFER →
+      FirstFault (first ∷ rest) (Some UnknownType)
   no_length : FirstFault (MANAGEMENT ∷ []) (Some Short)
-  no_type : (size : ℕ) (rest : List ℕ) → take size rest ≡ [] → FirstFault (MANAGEMENT ∷ size ∷ rest) (Some Short)
-  unknown : (size octet : ℕ) (rest elements : List ℕ) → take size rest ≡ octet ∷ elements → bssmap_type octet ≡ None → FirstFault (MANAGEMENT ∷ size ∷ rest) (Some UnknownType)
-  known : (size octet : ℕ) (rest elements : List ℕ) (kind : BssmapType) (es : List Element) (is_cut : Bool) → take size rest ≡ octet ∷ elements → bssmap_type octet ≡ Some kind → AreElements ELEMENTS elements es is_cut
-      → FirstFault (MANAGEMENT ∷ size ∷ rest) (first_that_holds ((nat_lt (length rest) size, Short) ∷ (is_cut, Short) ∷ element_causes kind es))
+  no_type : (size : ℕ) (rest : List ℕ) → take size rest ≡ [] →
+      FirstFault (MANAGEMENT ∷ size ∷ rest) (Some Short)
+  unknown : (size octet : ℕ) (rest elements : List ℕ) → take size rest ≡ octet ∷ elements →
+      bssmap_type octet ≡ None → FirstFault (MANAGEMENT ∷ size ∷ rest) (Some UnknownType)
+  known : (size octet : ℕ) (rest elements : List ℕ) (kind : BssmapType) (es : List Element)
+      (is_cut : Bool) → take size rest ≡ octet ∷ elements → bssmap_type octet ≡ Some kind →
+      AreElements ELEMENTS elements es is_cut →
+      FirstFault (MANAGEMENT ∷ size ∷ rest)
+      (first_that_holds (management_causes size rest is_cut kind es))
   no_header : (rest : List ℕ) → length rest < 2 → FirstFault (TRANSFER ∷ rest) (Some Short)
-  transfer : (dlci size : ℕ) (rest : List ℕ) → FirstFault (TRANSFER ∷ dlci ∷ size ∷ rest) (first_that_holds ((not (is_dlci dlci), UnknownType) ∷ (nat_lt (length rest) size, Short) ∷ layer3_causes (Some (take size rest))))
+  transfer : (dlci size : ℕ) (rest : List ℕ) →
+      FirstFault (TRANSFER ∷ dlci ∷ size ∷ rest)
+      (first_that_holds (transfer_causes dlci size rest))
 
 -- The result refuses octets with their first fault, and runs out of memory only where they have
 -- none.

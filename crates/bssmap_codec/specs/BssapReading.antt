@@ -131,7 +131,8 @@ content_at kinds.CipherModeReject es = result_map (λ cause. CipherModeReject ca
 
 -- the message whose elements are whole
 unfoldable pub message_at : BssmapType → List ℕ → Result Bssmap InterfaceFault
-message_at kind octets = if breaks_off octets then Err Short else content_at kind (elements_of octets)
+message_at kind octets =
+    if breaks_off octets then Err Short else content_at kind (elements_of octets)
 
 -- BSSMAP behind its first octet: a length, and as many octets
 unfoldable pub management_at : List ℕ → Result Bssap InterfaceFault
@@ -156,4 +157,5 @@ transfer_at octets = do
 unfoldable pub bssap_reading : List ℕ → Result Bssap InterfaceFault
 bssap_reading octets = do
   first ← octet_at Short octets
-  if first.0 == MANAGEMENT then management_at first.1 else (if first.0 == TRANSFER then transfer_at first.1 else Err UnknownType)
+  if first.0 == MANAGEMENT then management_at first.1
+      else (if first.0 == TRANSFER then transfer_at first.1 else Err UnknownType)

@@ -49,7 +49,8 @@ content_fault _ = None
 
 -- a layer 3 message that isn't one, then what a length octet can't count
 abbrev pub bssap_write_fault : Bssap → Option InterfaceFault
-bssap_write_fault (Management message) = first_refusal (content_fault message) (size_fault (bssmap_size message))
+bssap_write_fault (Management message) =
+    first_refusal (content_fault message) (size_fault (bssmap_size message))
 bssap_write_fault (Transfer dlci message) = layer3_fault message
 
 -- the SAPI of DTAP is 0 or 3

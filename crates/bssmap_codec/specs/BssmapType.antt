@@ -5,24 +5,24 @@ use Rattle.bssmap_codec.specs.declared.bssmap.Bssmap.{Bssmap}
 use Rattle.bssmap_codec.specs.declared.bssmap.Bssmap.TheVariants as messages
 use Rattle.bssmap_codec.specs.declared.bssmap_type.BssmapType.{BssmapType}
 use Rattle.bssmap_codec.specs.declared.bssmap_type.BssmapType.TheVariants.{AssignmentRequest, AssignmentComplete, AssignmentFailure, HandoverPerformed, ClearCommand, ClearComplete, ClearRequest, SapiNReject, CipherModeCommand, CompleteLayer3Information, CipherModeReject}
-use Rattle.bssmap_codec.specs.declared.bssmap_type.TheConstants as octets
+use Rattle.bssmap_codec.specs.declared.bssmap_type.TheConstants.{BSSMAP_TYPES}
 
 abbrev pub bssmap_octet : BssmapType → ℕ
-bssmap_octet AssignmentRequest = octets.ASSIGNMENT_REQUEST
-bssmap_octet AssignmentComplete = octets.ASSIGNMENT_COMPLETE
-bssmap_octet AssignmentFailure = octets.ASSIGNMENT_FAILURE
-bssmap_octet HandoverPerformed = octets.HANDOVER_PERFORMED
-bssmap_octet ClearCommand = octets.CLEAR_COMMAND
-bssmap_octet ClearComplete = octets.CLEAR_COMPLETE
-bssmap_octet ClearRequest = octets.CLEAR_REQUEST
-bssmap_octet SapiNReject = octets.SAPI_N_REJECT
-bssmap_octet CipherModeCommand = octets.CIPHER_MODE_COMMAND
-bssmap_octet CompleteLayer3Information = octets.COMPLETE_LAYER_3_INFORMATION
-bssmap_octet CipherModeReject = octets.CIPHER_MODE_REJECT
+bssmap_octet AssignmentRequest = 0x01
+bssmap_octet AssignmentComplete = 0x02
+bssmap_octet AssignmentFailure = 0x03
+bssmap_octet HandoverPerformed = 0x17
+bssmap_octet ClearCommand = 0x20
+bssmap_octet ClearComplete = 0x21
+bssmap_octet ClearRequest = 0x22
+bssmap_octet SapiNReject = 0x25
+bssmap_octet CipherModeCommand = 0x53
+bssmap_octet CompleteLayer3Information = 0x57
+bssmap_octet CipherModeReject = 0x59
 
 -- the type with this octet, where it is known
 unfoldable pub bssmap_type : ℕ → Option BssmapType
-bssmap_type octet = find (λ kind. bssmap_octet kind == octet) octets.BSSMAP_TYPES
+bssmap_type octet = find (λ kind. bssmap_octet kind == octet) BSSMAP_TYPES
 
 abbrev pub type_of : Bssmap → BssmapType
 type_of (messages.AssignmentRequest channel_type) = AssignmentRequest

@@ -10,4 +10,6 @@ IsLayer3 message = (1 ≤ length message) × (length message ≤ MESSAGE_LIMIT)
 
 -- why octets are no layer 3 message
 abbrev pub layer3_fault : List ℕ → Option InterfaceFault
-layer3_fault message = if length message == 0 then Some Short else (if nat_lt MESSAGE_LIMIT (length message) then Some TooLong else None)
+layer3_fault message =
+    if length message == 0 then Some Short
+    else (if nat_lt MESSAGE_LIMIT (length message) then Some TooLong else None)

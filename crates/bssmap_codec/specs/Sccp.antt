@@ -30,8 +30,11 @@ pub record IsCounted (octets value : List ℕ) : Type 0 where
 pub data Options : List ℕ → Option (List ℕ) → Type 0 where
   over : Options [] None
   ended : (more : List ℕ) → Options (END_OF_OPTIONS ∷ more) None
-  carried : (value more : List ℕ) → length value ≤ LENGTH_LIMIT → Options (USER_DATA ∷ (counted_text value ++ more)) (Some value)
-  other : (id : ℕ) (value rest : List ℕ) (user : Option (List ℕ)) → id ≢ END_OF_OPTIONS → id ≢ USER_DATA → length value ≤ LENGTH_LIMIT → Options rest user → Options (id ∷ (counted_text value ++ rest)) user
+  carried : (value more : List ℕ) → length value ≤ LENGTH_LIMIT →
+      Options (USER_DATA ∷ (counted_text value ++ more)) (Some value)
+  other : (id : ℕ) (value rest : List ℕ) (user : Option (List ℕ)) → id ≢ END_OF_OPTIONS →
+      id ≢ USER_DATA → length value ≤ LENGTH_LIMIT → Options rest user →
+      Options (id ∷ (counted_text value ++ rest)) user
 
 -- The octets begin with a pointer to options with this user data; a pointer 0 says that there are
 -- none.

@@ -34,29 +34,53 @@ is_cut_value (size ∷ rest) = nat_lt (length rest) size
 
 -- what is wrong with a pointer, the first of these octets, to a value with its length before it
 abbrev pub part_causes : ℕ → List ℕ → List (Bool × InterfaceFault)
-part_causes pointer octets = ((pointer == NO_PART) || nat_le (length octets) pointer, BadPointer) ∷ (is_cut_value (drop pointer octets), Short) ∷ []
+part_causes pointer octets =
+    ((pointer == NO_PART) || nat_le (length octets) pointer, BadPointer) ∷
+    (is_cut_value (drop pointer octets), Short) ∷ []
 
 -- what is wrong with a pointer, the first of these octets, to options; a pointer 0 says that there
 -- are none
 abbrev pub option_causes : ℕ → List ℕ → Bool → List (Bool × InterfaceFault)
-option_causes pointer octets are_cut = (not (pointer == NO_PART) && nat_le (length octets) pointer, BadPointer) ∷ (not (pointer == NO_PART) && are_cut, Short) ∷ []
+option_causes pointer octets are_cut =
+    (not (pointer == NO_PART) && nat_le (length octets) pointer, BadPointer) ∷
+    (not (pointer == NO_PART) && are_cut, Short) ∷ []
+
+-- what is wrong with a request that has its pointers
+abbrev pub request_causes : ℕ → ℕ → List ℕ → Bool → List (Bool × InterfaceFault)
+request_causes address options more are_cut =
+    part_causes address (address ∷ options ∷ more) ++
+    option_causes options (options ∷ more) are_cut
+
+-- what is wrong with a data form that has its pointer
+abbrev pub form_causes : ℕ → ℕ → List ℕ → List (Bool × InterfaceFault)
+form_causes segmenting pointer more =
+    (not (segmenting == UNSEGMENTED), UnknownType) ∷ part_causes pointer (pointer ∷ more)
 
 -- the octets are options, or, where they are cut, none at all
 abbrev pub AreOptions : List ℕ → Bool → Type 0
-AreOptions octets are_cut = MatchBool are_cut ((user : Option (List ℕ)) → Options octets user → ⊥) ((user : Option (List ℕ)) × Options octets user)
+AreOptions octets are_cut =
+    MatchBool are_cut ((user : Option (List ℕ)) → Options octets user → ⊥)
+    ((user : Option (List ℕ)) × Options octets user)
 
 -- The first fault of octets, where they have one. A request has three octets of its reference, its
 -- class, and pointers to the called address and to the options; a data form has three of its
 -- reference, one that says whether it is segmented, and a pointer to its data.
 pub data FirstFault : List ℕ → Option InterfaceFault → Type 0 where
   nothing : FirstFault [] (Some Short)
-  unknown : (octet : ℕ) (rest : List ℕ) → sccp_type octet ≡ None → FirstFault (octet ∷ rest) (Some UnknownType)
-  ends : (octet : ℕ) (rest : List ℕ) (kind : SccpType) → sccp_type octet ≡ Some kind → length rest < fixed kind → FirstFault (octet ∷ rest) (Some Short)
-  whole : (octet : ℕ) (rest : List ℕ) (kind : SccpType) → sccp_type octet ≡ Some kind → fixed kind ≤ length rest → has_parts kind ≡ false → FirstFault (octet ∷ rest) None
-  request : (octet a b c class address options : ℕ) (more : List ℕ) (are_cut : Bool) → sccp_type octet ≡ Some ConnectionRequest → AreOptions (drop options (options ∷ more)) are_cut
-      → FirstFault (octet ∷ a ∷ b ∷ c ∷ class ∷ address ∷ options ∷ more) (first_that_holds (part_causes address (address ∷ options ∷ more) ++ option_causes options (options ∷ more) are_cut))
-  form : (octet a b c segmenting pointer : ℕ) (more : List ℕ) → sccp_type octet ≡ Some DataForm1
-      → FirstFault (octet ∷ a ∷ b ∷ c ∷ segmenting ∷ pointer ∷ more) (first_that_holds ((not (segmenting == UNSEGMENTED), UnknownType) ∷ part_causes pointer (pointer ∷ more)))
+  unknown : (octet : ℕ) (rest : List ℕ) → sccp_type octet ≡ None →
+      FirstFault (octet ∷ rest) (Some UnknownType)
+  ends : (octet : ℕ) (rest : List ℕ) (kind : SccpType) → sccp_type octet ≡ Some kind →
+      length rest < fixed kind → FirstFault (octet ∷ rest) (Some Short)
+  whole : (octet : ℕ) (rest : List ℕ) (kind : SccpType) → sccp_type octet ≡ Some kind →
+      fixed kind ≤ length rest → has_parts kind ≡ false → FirstFault (octet ∷ rest) None
+  request : (octet a b c class address options : ℕ) (more : List ℕ) (are_cut : Bool) →
+      sccp_type octet ≡ Some ConnectionRequest →
+      AreOptions (drop options (options ∷ more)) are_cut →
+      FirstFault (octet ∷ a ∷ b ∷ c ∷ class ∷ address ∷ options ∷ more)
+      (first_that_holds (request_causes address options more are_cut))
+  form : (octet a b c segmenting pointer : ℕ) (more : List ℕ) → sccp_type octet ≡ Some DataForm1 →
+      FirstFault (octet ∷ a ∷ b ∷ c ∷ segmenting ∷ pointer ∷ more)
+      (first_that_holds (form_causes segmenting pointer more))
 
 -- The result refuses octets with their first fault, and runs out of memory only where they have
 -- none.

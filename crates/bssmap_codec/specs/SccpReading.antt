@@ -17,7 +17,9 @@ use Rattle.bssmap_codec.specs.SccpType.{sccp_type}
 
 -- what a pointer leads to, counted from its own octet, the first of these
 unfoldable pub part_at : ℕ → List ℕ → Result (List ℕ) InterfaceFault
-part_at pointer octets = if (pointer == NO_PART) || nat_le (length octets) pointer then Err BadPointer else Ok (drop pointer octets)
+part_at pointer octets =
+    if (pointer == NO_PART) || nat_le (length octets) pointer then Err BadPointer
+    else Ok (drop pointer octets)
 
 -- an option's identifier and value, and the octets behind it
 abbrev pub Front : Type 0
@@ -33,7 +35,8 @@ unfoldable pub option_at : List ℕ → Result Front InterfaceFault
 option_at [] = Ok None
 option_at (id ∷ octets) = if id == END_OF_OPTIONS then Ok None else option_behind id octets
 
-abbrev pub data_by : Result Front InterfaceFault → (List ℕ → Result (Option (List ℕ)) InterfaceFault) → Result (Option (List ℕ)) InterfaceFault
+abbrev pub data_by : Result Front InterfaceFault →
+    (List ℕ → Result (Option (List ℕ)) InterfaceFault) → Result (Option (List ℕ)) InterfaceFault
 data_by (Err fault) go = Err fault
 data_by (Ok None) go = Ok None
 data_by (Ok (Some front)) go = if front.0 == USER_DATA then Ok (Some front.1) else go front.2
@@ -49,7 +52,8 @@ data_in octets = data_within (length octets) octets
 
 -- a pointer 0 says that there are no options
 unfoldable pub user_data_at : ℕ → List ℕ → Result (Option (List ℕ)) InterfaceFault
-user_data_at pointer octets = if pointer == NO_PART then Ok None else part_at pointer octets >>= data_in
+user_data_at pointer octets =
+    if pointer == NO_PART then Ok None else part_at pointer octets >>= data_in
 
 unfoldable pub request_at : List ℕ → Result Sccp InterfaceFault
 request_at octets = do
@@ -79,7 +83,9 @@ refused_at octets = do
 
 -- the data of a message that isn't segmented
 unfoldable pub data_behind_at : ℕ → List ℕ → ℕ → Result (List ℕ × List ℕ) InterfaceFault
-data_behind_at segmenting pointers pointer = if segmenting == UNSEGMENTED then part_at pointer pointers >>= counted_at Short else Err UnknownType
+data_behind_at segmenting pointers pointer =
+    if segmenting == UNSEGMENTED then part_at pointer pointers >>= counted_at Short
+    else Err UnknownType
 
 unfoldable pub data_form_at : List ℕ → Result Sccp InterfaceFault
 data_form_at octets = do
@@ -92,10 +98,12 @@ data_form_at octets = do
 -- what stands behind the type
 abbrev pub content_at : SccpType → List ℕ → Result Sccp InterfaceFault
 content_at kinds.ConnectionRequest octets = request_at octets
-content_at kinds.ConnectionConfirm octets = result_map (λ p. ConnectionConfirm p.0 p.1) (fixed_references_at octets)
+content_at kinds.ConnectionConfirm octets =
+    result_map (λ p. ConnectionConfirm p.0 p.1) (fixed_references_at octets)
 content_at kinds.ConnectionRefused octets = refused_at octets
 content_at kinds.Released octets = result_map (λ p. Released p.0 p.1) (fixed_references_at octets)
-content_at kinds.ReleaseComplete octets = result_map (λ p. ReleaseComplete p.0 p.1) (references_at octets)
+content_at kinds.ReleaseComplete octets =
+    result_map (λ p. ReleaseComplete p.0 p.1) (references_at octets)
 content_at kinds.DataForm1 octets = data_form_at octets
 
 unfoldable pub sccp_reading : List ℕ → Result Sccp InterfaceFault

@@ -14,16 +14,22 @@ use Rattle.bssmap_codec.specs.SccpType.{sccp_octet, type_of}
 -- the pointer to the options, the called address, and the options
 abbrev pub options_text : Option (List ℕ) → List ℕ
 options_text None = NO_PART ∷ CALLED_ADDRESS
-options_text (Some user) = OPTIONS_POINTER ∷ (CALLED_ADDRESS ++ USER_DATA ∷ (counted_text user ++ END_OF_OPTIONS ∷ []))
+options_text (Some user) =
+    OPTIONS_POINTER ∷ (CALLED_ADDRESS ++ USER_DATA ∷ (counted_text user ++ END_OF_OPTIONS ∷ []))
 
 -- what stands behind the type
 abbrev pub content_text : Sccp → List ℕ
-content_text (ConnectionRequest source user) = reference_text source ++ PROTOCOL_CLASS ∷ ADDRESS_POINTER ∷ options_text user
-content_text (ConnectionConfirm destination source) = references_text destination source ++ PROTOCOL_CLASS ∷ NO_PART ∷ []
-content_text (ConnectionRefused destination) = reference_text destination ++ END_USER_ORIGINATED ∷ NO_PART ∷ []
-content_text (Released destination source) = references_text destination source ++ END_USER_ORIGINATED ∷ NO_PART ∷ []
+content_text (ConnectionRequest source user) =
+    reference_text source ++ PROTOCOL_CLASS ∷ ADDRESS_POINTER ∷ options_text user
+content_text (ConnectionConfirm destination source) =
+    references_text destination source ++ PROTOCOL_CLASS ∷ NO_PART ∷ []
+content_text (ConnectionRefused destination) =
+    reference_text destination ++ END_USER_ORIGINATED ∷ NO_PART ∷ []
+content_text (Released destination source) =
+    references_text destination source ++ END_USER_ORIGINATED ∷ NO_PART ∷ []
 content_text (ReleaseComplete destination source) = references_text destination source
-content_text (DataForm1 destination user) = reference_text destination ++ UNSEGMENTED ∷ DATA_POINTER ∷ counted_text user
+content_text (DataForm1 destination user) =
+    reference_text destination ++ UNSEGMENTED ∷ DATA_POINTER ∷ counted_text user
 
 abbrev pub sccp_text : Sccp → List ℕ
 sccp_text message = sccp_octet (type_of message) ∷ content_text message

@@ -5,19 +5,19 @@ use Rattle.bssmap_codec.specs.declared.sccp.Sccp.{Sccp}
 use Rattle.bssmap_codec.specs.declared.sccp.Sccp.TheVariants as messages
 use Rattle.bssmap_codec.specs.declared.sccp_type.SccpType.{SccpType}
 use Rattle.bssmap_codec.specs.declared.sccp_type.SccpType.TheVariants.{ConnectionRequest, ConnectionConfirm, ConnectionRefused, Released, ReleaseComplete, DataForm1}
-use Rattle.bssmap_codec.specs.declared.sccp_type.TheConstants as octets
+use Rattle.bssmap_codec.specs.declared.sccp_type.TheConstants.{SCCP_TYPES}
 
 abbrev pub sccp_octet : SccpType → ℕ
-sccp_octet ConnectionRequest = octets.CONNECTION_REQUEST
-sccp_octet ConnectionConfirm = octets.CONNECTION_CONFIRM
-sccp_octet ConnectionRefused = octets.CONNECTION_REFUSED
-sccp_octet Released = octets.RELEASED
-sccp_octet ReleaseComplete = octets.RELEASE_COMPLETE
-sccp_octet DataForm1 = octets.DATA_FORM_1
+sccp_octet ConnectionRequest = 0x01
+sccp_octet ConnectionConfirm = 0x02
+sccp_octet ConnectionRefused = 0x03
+sccp_octet Released = 0x04
+sccp_octet ReleaseComplete = 0x05
+sccp_octet DataForm1 = 0x06
 
 -- the type with this octet, where it is known
 unfoldable pub sccp_type : ℕ → Option SccpType
-sccp_type octet = find (λ kind. sccp_octet kind == octet) octets.SCCP_TYPES
+sccp_type octet = find (λ kind. sccp_octet kind == octet) SCCP_TYPES
 
 abbrev pub type_of : Sccp → SccpType
 type_of (messages.ConnectionRequest source user) = ConnectionRequest

@@ -1,5 +1,21 @@
-use crate::{Bssmap, Dlci};
-use octets::Octets;
+ghost use Rattle.std.specs.Prelude.{◌≡◌, ◌⊎◌, ◌++◌, ℕ, List, length, take, IfOk, OnErr, OnOk, None, Ok, Err};
+ghost use Rattle.std.specs.Result.{result_err};
+ghost use Rattle.octets.specs.Answer.{Gives};
+ghost use Rattle.octets.specs.Refusal.{RefusesBy};
+ghost use Rattle.bssmap_codec.specs.declared.bssap.Bssap.{Bssap as BssapValue};
+ghost use Rattle.bssmap_codec.specs.declared.bssmap.Bssmap.{Bssmap as BssmapValue};
+ghost use Rattle.bssmap_codec.specs.declared.fault.InterfaceFault.TheVariants.{Memory as OutOfMemory};
+ghost use Rattle.bssmap_codec.specs.Bssap.{IsBssap};
+ghost use Rattle.bssmap_codec.specs.BssapFaults.{RefusesBssap};
+ghost use Rattle.bssmap_codec.specs.BssapReading as reading;
+ghost use Rattle.bssmap_codec.specs.BssapText.{HasDlci, bssap_text, bssap_write_fault, bssmap_size, bssmap_text};
+
+use crate::bssmap::{management_refusal, management_text, read_message};
+use crate::{Bssmap, BssmapType, Dlci, InterfaceFault, layer3};
+use octets::front::{octet, put_counted, split};
+use octets::text::{TEXT_ROOM, hand_over};
+use octets::{Memory, Octets};
+use std::alloc::Global;
 
 /// The first octet of a message of BSSMAP (TS 48.006 clause 9.3.1).
 pub const MANAGEMENT: u8 = 0x00;
@@ -8,11 +24,145 @@ pub const MANAGEMENT: u8 = 0x00;
 pub const TRANSFER: u8 = 0x01;
 
 /// A message of BSSAP: for the base station system itself, or passed on between the switch and a
-/// mobile (TS 48.006 clause 9.3).
+/// mobile (TS 48.006 clause 9.3). Its octets are those that are fixed, in hexadecimal, and each
+/// part with how many octets it has.
 #[derive(Drop)]
 pub enum Bssap {
-    /// A message of BSSMAP.
+    /// `00 length:1 message`: a message of BSSMAP.
     Management(Bssmap),
-    /// DTAP: a layer 3 message of 1 to 251 octets, and the link of the mobile that it takes.
+    /// `01 dlci:1 length:1 message`: DTAP, a layer 3 message of 1 to 251 octets, and the link of
+    /// the mobile that it takes.
     Transfer { dlci: Dlci, message: Octets },
 }
+
+/// Reads a message of BSSAP. What follows its length isn't looked at, nor are elements but the
+/// first of each identifier that the message has, nor what follows the first identifier outside the
+/// table of elements.
+///
+/// The faults, in the order in which they are looked for: `Short` without the header, which is
+/// `00`, a length and a type, or `01`, a DLCI and a length; `UnknownType` for another first octet,
+/// for a type or a SAPI that isn't known; `Short` where fewer octets follow than the length says or
+/// an element is cut; `MissingElement`, in the order in which the elements are written; for a layer
+/// 3 message `Short` without an octet, and `TooLong` over 251. `Memory` comes last.
+pub fn read_bssap(alloc: Global, octets: &[u8]) -> Result<Bssap, InterfaceFault>
+    // What is answered is what the octets are read as.
+    ensures reads { Gives OutOfMemory (λ v. v) result (reading.bssap_reading octets.now) }
+    // What is read is what the octets are a text of.
+    ensures found { IfOk result (λ message. IsBssap octets.now message) }
+    // What the octets are a text of is read, unless memory runs out.
+    ensures only { (message : BssapValue) → IsBssap octets.now message →
+        (result ≡ Ok message) ⊎ (result ≡ Err OutOfMemory) }
+    // A refusal is the first fault, and memory runs out only where there is none.
+    ensures refused { RefusesBy OutOfMemory result (result_err (reading.bssap_reading octets.now)) }
+    // The first fault is that of the first cause that holds of the message's length and elements.
+    ensures fault { RefusesBssap octets.now result }
+{
+    read(alloc, octets)
+}
+
+#[tactic(auto, unfolding(crate::specs::BssapReading::bssap_reading))]
+fn read(alloc: Global, octets: &[u8]) -> Result<Bssap, InterfaceFault>
+    ensures { Gives OutOfMemory (λ v. v) result (reading.bssap_reading octets.now) }
+{
+    let (first, rest) = octet(octets, InterfaceFault::Short)?;
+    match first {
+        MANAGEMENT => read_management(alloc, rest),
+        TRANSFER => read_transfer(alloc, rest),
+        _ => Err(InterfaceFault::UnknownType),
+    }
+}
+
+#[tactic(auto, unfolding(crate::specs::BssapReading::transfer_at))]
+fn read_transfer(alloc: Global, octets: &[u8]) -> Result<Bssap, InterfaceFault>
+    ensures { Gives OutOfMemory (λ v. v) result (reading.transfer_at octets.now) }
+{
+    let (link, rest) = octet(octets, InterfaceFault::Short)?;
+    let (size, rest) = octet(rest, InterfaceFault::Short)?;
+    let dlci = Dlci::read(link).ok_or(InterfaceFault::UnknownType)?;
+    let (message, _behind) = split(rest, usize::from(size), InterfaceFault::Short)?;
+    let message = layer3::message(message)?;
+    Ok(Bssap::Transfer {
+        dlci,
+        message: Octets::copy(alloc, message)?,
+    })
+}
+
+#[tactic(auto, unfolding(crate::specs::BssapReading::management_at))]
+fn read_management(alloc: Global, octets: &[u8]) -> Result<Bssap, InterfaceFault>
+    ensures { Gives OutOfMemory (λ v. v) result (reading.management_at octets.now) }
+{
+    let (size, rest) = octet(octets, InterfaceFault::Short)?;
+    let (kind, elements) = octet(at_most(rest, usize::from(size)), InterfaceFault::Short)?;
+    let kind = BssmapType::of_octet(kind).ok_or(InterfaceFault::UnknownType)?;
+    let _body = split(rest, usize::from(size), InterfaceFault::Short)?;
+    Ok(Bssap::Management(read_message(alloc, kind, elements)?))
+}
+
+// The first octets, this many if there are as many.
+fn at_most(octets: &[u8], size: usize) -> &[u8]
+    ensures { result.now ≡ take size octets.now }
+{
+    if octets.len() < size {
+        octets
+    } else {
+        &octets[..size]
+    }
+}
+
+/// Appends the text of a message of BSSAP. An `Err` changes nothing: `Short` for a layer 3 message
+/// of no octets, then `TooLong` for one over 251 octets, or for what a length octet can't count,
+/// else `Memory`.
+pub fn write_bssap(alloc: Global, message: &Bssap, text: &mut Vec<u8>) -> Result<(), InterfaceFault>
+    ensures ok { OnOk result (text.new.items ≡ text.old.items ++ bssap_text message.now) }
+    ensures err { OnErr result (text.new.items ≡ text.old.items) }
+    ensures refused { RefusesBy OutOfMemory result (bssap_write_fault message.now) }
+{
+    if let Some(fault) = refusal(message) {
+        return Err(fault);
+    }
+    hand_over(text_of(alloc, message)?, text)?;
+    Ok(())
+}
+
+// Why the message isn't written, where it isn't.
+fn refusal(message: &Bssap) -> Option<InterfaceFault>
+    ensures { result ≡ bssap_write_fault message.now }
+{
+    match message {
+        Bssap::Management(message) => management_refusal(message),
+        Bssap::Transfer { message, .. } => layer3::refusal(message.as_slice()),
+    }
+}
+
+// The text of a message.
+fn text_of(alloc: Global, message: &Bssap) -> Result<Vec<u8>, Memory>
+    requires { bssap_write_fault message.now ≡ None }
+    ensures { IfOk result (λ text. text.items ≡ bssap_text message.now) }
+{
+    let mut text = Vec::with_capacity(alloc, TEXT_ROOM)?;
+    match message {
+        Bssap::Management(message) => {
+            let body = management_text(alloc, message)?;
+            text.push(MANAGEMENT)?;
+            put_counted(&mut text, body.as_slice())?;
+        }
+        Bssap::Transfer { dlci, message } => {
+            text.push(TRANSFER)?;
+            text.push(dlci.octet())?;
+            put_counted(&mut text, message.as_slice())?;
+        }
+    }
+    Ok(text)
+}
+
+/// Law: what is written of a message of BSSAP is a text of it, and is read as that message,
+/// whatever follows; and the size by which a message of BSSMAP is found too long is that of its
+/// text.
+pub fn bssap_text_is_read()
+    ensures text { (message : BssapValue) (more : List ℕ) → HasDlci message →
+        bssap_write_fault message ≡ None → IsBssap (bssap_text message ++ more) message }
+    ensures read { (message : BssapValue) (more : List ℕ) → HasDlci message →
+        bssap_write_fault message ≡ None →
+        reading.bssap_reading (bssap_text message ++ more) ≡ Ok message }
+    ensures size { (message : BssmapValue) → length (bssmap_text message) ≡ bssmap_size message }
+{}

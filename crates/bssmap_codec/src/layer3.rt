@@ -1,10 +1,13 @@
 ghost use Rattle.std.specs.Prelude.{◌≡◌};
+ghost use Rattle.octets.specs.Answer.{result_map};
+ghost use Rattle.bssmap_codec.specs.BssapReading.{layer3_at};
 ghost use Rattle.bssmap_codec.specs.Layer3.{layer3_fault};
 
 use crate::InterfaceFault;
 use octets::MESSAGE_LIMIT;
 
-/// Why octets are no layer 3 message, where they aren't: `Short` without an octet, `TooLong` over 251.
+/// Why octets are no layer 3 message, where they aren't: `Short` without an octet, `TooLong` over
+/// 251.
 pub fn refusal(octets: &[u8]) -> Option<InterfaceFault>
     ensures { result ≡ layer3_fault octets.now }
 {
@@ -14,5 +17,16 @@ pub fn refusal(octets: &[u8]) -> Option<InterfaceFault>
         Some(InterfaceFault::TooLong)
     } else {
         None
+    }
+}
+
+/// The octets of a layer 3 message.
+#[tactic(auto, unfolding(crate::specs::BssapReading::layer3_at))]
+pub fn message(octets: &[u8]) -> Result<&[u8], InterfaceFault>
+    ensures { result_map (λ v. v.now) result ≡ layer3_at octets.now }
+{
+    match refusal(octets) {
+        Some(fault) => Err(fault),
+        None => Ok(octets),
     }
 }

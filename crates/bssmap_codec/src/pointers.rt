@@ -30,7 +30,8 @@ pub fn part(octets: &[u8], pointer: u8) -> Result<&[u8], InterfaceFault>
 /// The option at the front; none at the end of the octets or of the options.
 #[tactic(auto, unfolding(crate::specs::SccpReading::option_at))]
 fn option(octets: &[u8]) -> Result<Option<Found<'_>>, InterfaceFault>
-    ensures { result_map (option_map (λ f. (f.id, f.value.now, f.rest.now))) result ≡ option_at octets.now }
+    ensures { result_map (option_map (λ f. (f.id, f.value.now, f.rest.now))) result ≡
+        option_at octets.now }
 {
     let Some((id, rest)) = octets.split_first() else {
         return Ok(None);

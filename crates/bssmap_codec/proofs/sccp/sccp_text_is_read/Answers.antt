@@ -1,6 +1,6 @@
 use Rattle.bssmap_codec.proofs.Sccps.{sccp_again}
 use Rattle.bssmap_codec.proofs.SccpTexts.{sccp_written}
-use Rattle.bssmap_codec.proofs.laws.sccp_text_is_read.Goals as goal
+use Rattle.bssmap_codec.proofs.sccp.sccp_text_is_read.Goals as goal
 
 pub returns-clause-text : goal.returns-clause-text
 returns-clause-text c = sccp_written

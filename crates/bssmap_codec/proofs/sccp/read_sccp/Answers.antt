@@ -3,7 +3,7 @@ use Rattle.bssmap_codec.specs.Sccp.{IsSccp}
 use Rattle.octets.proofs.Steps.{found_by, only_by, refused_by}
 use Rattle.bssmap_codec.proofs.SccpCauses.{refuses_sccp}
 use Rattle.bssmap_codec.proofs.Sccps.{sccp_ok, sccp_again}
-use Rattle.bssmap_codec.proofs.sccp_reader.read_sccp.Goals as goal
+use Rattle.bssmap_codec.proofs.sccp.read_sccp.Goals as goal
 
 pub returns-clause-found : goal.returns-clause-found
 returns-clause-found c = found_by _ _ _ (IsSccp c.args.octets.now) (λ message. sccp_ok _ message (λ i. omega (arith, c.type_inv.octets i))) c.read.ensures

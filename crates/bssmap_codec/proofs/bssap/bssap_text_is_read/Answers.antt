@@ -1,6 +1,6 @@
 use Rattle.bssmap_codec.proofs.Bssaps.{bssap_again}
 use Rattle.bssmap_codec.proofs.BssapTexts.{bssap_written, size_is}
-use Rattle.bssmap_codec.proofs.laws.bssap_text_is_read.Goals as goal
+use Rattle.bssmap_codec.proofs.bssap.bssap_text_is_read.Goals as goal
 
 pub returns-clause-text : goal.returns-clause-text
 returns-clause-text c = bssap_written

@@ -3,7 +3,7 @@ use Rattle.bssmap_codec.specs.Bssap.{IsBssap}
 use Rattle.octets.proofs.Steps.{found_by, only_by, refused_by}
 use Rattle.bssmap_codec.proofs.BssapCauses.{refuses_bssap}
 use Rattle.bssmap_codec.proofs.Bssaps.{bssap_ok, bssap_again}
-use Rattle.bssmap_codec.proofs.bssap_reader.read_bssap.Goals as goal
+use Rattle.bssmap_codec.proofs.bssap.read_bssap.Goals as goal
 
 pub returns-clause-found : goal.returns-clause-found
 returns-clause-found c = found_by _ _ _ (IsBssap c.args.octets.now) (λ message. bssap_ok _ message (λ i. omega (arith, c.type_inv.octets i))) c.read.ensures
