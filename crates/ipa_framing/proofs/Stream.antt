@@ -16,11 +16,13 @@ use Rattle.ipa_framing.specs.Framer.{FramerState, BeginsWith, Call, feed, next, 
 
 -- ---- from the grammar to the front
 
-body_again : (size stream : ℕ) (body rest : List ℕ) → length body ≡ size → body_at size (stream ∷ (body ++ rest)) ≡ Some (stream, body, rest)
+body_again : (size stream : ℕ) (body rest : List ℕ) → length body ≡ size →
+    body_at size (stream ∷ (body ++ rest)) ≡ Some (stream, body, rest)
 body_again size stream body rest long =
     rw (le-ltb (length (body ++ rest)) size (omega (arith, length-append body rest)), take_at body rest size long, drop_at body rest size long) refl
 
-front_by_size_again : (size stream : ℕ) (body rest : List ℕ) → length body ≡ size → size ≤ MAX_BODY → front_by_size size (stream ∷ (body ++ rest)) ≡ Ok (Some (stream, body, rest))
+front_by_size_again : (size stream : ℕ) (body rest : List ℕ) → length body ≡ size → size ≤ MAX_BODY →
+    front_by_size size (stream ∷ (body ++ rest)) ≡ Ok (Some (stream, body, rest))
 front_by_size_again size stream body rest long fits = rw (le-ltb MAX_BODY size fits) (ap (λ (o : Option FrontFrame). Ok o) (body_again size stream body rest long))
 
 pub front_again : (f : Frame) (rest : List ℕ) → IsFrame f → front_of (frame_text f ++ rest) ≡ Ok (Some (f.stream, f.body, rest))
@@ -46,7 +48,8 @@ front_long (high ∷ low ∷ octets) h = rw (lt-ltb MAX_BODY (256 * high + low) 
 
 -- ---- from the front to the grammar
 
-body_is : (high low : ℕ) (octets : List ℕ) → high < 256 → low < 256 → 256 * high + low ≤ MAX_BODY → FrontIs (high ∷ low ∷ octets) (Ok (body_at (256 * high + low) octets))
+body_is : (high low : ℕ) (octets : List ℕ) → high < 256 → low < 256 → 256 * high + low ≤ MAX_BODY →
+    FrontIs (high ∷ low ∷ octets) (Ok (body_at (256 * high + low) octets))
 body_is high low [] h l fits = (fits, omega arith)
 body_is high low (stream ∷ octets) h l fits =
     let size : ℕ = 256 * high + low in
@@ -80,29 +83,34 @@ stopped rest front (inl partial) e = absurd (cc (front_partial rest partial, e))
 stopped rest front (inr long) e = absurd (cc (front_long rest long, e))
 
 -- the first frame, then the others
-grouped : (f : Frame) (fs : List Frame) (rest : List ℕ) → flat_map frame_text (f ∷ fs) ++ rest ≡ frame_text f ++ (flat_map frame_text fs ++ rest)
+grouped : (f : Frame) (fs : List Frame) (rest : List ℕ) →
+    flat_map frame_text (f ∷ fs) ++ rest ≡ frame_text f ++ (flat_map frame_text fs ++ rest)
 grouped f fs rest = append_assoc (frame_text f) (flat_map frame_text fs) rest
 
-front_of_frames : (stream : List ℕ) (f : Frame) (fs : List Frame) (rest : List ℕ) → Splits stream (f ∷ fs) rest → front_of stream ≡ Ok (Some (f.stream, f.body, flat_map frame_text fs ++ rest))
+front_of_frames : (stream : List ℕ) (f : Frame) (fs : List Frame) (rest : List ℕ) → Splits stream (f ∷ fs) rest →
+    front_of stream ≡ Ok (Some (f.stream, f.body, flat_map frame_text fs ++ rest))
 front_of_frames stream f fs rest splits = ap front_of (splits.whole ∙ grouped f fs rest) ∙ front_again f (flat_map frame_text fs ++ rest) splits.each.0
 
 front_same : (a b : FrontFrame) → (let x : Result (Option FrontFrame) FrameFault = Ok (Some a) in x) ≡ Ok (Some b) → a ≡ b
 front_same a b e = cc
 
 -- behind a frame that is taken the others stand
-pub splits_behind : (stream : List ℕ) (frames : List Frame) (rest : List ℕ) (front : FrontFrame) → front_of stream ≡ Ok (Some front) → Splits stream frames rest → (fs : List Frame) × Splits front.2 fs rest
+pub splits_behind : (stream : List ℕ) (frames : List Frame) (rest : List ℕ) (front : FrontFrame) →
+    front_of stream ≡ Ok (Some front) → Splits stream frames rest → (fs : List Frame) × Splits front.2 fs rest
 splits_behind stream [] rest front e splits = absurd (stopped rest front splits.stops (ap front_of (sym splits.whole) ∙ e))
 splits_behind stream (f ∷ fs) rest front e splits =
     let is = front_same front (f.stream, f.body, flat_map frame_text fs ++ rest) (sym e ∙ front_of_frames stream f fs rest splits) in
     (fs, record { whole = ap (λ (x : FrontFrame). x.2) is; each = splits.each.1; stops = splits.stops })
 
 -- where no frame stands whole, all is the rest
-pub splits_end : (stream : List ℕ) (frames : List Frame) (rest : List ℕ) → ((front : FrontFrame) → front_of stream ≡ Ok (Some front) → ⊥) → Splits stream frames rest → stream ≡ rest
+pub splits_end : (stream : List ℕ) (frames : List Frame) (rest : List ℕ) →
+    ((front : FrontFrame) → front_of stream ≡ Ok (Some front) → ⊥) → Splits stream frames rest → stream ≡ rest
 splits_end stream [] rest none splits = splits.whole
 splits_end stream (f ∷ fs) rest none splits = absurd (none (f.stream, f.body, flat_map frame_text fs ++ rest) (front_of_frames stream f fs rest splits))
 
 -- a stream has one list of frames, and one rest
-pub splits_only : (stream : List ℕ) (fs : List Frame) (r : List ℕ) (gs : List Frame) (t : List ℕ) → Splits stream fs r → Splits stream gs t → (fs ≡ gs) × (r ≡ t)
+pub splits_only : (stream : List ℕ) (fs : List Frame) (r : List ℕ) (gs : List Frame) (t : List ℕ) → Splits stream fs r →
+    Splits stream gs t → (fs ≡ gs) × (r ≡ t)
 splits_only stream [] r [] t a b = (refl, sym a.whole ∙ b.whole)
 splits_only stream [] r (g ∷ gs) t a b = absurd (stopped r (g.stream, g.body, flat_map frame_text gs ++ t) a.stops (ap front_of (sym a.whole) ∙ front_of_frames stream g gs t b))
 splits_only stream (f ∷ fs) r [] t a b = absurd (stopped t (f.stream, f.body, flat_map frame_text fs ++ r) b.stops (ap front_of (sym b.whole) ∙ front_of_frames stream f fs r a))
@@ -126,7 +134,8 @@ split_by stream (Ok (Some front)) is behind =
     let f = frame front.0 front.1 in
     (f ∷ tail.0, tail.1, record { whole = is.1 ∙ ap (λ (xs : List ℕ). frame_text f ++ xs) tail.2.whole ∙ sym (grouped f tail.0 tail.1); each = (is.0, tail.2.each); stops = tail.2.stops })
 
-split_within : (n : ℕ) (stream : List ℕ) → length stream ≤ n → AreOctets stream → (frames : List Frame) × (rest : List ℕ) × Splits stream frames rest
+split_within : (n : ℕ) (stream : List ℕ) → length stream ≤ n → AreOctets stream →
+    (frames : List Frame) × (rest : List ℕ) × Splits stream frames rest
 split_within zero [] le are = ([], [], record { whole = refl; each = tt; stops = inl tt })
 split_within zero (x ∷ stream) le are = absurd (omega arith)
 split_within (suc n) stream le are =
@@ -143,11 +152,15 @@ splits_some stream are = split_within (length stream) stream (omega arith) are
 held_octets : (a b : FramerState) → a ≡ b → a.octets ≡ b.octets
 held_octets a b e = ap (λ (h : FramerState). h.octets) e
 
-same_octets : (start between : FramerState) (more : List ℕ) (frames : List Frame) (rest : List ℕ) → between.octets ≡ start.octets → Splits (between.octets ++ more) frames rest → Splits (start.octets ++ more) frames rest
+same_octets : (start between : FramerState) (more : List ℕ) (frames : List Frame) (rest : List ℕ) →
+    between.octets ≡ start.octets → Splits (between.octets ++ more) frames rest →
+    Splits (start.octets ++ more) frames rest
 same_octets start between more frames rest e splits = subst (λ (xs : List ℕ). Splits (xs ++ more) frames rest) e splits
 
 -- what was fed is the frames that were given, then those still to be given, then the rest
-pub run_splits : (calls : List Call) (start held : FramerState) (frames : List Frame) (rest : List ℕ) → Run start calls held → Splits held.octets frames rest → Splits (start.octets ++ octets_of calls) (frames_of calls ++ frames) rest
+pub run_splits : (calls : List Call) (start held : FramerState) (frames : List Frame) (rest : List ℕ) →
+    Run start calls held → Splits held.octets frames rest →
+    Splits (start.octets ++ octets_of calls) (frames_of calls ++ frames) rest
 run_splits [] start held frames rest run splits =
     subst (λ (xs : List ℕ). Splits xs frames rest) (held_octets held start (sym run) ∙ sym (append-nil start.octets)) splits
 run_splits (feed piece (Ok u) ∷ cs) start held frames rest run splits =
@@ -179,7 +192,8 @@ not_both : (octets : List ℕ) (f : Frame) (rest : List ℕ) → IsTooLong octet
 not_both octets f rest long begins = absurd (cc (front_long octets long, ap front_of begins.1 ∙ front_again f rest begins.0))
 
 -- a framer that has refused a frame as too long holds it at the front
-pub run_fails : (calls : List Call) (start held : FramerState) → Run start calls held → (start.failed ≡ true → IsTooLong start.octets) → held.failed ≡ true → IsTooLong held.octets
+pub run_fails : (calls : List Call) (start held : FramerState) → Run start calls held →
+    (start.failed ≡ true → IsTooLong start.octets) → held.failed ≡ true → IsTooLong held.octets
 run_fails [] start held run well failed = subst (λ (h : FramerState). IsTooLong h.octets) run (well (ap (λ (h : FramerState). h.failed) run ∙ failed))
 run_fails (feed piece (Ok u) ∷ cs) start held run well failed =
     let is : run.0.failed ≡ false = ap (λ (h : FramerState). h.failed) run.1.1 in

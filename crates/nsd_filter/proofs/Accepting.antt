@@ -19,7 +19,8 @@ pub verdict_on-other : (m : ℕ) (progress : Option ℕ) (x : List ℕ) → is_f
 verdict_on-other m progress x apart = ap (option_map (judgement m progress)) (number_in-other m x apart)
 
 -- the verdict on a message at a place is that on the place's number
-verdict_on-carried : {m p : ℕ} {sent : List (List ℕ)} {x : List ℕ} (progress : Option ℕ) → 2 ≤ m → Carries m sent p x → verdict_on m progress x ≡ Some (judgement m progress (p % m))
+verdict_on-carried : {m p : ℕ} {sent : List (List ℕ)} {x : List ℕ} (progress : Option ℕ) → 2 ≤ m → Carries m sent p x →
+    verdict_on m progress x ≡ Some (judgement m progress (p % m))
 verdict_on-carried {m} {p} progress two c =
     ap (option_map (judgement m progress)) (ap (number_in m) c.carries ∙ number_in-with_number m (p % m) c.message (mod-lt p (omega arith)) c.is_clear.is_flow)
 
@@ -43,7 +44,8 @@ pub verdict_on-next : {m n : ℕ} {sent : List (List ℕ)} {x : List ℕ} → 2 
 verdict_on-next {m} {n} two c = verdict_on-carried (Some n) two c ∙ ap Some (cond-true (nat_eq (n % m) (n % m)) _ _ (eq-eqb (n % m) (n % m) refl))
 
 -- the message at the place before the next one is a duplicate
-pub verdict_on-again : {m n p : ℕ} {sent : List (List ℕ)} {x : List ℕ} → 2 ≤ m → n ≡ p + 1 → Carries m sent p x → verdict_on m (Some n) x ≡ Some Duplicate
+pub verdict_on-again : {m n p : ℕ} {sent : List (List ℕ)} {x : List ℕ} → 2 ≤ m → n ≡ p + 1 → Carries m sent p x →
+    verdict_on m (Some n) x ≡ Some Duplicate
 verdict_on-again {m} {n} {p} two e c =
     let differs : nat_eq (p % m) (n % m) ≡ false = ne_eqb (p % m) (n % m) (λ same. mod_suc_differs m p two (same ∙ ap (λ (k : ℕ). k % m) e)) in
     let sum : n + (m - 1) ≡ p + m = omega arith in
@@ -51,10 +53,12 @@ verdict_on-again {m} {n} {p} two e c =
     verdict_on-carried (Some n) two c ∙ ap Some (cond-false (nat_eq (p % m) (n % m)) _ _ differs ∙ cond-true (nat_eq (p % m) ((n + (m - 1)) % m)) _ _ (eq-eqb (p % m) ((n + (m - 1)) % m) before))
 
 -- what is accepted of a message and of those behind it, by the verdict on it
-accepted_list_from-by : (m n : ℕ) (x : List ℕ) (xs : List (List ℕ)) (v : Option Verdict) → verdict_on m (Some n) x ≡ v → accepted_list_from m (Some n) (x ∷ xs) ≡ delivery_of v x ++ accepted_list_from m (progress_past v (Some n)) xs
+accepted_list_from-by : (m n : ℕ) (x : List ℕ) (xs : List (List ℕ)) (v : Option Verdict) → verdict_on m (Some n) x ≡ v →
+    accepted_list_from m (Some n) (x ∷ xs) ≡ delivery_of v x ++ accepted_list_from m (progress_past v (Some n)) xs
 accepted_list_from-by m n x xs v is = ap (λ (v : Option Verdict). delivery_of v x ++ accepted_list_from m (progress_past v (Some n)) xs) is
 
-progress_from-by : (m n : ℕ) (x : List ℕ) (xs : List (List ℕ)) (v : Option Verdict) → verdict_on m (Some n) x ≡ v → progress_from m (Some n) (x ∷ xs) ≡ progress_from m (progress_past v (Some n)) xs
+progress_from-by : (m n : ℕ) (x : List ℕ) (xs : List (List ℕ)) (v : Option Verdict) → verdict_on m (Some n) x ≡ v →
+    progress_from m (Some n) (x ∷ xs) ≡ progress_from m (progress_past v (Some n)) xs
 progress_from-by m n x xs v is = ap (λ (v : Option Verdict). progress_from m (progress_past v (Some n)) xs) is
 
 -- the number has no part in what is given up
@@ -63,7 +67,8 @@ carried {m} {k} c = ap without_number c.carries ∙ without_number-with_number (
 
 -- Of messages whose places rise from n to k, what is accepted is what was sent between these
 -- places.
-pub accepted_list_from-rise : {m : ℕ} {sent : List (List ℕ)} {n k : ℕ} {xs : List (List ℕ)} → 2 ≤ m → Rise m sent n xs k → take n sent ++ accepted_list_from m (Some n) xs ≡ take k sent
+pub accepted_list_from-rise : {m : ℕ} {sent : List (List ℕ)} {n k : ℕ} {xs : List (List ℕ)} → 2 ≤ m →
+    Rise m sent n xs k → take n sent ++ accepted_list_from m (Some n) xs ≡ take k sent
 accepted_list_from-rise {sent} two (over n) = append-nil (take n sent)
 accepted_list_from-rise {m} {sent} {n} two (other {x} {xs} flow rise) =
     ap (λ (more : List (List ℕ)). take n sent ++ more) (accepted_list_from-by m n x xs None (verdict_on-other m (Some n) x flow)) ∙ accepted_list_from-rise two rise
@@ -76,14 +81,16 @@ accepted_list_from-rise {m} {sent} {n} two (again {x} {xs} e c rise) =
     ap (λ (more : List (List ℕ)). take n sent ++ more) (accepted_list_from-by m n x xs (Some Duplicate) (verdict_on-again two e c)) ∙ accepted_list_from-rise two rise
 
 -- no gap is found in them
-pub progress_from-rise : {m : ℕ} {sent : List (List ℕ)} {n k : ℕ} {xs : List (List ℕ)} → 2 ≤ m → Rise m sent n xs k → progress_from m (Some n) xs ≡ Some k
+pub progress_from-rise : {m : ℕ} {sent : List (List ℕ)} {n k : ℕ} {xs : List (List ℕ)} → 2 ≤ m → Rise m sent n xs k →
+    progress_from m (Some n) xs ≡ Some k
 progress_from-rise two (over n) = refl
 progress_from-rise {m} {n} two (other {x} {xs} flow rise) = progress_from-by m n x xs None (verdict_on-other m (Some n) x flow) ∙ progress_from-rise two rise
 progress_from-rise {m} {n} two (next {x} {xs} c rise) = progress_from-by m n x xs (Some Accept) (verdict_on-next two c) ∙ progress_from-rise two rise
 progress_from-rise {m} {n} two (again {x} {xs} e c rise) = progress_from-by m n x xs (Some Duplicate) (verdict_on-again two e c) ∙ progress_from-rise two rise
 
 -- what is accepted of a list that goes on
-pub accepted_list_from-append : (m : ℕ) (p : Option ℕ) (xs ys : List (List ℕ)) → accepted_list_from m p (xs ++ ys) ≡ accepted_list_from m p xs ++ accepted_list_from m (progress_from m p xs) ys
+pub accepted_list_from-append : (m : ℕ) (p : Option ℕ) (xs ys : List (List ℕ)) →
+    accepted_list_from m p (xs ++ ys) ≡ accepted_list_from m p xs ++ accepted_list_from m (progress_from m p xs) ys
 accepted_list_from-append m p [] ys = refl
 accepted_list_from-append m p (x ∷ xs) ys =
     let verdict : Option Verdict = verdict_on m p x in
@@ -91,6 +98,7 @@ accepted_list_from-append m p (x ∷ xs) ys =
     ∙ sym (append_assoc (delivery_of verdict x) (accepted_list_from m (progress_past verdict p) xs) (accepted_list_from m (progress_from m (progress_past verdict p) xs) ys))
 
 -- how far the flow has come after a list that goes on
-pub progress_from-append : (m : ℕ) (p : Option ℕ) (xs ys : List (List ℕ)) → progress_from m p (xs ++ ys) ≡ progress_from m (progress_from m p xs) ys
+pub progress_from-append : (m : ℕ) (p : Option ℕ) (xs ys : List (List ℕ)) →
+    progress_from m p (xs ++ ys) ≡ progress_from m (progress_from m p xs) ys
 progress_from-append m p [] ys = refl
 progress_from-append m p (x ∷ xs) ys = progress_from-append m (progress_past (verdict_on m p x) p) xs ys

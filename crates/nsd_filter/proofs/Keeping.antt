@@ -31,22 +31,32 @@ apart_by_number m (first ∷ second ∷ rest) is =
     ]
 
 -- the accepted list with one more message
-accepted_list-push : (m : ℕ) (taken : List (List ℕ)) (message : List ℕ) (v : Option Verdict) → verdict_on m (progress m taken) message ≡ v → accepted_list m (taken ++ message ∷ []) ≡ accepted_list m taken ++ delivery_of v message
+accepted_list-push : (m : ℕ) (taken : List (List ℕ)) (message : List ℕ) (v : Option Verdict) →
+    verdict_on m (progress m taken) message ≡ v →
+    accepted_list m (taken ++ message ∷ []) ≡ accepted_list m taken ++ delivery_of v message
 accepted_list-push m taken message v is =
     accepted_list_from-append m (Some 0) taken (message ∷ [])
     ∙ ap (λ (more : List (List ℕ)). accepted_list m taken ++ more) (append-nil (delivery_of (verdict_on m (progress m taken) message) message) ∙ ap (λ (v : Option Verdict). delivery_of v message) is)
 
-progress-push : (m : ℕ) (taken : List (List ℕ)) (message : List ℕ) (v : Option Verdict) → verdict_on m (progress m taken) message ≡ v → progress m (taken ++ message ∷ []) ≡ progress_past v (progress m taken)
+progress-push : (m : ℕ) (taken : List (List ℕ)) (message : List ℕ) (v : Option Verdict) →
+    verdict_on m (progress m taken) message ≡ v →
+    progress m (taken ++ message ∷ []) ≡ progress_past v (progress m taken)
 progress-push m taken message v is =
     progress_from-append m (Some 0) taken (message ∷ []) ∙ ap (λ (v : Option Verdict). progress_past v (progress m taken)) is
 
-not_of_the_flow-push : (taken : List (List ℕ)) (message : List ℕ) (b : Bool) → is_flow_message message ≡ b → not_of_the_flow (taken ++ message ∷ []) ≡ not_of_the_flow taken ++ filter (λ _. not b) (message ∷ [])
+not_of_the_flow-push : (taken : List (List ℕ)) (message : List ℕ) (b : Bool) → is_flow_message message ≡ b →
+    not_of_the_flow (taken ++ message ∷ []) ≡ not_of_the_flow taken ++ filter (λ _. not b) (message ∷ [])
 not_of_the_flow-push taken message b is =
     filter-append (λ message. not (is_flow_message message)) taken (message ∷ [])
     ∙ ap (λ (b : Bool). not_of_the_flow taken ++ filter (λ _. not b) (message ∷ [])) is
 
 -- a message of the flow was judged
-pub is_kept_numbered : (m : ℕ) (old new : FilterState) (taken accepted others : List (List ℕ)) (message : List ℕ) (number : ℕ) (verdict : Verdict) → number_in m message ≡ Some number → IsKept m old taken accepted others → ((p : Option ℕ) → StandsFor old p → verdict ≡ judgement old.modulus p number) → ((p : Option ℕ) → StandsFor old p → StandsFor new (progress_after old.modulus p number)) → new.modulus ≡ old.modulus → IsKept m new (taken ++ message ∷ []) (accepted ++ delivery_by verdict (without_number message)) others
+pub is_kept_numbered : (m : ℕ) (old new : FilterState) (taken accepted others : List (List ℕ)) (message : List ℕ)
+    (number : ℕ) (verdict : Verdict) → number_in m message ≡ Some number → IsKept m old taken accepted others →
+    ((p : Option ℕ) → StandsFor old p → verdict ≡ judgement old.modulus p number) →
+    ((p : Option ℕ) → StandsFor old p → StandsFor new (progress_after old.modulus p number)) →
+    new.modulus ≡ old.modulus →
+    IsKept m new (taken ++ message ∷ []) (accepted ++ delivery_by verdict (without_number message)) others
 is_kept_numbered m old new taken accepted others message number verdict is kept judges goes_on same_modulus =
     let judged : verdict ≡ judgement m (progress m taken) number = judges (progress m taken) kept.stands ∙ ap (λ (n : ℕ). judgement n (progress m taken) number) kept.modulus in
     let stands : StandsFor new (progress_after m (progress m taken) number) = subst (λ (n : ℕ). StandsFor new (progress_after n (progress m taken) number)) kept.modulus (goes_on (progress m taken) kept.stands) in
@@ -62,7 +72,9 @@ is_kept_numbered m old new taken accepted others message number verdict is kept 
     }
 
 -- a message without a number was passed on
-pub is_kept_unnumbered : (m : ℕ) (state : FilterState) (taken accepted others : List (List ℕ)) (message : List ℕ) → number_in m message ≡ None → IsKept m state taken accepted others → IsKept m state (taken ++ message ∷ []) accepted (others ++ message ∷ [])
+pub is_kept_unnumbered : (m : ℕ) (state : FilterState) (taken accepted others : List (List ℕ)) (message : List ℕ) →
+    number_in m message ≡ None → IsKept m state taken accepted others →
+    IsKept m state (taken ++ message ∷ []) accepted (others ++ message ∷ [])
 is_kept_unnumbered m state taken accepted others message is kept =
     let on : verdict_on m (progress m taken) message ≡ None = ap (option_map (judgement m (progress m taken))) is in
     record {
