@@ -1,14 +1,10 @@
 -- What messages hand, relay and reject.
 use Rattle.conn_rules.proofs.Prelude.{◌≡◌, ℕ, ◌||◌, Bool, true, false, ◌&&◌, List, [], ◌∷◌, ◌++◌, map, filter, refl, sym, ◌∙◌, leb}
 use Rattle.conn_rules.proofs.Prelude.{if◌then◌else◌, true≢false, filter-append, AllByRecursion, Channel, Message, Station, handing}
-use Rattle.conn_rules.proofs.Prelude.{cond_both, Sapi, Zero, Three, DataRequest}
-use Rattle.std.proofs.lemmas.Grind.{flat_map-append}
+use Rattle.conn_rules.proofs.Prelude.{cond_both, Sapi, Zero, Three, DataRequest, flat_map-append, Request, Data, link_on, is_of, is_dtap}
+use Rattle.conn_rules.proofs.Prelude.{relayed_by, relayed, handed_by, handed, GoesTo, is_reject, rejects, without_rejected, FIRST_SDCCH}
 use Rattle.bssmap_codec.specs.declared.bssap.Bssap.TheVariants.{Management, Transfer}
 use Rattle.bssmap_codec.specs.declared.bssmap.Bssmap.TheVariants.{SapiNReject}
-use Rattle.conn_messages.specs.declared.message.Message.TheVariants.{Request, Data}
-use Rattle.conn_messages.specs.StationMessage.{link_on}
-use Rattle.conn_rules.specs.Streams.{is_of, is_dtap, relayed_by, relayed, handed_by, handed, GoesTo, is_reject, rejects, without_rejected}
-use Rattle.rsl_codec.specs.declared.channel_number.TheConstants.{FIRST_SDCCH}
 
 -- all of one list and of another
 pub AllByRecursion-append : {A : Type 0} (P : A → Type 0) (xs ys : List A) → AllByRecursion P xs → AllByRecursion P ys → AllByRecursion P (xs ++ ys)
