@@ -125,14 +125,11 @@ handed_by-handing c Three Zero message = refl
 handed_by-handing c Three Three message = rw (is_short_link c.number).0 refl
 
 pub handed-handing : (c : Channel) (of sapi : Sapi) (messages : List (List ℕ)) → handed of (map (handing c sapi) messages) ≡ filter is_dtap (of_sapi of sapi messages)
-handed-handing c Zero Zero [] = refl
-handed-handing c Three Three [] = refl
-handed-handing c Zero Three [] = refl
-handed-handing c Three Zero [] = refl
 handed-handing c Zero Zero (m ∷ ms) = rw (handed_by-handing c Zero Zero m, handed-handing c Zero Zero ms) (sym (filter-append is_dtap (m ∷ []) ms))
 handed-handing c Three Three (m ∷ ms) = rw (handed_by-handing c Three Three m, handed-handing c Three Three ms) (sym (filter-append is_dtap (m ∷ []) ms))
 handed-handing c Zero Three (m ∷ ms) = rw (handed_by-handing c Zero Three m, handed-handing c Zero Three ms) refl
 handed-handing c Three Zero (m ∷ ms) = rw (handed_by-handing c Three Zero m, handed-handing c Three Zero ms) refl
+handed-handing c _ _ _ = refl
 
 pub handed-append : (sapi : Sapi) (xs ys : List Message) → handed sapi (xs ++ ys) ≡ handed sapi xs ++ handed sapi ys
 handed-append sapi xs ys = flat_map-append (handed_by sapi) xs ys

@@ -77,11 +77,9 @@ done-still sapi at future serving (suc place) (d ∷ ds) (t ∷ ts) over drains 
 -- ---- the target serves, and the channel that served drains
 
 pub moved_still : (sapi : Sapi) (future : Future) (serving target : Channel) (ds : List Drain) (ts : List Tenure) → length ts ≡ length ds + 1 → still_of sapi future target (ds ++ record { channel = serving; is_done = false } ∷ []) (ts ++ empty_tenure ∷ []) ≡ still_of sapi future serving ds ts ++ on_channel future target
-moved_still sapi future serving target [] [] long = absurd (omega arith)
 moved_still sapi future serving target [] (t ∷ []) long =
     rw (empty-messages sapi) (sym (append_assoc (tenure_messages t sapi) (on_channel future serving) (on_channel future target)))
-moved_still sapi future serving target [] (t ∷ (u ∷ ts)) long = absurd (omega arith)
-moved_still sapi future serving target (d ∷ ds) [] long = absurd (omega arith)
 moved_still sapi future serving target (d ∷ ds) (t ∷ ts) long =
     let others = moved_still sapi future serving target ds ts (omega arith) in
     rw others (simp append_assoc)
+moved_still sapi future serving target _ _ long = absurd (omega arith)
