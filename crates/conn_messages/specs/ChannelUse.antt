@@ -7,6 +7,8 @@ use Rattle.rsl_codec.specs.declared.rsl.Rsl.TheVariants.{ChannelActivation, RfCh
 
 -- CHANNEL ACTIVATION takes it into use; RF CHANNEL RELEASE has it releasing
 abbrev pub use_by : Message → ChannelUse
-use_by (Station station (ChannelActivation a)) = Activated (record { station = station; number = a.channel }) a.activation
-use_by (Station station (RfChannelRelease channel)) = Released (record { station = station; number = channel })
+use_by (Station station (ChannelActivation a)) =
+    Activated (record { station = station; number = a.channel }) a.activation
+use_by (Station station (RfChannelRelease channel)) =
+    Released (record { station = station; number = channel })
 use_by _ = Unchanged

@@ -21,18 +21,29 @@ use Rattle.rsl_codec.specs.RslText.{rsl_text, rsl_write_fault}
 
 -- RSL on the link of a station
 abbrev pub station_out : ℕ → ℕ → Rsl → Out
-station_out number station message = record { to = station; conn = number; frame = record { stream = RSL_STREAM; body = rsl_text message } }
+station_out number station message = record {
+  to = station;
+  conn = number;
+  frame = record { stream = RSL_STREAM; body = rsl_text message };
+}
 
 -- SCCP on the link of the switch
 abbrev pub switch_out : ℕ → Sccp → Out
-switch_out number message = record { to = SWITCH_LINK; conn = number; frame = record { stream = SCCP_STREAM; body = sccp_text message } }
+switch_out number message = record {
+  to = SWITCH_LINK;
+  conn = number;
+  frame = record { stream = SCCP_STREAM; body = sccp_text message };
+}
 
 -- the frame of a message of the connection with this number, which is its reference too
 unfoldable pub out_of : ℕ → Message → Out
 out_of number (Station station message) = station_out number station message
-out_of number (Request message) = switch_out number (sccp.ConnectionRequest number (Some (bssap_text message)))
-out_of number (Data destination message) = switch_out number (sccp.DataForm1 destination (bssap_text message))
-out_of number (ReleaseComplete destination) = switch_out number (sccp.ReleaseComplete destination number)
+out_of number (Request message) =
+    switch_out number (sccp.ConnectionRequest number (Some (bssap_text message)))
+out_of number (Data destination message) =
+    switch_out number (sccp.DataForm1 destination (bssap_text message))
+out_of number (ReleaseComplete destination) =
+    switch_out number (sccp.ReleaseComplete destination number)
 
 abbrev pub outs_of : ℕ → List Message → List Out
 outs_of number = map (out_of number)
@@ -67,7 +78,10 @@ IsSound message = IsWritable message × IsLawfulMessage message
 abbrev pub IsReadOf : ℕ → Message → List ℕ → Type 0
 IsReadOf number (Station station message) octets = rsl_reading octets ≡ Ok message
 IsReadOf number (Request message) octets =
-    (user : List ℕ) × (sccp_reading octets ≡ Ok (sccp.ConnectionRequest number (Some user))) × (bssap_reading user ≡ Ok message)
+    (user : List ℕ) × (sccp_reading octets ≡ Ok (sccp.ConnectionRequest number (Some user)))
+    × (bssap_reading user ≡ Ok message)
 IsReadOf number (Data destination message) octets =
-    (user : List ℕ) × (sccp_reading octets ≡ Ok (sccp.DataForm1 destination user)) × (bssap_reading user ≡ Ok message)
-IsReadOf number (ReleaseComplete destination) octets = sccp_reading octets ≡ Ok (sccp.ReleaseComplete destination number)
+    (user : List ℕ) × (sccp_reading octets ≡ Ok (sccp.DataForm1 destination user))
+    × (bssap_reading user ≡ Ok message)
+IsReadOf number (ReleaseComplete destination) octets =
+    sccp_reading octets ≡ Ok (sccp.ReleaseComplete destination number)

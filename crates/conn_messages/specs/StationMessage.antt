@@ -32,7 +32,11 @@ link_on number Three = short_message_link number
 
 -- a layer 3 message is handed: DATA REQUEST on the link of its SAPI
 abbrev pub handing : Channel → Sapi → List ℕ → Message
-handing c sapi l3 = Station c.station (DataRequest (record { channel = c.number; link = link_on c.number sapi; l3 = l3 }))
+handing c sapi l3 = Station c.station (DataRequest (record {
+  channel = c.number;
+  link = link_on c.number sapi;
+  l3 = l3;
+}))
 
 -- a message of radio resource management, which takes SAPI 0
 abbrev pub rr_to_mobile : Channel → RrMessage → Message
@@ -43,12 +47,17 @@ channel_release c cause = rr_to_mobile c (ChannelRelease (record { 0 = cause }))
 
 -- the training sequence code of a channel is the BCC of its cell
 abbrev pub channel_description : Channel → ChannelDescription
-channel_description c = record { channel = record { 0 = c.number }; tsc = c.description.bcc; arfcn = c.description.arfcn }
+channel_description c = record {
+  channel = record { 0 = c.number };
+  tsc = c.description.bcc;
+  arfcn = c.description.arfcn;
+}
 
 -- to the mobile on the serving channel: it is to change to the target
 abbrev pub command : Change → Channel → RrMessage
 command Assignment target = AssignmentCommand (channel_description target)
-command Handover target = HandoverCommand target.description (channel_description target) target.reference.0
+command Handover target =
+    HandoverCommand target.description (channel_description target) target.reference.0
 
 abbrev pub change_command : Channel → Change → Channel → Message
 change_command serving change target = rr_to_mobile serving (command change target)
@@ -56,14 +65,19 @@ change_command serving change target = rr_to_mobile serving (command change targ
 -- ---- messages to the station itself
 
 abbrev pub establish_request : Channel → Message
-establish_request c = Station c.station (EstablishRequest (record { channel = c.number; link = short_message_link c.number }))
+establish_request c = Station c.station (EstablishRequest (record {
+  channel = c.number;
+  link = short_message_link c.number;
+}))
 
 abbrev pub rf_channel_release : Channel → Message
 rf_channel_release c = Station c.station (RfChannelRelease c.number)
 
 -- what the channel carries: signalling on an SDCCH, speech on a TCH
 abbrev pub mode_of : ℕ → List ℕ
-mode_of number = if nat_le FIRST_SDCCH number then SDCCH_MODE else (if nat_le FIRST_TCH_H number then HALF_RATE_MODE else FULL_RATE_MODE)
+mode_of number =
+    if nat_le FIRST_SDCCH number then SDCCH_MODE
+    else (if nat_le FIRST_TCH_H number then HALF_RATE_MODE else FULL_RATE_MODE)
 
 abbrev pub activation : Channel → ActivationType → Option HandoverReference → Message
 activation c kind reference = Station c.station (ChannelActivation (record {
@@ -84,8 +98,12 @@ change_activation Handover target = activation target ASYNCHRONOUS_HANDOVER (Som
 
 -- the timing advance is the access delay, as far as six bits say it
 abbrev pub immediate_assignment : Channel → RequestReference → ℕ → RrMessage
-immediate_assignment c request delay = ImmediateAssignment (channel_description c) (reference_value request) (min delay MAX_TIMING_ADVANCE)
+immediate_assignment c request delay =
+    ImmediateAssignment (channel_description c) (reference_value request)
+    (min delay MAX_TIMING_ADVANCE)
 
 abbrev pub immediate_assign_command : Channel → RequestReference → ℕ → Message
-immediate_assign_command c request delay =
-    Station c.station (ImmediateAssignCommand (record { channel = PCH_AND_AGCH; information = rr_text (immediate_assignment c request delay) }))
+immediate_assign_command c request delay = Station c.station (ImmediateAssignCommand (record {
+  channel = PCH_AND_AGCH;
+  information = rr_text (immediate_assignment c request delay);
+}))

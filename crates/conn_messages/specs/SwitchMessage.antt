@@ -36,7 +36,8 @@ relaying reference c sapi message = Data reference (Transfer (dlci_on c.number s
 
 -- the initial message of the mobile opens the connection
 abbrev pub complete_layer3 : Channel → List ℕ → Message
-complete_layer3 c initial = Request (Management (CompleteLayer3Information (record { 0 = c.cell }) initial))
+complete_layer3 c initial =
+    Request (Management (CompleteLayer3Information (record { 0 = c.cell }) initial))
 
 abbrev pub clear_request : ℕ → ℕ → Message
 clear_request reference cause = management reference (ClearRequest (cause_of cause))
@@ -49,16 +50,22 @@ release_complete destination = messages.ReleaseComplete destination
 
 -- an assignment that failed, with the mobile's cause where it gave one
 abbrev pub assignment_failure : ℕ → ℕ → Option RrCause → Message
-assignment_failure reference cause rr_cause = management reference (AssignmentFailure (cause_of cause) rr_cause)
+assignment_failure reference cause rr_cause =
+    management reference (AssignmentFailure (cause_of cause) rr_cause)
 
 -- a change was completed to this channel, with the mobile's cause
 abbrev pub change_complete : ℕ → Change → Channel → ℕ → Message
-change_complete reference Assignment target cause = management reference (AssignmentComplete (Some (record { 0 = cause })))
-change_complete reference Handover target cause = management reference (HandoverPerformed (cause_of BETTER_CELL) (record { 0 = target.cell }))
+change_complete reference Assignment target cause =
+    management reference (AssignmentComplete (Some (record { 0 = cause })))
+change_complete reference Handover target cause =
+    management reference (HandoverPerformed (cause_of BETTER_CELL) (record { 0 = target.cell }))
 
 -- SAPI 3 can't be had on this channel
 abbrev pub sapi_3_reject : ℕ → Channel → Message
-sapi_3_reject reference c = management reference (SapiNReject (record { 0 = dlci_on c.number Three }) (cause_of BSS_NOT_EQUIPPED))
+sapi_3_reject reference c =
+    management reference
+    (SapiNReject (record { 0 = dlci_on c.number Three }) (cause_of BSS_NOT_EQUIPPED))
 
 abbrev pub cipher_mode_reject : ℕ → Message
-cipher_mode_reject reference = management reference (CipherModeReject (cause_of CIPHERING_NOT_SUPPORTED))
+cipher_mode_reject reference =
+    management reference (CipherModeReject (cause_of CIPHERING_NOT_SUPPORTED))

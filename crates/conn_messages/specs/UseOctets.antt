@@ -12,7 +12,8 @@ abbrev pub octet_at : List ℕ → ℕ → ℕ
 octet_at octets place = slice_index_or octets place 0
 
 abbrev pub activated_by : ℕ → Result ℕ RslFault → ℕ → ChannelUse
-activated_by station (Ok number) activation = Activated (record { station = station; number = number }) (record { 0 = activation })
+activated_by station (Ok number) activation =
+    Activated (record { station = station; number = number }) (record { 0 = activation })
 activated_by station (Err fault) activation = Unchanged
 
 abbrev pub released_by : ℕ → Result ℕ RslFault → ChannelUse
@@ -22,14 +23,17 @@ released_by station (Err fault) = Unchanged
 -- the channel number is the value of the first element, the activation type that of the second
 abbrev pub use_by_type : ℕ → ℕ → List ℕ → ChannelUse
 use_by_type station type octets =
-    if type == CHANNEL_ACTIVATION then activated_by station (channel_by (octet_at octets 3)) (octet_at octets 5)
+    if type == CHANNEL_ACTIVATION
+    then activated_by station (channel_by (octet_at octets 3)) (octet_at octets 5)
     else if type == RF_CHANNEL_RELEASE then released_by station (channel_by (octet_at octets 3))
     else Unchanged
 
 -- of a frame to a station
 abbrev pub use_in : ℕ → ℕ → List ℕ → ChannelUse
 use_in station stream octets =
-    if (stream == RSL_STREAM) && (octet_at octets 0 == DEDICATED_CHANNEL) then use_by_type station (octet_at octets 1) octets else Unchanged
+    if (stream == RSL_STREAM) && (octet_at octets 0 == DEDICATED_CHANNEL)
+    then use_by_type station (octet_at octets 1) octets
+    else Unchanged
 
 abbrev pub use_of : Out → ChannelUse
 use_of out = use_in out.to out.frame.stream out.frame.body

@@ -23,7 +23,10 @@ impl Model for Outputs {
 
     ghost Value = { OutputsState };
 
-    ghost view = { λ o. record { outs = o.outs.items; spare = vec_capacity o.outs - vec_len o.outs } };
+    ghost view = { λ o. record {
+      outs = o.outs.items;
+      spare = vec_capacity o.outs - vec_len o.outs;
+    } };
 
     ghost invariant = { λ o. AllByRecursion IsSendable o.outs.items };
 }

@@ -138,7 +138,8 @@ pub fn immediate_assign_command(
     request: RequestReference,
     delay: AccessDelay,
 ) -> Result<Message, Memory>
-    ensures word { IfOk result (λ m. m ≡ words.immediate_assign_command channel.now request delay.0) }
+    ensures word { IfOk result
+        (λ m. m ≡ words.immediate_assign_command channel.now request delay.0) }
     ensures writable { IfOk result (λ m. IsWritable m) }
     ensures lawful { IfOk result (λ m. IsLawfulMessage m) }
 {

@@ -100,7 +100,8 @@ pub fn change_complete(
     target: &Channel,
     cause: RrCause,
 ) -> Result<Message, Memory>
-    ensures word { IfOk result (λ m. m ≡ words.change_complete reference change target.now cause.0) }
+    ensures word { IfOk result
+        (λ m. m ≡ words.change_complete reference change target.now cause.0) }
     ensures writable { IfOk result (λ m. IsWritable m) }
     ensures lawful { IfOk result (λ m. IsLawfulMessage m) }
 {

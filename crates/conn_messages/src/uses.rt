@@ -25,7 +25,8 @@ pub enum ChannelUse {
 /// discriminator, the message type and the elements that these messages begin with.
 pub fn channel_use(out: &Out) -> ChannelUse
     ensures octets { result ≡ words.use_of out.now }
-    ensures message { (number : ℕ) (message : Message) → IsLawfulMessage message → out.now ≡ out_of number message → result ≡ use_by message }
+    ensures message { (number : ℕ) (message : Message) →
+        IsLawfulMessage message → out.now ≡ out_of number message → result ≡ use_by message }
 {
     use_in(out.to, out.frame.stream, out.frame.body.as_slice())
 }

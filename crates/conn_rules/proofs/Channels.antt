@@ -3,21 +3,12 @@
 use Rattle.conn_rules.proofs.Prelude.{◌≡◌, ℕ, zero, suc, ◌&&◌, Bool, true, false, if◌then◌else◌, List, [], ◌∷◌, ◌++◌, Option, Some, None}
 use Rattle.conn_rules.proofs.Prelude.{Contains, refl, sym, subst, append_assoc, Contains-push, Contains-append_left, Contains-append_right}
 use Rattle.conn_rules.proofs.Prelude.{AllByRecursion, EQUIPMENT_FAILURE, Change, Assignment, Handover, Channel, Place, Sapi, Zero, Three}
-use Rattle.std.specs.Option.{option_to_list}
-use Rattle.conn_rules.specs.declared.input.Input.{Input}
+use Rattle.conn_rules.proofs.Prelude.{option_to_list, Input, Due, WasAsked, Drain, ShortMessageLink, Up, Stage, Preparing, Changing}
+use Rattle.conn_rules.proofs.Prelude.{Draining, State, WaitActivation, WaitEstablish, WaitConfirm, Live, Closed, Removed, Connection}
+use Rattle.conn_rules.proofs.Prelude.{tenure_at, drain_at, OfRow, target_in}
 use Rattle.conn_rules.specs.declared.input.Input.TheVariants as inputs
-use Rattle.conn_rules.specs.declared.state.Clearing.TheVariants.{Due, Asked as WasAsked}
-use Rattle.conn_rules.specs.declared.state.Drain.{Drain}
-use Rattle.conn_rules.specs.declared.state.ShortMessageLink.{ShortMessageLink}
-use Rattle.conn_rules.specs.declared.state.ShortMessageLink.TheVariants.{Down, Asked, Up}
-use Rattle.conn_rules.specs.declared.state.Stage.{Stage}
-use Rattle.conn_rules.specs.declared.state.Stage.TheVariants.{Active, Preparing, Changing, Draining}
-use Rattle.conn_rules.specs.declared.state.State.{State}
-use Rattle.conn_rules.specs.declared.state.State.TheVariants.{WaitActivation, WaitEstablish, WaitConfirm, Live, Closed, Removed}
-use Rattle.conn_rules.specs.Connection.{Connection, tenure_at, drain_at}
 use Rattle.conn_rules.specs.Roles.{KeepsChannels}
 use Rattle.conn_rules.specs.Steps.{Row, failing, begin, begin_waiting, after_waiting, hold_down, hold_short_message, short_message, link_down, hold_up, relay_held, leave, shifted, settled, settled_stage, resting_stage, resting, moved, hand_held, ask_for_held, done_at, may_begin}
-use Rattle.conn_rules.specs.Streams.{OfRow, target_in}
 use Rattle.conn_rules.specs.Table.{row_of, row_if, serving_after, refuse, access, release, complete, failure, speech_request, release_in, dtap_in, dtap_on_target, on_activation_ack, on_activation_nack, on_establish_indication, on_establish_confirm, on_release_indication, on_error_indication, on_connection_failure, on_dtap, on_complete, on_failure, on_release_ack, on_move, on_confirm, on_refused, on_released, on_downlink, on_assignment_request, on_cipher_mode_command, on_clear_command, on_expiry, on_drain_expiry, on_station_down, on_switch_down}
 
 -- what holds of channels that serve, and what holds of targets
@@ -41,11 +32,7 @@ module _ (P Q : Channel → Type 0) where
 
   of_failing : (state : State) (s : Connection) (cause n : ℕ) → IsWithin n s → GoesWithin n (failing state s cause)
   of_failing WaitActivation s cause n w = (w.0, w.1, tt)
-  of_failing WaitEstablish s cause n w = (w.0, w.1, tt)
-  of_failing WaitConfirm s cause n w = (w.0, w.1, tt)
-  of_failing (Live reference stage) s cause n w = (w.0, w.1, tt)
-  of_failing (Closed clearing) s cause n w = (w.0, w.1, tt)
-  of_failing Removed s cause n w = (w.0, w.1, tt)
+  of_failing _ s cause n w = (w.0, w.1, tt)
 
   of_begin : (reference : ℕ) (change : Change) (offer : Option Channel) (s : Connection) (n : ℕ) → IsWithin n s → AllByRecursion Q (option_to_list offer) → GoesWithin n (begin reference change offer s)
   of_begin reference change (Some channel) s n w o = (w.0, w.1, o)
@@ -67,13 +54,11 @@ module _ (P Q : Channel → Type 0) where
 
   of_short_message : (state : State) (link : ShortMessageLink) (message : List ℕ) (s : Connection) (n : ℕ) → IsWithin n s → GoesWithin n (short_message state link message s)
   of_short_message state Up message s n w = w
-  of_short_message state Asked message s n w = of_hold_short_message state message s n w
-  of_short_message state Down message s n w = of_hold_short_message state message s n w
+  of_short_message state _ message s n w = of_hold_short_message state message s n w
 
   of_link_down : (link : ShortMessageLink) (reference : ℕ) (s : Connection) (n : ℕ) → IsWithin n s → GoesWithin n (link_down link reference s)
   of_link_down Up reference s n w = w
-  of_link_down Asked reference s n w = w
-  of_link_down Down reference s n w = w
+  of_link_down _ reference s n w = w
 
   of_hold_up : (state : State) (tenure : ℕ) (sapi : Sapi) (message : List ℕ) (s : Connection) (n : ℕ) → IsWithin n s → GoesWithin n (hold_up state tenure sapi message s)
   of_hold_up state tenure sapi message s n w = either _ n _ _ (of_failing state s EQUIPMENT_FAILURE n w) w
@@ -83,11 +68,9 @@ module _ (P Q : Channel → Type 0) where
   of_leave reference (d ∷ ds) s n w = either d.is_done n _ _ (of_leave reference ds (relay_held reference (shifted ds s)).next n w) w
 
   of_settled : (reference : ℕ) (stage : Stage) (draining : List Drain) (s : Connection) (n : ℕ) → IsWithin n s → IsWithin n (settled reference stage draining s)
-  of_settled reference Active draining s n w = w
-  of_settled reference (Preparing target) draining s n w = w
-  of_settled reference (Changing target) draining s n w = w
   of_settled reference Draining [] s n w = (w.0, w.1, tt)
   of_settled reference Draining (d ∷ ds) s n w = w
+  of_settled reference _ draining s n w = w
 
   none_targeted : (reference : ℕ) (draining : List Drain) → AllByRecursion Q (target_in (Live reference (resting_stage draining)))
   none_targeted reference [] = tt
@@ -249,12 +232,8 @@ module _ (P Q : Channel → Type 0) where
   of_station_down _ s station n w = tt
 
   of_switch_down : (state : State) (s : Connection) (n : ℕ) → IsWithin n s → OfRow (GoesWithin n) (on_switch_down state s)
-  of_switch_down WaitActivation s n w = (w.0, w.1, tt)
-  of_switch_down WaitEstablish s n w = (w.0, w.1, tt)
-  of_switch_down WaitConfirm s n w = (w.0, w.1, tt)
-  of_switch_down (Live reference stage) s n w = (w.0, w.1, tt)
-  of_switch_down (Closed clearing) s n w = (w.0, w.1, tt)
   of_switch_down Removed s n w = tt
+  of_switch_down _ s n w = (w.0, w.1, tt)
 
   -- of a COMPLETE, the target is one that may serve
   abbrev pub MayServe : Input → Connection → Type 0

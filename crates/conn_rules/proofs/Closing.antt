@@ -1,9 +1,6 @@
 -- The end of a connection is final, by what every row does.
-use Rattle.conn_rules.proofs.Prelude.{Option, Channel}
-use Rattle.conn_rules.specs.declared.input.Input.{Input}
-use Rattle.conn_rules.specs.Connection.{Connection}
+use Rattle.conn_rules.proofs.Prelude.{Option, Channel, Input, Connection, OfRow, IsOpen, IsFinal}
 use Rattle.conn_rules.specs.Steps.{Row}
-use Rattle.conn_rules.specs.Streams.{OfRow, IsOpen, IsFinal}
 use Rattle.conn_rules.specs.Table.{row_of}
 use Rattle.conn_rules.proofs.Downlink.{of_row_so}
 use Rattle.conn_rules.proofs.DownlinkMessages.{handed-parting, relayed-parting}

@@ -1,17 +1,12 @@
 -- The laws of the downlink, by what every row does.
-use Rattle.conn_rules.proofs.Prelude.{Option, Some, None, Channel, Sapi, Zero, Three}
-use Rattle.conn_rules.specs.declared.input.Input.{Input}
-use Rattle.conn_rules.specs.declared.state.State.{State}
-use Rattle.conn_rules.specs.Connection.{Connection}
-use Rattle.conn_rules.specs.Standing.{Stands}
+use Rattle.conn_rules.proofs.Prelude.{Option, Some, None, Channel, Sapi, Zero, Three, Input, State, Connection, Stands, OfRow}
+use Rattle.conn_rules.proofs.Prelude.{KeepsDownlink, IsSilent, GoesTo}
 use Rattle.conn_rules.specs.Steps.{Row}
-use Rattle.conn_rules.specs.Streams.{OfRow, KeepsDownlink, IsSilent}
 use Rattle.conn_rules.specs.Table.{row_of}
 use Rattle.conn_rules.proofs.DownlinkMessages.{AllByRecursion-so, IsParting, handed-parting, handed-quiet, goes_to_parting}
 use Rattle.conn_rules.proofs.DownlinkSteps.{Does, keeps_downlink_quiet}
 use Rattle.conn_rules.proofs.DownlinkSteps.Does.{ends, passes, moves}
 use Rattle.conn_rules.proofs.DownlinkTable.{Does-row}
-use Rattle.conn_rules.specs.Streams.{GoesTo}
 
 -- what every row has
 pub of_row_so : (P Q : Row → Type 0) → ((r : Row) → P r → Q r) → (o : Option Row) → OfRow P o → OfRow Q o

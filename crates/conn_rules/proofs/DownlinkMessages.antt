@@ -1,14 +1,10 @@
 -- What messages hand, relay and reject.
 use Rattle.conn_rules.proofs.Prelude.{◌≡◌, ℕ, ◌||◌, Bool, true, false, ◌&&◌, List, [], ◌∷◌, ◌++◌, map, filter, refl, sym, ◌∙◌, leb}
 use Rattle.conn_rules.proofs.Prelude.{if◌then◌else◌, true≢false, filter-append, AllByRecursion, Channel, Message, Station, handing}
-use Rattle.conn_rules.proofs.Prelude.{cond_both, Sapi, Zero, Three, DataRequest}
-use Rattle.std.proofs.lemmas.Grind.{flat_map-append}
+use Rattle.conn_rules.proofs.Prelude.{cond_both, Sapi, Zero, Three, DataRequest, flat_map-append, Request, Data, link_on, is_of, is_dtap}
+use Rattle.conn_rules.proofs.Prelude.{relayed_by, relayed, handed_by, handed, GoesTo, is_reject, rejects, without_rejected, FIRST_SDCCH}
 use Rattle.bssmap_codec.specs.declared.bssap.Bssap.TheVariants.{Management, Transfer}
 use Rattle.bssmap_codec.specs.declared.bssmap.Bssmap.TheVariants.{SapiNReject}
-use Rattle.conn_messages.specs.declared.message.Message.TheVariants.{Request, Data}
-use Rattle.conn_messages.specs.StationMessage.{link_on}
-use Rattle.conn_rules.specs.Streams.{is_of, is_dtap, relayed_by, relayed, handed_by, handed, GoesTo, is_reject, rejects, without_rejected}
-use Rattle.rsl_codec.specs.declared.channel_number.TheConstants.{FIRST_SDCCH}
 
 -- all of one list and of another
 pub AllByRecursion-append : {A : Type 0} (P : A → Type 0) (xs ys : List A) → AllByRecursion P xs → AllByRecursion P ys → AllByRecursion P (xs ++ ys)
@@ -129,14 +125,11 @@ handed_by-handing c Three Zero message = refl
 handed_by-handing c Three Three message = rw (is_short_link c.number).0 refl
 
 pub handed-handing : (c : Channel) (of sapi : Sapi) (messages : List (List ℕ)) → handed of (map (handing c sapi) messages) ≡ filter is_dtap (of_sapi of sapi messages)
-handed-handing c Zero Zero [] = refl
-handed-handing c Three Three [] = refl
-handed-handing c Zero Three [] = refl
-handed-handing c Three Zero [] = refl
 handed-handing c Zero Zero (m ∷ ms) = rw (handed_by-handing c Zero Zero m, handed-handing c Zero Zero ms) (sym (filter-append is_dtap (m ∷ []) ms))
 handed-handing c Three Three (m ∷ ms) = rw (handed_by-handing c Three Three m, handed-handing c Three Three ms) (sym (filter-append is_dtap (m ∷ []) ms))
 handed-handing c Zero Three (m ∷ ms) = rw (handed_by-handing c Zero Three m, handed-handing c Zero Three ms) refl
 handed-handing c Three Zero (m ∷ ms) = rw (handed_by-handing c Three Zero m, handed-handing c Three Zero ms) refl
+handed-handing c _ _ _ = refl
 
 pub handed-append : (sapi : Sapi) (xs ys : List Message) → handed sapi (xs ++ ys) ≡ handed sapi xs ++ handed sapi ys
 handed-append sapi xs ys = flat_map-append (handed_by sapi) xs ys

@@ -2,20 +2,11 @@
 use Rattle.conn_rules.proofs.Prelude.{◌≡◌, ℕ, Bool, true, false, not, ◌&&◌, List, [], ◌∷◌, ◌++◌, map, filter, refl, sym, ◌∙◌, ap, subst}
 use Rattle.conn_rules.proofs.Prelude.{Option, Some, None, append-nil, eqb, AllByRecursion, ABNORMAL_RELEASE, EQUIPMENT_FAILURE, Change}
 use Rattle.conn_rules.proofs.Prelude.{Assignment, Handover, Channel, Message, handing, cond_both, Sapi, Zero, Three, chain_count, HoldState}
-use Rattle.conn_rules.proofs.Prelude.{count, messages, with_messages}
-use Rattle.conn_rules.specs.declared.input.Input.{Input}
+use Rattle.conn_rules.proofs.Prelude.{count, messages, with_messages, Input, ShortMessageLink, Down, Asked, Up, Stage, Preparing, Changing}
+use Rattle.conn_rules.proofs.Prelude.{State, Live, Closed, Target, Connection, IsAskedFor, Stands, IsOpen, is_dtap, handed, GoesTo}
+use Rattle.conn_rules.proofs.Prelude.{received_by, rejects, KeepsDownlink, IsChanging, IsSilent, OnlyReleases}
 use Rattle.conn_rules.specs.declared.input.Input.TheVariants as inputs
-use Rattle.conn_rules.specs.declared.state.ShortMessageLink.{ShortMessageLink}
-use Rattle.conn_rules.specs.declared.state.ShortMessageLink.TheVariants.{Down, Asked, Up}
-use Rattle.conn_rules.specs.declared.state.Stage.{Stage}
-use Rattle.conn_rules.specs.declared.state.Stage.TheVariants.{Active, Preparing, Changing, Draining}
-use Rattle.conn_rules.specs.declared.state.State.{State}
-use Rattle.conn_rules.specs.declared.state.State.TheVariants.{Live, Closed}
-use Rattle.conn_rules.specs.declared.state.Target.{Target}
-use Rattle.conn_rules.specs.Connection.{Connection}
-use Rattle.conn_rules.specs.Standing.{IsAskedFor, Stands}
 use Rattle.conn_rules.specs.Steps.{Row, row, ◌then◌, end_outs, failing, dropping, without_station, goes_to, may_begin, begin_outs, after_begin, begin, waiting_outs, after_waiting, begin_waiting, hold_down, hand_held, request_where, hold_short_message, short_message, request_for, ask_for_held, link_up, link_down, hold_up}
-use Rattle.conn_rules.specs.Streams.{IsOpen, is_dtap, handed, GoesTo, received_by, rejects, KeepsDownlink, IsChanging, IsSilent, OnlyReleases}
 use Rattle.conn_rules.proofs.StandingSteps.{IsStill}
 use Rattle.conn_rules.proofs.DownlinkMessages.{AllByRecursion-append, AllByRecursion-filter, AllByRecursion-so, IsQuiet, AreQuiet, IsParting, AreParting, handed-quiet, goes_to_quiet, rejects-quiet, rejects-append, without_rejected-none, of_sapi, handed-handing, handed-append, goes_to_handing, rejects-handing}
 
@@ -27,8 +18,7 @@ BringsNothing _ = Unit {0}
 received_by-nothing : (sapi : Sapi) (input : Input) → BringsNothing input → received_by sapi input ≡ []
 received_by-nothing Zero (inputs.Downlink sapi message) nothing = absurd nothing
 received_by-nothing Three (inputs.Downlink sapi message) nothing = absurd nothing
-received_by-nothing Zero _ nothing = refl
-received_by-nothing Three _ nothing = refl
+received_by-nothing _ _ nothing = refl
 
 -- What a row does to the messages of the switch: it ends the connection, lets them be, or moves
 -- them.
@@ -176,9 +166,7 @@ handed-held Three Zero serving down = rw (handed-handing serving Three Zero down
 -- a stage in which no channel changes
 not_changing : (stage : Stage) (reference : ℕ) (s : Connection) → IsStill stage → s.state ≡ Live reference stage → IsChanging s.state → ⊥
 not_changing (Changing target) reference s still is changes = still
-not_changing Active reference s still is changes = subst IsChanging is changes
-not_changing (Preparing target) reference s still is changes = subst IsChanging is changes
-not_changing Draining reference s still is changes = subst IsChanging is changes
+not_changing _ reference s still is changes = subst IsChanging is changes
 
 handed_none : (outs : List Message) → AreQuiet outs → (handed Zero outs ≡ []) × (handed Three outs ≡ [])
 handed_none outs quiet = (handed-quiet Zero outs quiet, handed-quiet Three outs quiet)
@@ -201,8 +189,7 @@ does_hold_down reference target s sapi message is =
 -- a message of SAPI 3 is held for its link
 are_quiet_request : (link : ShortMessageLink) (serving : Channel) → AreQuiet (request_where link serving)
 are_quiet_request Down serving = (tt, tt)
-are_quiet_request Asked serving = tt
-are_quiet_request Up serving = tt
+are_quiet_request _ serving = tt
 
 does_hold_short : (reference : ℕ) (stage : Stage) (s : Connection) (message : List ℕ) → s.state ≡ Live reference stage → Does (Live reference stage) s (inputs.Downlink Three message) (hold_short_message (Live reference stage) message s)
 does_hold_short reference stage s message is =

@@ -3,26 +3,16 @@ use Rattle.conn_rules.proofs.Prelude.{◌≡◌, ℕ, zero, suc, Bool, ◌&&◌,
 use Rattle.conn_rules.proofs.Prelude.{Option, Some, None, eqb, ABNORMAL_RELEASE, EQUIPMENT_FAILURE, NORMAL_EVENT, RADIO_INTERFACE_FAILURE}
 use Rattle.conn_rules.proofs.Prelude.{RADIO_INTERFACE_MESSAGE_FAILURE, Change, Assignment, Handover, Channel, rf_channel_release, relaying}
 use Rattle.conn_rules.proofs.Prelude.{change_complete, release_complete, clear_complete, cond_both, Sapi, Zero, Three, Tenure, Place}
-use Rattle.conn_rules.proofs.Prelude.{INITIAL_LIMIT}
-use Rattle.conn_messages.specs.StationMessage.{change_command}
-use Rattle.conn_rules.specs.declared.input.Input.{Input}
+use Rattle.conn_rules.proofs.Prelude.{INITIAL_LIMIT, change_command, Input, Drain, Stage, Preparing, Changing, Draining, State}
+use Rattle.conn_rules.proofs.Prelude.{WaitActivation, WaitEstablish, WaitConfirm, Live, Closed, Removed, Connection, emptied, first_channel}
+use Rattle.conn_rules.proofs.Prelude.{is_at, drain_at, tenure_at, OfRow, IsOpen, IsChanging, Reference, Due, WasAsked, Complete, RrCause}
 use Rattle.conn_rules.specs.declared.input.Input.TheVariants as inputs
-use Rattle.conn_rules.specs.declared.state.Drain.{Drain}
-use Rattle.conn_rules.specs.declared.state.Stage.{Stage}
-use Rattle.conn_rules.specs.declared.state.Stage.TheVariants.{Preparing, Changing, Draining}
-use Rattle.conn_rules.specs.declared.state.State.{State}
-use Rattle.conn_rules.specs.declared.state.State.TheVariants.{WaitActivation, WaitEstablish, WaitConfirm, Live, Closed, Removed}
-use Rattle.conn_rules.specs.Connection.{Connection, emptied, first_channel, is_at, drain_at, tenure_at}
 use Rattle.conn_rules.specs.Steps.{Row, dropping, may_begin, tenure_outs, relay_held, done_at, leave, shifted, settled, settled_stage, resting_stage, resting, moved}
-use Rattle.conn_rules.specs.Streams.{OfRow, IsOpen, IsChanging}
 use Rattle.conn_rules.specs.Table.{access, on_activation_ack, nack_outs, on_activation_nack, on_establish_indication, was_asked, on_establish_confirm, on_release_indication, on_error_indication, on_connection_failure, dtap_on_target, dtap_in, on_dtap, same_change, on_complete, failure_outs, on_failure, release, release_in, on_release_ack, on_move, on_confirm, on_refused, on_released, on_downlink, on_assignment_request, on_cipher_mode_command, on_clear_command, on_expiry, is_some_draining, on_drain_expiry, drains_at, targets, on_station_down, on_switch_down, row_of}
 use Rattle.conn_rules.proofs.StandingSteps.{of_row_row_if, in_stage, asked_for, none_held}
 use Rattle.conn_rules.proofs.DownlinkMessages.{AllByRecursion-append, IsQuiet, AreQuiet}
 use Rattle.conn_rules.proofs.DownlinkSteps.{Does, BringsNothing, are_parting_end, does_ending, does_failing, does_dropping, does_without, does_broken, does_begin, does_waiting, does_handing, does_hold_down, does_short_message, does_link_up, does_link_down, does_hold_up, does_changed}
 use Rattle.conn_rules.proofs.DownlinkSteps.Does.{ends, passes}
-use Rattle.bssmap_codec.specs.declared.reference.Reference.{Reference}
-use Rattle.conn_rules.specs.declared.state.Clearing.TheVariants.{Due, Asked as WasAsked, Complete}
-use Rattle.dtap_codec.specs.declared.rr.RrCause.{RrCause}
 
 -- ---- old channels leave
 

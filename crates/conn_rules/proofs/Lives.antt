@@ -1,10 +1,9 @@
 -- What rows are made of: lives of a connection with number 1 over cells 1 and 2.
 use Rattle.conn_rules.proofs.Prelude.{ℕ, true, List, [], ◌∷◌, map, Option, Some, None, Assignment, Handover, Channel, Place, Zero, hex}
+use Rattle.conn_rules.proofs.Prelude.{Input, Connection, new_connection}
 use Rattle.conn_messages.specs.declared.out.Out.{Out}
 use Rattle.conn_messages.specs.Out.{outs_of}
-use Rattle.conn_rules.specs.declared.input.Input.{Input}
 use Rattle.conn_rules.specs.declared.input.Input.TheVariants as inputs
-use Rattle.conn_rules.specs.Connection.{Connection, new_connection}
 use Rattle.conn_rules.specs.Steps.{Row}
 use Rattle.conn_rules.specs.Table.{row_of}
 

@@ -1,7 +1,6 @@
 -- On which channels messages are put, at literal values.
 use Rattle.conn_rules.proofs.Prelude.{ℕ, [], ◌∷◌, sym, true≢false, refl, Assignment, Channel, change_activation, channel_release, handing, hex}
-use Rattle.conn_rules.proofs.Prelude.{rf_channel_release, clear_complete, Zero}
-use Rattle.conn_messages.specs.StationMessage.{establish_request}
+use Rattle.conn_rules.proofs.Prelude.{rf_channel_release, clear_complete, Zero, establish_request}
 use Rattle.conn_rules.specs.Putting.{ArePutOn, Using, uses_of}
 
 abbrev channel : ℕ → ℕ → Channel

@@ -4,32 +4,20 @@ use Rattle.conn_rules.proofs.Prelude.{◌++◌, length, map, filter, Option, Som
 use Rattle.conn_rules.proofs.Prelude.{cases_Bool, AllByRecursion, ABNORMAL_RELEASE, EQUIPMENT_FAILURE, NORMAL_EVENT}
 use Rattle.conn_rules.proofs.Prelude.{RADIO_INTERFACE_FAILURE, RADIO_INTERFACE_MESSAGE_FAILURE, Change, Assignment, Handover, Channel}
 use Rattle.conn_rules.proofs.Prelude.{Place, Message, Station, handing, clear_complete, relaying, release_complete, Sapi, Zero, Three}
-use Rattle.conn_rules.proofs.Prelude.{Tenure, chain_count, put_in, count, messages, with_messages, INITIAL_LIMIT, DataRequest}
-use Rattle.std.proofs.Common.{◌≢◌}
-use Rattle.std.proofs.lemmas.Bool.{eqb-true, eq-eqb, ne_eqb}
+use Rattle.conn_rules.proofs.Prelude.{Tenure, chain_count, put_in, count, messages, with_messages, INITIAL_LIMIT, DataRequest, ◌≢◌}
+use Rattle.conn_rules.proofs.Prelude.{eqb-true, eq-eqb, ne_eqb, Request, Data, ReleaseComplete, assignment_failure, complete_layer3, Input}
+use Rattle.conn_rules.proofs.Prelude.{Due, WasAsked, Drain, ShortMessageLink, Down, Asked, Up, Stage, Preparing, Changing, Draining, State}
+use Rattle.conn_rules.proofs.Prelude.{WaitActivation, WaitEstablish, WaitConfirm, Live, Closed, Removed, Connection, emptied, enter}
+use Rattle.conn_rules.proofs.Prelude.{first_channel, is_at, tenure_at, drain_at, goes_on, ends, had_ended, Stands, AreApart, IsApart}
+use Rattle.conn_rules.proofs.Prelude.{IsOpen, OfRow, target_in, undone, used_channels, ChannelActivation, EstablishRequest}
+use Rattle.conn_rules.proofs.Prelude.{RfChannelRelease}
 use Rattle.conn_messages.specs.declared.causes.TheConstants.{BSS_NOT_EQUIPPED, PROTOCOL_ERROR}
-use Rattle.conn_messages.specs.declared.message.Message.TheVariants.{Request, Data, ReleaseComplete}
-use Rattle.conn_messages.specs.SwitchMessage.{assignment_failure, complete_layer3}
-use Rattle.conn_rules.specs.declared.input.Input.{Input}
 use Rattle.conn_rules.specs.declared.input.Input.TheVariants as inputs
-use Rattle.conn_rules.specs.declared.state.Clearing.TheVariants.{Due, Asked as WasAsked}
-use Rattle.conn_rules.specs.declared.state.Drain.{Drain}
-use Rattle.conn_rules.specs.declared.state.ShortMessageLink.{ShortMessageLink}
-use Rattle.conn_rules.specs.declared.state.ShortMessageLink.TheVariants.{Down, Asked, Up}
-use Rattle.conn_rules.specs.declared.state.Stage.{Stage}
-use Rattle.conn_rules.specs.declared.state.Stage.TheVariants.{Active, Preparing, Changing, Draining}
-use Rattle.conn_rules.specs.declared.state.State.{State}
-use Rattle.conn_rules.specs.declared.state.State.TheVariants.{WaitActivation, WaitEstablish, WaitConfirm, Live, Closed, Removed}
-use Rattle.conn_rules.specs.Connection.{Connection, emptied, enter, first_channel, is_at, tenure_at, drain_at}
 use Rattle.conn_rules.specs.Putting.{Using, IsPutOn, ArePutOn, PutsOnOwn, same_place, used_after, uses_of, without_use}
 use Rattle.conn_rules.proofs.RolesTable.{ChangesRoles-row}
 use Rattle.conn_rules.specs.Roles.{ChangesRolesBy, channels_in, channels_in_use, roles_of, target_role, to_stations}
-use Rattle.conn_rules.specs.Roles.ChangesRoles.{goes_on, ends, had_ended}
-use Rattle.conn_rules.specs.Standing.{Stands}
 use Rattle.conn_rules.specs.Steps.{Row, row, ◌then◌, begin, begin_outs, begin_waiting, dropping, end_outs, failing, goes_to, hold_down, hold_short_message, hold_up, leave, link_down, link_up, may_begin, moved, relay_held, resting, request_for, request_where, resting_stage, settled, settled_stage, shifted, short_message, tenure_outs, waiting_outs, without_station, done_at}
-use Rattle.conn_rules.specs.Streams.{AreApart, IsApart, IsOpen, OfRow, target_in, undone, used_channels}
 use Rattle.conn_rules.specs.Table.{row_of, row_if, access, assign_immediately, command_to, complete, dtap_in, dtap_on_target, failure, refuse, release, release_in, speech_request, on_activation_ack, on_activation_nack, on_establish_indication, on_establish_confirm, on_release_indication, on_error_indication, on_connection_failure, on_dtap, on_complete, on_failure, on_release_ack, on_move, on_confirm, on_refused, on_released, on_downlink, on_assignment_request, on_cipher_mode_command, on_clear_command, on_expiry, on_drain_expiry, on_station_down, on_switch_down}
-use Rattle.rsl_codec.specs.declared.rsl.Rsl.TheVariants.{ChannelActivation, EstablishRequest, RfChannelRelease}
 
 abbrev at_channel : Channel → Place
 at_channel c = record { station = c.station; number = c.number }
@@ -87,8 +75,7 @@ all_of_tenure c reference d (t ∷ ts) = all_join c (map (relaying reference d Z
 
 requests : (link : ShortMessageLink) (c : Channel) → AllByRecursion (Quiet c) (request_where link c)
 requests Down c = ((refl, refl), tt)
-requests Asked c = tt
-requests Up c = tt
+requests _ c = tt
 
 requests_for : (ms : List (List ℕ)) (c : Channel) → AllByRecursion (Quiet c) (request_for ms c)
 requests_for [] c = tt
@@ -138,10 +125,7 @@ not_same at other differ = ap (λ (b : Bool). b && (at.number == other.number)) 
 kept_use : (station : ℕ) (uses now : Using) (m : Message) → IsSameElse station uses now → IsSameElse station (used_after uses m) (used_after now m)
 kept_use station uses now (Station to (ChannelActivation a)) same at differ = ap (λ (b : Bool). same_place at (record { station = to; number = a.channel }) || b) (same at differ)
 kept_use station uses now (Station to (RfChannelRelease channel)) same at differ = ap (λ (b : Bool). not (same_place at (record { station = to; number = channel })) && b) (same at differ)
-kept_use station uses now (Station to _) same at differ = same at differ
-kept_use station uses now (Request message) same at differ = same at differ
-kept_use station uses now (Data destination message) same at differ = same at differ
-kept_use station uses now (ReleaseComplete destination) same at differ = same at differ
+kept_use station uses now _ same at differ = same at differ
 
 -- of one that doesn't go
 dropped_use : (station : ℕ) (uses now : Using) (m : Message) → goes_to station m ≡ true → IsSameElse station uses now → IsSameElse station (used_after uses m) now
@@ -150,18 +134,13 @@ dropped_use station uses now (Station to (ChannelActivation a)) goes same at dif
 dropped_use station uses now (Station to (RfChannelRelease channel)) goes same at differ =
     same at differ ∙ sym (ap (λ (b : Bool). not b && uses at) (not_same at (record { station = to; number = channel }) (λ is. differ (is ∙ eqb-true to station goes))))
 dropped_use station uses now (Station to _) goes same at differ = same at differ
-dropped_use station uses now (Request message) goes same at differ = absurd (true≢false (sym goes))
-dropped_use station uses now (Data destination message) goes same at differ = absurd (true≢false (sym goes))
-dropped_use station uses now (ReleaseComplete destination) goes same at differ = absurd (true≢false (sym goes))
+dropped_use station uses now _ goes same at differ = absurd (true≢false (sym goes))
 
 kept_put : (station : ℕ) (uses now : Using) (m : Message) → goes_to station m ≡ false → IsSameElse station uses now → IsPutOn uses m → IsPutOn now m
 kept_put station uses now (Station to (DataRequest d)) goes same put = same (record { station = to; number = d.channel }) (λ is. true≢false (sym (eq-eqb to station is) ∙ goes)) ∙ put
 kept_put station uses now (Station to (EstablishRequest l)) goes same put = same (record { station = to; number = l.channel }) (λ is. true≢false (sym (eq-eqb to station is) ∙ goes)) ∙ put
 kept_put station uses now (Station to (RfChannelRelease channel)) goes same put = same (record { station = to; number = channel }) (λ is. true≢false (sym (eq-eqb to station is) ∙ goes)) ∙ put
-kept_put station uses now (Station to _) goes same put = tt
-kept_put station uses now (Request message) goes same put = tt
-kept_put station uses now (Data destination message) goes same put = tt
-kept_put station uses now (ReleaseComplete destination) goes same put = tt
+kept_put station uses now _ goes same put = tt
 
 without_puts : (station : ℕ) (uses now : Using) (ms : List Message) → IsSameElse station uses now → ArePutOn uses ms → ArePutOn now (filter (λ message. not (goes_to station message)) ms)
 without_puts station uses now [] same puts = tt
@@ -198,24 +177,12 @@ module _ (uses : Using) where
   of_end : (state : State) (s : Connection) (cause : ℕ) (last : List Message) → IsReady uses state s → ((now : Using) → ArePutOn now last) → ArePutOn uses (end_outs state s.serving cause ++ last)
   of_end (Live reference (Preparing target)) s cause last k rest = (k.serving, (k.serving, (still uses target.channel s.serving (apart target.channel s.serving k.differ.0) k.targets.0, rest _)))
   of_end (Live reference (Changing target)) s cause last k rest = (k.serving, (k.serving, (still uses target.channel s.serving (apart target.channel s.serving k.differ.0) k.targets.0, rest _)))
-  of_end (Live reference Active) s cause last k rest = (k.serving, (k.serving, rest _))
-  of_end (Live reference Draining) s cause last k rest = (k.serving, (k.serving, rest _))
-  of_end WaitActivation s cause last k rest = (k.serving, (k.serving, rest _))
-  of_end WaitEstablish s cause last k rest = (k.serving, (k.serving, rest _))
-  of_end WaitConfirm s cause last k rest = (k.serving, (k.serving, rest _))
-  of_end (Closed clearing) s cause last k rest = (k.serving, (k.serving, rest _))
-  of_end Removed s cause last k rest = (k.serving, (k.serving, rest _))
+  of_end _ s cause last k rest = (k.serving, (k.serving, rest _))
 
   of_end_alone : (state : State) (s : Connection) (cause : ℕ) → IsReady uses state s → ArePutOn uses (end_outs state s.serving cause)
   of_end_alone (Live reference (Preparing target)) s cause k = (k.serving, (k.serving, (still uses target.channel s.serving (apart target.channel s.serving k.differ.0) k.targets.0, tt)))
   of_end_alone (Live reference (Changing target)) s cause k = (k.serving, (k.serving, (still uses target.channel s.serving (apart target.channel s.serving k.differ.0) k.targets.0, tt)))
-  of_end_alone (Live reference Active) s cause k = (k.serving, (k.serving, tt))
-  of_end_alone (Live reference Draining) s cause k = (k.serving, (k.serving, tt))
-  of_end_alone WaitActivation s cause k = (k.serving, (k.serving, tt))
-  of_end_alone WaitEstablish s cause k = (k.serving, (k.serving, tt))
-  of_end_alone WaitConfirm s cause k = (k.serving, (k.serving, tt))
-  of_end_alone (Closed clearing) s cause k = (k.serving, (k.serving, tt))
-  of_end_alone Removed s cause k = (k.serving, (k.serving, tt))
+  of_end_alone _ s cause k = (k.serving, (k.serving, tt))
 
   of_failing : (state : State) (s : Connection) (cause : ℕ) → IsReady uses state s → Puts (failing state s cause)
   of_failing (Live reference stage) s cause k = (tt, of_end_alone (Live reference stage) s ABNORMAL_RELEASE k)
@@ -238,13 +205,11 @@ module _ (uses : Using) where
 
   of_short_message : (state : State) (link : ShortMessageLink) (message : List ℕ) (s : Connection) → IsReady uses state s → Puts (short_message state link message s)
   of_short_message state Up message s k = (k.serving, tt)
-  of_short_message state Asked message s k = of_hold_short_message state message s k
-  of_short_message state Down message s k = of_hold_short_message state message s k
+  of_short_message state _ message s k = of_hold_short_message state message s k
 
   of_link_down : (link : ShortMessageLink) (reference : ℕ) (s : Connection) → Puts (link_down link reference s)
-  of_link_down Up reference s = tt
   of_link_down Asked reference s = (tt, tt)
-  of_link_down Down reference s = tt
+  of_link_down _ reference s = tt
 
   of_hold_up : (state : State) (tenure : ℕ) (sapi : Sapi) (message : List ℕ) (s : Connection) → IsReady uses state s → Puts (hold_up state tenure sapi message s)
   of_hold_up state tenure sapi message s k =
@@ -441,12 +406,11 @@ module _ (uses : Using) where
   of_station_down _ s station k = tt
 
   of_switch_down : (state : State) (s : Connection) → IsReady uses state s → OfRow Puts (on_switch_down state s)
-  of_switch_down WaitActivation s k = (k.serving, tt)
-  of_switch_down WaitEstablish s k = (k.serving, tt)
   of_switch_down WaitConfirm s k = of_end_alone WaitConfirm s ABNORMAL_RELEASE k
   of_switch_down (Live reference stage) s k = of_end_alone (Live reference stage) s ABNORMAL_RELEASE k
   of_switch_down (Closed clearing) s k = tt
   of_switch_down Removed s k = tt
+  of_switch_down _ s k = (k.serving, tt)
 
   of_row : (s : Connection) (input : Input) (offer : Option Channel) → IsReady uses s.state s → OfRow Puts (row_of s input offer)
   unfolding row_of
@@ -499,15 +463,11 @@ second_used s c = or_right (is_at (at_channel c) s.serving) (uses_of (c ∷ []) 
 -- an open connection
 open_ready : (state : State) (s : Connection) → IsOpen state → AreApart (undone s.draining ++ s.serving ∷ target_in state) → IsReady (used_of state s) state s
 unfolding used_of
-open_ready WaitActivation s is_open all = record { serving = first_used s []; targets = tt; differ = tt }
-open_ready WaitEstablish s is_open all = record { serving = first_used s []; targets = tt; differ = tt }
-open_ready WaitConfirm s is_open all = record { serving = first_used s []; targets = tt; differ = tt }
-open_ready (Live reference Active) s is_open all = record { serving = first_used s []; targets = tt; differ = tt }
-open_ready (Live reference Draining) s is_open all = record { serving = first_used s []; targets = tt; differ = tt }
 open_ready (Live reference (Preparing target)) s is_open all = record { serving = first_used s (target.channel ∷ []); targets = (second_used s target.channel, tt); differ = (apart_in (undone s.draining) (s.serving ∷ target.channel ∷ []) all).0 }
 open_ready (Live reference (Changing target)) s is_open all = record { serving = first_used s (target.channel ∷ []); targets = (second_used s target.channel, tt); differ = (apart_in (undone s.draining) (s.serving ∷ target.channel ∷ []) all).0 }
 open_ready (Closed clearing) s is_open all = absurd is_open
 open_ready Removed s is_open all = absurd is_open
+open_ready _ s is_open all = record { serving = first_used s []; targets = tt; differ = tt }
 
 -- one that was closed puts nothing to stations
 quiet_put : (uses : Using) (ms : List Message) → to_stations ms ≡ [] → ArePutOn uses ms

@@ -3,27 +3,14 @@ use Rattle.conn_rules.proofs.Prelude.{◌≡◌, ℕ, Bool, true, false, not, �
 use Rattle.conn_rules.proofs.Prelude.{Option, Some, None, true≢false, Contains, if◌then◌else◌, filter-append, Contains-push}
 use Rattle.conn_rules.proofs.Prelude.{Contains-append_left, Contains-append_right, AllByRecursion, ABNORMAL_RELEASE, Change, Assignment}
 use Rattle.conn_rules.proofs.Prelude.{Handover, Channel, Message, Station, handing, change_activation, relaying, Sapi, Zero, Three, Tenure}
-use Rattle.conn_rules.proofs.Prelude.{HoldState, DataRequest}
-use Rattle.conn_rules.specs.declared.input.Input.{Input}
+use Rattle.conn_rules.proofs.Prelude.{HoldState, DataRequest, Input, Drain, ShortMessageLink, Down, Stage, Preparing, Changing, State, Live}
+use Rattle.conn_rules.proofs.Prelude.{Target, Connection, stays, commands, leaves, drops, dismisses, goes_on, ends, had_ended, IsOpen}
+use Rattle.conn_rules.proofs.Prelude.{ChannelActivation, RfChannelRelease}
 use Rattle.conn_rules.specs.declared.input.Input.TheVariants as inputs
-use Rattle.conn_rules.specs.declared.state.Drain.{Drain}
-use Rattle.conn_rules.specs.declared.state.ShortMessageLink.{ShortMessageLink}
-use Rattle.conn_rules.specs.declared.state.ShortMessageLink.TheVariants.{Down, Asked, Up}
-use Rattle.conn_rules.specs.declared.state.Stage.{Stage}
-use Rattle.conn_rules.specs.declared.state.Stage.TheVariants.{Active, Preparing, Changing, Draining}
-use Rattle.conn_rules.specs.declared.state.State.{State}
-use Rattle.conn_rules.specs.declared.state.State.TheVariants.{Live}
-use Rattle.conn_rules.specs.declared.state.Target.{Target}
-use Rattle.conn_rules.specs.Connection.{Connection}
 use Rattle.conn_rules.specs.Roles.{Roles, target_role, roles_of, RoleStep, after_step, with_target, step_by, change_by, MayBegin, is_order, orders, step_orders, begin_orders, IsOfSwitch, brought, Tells, GoesOn, end_messages, is_to_station, to_stations, those_that_go, Ends, ChangesRoles, ChangesRolesBy}
-use Rattle.conn_rules.specs.Roles.RoleStep.{stays, commands, completes, goes_back, leaves}
-use Rattle.conn_rules.specs.Roles.RoleEnd.{drops, dismisses}
-use Rattle.conn_rules.specs.Roles.ChangesRoles.{goes_on, ends, had_ended}
 use Rattle.conn_rules.specs.Steps.{Row, row, end_outs, failing, dropping, without_station, goes_to, may_begin, begin_outs, after_begin, waiting_outs, after_waiting, begin_waiting, request_where, request_for, tenure_outs}
-use Rattle.conn_rules.specs.Streams.{IsOpen}
 use Rattle.conn_rules.specs.Table.{row_if}
 use Rattle.conn_rules.proofs.DownlinkMessages.{AllByRecursion-append, AllByRecursion-so}
-use Rattle.rsl_codec.specs.declared.rsl.Rsl.TheVariants.{ChannelActivation, RfChannelRelease}
 
 -- the roles, in a state that is known
 abbrev pub roles_in : State → Connection → Roles
@@ -128,8 +115,7 @@ are_plain_tenure reference channel (first ∷ rest) =
 
 pub are_plain_request_where : (link : ShortMessageLink) (serving : Channel) → ArePlain (request_where link serving)
 are_plain_request_where Down serving = (tt, tt)
-are_plain_request_where Asked serving = tt
-are_plain_request_where Up serving = tt
+are_plain_request_where _ serving = tt
 
 pub are_plain_request_for : (three : List (List ℕ)) (serving : Channel) → ArePlain (request_for three serving)
 are_plain_request_for [] serving = tt
@@ -175,10 +161,9 @@ begins_by_begin input None reference Handover t kind free = record { begun = Non
 
 -- no change is under way where one may begin
 free_in : (stage : Stage) (draining : List Drain) (reference : ℕ) → may_begin stage draining ≡ true → target_role (Live reference stage) ≡ None
-free_in Active draining reference may = refl
 free_in (Preparing target) draining reference may = absurd (true≢false (sym may))
 free_in (Changing target) draining reference may = absurd (true≢false (sym may))
-free_in Draining draining reference may = refl
+free_in _ draining reference may = refl
 
 pub free_where : (stage : Stage) (reference : ℕ) (t : Connection) → t.state ≡ Live reference stage → may_begin stage t.draining ≡ true → target_role t.state ≡ None
 free_where stage reference t is may = ap target_role is ∙ free_in stage t.draining reference may
@@ -205,10 +190,8 @@ IsUntoldStep _ = Unit {0}
 
 tells_by : (step : RoleStep) (before : Roles) (down : HoldState) (input : Input) (outs : List Message) → IsUntoldStep step → AllByRecursion (IsOfSwitch down input) outs → Tells step before down input outs
 tells_by commands before down input outs untold told = absurd untold
-tells_by stays before down input outs untold told = told
-tells_by completes before down input outs untold told = told
-tells_by goes_back before down input outs untold told = told
 tells_by (leaves place) before down input outs untold told = told
+tells_by _ before down input outs untold told = told
 
 pub goes_on_begins : (step : RoleStep) (before : Roles) (down : HoldState) (input : Input) (offer : Option Channel) (outs : List Message) (t : Connection) (behind : List Message) (next : Connection) →
     IsUntoldStep step → roles_of t ≡ after_step step before → orders outs ≡ step_orders step before → AllByRecursion (IsOfSwitch down input) outs → BeginsBy input offer t behind next → GoesOn step before down input offer (row (outs ++ behind) next)
@@ -225,7 +208,6 @@ goes_on_begins step before down input offer outs t behind next untold same order
 
 pub to_stations-end : (state : State) (s : Connection) (cause : ℕ) → to_stations (end_outs state s.serving cause) ≡ end_messages (dismisses cause) (roles_in state s)
 to_stations-end (Live reference (Preparing target)) s cause = refl
-to_stations-end (Live reference (Changing target)) s cause = refl
 to_stations-end _ s cause = refl
 
 to_stations-failing : (state : State) (s : Connection) (cause : ℕ) → to_stations (failing state s cause).outs ≡ to_stations (end_outs state s.serving ABNORMAL_RELEASE)

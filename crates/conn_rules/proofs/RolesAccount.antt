@@ -2,23 +2,14 @@
 use Rattle.conn_rules.proofs.Prelude.{◌≡◌, inl, inr, ℕ, zero, suc, Bool, true, false, not, ◌&&◌, eqb, List, [], ◌∷◌, ◌++◌, filter, refl}
 use Rattle.conn_rules.proofs.Prelude.{sym, ◌∙◌, ap, subst, Option, Some, None, true≢false, Contains, if◌then◌else◌, arith, Contains-push}
 use Rattle.conn_rules.proofs.Prelude.{Contains-append_left, Contains-append_right, Change, Channel, Place, Message, change_activation}
-use Rattle.conn_rules.proofs.Prelude.{channel_release, rf_channel_release, cond_both}
-use Rattle.std.proofs.Common.{◌⊎◌, ⊎_elim, eqb-true, option_map}
-use Rattle.std.proofs.lemmas.List.Elements.{Contains-append_cases}
-use Rattle.conn_rules.specs.declared.input.Input.{Input}
+use Rattle.conn_rules.proofs.Prelude.{channel_release, rf_channel_release, cond_both, ◌⊎◌, ⊎_elim, option_map, Contains-append_cases, Input}
+use Rattle.conn_rules.proofs.Prelude.{Drain, State, Closed, Removed, Target, Connection, is_at, drain_at, stays, commands, completes}
+use Rattle.conn_rules.proofs.Prelude.{goes_back, leaves, refused, drops, dismisses, goes_on, ends, had_ended, OfRow, IsOpen, undone}
+use Rattle.std.proofs.Common.{eqb-true}
 use Rattle.conn_rules.specs.declared.input.Input.TheVariants as inputs
-use Rattle.conn_rules.specs.declared.state.Drain.{Drain}
-use Rattle.conn_rules.specs.declared.state.State.{State}
-use Rattle.conn_rules.specs.declared.state.State.TheVariants.{Closed, Removed}
-use Rattle.conn_rules.specs.declared.state.Target.{Target}
-use Rattle.conn_rules.specs.Connection.{Connection, is_at, drain_at}
 use Rattle.conn_rules.specs.Roles.{TargetRole, Roles, roles_of, RoleStep, still_draining, after_step, with_target, awaits_at, changes_by, is_target_at, leaves_at, step_by, MayBegin, is_order, orders, step_orders, begin_orders, GoesOn, RoleEnd, end_messages, target_releases, FitsEnd, is_to_station, to_stations, those_that_go, ChangesRoles, ChangesRolesBy, target_channels, channels_in, IsGivenUp, IsTaken, IsAcknowledged, KeepsAccount}
-use Rattle.conn_rules.specs.Roles.RoleStep.{stays, commands, completes, goes_back, leaves}
-use Rattle.conn_rules.specs.Roles.RoleEnd.{refused, drops, dismisses}
-use Rattle.conn_rules.specs.Roles.ChangesRoles.{goes_on, ends, had_ended}
 use Rattle.conn_rules.specs.Roles.IsGivenUp.{released, broke, not_activated}
 use Rattle.conn_rules.specs.Steps.{Row, done_at, goes_to}
-use Rattle.conn_rules.specs.Streams.{OfRow, IsOpen, undone}
 
 -- ---- members of lists
 
@@ -90,7 +81,7 @@ if_true : (test : Bool) (step : RoleStep) → (step ≡ stays → ⊥) → (othe
 if_true true step moves other is = (refl, is)
 if_true false step moves other is = absurd (moves (sym is))
 
-both_true : (a b : Bool) → (a && b) ≡ true → (a ≡ true) × (b ≡ true)
+pub both_true : (a b : Bool) → (a && b) ≡ true → (a ≡ true) × (b ≡ true)
 both_true true b both = (refl, both)
 both_true false b both = absurd (true≢false (sym both))
 
@@ -280,7 +271,7 @@ undone_done_at (suc place) (d ∷ ds) c there = elim (undone_cases d (done_at pl
   | inr behind ↦ contains_undone d ds c (undone_done_at place ds c behind)
 ]
 
-some_suc : (found : Option ℕ) (place : ℕ) → option_map (λ place. suc place) found ≡ Some place → (before : ℕ) × (found ≡ Some before) × (suc before ≡ place)
+pub some_suc : (found : Option ℕ) (place : ℕ) → option_map (λ place. suc place) found ≡ Some place → (before : ℕ) × (found ≡ Some before) × (suc before ≡ place)
 some_suc (Some before) place is = (before, refl, cc)
 some_suc None place is = absurd cc
 

@@ -1,18 +1,10 @@
 -- No two channels of a connection are the same, where the offer is none of them.
 use Rattle.conn_rules.proofs.Prelude.{◌≡◌, ℕ, zero, suc, Bool, true, false, List, [], ◌∷◌, ◌++◌, refl, sym, ◌∙◌, ap, subst, Option, Some}
-use Rattle.conn_rules.proofs.Prelude.{None, append_assoc, if◌then◌else◌, AllByRecursion, Channel}
-use Rattle.conn_rules.specs.declared.input.Input.{Input}
-use Rattle.conn_rules.specs.declared.state.Drain.{Drain}
-use Rattle.conn_rules.specs.declared.state.Stage.TheVariants.{Preparing, Changing}
-use Rattle.conn_rules.specs.declared.state.State.{State}
-use Rattle.conn_rules.specs.declared.state.State.TheVariants.{Live}
-use Rattle.conn_rules.specs.declared.state.Target.{Target}
-use Rattle.conn_rules.specs.Connection.{Connection}
+use Rattle.conn_rules.proofs.Prelude.{None, append_assoc, if◌then◌else◌, AllByRecursion, Channel, Input, Drain, Preparing, State, Live}
+use Rattle.conn_rules.proofs.Prelude.{Target, Connection, stays, commands, completes, goes_back, leaves, goes_on, ends, had_ended, OfRow}
+use Rattle.conn_rules.proofs.Prelude.{undone, target_in, used_channels, IsApart, AreApart}
 use Rattle.conn_rules.specs.Roles.{TargetRole, Roles, target_role, roles_of, RoleStep, after_step, with_target, step_by, MayBegin, ChangesRoles, ChangesRolesBy, target_channels, IsNew, StaysApart}
-use Rattle.conn_rules.specs.Roles.RoleStep.{stays, commands, completes, goes_back, leaves}
-use Rattle.conn_rules.specs.Roles.ChangesRoles.{goes_on, ends, had_ended}
 use Rattle.conn_rules.specs.Steps.{Row, done_at}
-use Rattle.conn_rules.specs.Streams.{OfRow, undone, target_in, used_channels, IsApart, AreApart}
 use Rattle.conn_rules.proofs.Standing.{AllByRecursion-push}
 use Rattle.conn_rules.proofs.RolesAccount.{undone-still_draining}
 
@@ -22,7 +14,7 @@ all_front : {A : Type 0} (P : A → Type 0) (xs ys : List A) → AllByRecursion 
 all_front P [] ys all = tt
 all_front P (x ∷ xs) ys all = (all.0, all_front P xs ys all.1)
 
-are_apart_front : (xs ys : List Channel) → AreApart (xs ++ ys) → AreApart xs
+pub are_apart_front : (xs ys : List Channel) → AreApart (xs ++ ys) → AreApart xs
 are_apart_front [] ys apart = tt
 are_apart_front (x ∷ xs) ys apart = (all_front (IsApart x) xs ys apart.0, are_apart_front xs ys apart.1)
 
@@ -62,7 +54,7 @@ is_part_done_at (suc place) (d ∷ ds) rest = by d.is_done (is_part_done_at plac
     by false part = is_part_behind d.channel (undone ds ++ rest) (undone (done_at place ds) ++ rest) part
 
 -- one more drains
-undone-begins : (ds : List Drain) (serving : Channel) → undone (ds ++ record { channel = serving; is_done = false } ∷ []) ≡ undone ds ++ serving ∷ []
+pub undone-begins : (ds : List Drain) (serving : Channel) → undone (ds ++ record { channel = serving; is_done = false } ∷ []) ≡ undone ds ++ serving ∷ []
 undone-begins [] serving = refl
 undone-begins (d ∷ ds) serving = by d.is_done (undone-begins ds serving)
   where
@@ -78,7 +70,6 @@ channels_of roles = undone roles.draining ++ roles.serving ∷ target_channels r
 
 pub target_in-role : (state : State) → target_channels (target_role state) ≡ target_in state
 target_in-role (Live reference (Preparing target)) = refl
-target_in-role (Live reference (Changing target)) = refl
 target_in-role _ = refl
 
 pub channels_of-roles : (s : Connection) → channels_of (roles_of s) ≡ used_channels s

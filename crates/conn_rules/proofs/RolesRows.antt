@@ -1,12 +1,10 @@
 -- The words on roles, against literal roles: a connection on 41 of station 1, whose target is 0A of
 -- station 2.
 use Rattle.conn_rules.proofs.Prelude.{◌≡◌, ℕ, Bool, true, false, [], ◌∷◌, Option, Some, None, refl, Assignment, Handover, Channel, Place, hex}
-use Rattle.conn_rules.proofs.Prelude.{channel_release, rf_channel_release}
+use Rattle.conn_rules.proofs.Prelude.{channel_release, rf_channel_release, Drain, stays, commands, completes, goes_back, leaves, drops}
+use Rattle.conn_rules.proofs.Prelude.{dismisses}
 use Rattle.conn_rules.specs.declared.input.Input.TheVariants as inputs
-use Rattle.conn_rules.specs.declared.state.Drain.{Drain}
 use Rattle.conn_rules.specs.Roles.{TargetRole, Roles, after_step, step_by, step_orders, end_messages, those_that_go, still_draining}
-use Rattle.conn_rules.specs.Roles.RoleStep.{stays, commands, completes, goes_back, leaves}
-use Rattle.conn_rules.specs.Roles.RoleEnd.{drops, dismisses}
 
 abbrev channel : ℕ → ℕ → Channel
 channel station number = record {

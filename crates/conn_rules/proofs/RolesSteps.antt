@@ -1,23 +1,13 @@
 -- Where a change ends, and where old channels leave: what becomes of the roles.
 use Rattle.conn_rules.proofs.Prelude.{◌≡◌, ℕ, List, [], ◌∷◌, ◌++◌, map, refl, sym, ◌∙◌, ap, subst, Option, Some, None, append-nil}
 use Rattle.conn_rules.proofs.Prelude.{if◌then◌else◌, Contains-append_left, AllByRecursion, Change, Assignment, Handover, Channel, Message}
-use Rattle.conn_rules.proofs.Prelude.{handing, cond_both, Zero, HoldState, Place}
-use Rattle.conn_rules.specs.declared.input.Input.{Input}
+use Rattle.conn_rules.proofs.Prelude.{handing, cond_both, Zero, HoldState, Place, Input, Drain, Stage, Preparing, Draining, State, Live}
+use Rattle.conn_rules.proofs.Prelude.{Target, Connection, goes_back, leaves, IsOpen, first_channel, drain_at}
 use Rattle.conn_rules.specs.declared.input.Input.TheVariants as inputs
-use Rattle.conn_rules.specs.declared.state.Drain.{Drain}
-use Rattle.conn_rules.specs.declared.state.Stage.{Stage}
-use Rattle.conn_rules.specs.declared.state.Stage.TheVariants.{Active, Preparing, Changing, Draining}
-use Rattle.conn_rules.specs.declared.state.State.{State}
-use Rattle.conn_rules.specs.declared.state.State.TheVariants.{Live}
-use Rattle.conn_rules.specs.declared.state.Target.{Target}
-use Rattle.conn_rules.specs.Connection.{Connection}
 use Rattle.conn_rules.specs.Roles.{target_role, roles_of, RoleStep, after_step, step_by, change_by, orders, step_orders, IsOfSwitch, brought, GoesOn, ChangesRoles}
-use Rattle.conn_rules.specs.Roles.RoleStep.{goes_back, leaves}
 use Rattle.conn_rules.specs.Steps.{Row, row, begin_waiting, request_for}
-use Rattle.conn_rules.specs.Streams.{IsOpen}
 use Rattle.conn_rules.proofs.DownlinkMessages.{AllByRecursion-append}
 use Rattle.conn_rules.specs.Roles.{still_draining, leaves_at}
-use Rattle.conn_rules.specs.Connection.{first_channel, drain_at}
 use Rattle.conn_rules.specs.Steps.{resting_stage, resting, hand_held, ask_for_held, done_at, leave, shifted, relay_held, settled, settled_stage, ◌then◌}
 use Rattle.conn_rules.specs.Table.{release, nack_outs}
 use Rattle.conn_rules.proofs.Roles.{roles_in, equal_roles, goes_on_by, IsUntold, IsPlain, ArePlain, orders-plain, told_untold, told_plain, orders-append, orders-handing, told_handing, are_plain_tenure, are_plain_request_for, BeginsBy, begins_by_waiting, IsUntoldStep, goes_on_begins}
@@ -104,9 +94,7 @@ record SettlesBy (reference : ℕ) (stage : Stage) (s rests : Connection) : Type
 settles_by_settled : (reference : ℕ) (stage : Stage) (ds : List Drain) (s : Connection) → s.draining ≡ ds → s.state ≡ Live reference stage → SettlesBy reference stage s (settled reference stage ds s)
 settles_by_settled reference Draining [] s are is = record { state = rw are refl; roles = refl }
 settles_by_settled reference Draining (d ∷ ds) s are is = record { state = rw are is; roles = ap (λ (state : State). roles_in state s) is }
-settles_by_settled reference Active ds s are is = record { state = is; roles = ap (λ (state : State). roles_in state s) is }
-settles_by_settled reference (Preparing target) ds s are is = record { state = is; roles = ap (λ (state : State). roles_in state s) is }
-settles_by_settled reference (Changing target) ds s are is = record { state = is; roles = ap (λ (state : State). roles_in state s) is }
+settles_by_settled reference _ ds s are is = record { state = is; roles = ap (λ (state : State). roles_in state s) is }
 
 pub changes_roles_release : (reference : ℕ) (stage : Stage) (place : ℕ) (at : Place) (s : Connection) (offer : Option Channel) → drain_at at s.draining ≡ Some place → s.state ≡ Live reference stage → ChangesRoles s (inputs.ReleaseAck at) offer (release reference stage place offer s)
 changes_roles_release reference stage place at s offer found is =

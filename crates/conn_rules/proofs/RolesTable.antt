@@ -4,29 +4,16 @@ use Rattle.conn_rules.proofs.Prelude.{ap, subst, if◌then◌else◌, Option, So
 use Rattle.conn_rules.proofs.Prelude.{Contains-push, Contains-append_left, Contains-append_right, ABNORMAL_RELEASE, EQUIPMENT_FAILURE}
 use Rattle.conn_rules.proofs.Prelude.{NORMAL_EVENT, RADIO_INTERFACE_FAILURE, RADIO_INTERFACE_MESSAGE_FAILURE, Change, Assignment, Handover}
 use Rattle.conn_rules.proofs.Prelude.{Channel, Message, handing, rf_channel_release, change_complete, release_complete, clear_complete}
-use Rattle.conn_rules.proofs.Prelude.{cond_both, Sapi, Zero, Three, chain_count, count, Place, INITIAL_LIMIT}
-use Rattle.conn_messages.specs.StationMessage.{change_command}
-use Rattle.conn_rules.specs.declared.input.Input.{Input}
+use Rattle.conn_rules.proofs.Prelude.{cond_both, Sapi, Zero, Three, chain_count, count, Place, INITIAL_LIMIT, change_command, Input, Drain}
+use Rattle.conn_rules.proofs.Prelude.{ShortMessageLink, Down, Asked, Up, Stage, Preparing, Changing, Draining, State, WaitActivation}
+use Rattle.conn_rules.proofs.Prelude.{WaitEstablish, WaitConfirm, Live, Closed, Removed, Connection, emptied, first_channel, is_at}
+use Rattle.conn_rules.proofs.Prelude.{drain_at, tenure_at, Stands, Reference, Due, WasAsked, Complete, RrCause, stays, commands, completes}
+use Rattle.conn_rules.proofs.Prelude.{goes_back, refused, dismisses, IsOpen}
 use Rattle.conn_rules.specs.declared.input.Input.TheVariants as inputs
-use Rattle.conn_rules.specs.declared.state.Drain.{Drain}
-use Rattle.conn_rules.specs.declared.state.ShortMessageLink.{ShortMessageLink}
-use Rattle.conn_rules.specs.declared.state.ShortMessageLink.TheVariants.{Down, Asked, Up}
-use Rattle.conn_rules.specs.declared.state.Stage.{Stage}
-use Rattle.conn_rules.specs.declared.state.Stage.TheVariants.{Preparing, Changing, Draining}
-use Rattle.conn_rules.specs.declared.state.State.{State}
-use Rattle.conn_rules.specs.declared.state.State.TheVariants.{WaitActivation, WaitEstablish, WaitConfirm, Live, Closed, Removed}
-use Rattle.conn_rules.specs.Connection.{Connection, emptied, first_channel, is_at, drain_at, tenure_at}
-use Rattle.conn_rules.specs.Standing.{Stands}
 use Rattle.conn_rules.specs.Steps.{Row, row, ◌then◌, end_outs, failing, dropping, without_station, may_begin, begin_outs, after_begin, begin, short_message, link_up, link_down, resting_stage, resting, moved}
 use Rattle.conn_rules.specs.Table.{access, on_activation_ack, on_activation_nack, on_establish_indication, was_asked, on_establish_confirm, on_release_indication, on_error_indication, on_connection_failure, dtap_on_target, dtap_in, on_dtap, same_change, on_complete, failure_outs, on_failure, release_in, on_release_ack, on_move, on_confirm, on_refused, on_released, on_downlink, on_assignment_request, on_cipher_mode_command, on_clear_command, on_expiry, is_some_draining, on_drain_expiry, drains_at, targets, on_station_down, on_switch_down, row_of}
 use Rattle.conn_rules.proofs.StandingSteps.{by_state}
-use Rattle.bssmap_codec.specs.declared.reference.Reference.{Reference}
-use Rattle.conn_rules.specs.declared.state.Clearing.TheVariants.{Due, Asked as WasAsked, Complete}
-use Rattle.dtap_codec.specs.declared.rr.RrCause.{RrCause}
 use Rattle.conn_rules.specs.Roles.{target_role, roles_of, orders, brought, change_by, is_to_station, step_by, leaves_at, end_messages, ChangesRoles, ChangesRolesBy, to_stations, those_that_go}
-use Rattle.conn_rules.specs.Roles.RoleStep.{stays, commands, completes, goes_back}
-use Rattle.conn_rules.specs.Roles.RoleEnd.{refused, dismisses}
-use Rattle.conn_rules.specs.Streams.{IsOpen}
 use Rattle.conn_rules.proofs.DownlinkSteps.{failing_shut}
 use Rattle.conn_rules.proofs.Roles.{roles_in, roles-known, goes_on_in, goes_on_by, ends_in, had_ended_in, none_in, changes_roles_by_row_if, IsUntold, ArePlain, are_plain_tenure, are_plain_request_where, orders-handing, told_handing, goes_on_plain, goes_on_begins, begins_by_begin, free_where, to_stations-end, ends_failing, ends_broken, ends_dropping, ends_broken_drop}
 use Rattle.conn_rules.proofs.RolesSteps.{changes_roles_changed, changes_roles_refused, resting-roles, changes_roles_release}

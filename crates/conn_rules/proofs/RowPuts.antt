@@ -5,30 +5,19 @@ use Rattle.conn_rules.proofs.Prelude.{◌∷◌, ◌++◌, length, map, Option, 
 use Rattle.conn_rules.proofs.Prelude.{NORMAL_EVENT, RADIO_INTERFACE_FAILURE, RADIO_INTERFACE_MESSAGE_FAILURE, Change, Assignment, Handover}
 use Rattle.conn_rules.proofs.Prelude.{Channel, Place, Message, channel_release, handing, rf_channel_release}
 use Rattle.conn_rules.proofs.Prelude.{change_complete, clear_complete, relaying, release_complete, Sapi, Zero, Three, Tenure, chain_count}
-use Rattle.conn_rules.proofs.Prelude.{count, messages, INITIAL_LIMIT}
-use Rattle.std.proofs.Common.{drop, leb-true}
-use Rattle.std.specs.Option.{option_to_list}
+use Rattle.conn_rules.proofs.Prelude.{count, messages, INITIAL_LIMIT, drop, leb-true, option_to_list, activation, change_command}
+use Rattle.conn_rules.proofs.Prelude.{establish_request, immediate_assign_command, assignment_failure, complete_layer3, Input, Due}
+use Rattle.conn_rules.proofs.Prelude.{WasAsked, Complete, Drain, ShortMessageLink, Down, Asked, Up, Stage, Active, Preparing, Changing}
+use Rattle.conn_rules.proofs.Prelude.{Draining, State, WaitActivation, WaitEstablish, WaitConfirm, Live, Closed, Removed, Connection}
+use Rattle.conn_rules.proofs.Prelude.{drain_at, enter, first_channel, tenure_at, OfRow, target_in, first_cleared}
 use Rattle.bssmap_codec.specs.declared.values.RrCause.{RrCause}
 use Rattle.conn_messages.specs.declared.causes.TheConstants.{BSS_NOT_EQUIPPED, NO_RADIO_RESOURCE, PROTOCOL_ERROR, REVERSION_TO_OLD_CHANNEL}
-use Rattle.conn_messages.specs.StationMessage.{activation, change_command, establish_request, immediate_assign_command}
-use Rattle.conn_messages.specs.SwitchMessage.{assignment_failure, cipher_mode_reject, clear_request, complete_layer3, sapi_3_reject}
+use Rattle.conn_messages.specs.SwitchMessage.{cipher_mode_reject, clear_request, sapi_3_reject}
 use Rattle.conn_rules.proofs.Downlink.{of_row_so}
 use Rattle.conn_rules.proofs.DownlinkMessages.{AllByRecursion-append, AllByRecursion-filter}
-use Rattle.conn_rules.specs.declared.input.Input.{Input}
 use Rattle.conn_rules.specs.declared.input.Input.TheVariants as inputs
-use Rattle.conn_rules.specs.declared.state.Clearing.TheVariants.{Due, Asked as WasAsked, Complete}
-use Rattle.conn_rules.specs.declared.state.Drain.{Drain}
-use Rattle.conn_rules.specs.declared.state.ShortMessageLink.{ShortMessageLink}
-use Rattle.conn_rules.specs.declared.state.ShortMessageLink.TheVariants.{Down, Asked, Up}
-use Rattle.conn_rules.specs.declared.state.Stage.{Stage}
-use Rattle.conn_rules.specs.declared.state.Stage.TheVariants.{Active, Preparing, Changing, Draining}
-use Rattle.conn_rules.specs.declared.state.State.{State}
-use Rattle.conn_rules.specs.declared.state.State.TheVariants.{WaitActivation, WaitEstablish, WaitConfirm, Live, Closed, Removed}
-use Rattle.conn_rules.specs.Connection.{Connection, drain_at, enter, first_channel, tenure_at}
 use Rattle.conn_rules.specs.Steps.{Row, row, ◌then◌, after_waiting, ask_for_held, begin, begin_outs, begin_waiting, done_at, dropping, end_outs, ending, failing, goes_to, hand_held, hold_down, hold_short_message, hold_up, leave, link_down, link_up, may_begin, moved, relay_held, request_for, request_where, resting, resting_stage, settled, settled_stage, shifted, short_message, target_release, tenure_outs, waiting_outs, without_station}
-use Rattle.conn_rules.specs.Streams.{OfRow, target_in}
 use Rattle.conn_rules.specs.Table.{row_if, access, complete, dtap_in, dtap_on_target, failure, failure_outs, nack_outs, on_activation_ack, on_activation_nack, on_assignment_request, on_cipher_mode_command, on_clear_command, on_complete, on_confirm, on_connection_failure, on_downlink, on_drain_expiry, on_dtap, on_error_indication, on_establish_confirm, on_establish_indication, on_expiry, on_failure, on_move, on_refused, on_release_ack, on_release_indication, on_released, on_station_down, on_switch_down, refuse, release, release_in, row_of, speech_request}
-use Rattle.hold_queue.specs.ChainState.{first_cleared}
 use Rattle.rsl_codec.specs.declared.values.ActivationType.{ActivationType}
 use Rattle.rsl_codec.specs.declared.values.HandoverReference.{HandoverReference}
 use Rattle.rsl_codec.specs.declared.values.RequestReference.{RequestReference}
@@ -192,8 +181,7 @@ module _ (k : Kinds) (P : Message → Type 0) (Q : State → RequestReference �
 
   requests : (link : ShortMessageLink) → All (request_where link s.serving)
   requests Down = (puts.establishes s.serving parts.serving, tt)
-  requests Asked = tt
-  requests Up = tt
+  requests _ = tt
 
   requests_for : (ms : List (List ℕ)) (c : Channel) → k.channel c → All (request_for ms c)
   requests_for [] c here = tt
@@ -202,13 +190,7 @@ module _ (k : Kinds) (P : Message → Type 0) (Q : State → RequestReference �
   target_released : (state : State) → Knows k state → All (target_release state)
   target_released (Live reference (Preparing target)) knows = (puts.releases target.channel knows.target.0, tt)
   target_released (Live reference (Changing target)) knows = (puts.releases target.channel knows.target.0, tt)
-  target_released (Live reference Active) knows = tt
-  target_released (Live reference Draining) knows = tt
-  target_released WaitActivation knows = tt
-  target_released WaitEstablish knows = tt
-  target_released WaitConfirm knows = tt
-  target_released (Closed clearing) knows = tt
-  target_released Removed knows = tt
+  target_released _ knows = tt
 
   serving_released : P (rf_channel_release s.serving)
   serving_released = puts.releases s.serving parts.serving
@@ -259,16 +241,14 @@ module _ (k : Kinds) (P : Message → Type 0) (Q : State → RequestReference �
 
   of_short_message : (state : State) (link : ShortMessageLink) (message : List ℕ) → Knows k state → k.layer3 message → Is (short_message state link message s)
   of_short_message state Up message knows layer3 = (before, (puts.hands s.serving Three message parts.serving layer3, tt))
-  of_short_message state Asked message knows layer3 = of_hold_short_message state message knows
-  of_short_message state Down message knows layer3 = of_hold_short_message state message knows
+  of_short_message state _ message knows layer3 = of_hold_short_message state message knows
 
   of_link_up : Is (link_up s)
   of_link_up = (before, handed s.serving Three (messages s.down Three) parts.serving parts.three)
 
   of_link_down : (link : ShortMessageLink) (reference : ℕ) → k.reference reference → Is (link_down link reference s)
-  of_link_down Up reference own = (before, tt)
   of_link_down Asked reference own = (before, (puts.rejects reference s.serving own, tt))
-  of_link_down Down reference own = (before, tt)
+  of_link_down _ reference own = (before, tt)
 
   of_hold_up : (state : State) (tenure : ℕ) (sapi : Sapi) (message : List ℕ) → Knows k state → Is (hold_up state tenure sapi message s)
   of_hold_up state tenure sapi message knows =
@@ -300,11 +280,9 @@ module _ (k : Kinds) (P : Message → Type 0) (Q : State → RequestReference �
   after_wait false reference o t own is = is
 
   after_settled : (reference : ℕ) (stage : Stage) (draining : List Drain) (t : Connection) → k.reference reference → Q t.state t.request → Q (settled reference stage draining t).state (settled reference stage draining t).request
-  after_settled reference Active draining t own is = is
-  after_settled reference (Preparing target) draining t own is = is
-  after_settled reference (Changing target) draining t own is = is
   after_settled reference Draining [] t own is = enters.lives t.state t.request reference Active is own
   after_settled reference Draining (d ∷ ds) t own is = is
+  after_settled reference _ draining t own is = is
 
   -- then the request that waits begins, where it may
   of_waiting : (stage : Stage) (reference : ℕ) (r : Row) → k.reference reference → Is r → Is (r then begin_waiting stage reference offer)
@@ -521,12 +499,11 @@ module _ (k : Kinds) (P : Message → Type 0) (Q : State → RequestReference �
   of_station_down _ station knows = tt
 
   of_switch_down : (state : State) → Knows k state → OfRow Is (on_switch_down state s)
-  of_switch_down WaitActivation knows = of_dropping
-  of_switch_down WaitEstablish knows = of_dropping
   of_switch_down WaitConfirm knows = of_removing WaitConfirm knows
   of_switch_down (Live reference stage) knows = of_removing (Live reference stage) knows
   of_switch_down (Closed clearing) knows = (removed, tt)
   of_switch_down Removed knows = tt
+  of_switch_down _ knows = of_dropping
 
   pub row-puts : (input : Input) → Brings k input → OfRow (Keeps P Q) (row_of s input offer)
   unfolding row_of
@@ -574,7 +551,6 @@ any_held cause clears [] = tt
 any_held cause clears (t ∷ ts) = ((any_of t.zero, any_of t.three), any_held cause clears ts)
 
 any_reference : (cause : ℕ → Type 0) (clears : Type 0) (state : State) → HasReference (loose cause clears) state
-any_reference cause clears (Live reference stage) = tt
 any_reference cause clears (Closed (WasAsked reference)) = tt
 any_reference cause clears _ = tt
 

@@ -1,15 +1,11 @@
 -- The table against literal rows: lives of a connection with number 1 over cells 1 and 2, octet by
 -- octet.
 use Rattle.conn_rules.proofs.Prelude.{◌≡◌, ℕ, Bool, true, false, List, [], ◌∷◌, ◌++◌, map, Option, Some, None, refl, Assignment, Handover, hex}
-use Rattle.conn_rules.proofs.Prelude.{Zero, Three}
-use Rattle.std.proofs.Common.{replicate}
+use Rattle.conn_rules.proofs.Prelude.{Zero, Three, replicate, Input, Due, Complete, Active, Preparing, Draining, WaitConfirm, Live, Closed}
+use Rattle.conn_rules.proofs.Prelude.{Removed, Connection}
 use Rattle.conn_messages.specs.Out.{out_of}
-use Rattle.conn_rules.specs.declared.input.Input.{Input}
 use Rattle.conn_rules.specs.declared.input.Input.TheVariants as inputs
-use Rattle.conn_rules.specs.declared.state.Clearing.TheVariants.{Due, Asked, Complete}
-use Rattle.conn_rules.specs.declared.state.Stage.TheVariants.{Active, Preparing, Draining}
-use Rattle.conn_rules.specs.declared.state.State.TheVariants.{WaitConfirm, Live, Closed, Removed}
-use Rattle.conn_rules.specs.Connection.{Connection}
+use Rattle.conn_rules.specs.declared.state.Clearing.TheVariants.{Asked}
 use Rattle.conn_rules.specs.Steps.{Row}
 use Rattle.conn_rules.specs.Table.{row_of}
 use Rattle.conn_rules.proofs.Lives.{put, Turn, turn, played, after, cell_1, cell_2, again, on_1, on_2, request, fresh, active, unconfirmed, preparing, changing, handing_over, handed_over, two_drain, three_drain}

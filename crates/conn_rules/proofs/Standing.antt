@@ -1,15 +1,9 @@
 -- What is kept by the parts of a connection: its holds, its tenures, its list of old channels.
 use Rattle.conn_rules.proofs.Prelude.{◌≡◌, ℕ, zero, suc, ◌+◌, ◌≤◌, false, List, [], ◌∷◌, ◌++◌, length, refl, arith, eqb, AllByRecursion}
 use Rattle.conn_rules.proofs.Prelude.{IsLayer3, Sapi, Zero, Three, Tenure, empty_tenure, chain_count, put_in, HoldState, count, messages}
-use Rattle.conn_rules.proofs.Prelude.{with_messages}
-use Rattle.std.proofs.Common.{drop, le_trans, length-append}
-use Rattle.std.proofs.lemmas.Bool.{eqb-false}
-use Rattle.conn_rules.specs.declared.limits.TheConstants.{DOWN_LIMIT, UP_LIMIT}
-use Rattle.conn_rules.specs.declared.state.Drain.{Drain}
-use Rattle.conn_rules.specs.Standing.{IsHeldTenure, FirstIsEmpty, OldestDrains, DrainTime}
+use Rattle.conn_rules.proofs.Prelude.{with_messages, drop, le_trans, length-append, eqb-false, DOWN_LIMIT, UP_LIMIT, Drain, IsHeldTenure}
+use Rattle.conn_rules.proofs.Prelude.{FirstIsEmpty, OldestDrains, DrainTime, ChainState, new_chain, tenures_count, first_cleared, new_hold}
 use Rattle.conn_rules.specs.Steps.{done_at}
-use Rattle.hold_queue.specs.ChainState.{ChainState, new_chain, tenures_count, first_cleared}
-use Rattle.hold_queue.specs.HoldState.{new_hold}
 
 -- ---- lists
 
@@ -134,9 +128,8 @@ length-ended [] more long = omega arith
 length-ended (t ∷ ts) more long = let rest = length-first_cleared ts in omega arith
 
 pub first_is_empty_ended : (ts : List Tenure) (more : ℕ) → length ts ≡ suc more + 1 → FirstIsEmpty (first_cleared (drop 1 ts))
-first_is_empty_ended [] more long = absurd (omega arith)
-first_is_empty_ended (t ∷ []) more long = absurd (omega arith)
 first_is_empty_ended (t ∷ next ∷ ts) more long = refl
+first_is_empty_ended _ more long = absurd (omega arith)
 
 pub stands_up_ended : (up : ChainState) → StandsUp up → StandsUp (record up { tenures = first_cleared (drop 1 up.tenures) })
 stands_up_ended up stands = record {

@@ -1,16 +1,8 @@
 -- Where a change ends, and where old channels leave: what holds of every connection is kept.
 use Rattle.conn_rules.proofs.Prelude.{cond_both, ◌≡◌, ℕ, ◌+◌, ◌≤◌, false, List, [], ◌∷◌, ◌++◌, length, refl, ◌∙◌, arith, Option, Change}
-use Rattle.conn_rules.proofs.Prelude.{Channel, Zero, empty_tenure, HoldState, with_messages}
-use Rattle.std.proofs.Common.{◌<◌, le_trans, length-append}
-use Rattle.conn_rules.specs.declared.limits.TheConstants.{DRAIN_LIMIT}
-use Rattle.conn_rules.specs.declared.state.Drain.{Drain}
-use Rattle.conn_rules.specs.declared.state.ShortMessageLink.{ShortMessageLink}
-use Rattle.conn_rules.specs.declared.state.Stage.{Stage}
-use Rattle.conn_rules.specs.declared.state.Stage.TheVariants.{Active, Preparing, Changing, Draining}
-use Rattle.conn_rules.specs.declared.state.State.TheVariants.{Live}
-use Rattle.conn_rules.specs.declared.state.Target.{Target}
-use Rattle.conn_rules.specs.Connection.{Connection, enter}
-use Rattle.conn_rules.specs.Standing.{FirstIsEmpty, DrainTime, IsAskedFor, Stands}
+use Rattle.conn_rules.proofs.Prelude.{Channel, Zero, empty_tenure, HoldState, with_messages, ◌<◌, le_trans, length-append, DRAIN_LIMIT}
+use Rattle.conn_rules.proofs.Prelude.{Drain, ShortMessageLink, Stage, Active, Preparing, Changing, Draining, Live, Target, Connection}
+use Rattle.conn_rules.proofs.Prelude.{enter, FirstIsEmpty, DrainTime, IsAskedFor, Stands}
 use Rattle.conn_rules.specs.Steps.{Row, begin_waiting, resting_stage, resting, moved, hand_held, ask_for_held, link_for, relay_held, done_at, leave, settled, settled_stage, shifted}
 use Rattle.conn_rules.specs.Table.{complete, failure, release}
 use Rattle.conn_rules.proofs.Standing.{StandsDown, stands_down_without, StandsUp, stands_up_ended, stands_up_begun, first_is_empty_begun, oldest_drains_more, drain_time_more, first_is_empty_ended, drain_time_anew, drain_time_done_at, length-ended, length-done_at, nothing}

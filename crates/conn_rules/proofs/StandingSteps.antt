@@ -1,25 +1,15 @@
 -- The steps that rows are put together of keep what holds of every connection.
 use Rattle.conn_rules.proofs.Prelude.{cond_both, ◌≡◌, ℕ, suc, ◌+◌, ◌≤◌, Bool, true, false, ◌&&◌, List, [], ◌∷◌, ◌++◌, length, refl, sym}
 use Rattle.conn_rules.proofs.Prelude.{◌∙◌, subst, arith, eqb, Option, Some, None, true≢false, IsLayer3, EQUIPMENT_FAILURE, Change}
-use Rattle.conn_rules.proofs.Prelude.{Assignment, Channel, Sapi, Three, Tenure, chain_count, put_in, HoldState, count}
-use Rattle.std.proofs.Common.{◌<◌, ltb-true, ltb-false, lit<}
-use Rattle.conn_rules.specs.declared.limits.TheConstants.{DOWN_LIMIT, DRAIN_LIMIT, UP_LIMIT}
+use Rattle.conn_rules.proofs.Prelude.{Assignment, Channel, Sapi, Three, Tenure, chain_count, put_in, HoldState, count, ◌<◌, ltb-true}
+use Rattle.conn_rules.proofs.Prelude.{ltb-false, lit<, DOWN_LIMIT, DRAIN_LIMIT, UP_LIMIT, Drain, ShortMessageLink, Down, Asked, Up, Stage}
+use Rattle.conn_rules.proofs.Prelude.{Active, Preparing, Changing, Draining, State, WaitConfirm, Live, Closed, Removed, Target, Connection}
+use Rattle.conn_rules.proofs.Prelude.{enter, emptied, new_connection, FirstIsEmpty, OldestDrains, DrainTime, IsAskedFor, StandsIn, StandsBy}
+use Rattle.conn_rules.proofs.Prelude.{Stands, OfRow, ChainState}
 use Rattle.conn_rules.specs.declared.state.Clearing.{Clearing}
-use Rattle.conn_rules.specs.declared.state.Drain.{Drain}
-use Rattle.conn_rules.specs.declared.state.ShortMessageLink.{ShortMessageLink}
-use Rattle.conn_rules.specs.declared.state.ShortMessageLink.TheVariants.{Down, Asked, Up}
-use Rattle.conn_rules.specs.declared.state.Stage.{Stage}
-use Rattle.conn_rules.specs.declared.state.Stage.TheVariants.{Active, Preparing, Changing, Draining}
-use Rattle.conn_rules.specs.declared.state.State.{State}
-use Rattle.conn_rules.specs.declared.state.State.TheVariants.{WaitConfirm, Live, Closed, Removed}
-use Rattle.conn_rules.specs.declared.state.Target.{Target}
-use Rattle.conn_rules.specs.Connection.{Connection, enter, emptied, new_connection}
-use Rattle.conn_rules.specs.Standing.{FirstIsEmpty, OldestDrains, DrainTime, IsAskedFor, StandsIn, StandsBy, Stands}
 use Rattle.conn_rules.specs.Steps.{Row, failing, may_begin, begin, after_waiting, begin_waiting, hold_down, hold_short_message, short_message, link_for, link_up, link_down, hold_up, relay_held}
-use Rattle.conn_rules.specs.Streams.{OfRow}
 use Rattle.conn_rules.specs.Table.{row_if}
 use Rattle.conn_rules.proofs.Standing.{StandsDown, stands_down_new, stands_down_put, stands_down_without, StandsUp, stands_up_new, stands_up_put, stands_up_cleared, first_is_empty_cleared, length-put_in, length-first_cleared, nothing}
-use Rattle.hold_queue.specs.ChainState.{ChainState}
 
 -- a row that fits where a test holds
 pub of_row_row_if : (P : Row → Type 0) (test : Bool) (r : Row) → (test ≡ true → P r) → OfRow P (row_if test r)
@@ -126,33 +116,29 @@ StandsBut Draining draining down link = (1 ≤ length draining) × (length drain
 
 pub stands_but_of : (stage : Stage) (draining : List Drain) (down : HoldState) (link : ShortMessageLink) (waits : Bool) → StandsIn stage draining down link waits → StandsBut stage draining down link
 stands_but_of Active draining down link waits stands = (stands.0, stands.1, stands.2)
-stands_but_of (Preparing target) draining down link waits stands = stands
-stands_but_of (Changing target) draining down link waits stands = stands
 stands_but_of Draining draining down link waits stands = (stands.0, stands.1, stands.2, stands.3)
+stands_but_of _ draining down link waits stands = stands
 
 -- nothing waits
 stands_in_free : (stage : Stage) (draining : List Drain) (down : HoldState) (link : ShortMessageLink) → StandsBut stage draining down link → StandsIn stage draining down link false
 stands_in_free Active draining down link stands = (stands.0, stands.1, stands.2, refl)
-stands_in_free (Preparing target) draining down link stands = stands
-stands_in_free (Changing target) draining down link stands = stands
 stands_in_free Draining draining down link stands = (stands.0, stands.1, stands.2, stands.3, λ waits. absurd (true≢false (sym waits)))
+stands_in_free _ draining down link stands = stands
 
 -- what waits may not begin
 pub stands_in_waiting : (stage : Stage) (draining : List Drain) (down : HoldState) (link : ShortMessageLink) → may_begin stage draining ≡ false → StandsBut stage draining down link → StandsIn stage draining down link true
 stands_in_waiting Active draining down link full stands = absurd (true≢false full)
-stands_in_waiting (Preparing target) draining down link full stands = stands
-stands_in_waiting (Changing target) draining down link full stands = stands
 stands_in_waiting Draining draining down link full stands =
     let three = ltb-false (length draining) DRAIN_LIMIT full in
     let most = stands.1 in
     (stands.0, stands.1, stands.2, stands.3, λ waits. omega arith)
+stands_in_waiting _ draining down link full stands = stands
 
 -- a change begins
 stands_in_preparing : (stage : Stage) (target : Target) (draining : List Drain) (down : HoldState) (link : ShortMessageLink) (waits : Bool) → may_begin stage draining ≡ true → StandsBut stage draining down link → StandsIn (Preparing target) draining down link waits
 stands_in_preparing Active target draining down link waits may stands = (subst (λ (ds : List Drain). length ds < DRAIN_LIMIT) (sym stands.0) (lit< tt), stands.1, stands.2)
-stands_in_preparing (Preparing _) target draining down link waits may stands = absurd (true≢false (sym may))
-stands_in_preparing (Changing _) target draining down link waits may stands = absurd (true≢false (sym may))
 stands_in_preparing Draining target draining down link waits may stands = (ltb-true (length draining) DRAIN_LIMIT may, stands.2, stands.3)
+stands_in_preparing _ target draining down link waits may stands = absurd (true≢false (sym may))
 
 pub stands_begin : (reference : ℕ) (stage : Stage) (change : Change) (offer : Option Channel) (s : Connection) → AliveIn s → may_begin stage s.draining ≡ true → StandsBut stage s.draining s.down s.link → Stands s → Stands (begin reference change offer s).next
 stands_begin reference stage change (Some channel) s lives may but stands =
@@ -184,9 +170,8 @@ IsStill (Changing target) = ⊥
 IsStill _ = Unit {0}
 
 is_asked_for_nothing : (link : ShortMessageLink) → IsAskedFor link []
-is_asked_for_nothing Down = refl
 is_asked_for_nothing Asked = tt
-is_asked_for_nothing Up = refl
+is_asked_for_nothing _ = refl
 
 pub is_asked_for_for : (link : ShortMessageLink) (three : List (List ℕ)) → IsAskedFor (link_for three link) three
 is_asked_for_for link [] = is_asked_for_nothing link
@@ -199,16 +184,14 @@ stands_in_link (Changing target) draining down link new three waits still asked 
 stands_in_link Draining draining down link new three waits still asked stands = (stands.0, stands.1, stands.2, asked, stands.4)
 
 pub asked_for : (stage : Stage) (draining : List Drain) (down : HoldState) (link : ShortMessageLink) (waits : Bool) → IsStill stage → StandsIn stage draining down link waits → IsAskedFor link down.three
-asked_for Active draining down link waits still stands = stands.2
-asked_for (Preparing target) draining down link waits still stands = stands.2
 asked_for (Changing target) draining down link waits still stands = absurd still
 asked_for Draining draining down link waits still stands = stands.3
+asked_for _ draining down link waits still stands = stands.2
 
 pub none_held : (stage : Stage) (draining : List Drain) (down : HoldState) (link : ShortMessageLink) (waits : Bool) → IsStill stage → StandsIn stage draining down link waits → down.zero ≡ []
-none_held Active draining down link waits still stands = stands.1
-none_held (Preparing target) draining down link waits still stands = stands.1
 none_held (Changing target) draining down link waits still stands = absurd still
 none_held Draining draining down link waits still stands = stands.2
+none_held _ draining down link waits still stands = stands.1
 
 pub stands_link_up : (reference : ℕ) (stage : Stage) (s : Connection) → IsStill stage → s.state ≡ Live reference stage → Stands s → Stands (link_up s).next
 stands_link_up reference stage s still is stands =

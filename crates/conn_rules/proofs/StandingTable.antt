@@ -1,19 +1,11 @@
 -- Every row keeps what holds of every connection.
 use Rattle.conn_rules.proofs.Prelude.{◌≡◌, ℕ, zero, suc, Bool, true, ◌&&◌, ◌||◌, leb, List, length, refl, eqb, Option, Some, None, IsLayer3}
 use Rattle.conn_rules.proofs.Prelude.{EQUIPMENT_FAILURE, RADIO_INTERFACE_FAILURE, RADIO_INTERFACE_MESSAGE_FAILURE, Place, INITIAL_LIMIT}
-use Rattle.conn_rules.proofs.Prelude.{Change, Assignment, Handover, Channel, cond_both, Sapi, Zero, Three}
-use Rattle.conn_rules.specs.declared.input.Input.{Input}
+use Rattle.conn_rules.proofs.Prelude.{Change, Assignment, Handover, Channel, cond_both, Sapi, Zero, Three, Input, Due, WasAsked, Complete}
+use Rattle.conn_rules.proofs.Prelude.{Down, Stage, Active, Preparing, Changing, Draining, State, WaitActivation, WaitEstablish, WaitConfirm}
+use Rattle.conn_rules.proofs.Prelude.{Live, Closed, Removed, Connection, enter, is_at, drain_at, tenure_at, Stands, IsCarried, OfRow}
 use Rattle.conn_rules.specs.declared.input.Input.TheVariants as inputs
-use Rattle.conn_rules.specs.declared.state.Clearing.TheVariants.{Due, Asked as WasAsked, Complete}
-use Rattle.conn_rules.specs.declared.state.ShortMessageLink.TheVariants.{Down}
-use Rattle.conn_rules.specs.declared.state.Stage.{Stage}
-use Rattle.conn_rules.specs.declared.state.Stage.TheVariants.{Active, Preparing, Changing, Draining}
-use Rattle.conn_rules.specs.declared.state.State.{State}
-use Rattle.conn_rules.specs.declared.state.State.TheVariants.{WaitActivation, WaitEstablish, WaitConfirm, Live, Closed, Removed}
-use Rattle.conn_rules.specs.Connection.{Connection, enter, is_at, drain_at, tenure_at}
-use Rattle.conn_rules.specs.Standing.{Stands, IsCarried}
 use Rattle.conn_rules.specs.Steps.{Row, may_begin, begin}
-use Rattle.conn_rules.specs.Streams.{OfRow}
 use Rattle.conn_rules.specs.Table.{access, on_activation_ack, on_activation_nack, on_establish_indication, was_asked, on_establish_confirm, on_release_indication, on_error_indication, on_connection_failure, dtap_on_target, dtap_in, on_dtap, same_change, on_complete, on_failure, release_in, on_release_ack, on_move, on_confirm, on_refused, on_released, on_downlink, speech_request, on_assignment_request, on_cipher_mode_command, on_clear_command, on_expiry, is_some_draining, on_drain_expiry, drains_at, targets, on_station_down, on_switch_down, row_of}
 use Rattle.conn_rules.proofs.StandingSteps.{of_row_row_if, holds_of, stands_removed, stands_closed, stands_failing, stands_enter, by_state, alive, in_stage, stands_live, stands_but_of, stands_in_waiting, stands_begin, stands_link_up, stands_link_down, stands_hold_down, stands_short_message, stands_hold_up, stands_hold_first, stands_confirmed}
 use Rattle.conn_rules.proofs.StandingChanges.{stands_nack, stands_failure, stands_complete, stands_release}
@@ -52,7 +44,6 @@ access_stands None s is stands = stands_removed s (holds_of s stands)
 
 establish_indication_stands : (state : State) (s : Connection) (at : Place) (sapi : Sapi) (message : Option (List ℕ)) → s.state ≡ state → Stands s → OfRow Next (on_establish_indication state s at sapi message)
 establish_indication_stands WaitEstablish s at Zero message is stands = of_row_row_if Next (is_at at s.serving) _ (λ _. access_stands message s is stands)
-establish_indication_stands (Live reference (Changing target)) s at sapi message is stands = tt
 establish_indication_stands (Live reference Active) s at Three message is stands = of_row_row_if Next (is_at at s.serving) _ (λ _. stands_link_up reference Active s tt is stands)
 establish_indication_stands (Live reference (Preparing target)) s at Three message is stands = of_row_row_if Next (is_at at s.serving) _ (λ _. stands_link_up reference (Preparing target) s tt is stands)
 establish_indication_stands (Live reference Draining) s at Three message is stands = of_row_row_if Next (is_at at s.serving) _ (λ _. stands_link_up reference Draining s tt is stands)

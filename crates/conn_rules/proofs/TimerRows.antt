@@ -1,7 +1,6 @@
 -- Timers and the waiting request against literal rows.
-use Rattle.conn_rules.proofs.Prelude.{◌≡◌, ℕ, true, false, List, [], ◌∷◌, Some, None, refl, Assignment, Zero, hex}
+use Rattle.conn_rules.proofs.Prelude.{◌≡◌, ℕ, true, false, List, [], ◌∷◌, Some, None, refl, Assignment, Zero, hex, Connection}
 use Rattle.conn_rules.specs.declared.input.Input.TheVariants as inputs
-use Rattle.conn_rules.specs.Connection.{Connection}
 use Rattle.conn_rules.specs.Table.{row_of}
 use Rattle.conn_rules.specs.Timers.{after_pass}
 use Rattle.conn_rules.proofs.Lives.{active, Turn, turn, after, cell_1, on_1, on_2, request, changing, preparing, handed_over, two_drain, three_drain, unconfirmed}

@@ -3,24 +3,16 @@
 use Rattle.conn_rules.proofs.Prelude.{◌≡◌, ℕ, zero, suc, ◌==◌, true, if◌then◌else◌, List, [], ◌∷◌, ◌++◌, length, nat_le, Option, Some, None}
 use Rattle.conn_rules.proofs.Prelude.{refl, sym, ap, ◌∙◌, subst, append_assoc, append-nil, cond_both, cond-true, EQUIPMENT_FAILURE, Channel}
 use Rattle.conn_rules.proofs.Prelude.{Place, relaying, Sapi, Zero, Three, Tenure, empty_tenure, tenure_messages, put_in, chain_count}
-use Rattle.conn_rules.proofs.Prelude.{INITIAL_LIMIT}
-use Rattle.conn_messages.specs.SwitchMessage.{complete_layer3}
+use Rattle.conn_rules.proofs.Prelude.{INITIAL_LIMIT, complete_layer3, Drain, Stage, Changing, State, WaitEstablish, WaitConfirm, Live}
+use Rattle.conn_rules.proofs.Prelude.{Connection, is_at, tenure_at, first_channel, StandsBy, FirstIsEmpty, Future, IsOpen, OfRow, AreApart}
+use Rattle.conn_rules.proofs.Prelude.{relayed, still_of, still_to_relay, of_target, from_input, undone, target_in, with_tenure_messages}
 use Rattle.conn_rules.specs.declared.input.Input.TheVariants as inputs
-use Rattle.conn_rules.specs.declared.state.Drain.{Drain}
-use Rattle.conn_rules.specs.declared.state.Stage.{Stage}
-use Rattle.conn_rules.specs.declared.state.Stage.TheVariants.{Changing}
-use Rattle.conn_rules.specs.declared.state.State.{State}
-use Rattle.conn_rules.specs.declared.state.State.TheVariants.{WaitEstablish, WaitConfirm, Live}
-use Rattle.conn_rules.specs.Connection.{Connection, is_at, tenure_at, first_channel}
-use Rattle.conn_rules.specs.Standing.{StandsBy, FirstIsEmpty}
 use Rattle.conn_rules.specs.Steps.{Row, row, failing}
-use Rattle.conn_rules.specs.Streams.{Future, IsOpen, OfRow, AreApart, relayed, still_of, still_to_relay, of_target, from_input, undone, target_in}
 use Rattle.conn_rules.specs.Table.{on_establish_indication, dtap_in, on_dtap}
 use Rattle.conn_rules.proofs.UplinkPlaces.{first_here}
 use Rattle.conn_rules.proofs.UplinkRows.{Passes, in_state, of_if, gives_link_up}
 use Rattle.conn_rules.proofs.UplinkSteps.{Gives, of_sapi, relayed_by-relaying, still_of-first}
 use Rattle.conn_rules.proofs.UplinkTenures.{tenure_put, empty-messages}
-use Rattle.hold_queue.specs.ChainState.{with_tenure_messages}
 
 -- ---- the initial message
 

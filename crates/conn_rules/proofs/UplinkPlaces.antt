@@ -1,12 +1,10 @@
 -- What may still come on the channels of a connection, where a message comes first on one of them.
 use Rattle.conn_rules.proofs.Prelude.{◌≡◌, ℕ, zero, suc, ◌==◌, ◌&&◌, Bool, true, false, not, if◌then◌else◌, List, [], ◌∷◌, ◌++◌, Option}
 use Rattle.conn_rules.proofs.Prelude.{Some, None, refl, sym, ap, ◌∙◌, subst, inl, inr, cases_Bool, cond-true, cond-false, AllByRecursion}
-use Rattle.conn_rules.proofs.Prelude.{Channel, Place, Sapi, Tenure, tenure_messages}
-use Rattle.std.proofs.Common.{option_map}
-use Rattle.std.proofs.lemmas.Bool.{eqb-true, eq-eqb, and_parts, false_from_ne_true, true≢false}
-use Rattle.conn_rules.specs.declared.state.Drain.{Drain}
-use Rattle.conn_rules.specs.Connection.{is_at, drain_at}
-use Rattle.conn_rules.specs.Streams.{Future, on_channel, still_of, first_at, undone, IsApart, AreApart}
+use Rattle.conn_rules.proofs.Prelude.{Channel, Place, Sapi, Tenure, tenure_messages, option_map, eqb-true, eq-eqb, and_parts}
+use Rattle.conn_rules.proofs.Prelude.{false_from_ne_true, Drain, is_at, drain_at, Future, on_channel, still_of, first_at, undone, IsApart}
+use Rattle.conn_rules.proofs.Prelude.{AreApart}
+use Rattle.std.proofs.lemmas.Bool.{true≢false}
 
 -- ---- a place and a channel
 
@@ -89,7 +87,7 @@ behind : (o : Option ℕ) (place : ℕ) → option_map (λ n. suc n) o ≡ Some 
 behind None place is = absurd cc
 behind (Some n) place is = let later : Some (suc n) ≡ Some place = is in (n, refl, cc)
 
-not_true_from : (b : Bool) → not b ≡ true → b ≡ false
+pub not_true_from : (b : Bool) → not b ≡ true → b ≡ false
 not_true_from true is = sym is
 not_true_from false is = refl
 

@@ -2,19 +2,12 @@
 -- goes.
 use Rattle.conn_rules.proofs.Prelude.{◌≡◌, ℕ, zero, suc, ◌+◌, ◌==◌, ◌&&◌, ◌||◌, Bool, true, false, if◌then◌else◌, List, [], ◌∷◌, ◌++◌}
 use Rattle.conn_rules.proofs.Prelude.{length, Option, Some, None, refl, sym, ap, ◌∙◌, append-nil, cond_both, Channel, Change, Assignment}
-use Rattle.conn_rules.proofs.Prelude.{Handover, Place, rf_channel_release, change_complete, Sapi, Zero, Three, count}
-use Rattle.conn_rules.specs.declared.state.Clearing.TheVariants.{Due, Asked as WasAsked}
-use Rattle.conn_rules.specs.declared.state.Drain.{Drain}
-use Rattle.conn_rules.specs.declared.state.ShortMessageLink.{ShortMessageLink}
-use Rattle.conn_rules.specs.declared.state.ShortMessageLink.TheVariants.{Down, Asked, Up}
-use Rattle.conn_rules.specs.declared.state.Stage.{Stage}
-use Rattle.conn_rules.specs.declared.state.Stage.TheVariants.{Active, Preparing, Changing, Draining}
-use Rattle.conn_rules.specs.declared.state.State.{State}
-use Rattle.conn_rules.specs.declared.state.State.TheVariants.{WaitActivation, WaitEstablish, WaitConfirm, Live, Closed, Removed}
-use Rattle.conn_rules.specs.Connection.{Connection, enter, is_at, drain_at}
-use Rattle.conn_rules.specs.Standing.{StandsBy, FirstIsEmpty}
+use Rattle.conn_rules.proofs.Prelude.{Handover, Place, rf_channel_release, change_complete, Sapi, Zero, Three, count, Due, WasAsked, Drain}
+use Rattle.conn_rules.proofs.Prelude.{ShortMessageLink, Down, Asked, Up, Stage, Active, Preparing, Changing, Draining, State}
+use Rattle.conn_rules.proofs.Prelude.{WaitActivation, WaitEstablish, WaitConfirm, Live, Closed, Removed, Connection, enter, is_at, drain_at}
+use Rattle.conn_rules.proofs.Prelude.{StandsBy, FirstIsEmpty, Future, OfRow, IsOpen, relayed, still_of, still_to_relay, of_target}
+use Rattle.conn_rules.proofs.Prelude.{of_prepared}
 use Rattle.conn_rules.specs.Steps.{Row, row, ◌then◌, may_begin, begin_waiting, resting, resting_stage, moved, hold_down, hand_held, request_where, short_message, ask_for_held, link_up, link_down, done_at, leave, settled, settled_stage}
-use Rattle.conn_rules.specs.Streams.{Future, OfRow, IsOpen, relayed, still_of, still_to_relay, of_target, of_prepared}
 use Rattle.conn_rules.specs.Table.{row_if, on_activation_ack, nack_outs, on_activation_nack, was_asked, on_establish_confirm, on_release_indication, on_error_indication, on_connection_failure, same_change, on_complete, failure_outs, on_failure, release, release_in, on_release_ack, on_move, on_confirm, on_refused, on_released, on_downlink, speech_request, on_assignment_request, on_cipher_mode_command, on_clear_command, on_expiry, is_some_draining, on_drain_expiry, drains_at, targets, on_station_down, on_switch_down}
 use Rattle.conn_rules.proofs.UplinkPlaces.{drain_at-drains}
 use Rattle.conn_rules.proofs.UplinkSteps.{Gives, gives_then, gives_relay_held, gives_hand_held, gives_ask_for_held, gives_begin, begins_untargeted, gives_begin_waiting, resting-untargeted, gives_leave, leave-state, gives_settled, settled-stands}
@@ -242,9 +235,5 @@ station_down sapi future (Live reference stage) s station =
 station_down sapi future _ s station = tt
 
 pub switch_down : (sapi : Sapi) (future : Future) (state : State) (s : Connection) → PassesOn sapi future (in_state state s) (on_switch_down state (in_state state s))
-switch_down sapi future WaitActivation s = λ kept. absurd kept
-switch_down sapi future WaitEstablish s = λ kept. absurd kept
-switch_down sapi future WaitConfirm s = λ kept. absurd kept
-switch_down sapi future (Live reference stage) s = λ kept. absurd kept
-switch_down sapi future (Closed clearing) s = λ kept. absurd kept
 switch_down sapi future Removed s = tt
+switch_down sapi future _ s = λ kept. absurd kept

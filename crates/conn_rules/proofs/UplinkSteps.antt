@@ -2,22 +2,13 @@
 use Rattle.conn_rules.proofs.Prelude.{◌≡◌, ℕ, ◌+◌, ◌&&◌, Bool, true, false, if◌then◌else◌, List, [], ◌∷◌, ◌++◌, length, map, nat_le, Option}
 use Rattle.conn_rules.proofs.Prelude.{Some, None, refl, sym, ap, ◌∙◌, subst, arith, append_assoc, append-nil, inl, inr, cases_Bool}
 use Rattle.conn_rules.proofs.Prelude.{cond-true, cond-false, Channel, Change, Assignment, Handover, handing, relaying, Sapi, Zero, Three}
-use Rattle.conn_rules.proofs.Prelude.{Tenure, empty_tenure, tenure_messages}
-use Rattle.std.proofs.lemmas.Grind.{flat_map-append}
+use Rattle.conn_rules.proofs.Prelude.{Tenure, empty_tenure, tenure_messages, flat_map-append, Drain, Stage, Changing, Draining, State, Live}
+use Rattle.conn_rules.proofs.Prelude.{Connection, first_channel, FirstIsEmpty, Future, is_of, relayed, relayed_by, still_of, still_to_relay}
+use Rattle.conn_rules.proofs.Prelude.{of_target, first_cleared, FIRST_SDCCH}
 use Rattle.std.proofs.lemmas.Bool.{true≢false}
 use Rattle.conn_messages.specs.declared.parameters.TheConstants.{SDCCH_SAPI_3_DLCI, SACCH_SAPI_3_DLCI}
-use Rattle.conn_rules.specs.declared.state.Drain.{Drain}
-use Rattle.conn_rules.specs.declared.state.Stage.{Stage}
-use Rattle.conn_rules.specs.declared.state.Stage.TheVariants.{Changing, Draining}
-use Rattle.conn_rules.specs.declared.state.State.{State}
-use Rattle.conn_rules.specs.declared.state.State.TheVariants.{Live}
-use Rattle.conn_rules.specs.Connection.{Connection, first_channel}
-use Rattle.conn_rules.specs.Standing.{FirstIsEmpty}
 use Rattle.conn_rules.specs.Steps.{Row, row, ◌then◌, may_begin, begin, begin_waiting, waiting_outs, after_waiting, hand_held, ask_for_held, request_for, relay_held, tenure_outs, leave, resting_stage, settled, settled_stage, shifted}
-use Rattle.conn_rules.specs.Streams.{Future, is_of, relayed, relayed_by, still_of, still_to_relay, of_target}
 use Rattle.conn_rules.proofs.UplinkTenures.{empty-messages}
-use Rattle.hold_queue.specs.ChainState.{first_cleared}
-use Rattle.rsl_codec.specs.declared.channel_number.TheConstants.{FIRST_SDCCH}
 
 -- a row relays what it takes away of what was still to be relayed
 abbrev pub Gives : Sapi → Future → List (List ℕ) → Row → Type 0

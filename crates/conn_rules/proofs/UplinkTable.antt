@@ -1,12 +1,10 @@
 -- The whole table: what a row relays, then what is still to be relayed, is what was still to be
 -- relayed.
-use Rattle.conn_rules.proofs.Prelude.{◌≡◌, Option, refl, sym, subst, Channel, Sapi, Zero, Three}
-use Rattle.conn_rules.specs.declared.input.Input.{Input}
+use Rattle.conn_rules.proofs.Prelude.{◌≡◌, Option, refl, sym, subst, Channel, Sapi, Zero, Three, Input, Connection, Stands, AreApart}
+use Rattle.conn_rules.proofs.Prelude.{Future, KeepsUplink, OfRow, from_input, still_to_relay, used_channels}
 use Rattle.conn_rules.specs.declared.input.Input.TheVariants as inputs
-use Rattle.conn_rules.specs.Connection.{Connection}
-use Rattle.conn_rules.specs.Standing.{Stands}
 use Rattle.conn_rules.specs.Steps.{Row}
-use Rattle.conn_rules.specs.Streams.{AreApart, Ends, Future, KeepsUplink, OfRow, from_input, still_to_relay, used_channels}
+use Rattle.conn_rules.specs.Streams.{Ends}
 use Rattle.conn_rules.specs.Table.{row_of}
 use Rattle.conn_rules.proofs.UplinkMessages.{establish_indication, dtap}
 use Rattle.conn_rules.proofs.UplinkRows.{Passes, PassesOn, activation_ack, activation_nack, establish_confirm, release_indication, error_indication, connection_failure, completed, failed, release_ack, move, confirmed, refused, released, downlink, assignment_request, cipher_mode_command, clear_command, expired, drain_expired, station_down, switch_down}
@@ -22,8 +20,7 @@ from_other Zero future (inputs.EstablishIndication at of message) none = absurd 
 from_other Three future (inputs.EstablishIndication at of message) none = absurd none
 from_other Zero future (inputs.Dtap at of message) none = absurd none
 from_other Three future (inputs.Dtap at of message) none = absurd none
-from_other Zero future _ none = refl
-from_other Three future _ none = refl
+from_other _ future _ none = refl
 
 apart_from : (sapi : Sapi) (future : Future) (s : Connection) (input : Input) (o : Option Row) → BringsNone input → PassesOn sapi future s o → OfRow (KeepsUplink sapi future s input) o
 apart_from sapi future s input o none passes =

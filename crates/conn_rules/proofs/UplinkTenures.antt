@@ -2,16 +2,10 @@
 -- serves.
 use Rattle.conn_rules.proofs.Prelude.{◌≡◌, ℕ, zero, suc, ◌+◌, true, false, List, [], ◌∷◌, ◌++◌, length, Some, refl, sym, ap, ◌∙◌, arith}
 use Rattle.conn_rules.proofs.Prelude.{append_assoc, inl, inr, cases_Bool, cond-true, cond-false, Channel, Place, Sapi, Zero, Three, Tenure}
-use Rattle.conn_rules.proofs.Prelude.{empty_tenure, tenure_messages, put_in}
-use Rattle.conn_rules.specs.declared.state.Drain.{Drain}
-use Rattle.conn_rules.specs.declared.state.Stage.TheVariants.{Changing}
-use Rattle.conn_rules.specs.declared.state.State.{State}
-use Rattle.conn_rules.specs.declared.state.State.TheVariants.{Live}
-use Rattle.conn_rules.specs.Connection.{is_at, tenure_at}
+use Rattle.conn_rules.proofs.Prelude.{empty_tenure, tenure_messages, put_in, Drain, Changing, State, Live, is_at, tenure_at, Future}
+use Rattle.conn_rules.proofs.Prelude.{on_channel, still_of, of_target, first_at, undone, target_in, IsApart, AreApart, with_tenure_messages}
 use Rattle.conn_rules.specs.Steps.{done_at}
-use Rattle.conn_rules.specs.Streams.{Future, on_channel, still_of, of_target, first_at, undone, target_in, IsApart, AreApart}
 use Rattle.conn_rules.proofs.UplinkPlaces.{DrainsAt, AreAway, same_place, away-of_other, first_here, first_away, all_away, all_behind, apart_behind, apart_rest, apart_first, drain_at-drains, drain-away, drain-behind_away, of_drain_away, still_of-away}
-use Rattle.hold_queue.specs.ChainState.{with_tenure_messages}
 
 -- ---- a message is held in the tenure of its channel
 
@@ -83,11 +77,9 @@ done-still sapi at future serving (suc place) (d ∷ ds) (t ∷ ts) over drains 
 -- ---- the target serves, and the channel that served drains
 
 pub moved_still : (sapi : Sapi) (future : Future) (serving target : Channel) (ds : List Drain) (ts : List Tenure) → length ts ≡ length ds + 1 → still_of sapi future target (ds ++ record { channel = serving; is_done = false } ∷ []) (ts ++ empty_tenure ∷ []) ≡ still_of sapi future serving ds ts ++ on_channel future target
-moved_still sapi future serving target [] [] long = absurd (omega arith)
 moved_still sapi future serving target [] (t ∷ []) long =
     rw (empty-messages sapi) (sym (append_assoc (tenure_messages t sapi) (on_channel future serving) (on_channel future target)))
-moved_still sapi future serving target [] (t ∷ (u ∷ ts)) long = absurd (omega arith)
-moved_still sapi future serving target (d ∷ ds) [] long = absurd (omega arith)
 moved_still sapi future serving target (d ∷ ds) (t ∷ ts) long =
     let others = moved_still sapi future serving target ds ts (omega arith) in
     rw others (simp append_assoc)
+moved_still sapi future serving target _ _ long = absurd (omega arith)

@@ -1,9 +1,6 @@
 -- Access and establishment, octet by octet.
-use Rattle.controller_model.proofs.Prelude.{◌≡◌, [], ◌∷◌, map, replicate, Some, None, refl, Active, Live, hex}
-use Rattle.controller_model.specs.declared.step.Step.TheVariants.{Tick}
-use Rattle.controller_model.specs.declared.channel_state.ChannelState.TheVariants.{Releasing}
-use Rattle.controller_model.specs.Controller.{Controller, new_controller, channel_state, place_at}
-use Rattle.controller_model.specs.Life.{life}
+use Rattle.controller_model.proofs.Prelude.{◌≡◌, [], ◌∷◌, map, replicate, Some, None, refl, Active, Live, hex, Tick, Releasing, Controller}
+use Rattle.controller_model.proofs.Prelude.{new_controller, channel_state, place_at, life}
 use Rattle.controller_model.proofs.Lives.{put, from_switch, from_station, down, played, after, usual_settings, state_of}
 use Rattle.controller_model.proofs.OnLiterals.{on_literals}
 

@@ -1,8 +1,6 @@
 -- Changes of the channel, octet by octet.
 use Rattle.controller_model.proofs.Prelude.{◌≡◌, false, [], ◌∷◌, map, replicate, Some, option_map, length, refl, target_in, Active, hex}
-use Rattle.controller_model.proofs.Prelude.{Draining, Live, Parameters}
-use Rattle.controller_model.specs.declared.step.Step.TheVariants.{Tick}
-use Rattle.controller_model.specs.Controller.{Controller, entry_of, new_controller}
+use Rattle.controller_model.proofs.Prelude.{Draining, Live, Parameters, Tick, Controller, entry_of, new_controller}
 use Rattle.controller_model.proofs.Lives.{put, from_switch, from_station, down, played, after, eager_settings, state_of}
 use Rattle.controller_model.proofs.OnLiterals.{on_literals}
 use Rattle.controller_model.proofs.AccessRows.{active}

@@ -1,12 +1,10 @@
 -- The decision over reports is the one that the handover decision's relation has.
 use Rattle.controller_model.proofs.Prelude.{◌≡◌, ◌≢◌, ℕ, ◌+◌, ◌<◌, ◌≤◌, ◌&&◌, ◌==◌, nat_le, not, Bool, true, false, cond, List, [], ◌∷◌}
 use Rattle.controller_model.proofs.Prelude.{length, find, filter, Some, None, refl, sym, ap, ◌∙◌, inl, inr, arith, cases_Bool, leb-true}
-use Rattle.controller_model.proofs.Prelude.{ne_eqb, Report, Decision, Stay, Move, Settings}
-use Rattle.std.specs.List.{list_all}
+use Rattle.controller_model.proofs.Prelude.{ne_eqb, Report, Decision, Stay, Move, Settings, list_all, cases_lt, le-leb, lt-leb, eqb-false}
+use Rattle.controller_model.proofs.Prelude.{not-true, IsChosen, Chooses, Decides, NoneReaches, average_at, bound, is_due, places_from}
+use Rattle.controller_model.proofs.Prelude.{reaches, reaching, is_greatest, best, moving_to, decision_where, decision_over, both_hold}
 use Rattle.std.specs.Cmp.Derive.{both_true}
-use Rattle.std.proofs.lemmas.Bool.{cases_lt, le-leb, lt-leb, eqb-false, not-true}
-use Rattle.ho_decision.specs.Decision.{IsChosen, Chooses, Decides, NoneReaches, average_at, bound, is_due}
-use Rattle.controller_model.specs.Reports.{places_from, reaches, reaching, is_greatest, best, moving_to, decision_where, decision_over}
 
 -- ---- places of a list that pass a test
 
@@ -73,10 +71,6 @@ not_all_pass ok test (x ∷ xs) first p from to is fails =
       and_false false = refl
 
 -- ---- cells that reach the bound
-
-both_hold : (a b : Bool) → (a && b) ≡ true → (a ≡ true) × (b ≡ true)
-both_hold true b h = (refl, h)
-both_hold false b h = absurd cc
 
 reaches_other : (s : Settings) (reports : List Report) (p : ℕ) → p + 1 ≢ s.serving → bound s reports ≤ average_at s reports p → reaches s reports p ≡ true
 reaches_other s reports p other high = both_true (ap not (ne_eqb (p + 1) s.serving other)) (le-leb (bound s reports) (average_at s reports p) high)

@@ -1,7 +1,5 @@
 -- Changes while old channels drain, octet by octet.
-use Rattle.controller_model.proofs.Prelude.{◌≡◌, [], ◌∷◌, ◌++◌, replicate, Some, refl, Active, Live, hex}
-use Rattle.controller_model.specs.declared.step.Step.TheVariants.{Tick}
-use Rattle.controller_model.specs.Controller.{Controller}
+use Rattle.controller_model.proofs.Prelude.{◌≡◌, [], ◌∷◌, ◌++◌, replicate, Some, refl, Active, Live, hex, Tick, Controller}
 use Rattle.controller_model.proofs.Lives.{put, from_switch, from_station, down, played, after, state_of}
 use Rattle.controller_model.proofs.OnLiterals.{on_literals}
 use Rattle.controller_model.proofs.ChangeRows.{handing_over}

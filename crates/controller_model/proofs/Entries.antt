@@ -1,8 +1,6 @@
 -- Entries are found by their number, and put back in the place of the one with it.
 use Rattle.controller_model.proofs.Prelude.{◌≡◌, ℕ, cond, List, [], ◌∷◌, ◌++◌, find, Option, Some, None, sym, subst, ap, inl, inr}
-use Rattle.controller_model.proofs.Prelude.{cases_Bool, eqb-true, AllByRecursion, State, WaitActivation, WaitEstablish, WaitConfirm, Live}
-use Rattle.controller_model.proofs.Prelude.{Closed, Removed}
-use Rattle.controller_model.specs.Controller.{Entry, has_number, put_back, remaining}
+use Rattle.controller_model.proofs.Prelude.{cases_Bool, eqb-true, AllByRecursion, State, Removed, Entry, has_number, put_back, remaining}
 
 -- the entry that is found has the number
 abbrev pub NumberOf : ℕ → Option Entry → Type 0
@@ -40,11 +38,7 @@ found P number es e all is = subst (FoundIn P number) is (found_in P number es a
 -- what holds of all, and of an entry, holds of all with it
 pub remaining_all : (P : Entry → Type 0) (state : State) (e : Entry) (xs : List Entry) → P e → AllByRecursion P xs → AllByRecursion P (remaining state e ++ xs)
 remaining_all P Removed e xs one all = all
-remaining_all P WaitActivation e xs one all = (one, all)
-remaining_all P WaitEstablish e xs one all = (one, all)
-remaining_all P WaitConfirm e xs one all = (one, all)
-remaining_all P (Live reference stage) e xs one all = (one, all)
-remaining_all P (Closed clearing) e xs one all = (one, all)
+remaining_all P _ e xs one all = (one, all)
 
 pub put_back_all : (P : Entry → Type 0) (e : Entry) (xs : List Entry) → P e → AllByRecursion P xs → AllByRecursion P (put_back e xs)
 put_back_all P e [] one all = tt

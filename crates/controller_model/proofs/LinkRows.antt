@@ -1,8 +1,5 @@
 -- Links, what is answered on them, and what is ignored.
-use Rattle.controller_model.proofs.Prelude.{◌≡◌, [], ◌∷◌, Some, refl, Asked, Closed, hex}
-use Rattle.controller_model.specs.declared.step.Step.TheVariants.{Tick}
-use Rattle.controller_model.specs.Controller.{new_controller}
-use Rattle.controller_model.specs.Views.{links as links_of}
+use Rattle.controller_model.proofs.Prelude.{◌≡◌, [], ◌∷◌, Some, refl, Asked, Closed, hex, Tick, new_controller, links_of}
 use Rattle.controller_model.proofs.Lives.{put, from_switch, from_station, on_stream, down, played, after, usual_settings, state_of}
 use Rattle.controller_model.proofs.OnLiterals.{on_literals}
 use Rattle.controller_model.proofs.AccessRows.{active}

@@ -1,11 +1,7 @@
 -- How rows of the controller are told: what came, and what each step puts; two cells.
-use Rattle.controller_model.proofs.Prelude.{ℕ, List, [], ◌∷◌, map, Option, codes, option_map, false, Out, State, Parameters}
-use Rattle.controller_model.specs.declared.channel_state.ChannelState.{ChannelState}
-use Rattle.controller_model.specs.declared.step.Step.{Step}
-use Rattle.controller_model.specs.declared.step.Step.TheVariants.{Take}
+use Rattle.controller_model.proofs.Prelude.{ℕ, List, [], ◌∷◌, map, Option, codes, option_map, false, Out, State, Parameters, ChannelState}
+use Rattle.controller_model.proofs.Prelude.{Step, Take, Controller, entry_of, channel_state, place_at, step}
 use Rattle.ruled_relay.specs.declared.item.What.TheVariants as whats
-use Rattle.controller_model.specs.Controller.{Controller, entry_of, channel_state, place_at}
-use Rattle.controller_model.specs.Life.{step}
 
 -- a frame that goes out: its link and body
 pub record Put : Type 0 where

@@ -1,8 +1,6 @@
 -- A row leaves its connection's number.
-use Rattle.controller_model.proofs.Prelude.{◌≡◌, ℕ, Option, Some, None, Channel, Input, Connection, Row, OfRow}
-use Rattle.conn_rules.specs.Roles.{KeepsChannels}
-use Rattle.conn_rules.specs.Table.{row_of}
-use Rattle.conn_rules.proofs.Channels.{keeps_channels}
+use Rattle.controller_model.proofs.Prelude.{◌≡◌, ℕ, Option, Some, None, Channel, Input, Connection, Row, OfRow, KeepsChannels, row_of}
+use Rattle.controller_model.proofs.Prelude.{keeps_channels}
 
 abbrev pub Keeps : ℕ → Row → Type 0
 Keeps number r = r.next.number ≡ number

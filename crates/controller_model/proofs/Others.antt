@@ -1,51 +1,20 @@
 -- What concerns one connection leaves all others.
 use Rattle.controller_model.proofs.Prelude.{◌≡◌, ◌≢◌, ℕ, Bool, true, false, cond, if◌then◌else◌, List, [], ◌∷◌, ◌++◌, find, map, Option}
-use Rattle.controller_model.proofs.Prelude.{Some, None, option_map, refl, sym, subst, ap, ◌∙◌, inl, inr, cases_Bool, eqb-true, ne_eqb}
-use Rattle.controller_model.proofs.Prelude.{Channel, Place, Input, State, WaitActivation, WaitEstablish, WaitConfirm, Live, Closed, Removed}
-use Rattle.controller_model.proofs.Prelude.{Row, OfRow, Report, Decision, Stay, Move, RequestReference}
+use Rattle.controller_model.proofs.Prelude.{Some, None, option_map, refl, sym, subst, ap, ◌∙◌, inl, inr, cases_Bool, Channel, Place, Input}
+use Rattle.controller_model.proofs.Prelude.{Row, OfRow, Report, Decision, Stay, Move, RequestReference, ChannelState, Free, InUse}
+use Rattle.controller_model.proofs.Prelude.{Releasing, Word, Asks, OnChannel, Reports, OnConnection, access_channel, handover_offer}
+use Rattle.controller_model.proofs.Prelude.{Controller, Entry, Turn, turn, ignoring, has_number, entry_of, with_entry, channel_state}
+use Rattle.controller_model.proofs.Prelude.{holder, freed, by_row, by_fitting, row_in, concerning, concerning_too, entry_after, given}
+use Rattle.controller_model.proofs.Prelude.{may_open, new_entry, frees, entry_at, on_freed, on_state, measures, on_decision, measured}
+use Rattle.controller_model.proofs.Prelude.{with_report, on_report, on_word, told, aged, all_aged, expiry, timed, concerned, Leaves}
+use Rattle.controller_model.proofs.Prelude.{decision_over}
 use Rattle.conn_rules.specs.declared.input.Input.TheVariants as inputs
-use Rattle.controller_model.specs.declared.channel_state.ChannelState.{ChannelState}
-use Rattle.controller_model.specs.declared.channel_state.ChannelState.TheVariants.{Free, InUse, Releasing}
-use Rattle.controller_model.specs.declared.word.Word.{Word}
-use Rattle.controller_model.specs.declared.word.Word.TheVariants.{Nothing, Ping, Asks, OnChannel, Reports, OnConnection}
-use Rattle.controller_model.specs.Channels.{access_channel, handover_offer}
-use Rattle.controller_model.specs.Controller.{Controller, Entry, Turn, turn, ignoring, has_number, entry_of, remaining, put_back, with_entry, channel_state, holder, freed}
-use Rattle.controller_model.specs.Life.{by_row, by_fitting, row_in, concerning, concerning_too, entry_after, given, may_open, new_entry, frees, entry_at, on_freed, on_state, measures, on_decision, measured, with_report, on_report, on_word, told, aged, all_aged, on_expiry, expiry, timed}
-use Rattle.controller_model.specs.Ownership.{concerned, Leaves}
-use Rattle.controller_model.specs.Reports.{decision_over}
+use Rattle.controller_model.specs.Life.{on_expiry}
 use Rattle.controller_model.proofs.Entries.{NumberOf, number_of_found}
 use Rattle.controller_model.proofs.Numbers.{Keeps, keeps_number}
+use Rattle.controller_model.proofs.LifeLaws.Entries.{back_over, behind_over}
 
 -- ---- entries
-
-passed_over : (m : ℕ) (e : Entry) (xs : List Entry) → m ≢ e.connection.number → find (has_number m) (e ∷ xs) ≡ find (has_number m) xs
-passed_over m e xs other = ap (λ b. cond b (Some e) (find (has_number m) xs)) (ne_eqb e.connection.number m (λ same. other (sym same)))
-
-remaining_over : (m : ℕ) (state : State) (e : Entry) (xs : List Entry) → m ≢ e.connection.number → find (has_number m) (remaining state e ++ xs) ≡ find (has_number m) xs
-remaining_over m Removed e xs other = refl
-remaining_over m WaitActivation e xs other = passed_over m e xs other
-remaining_over m WaitEstablish e xs other = passed_over m e xs other
-remaining_over m WaitConfirm e xs other = passed_over m e xs other
-remaining_over m (Live reference stage) e xs other = passed_over m e xs other
-remaining_over m (Closed clearing) e xs other = passed_over m e xs other
-
-back_over : (m : ℕ) (e : Entry) (xs : List Entry) → m ≢ e.connection.number → find (has_number m) (put_back e xs) ≡ find (has_number m) xs
-back_over m e [] other = refl
-back_over m e (x ∷ xs) other =
-    elim (cases_Bool (has_number e.connection.number x)) [
-      | inl hit ↦
-          let same : x.connection.number ≡ e.connection.number = eqb-true x.connection.number e.connection.number hit in
-          ap (λ b. find (has_number m) (if b then remaining e.connection.state e ++ xs else x ∷ put_back e xs)) hit
-          ∙ remaining_over m e.connection.state e xs other
-          ∙ sym (passed_over m x xs (λ is. other (is ∙ same)))
-      | inr miss ↦
-          ap (λ b. find (has_number m) (if b then remaining e.connection.state e ++ xs else x ∷ put_back e xs)) miss
-          ∙ ap (λ o. cond (has_number m x) (Some x) o) (back_over m e xs other)
-    ]
-
-behind_over : (m : ℕ) (e : Entry) (xs : List Entry) → m ≢ e.connection.number → find (has_number m) (xs ++ e ∷ []) ≡ find (has_number m) xs
-behind_over m e [] other = passed_over m e [] other
-behind_over m e (x ∷ xs) other = ap (λ o. cond (has_number m x) (Some x) o) (behind_over m e xs other)
 
 -- ---- rows
 
@@ -119,14 +88,13 @@ report_on_leaves m at number report c (InUse n) other = report_leaves m at numbe
 report_on_leaves m at number report c (Releasing n) other = report_leaves m at number report c n (entry_of c n) (number_of_found n c.entries) (is_other m n other)
 
 pub word_leaves : (m source : ℕ) (word : Word) (c : Controller) → concerned c word ≢ Some m → Leaves m c (on_word source word c).next
-word_leaves m source Nothing c other = refl
-word_leaves m source Ping c other = refl
 word_leaves m source (Asks request delay) c other =
     asked_leaves m (may_open c) c (given c request delay (access_channel c source)) (given_leaves m c request delay (access_channel c source) (λ same. other (ap (λ n. Some n) (sym same))))
 word_leaves m source (OnChannel at input) c other = channel_leaves m at input c (channel_state c at) other
 word_leaves m source (Reports at number report) c other = report_on_leaves m at number report c (channel_state c at) other
 word_leaves m source (OnConnection number input) c other =
     concerning_leaves m input c number (entry_of c number) (number_of_found number c.entries) (λ same. other (ap (λ n. Some n) (sym same)))
+word_leaves m source _ c other = refl
 
 -- ---- breaks and time: one connection after the other
 

@@ -1,6 +1,6 @@
 -- A report in 16 octets is read field by field.
-use Rattle.controller_model.proofs.Prelude.{◌≡◌, ℕ, zero, ◌+◌, ◌<◌, List, [], ◌∷◌, length, refl, sym, ap, ◌∙◌, subst, arith, Report}
-use Rattle.std.proofs.Common.{◌*◌, ◌/◌, ◌%◌, ◌^◌, take}
+use Rattle.controller_model.proofs.Prelude.{◌≡◌, ℕ, zero, ◌+◌, ◌<◌, List, [], ◌∷◌, length, refl, sym, ap, ◌∙◌, subst, arith, Report, ◌*◌}
+use Rattle.controller_model.proofs.Prelude.{◌/◌, ◌%◌, ◌^◌, take, bits, report_in}
 use Rattle.std.specs.Int.{from_be_bytes, w128}
 use Rattle.std.proofs.Math.Nat.{mul_comm, mod-lt, mod-one, mod-eq_of_lt}
 use Rattle.std.proofs.lemmas.Nat.{pow-add, pow_pos, mul-add-lt, mod-mul-add, div-add-mod'}
@@ -10,7 +10,7 @@ use Rattle.dtap_codec.specs.declared.report.Neighbour.{Neighbour}
 use Rattle.dtap_codec.specs.Report.{IsReport, Writes, entries_fields, report_fields}
 use Rattle.dtap_codec.proofs.Fields.{number_of-below, together}
 use Rattle.dtap_codec.proofs.Reports.{bit-is_one, bit-is_zero, same_report}
-use Rattle.controller_model.specs.Reports.{bits, report_in, report_reading}
+use Rattle.controller_model.specs.Reports.{report_reading}
 
 -- ---- a number, cut into fields of these widths
 

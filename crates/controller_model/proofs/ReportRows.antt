@@ -1,14 +1,10 @@
 -- Reports, and what is decided over them.
 use Rattle.controller_model.proofs.Prelude.{◌≡◌, ℕ, true, List, [], ◌∷◌, ◌++◌, Some, None, refl, Report, Stay, Move, Settings, hex}
-use Rattle.controller_model.specs.Controller.{new_controller}
-use Rattle.controller_model.specs.Views.{rxqual}
+use Rattle.controller_model.proofs.Prelude.{new_controller, rxqual, decision_over, report_reading, settings_of, handover_settings_of}
 use Rattle.controller_model.proofs.Lives.{put, from_switch, from_station, played, after, usual_settings}
 use Rattle.controller_model.proofs.OnLiterals.{on_literals}
 use Rattle.controller_model.proofs.AccessRows.{active, unconfirmed}
 use Rattle.controller_model.proofs.ChangeRows.{assigning, beside_another}
-use Rattle.controller_model.specs.Reports.{decision_over, report_reading}
-use Rattle.ho_decision.specs.Settings.{settings_of}
-use Rattle.settings.specs.Parameters.{handover_settings_of}
 
 abbrev two_cells : Settings
 two_cells = handover_settings_of usual_settings 1

@@ -1,13 +1,10 @@
 -- Channels of cells, and their identifiers.
 use Rattle.controller_model.proofs.Prelude.{◌≡◌, ℕ, true, false, List, [], ◌∷◌, ◌++◌, map, Some, None, option_map, codes, refl, hex}
-use Rattle.controller_model.proofs.Prelude.{CellParameters}
-use Rattle.controller_model.specs.declared.channel_kind.ChannelKind.TheVariants.{Sdcch, Tch}
-use Rattle.controller_model.specs.declared.channel_state.ChannelState.TheVariants.{Free, InUse, Releasing}
-use Rattle.controller_model.specs.Controller.{Controller, new_controller}
+use Rattle.controller_model.proofs.Prelude.{CellParameters, Sdcch, Tch, Free, InUse, Releasing, Controller, new_controller, cell_identifier}
+use Rattle.controller_model.proofs.Prelude.{kind_of, is_alike, first_free}
 use Rattle.controller_model.proofs.Lives.{put, from_switch, from_station, down, played, after, usual_settings, usual_channels}
 use Rattle.controller_model.proofs.OnLiterals.{on_literals}
 use Rattle.controller_model.proofs.ChangeRows.{active_1, handing_over}
-use Rattle.controller_model.specs.Channels.{cell_identifier, kind_of, is_alike, first_free}
 
 abbrev cell : ℕ → ℕ → List ℕ → CellParameters
 cell area identity channels =

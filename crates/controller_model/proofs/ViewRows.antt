@@ -1,7 +1,6 @@
 -- What is seen of outputs and of the state.
-use Rattle.controller_model.proofs.Prelude.{◌≡◌, ℕ, List, [], ◌∷◌, refl, Out, Zero, Three, hex}
-use Rattle.controller_model.specs.Life.{life}
-use Rattle.controller_model.specs.Views.{forwarded, handed, held, held_up}
+use Rattle.controller_model.proofs.Prelude.{◌≡◌, ℕ, List, [], ◌∷◌, refl, Out, Zero, Three, hex, life, forwarded, held, held_up}
+use Rattle.controller_model.specs.Views.{handed}
 use Rattle.controller_model.proofs.Lives.{from_switch, from_station, after, usual_settings}
 use Rattle.controller_model.proofs.OnLiterals.{on_literals}
 use Rattle.controller_model.proofs.AccessRows.{unconfirmed}

@@ -1,5 +1,6 @@
 -- Averages over reports, the oldest first.
-use Rattle.std.specs.Prelude.{ℕ, ◌-◌, ◌/◌, ◌==◌, Bool, false, ◌&&◌, Option, Some, None, option_map, unwrap_or, List, [], ◌∷◌, length, slice_get, drop, find, sum_by}
+use Rattle.std.specs.Prelude.{ℕ, ◌-◌, ◌/◌, ◌==◌, Bool, false, ◌&&◌, Option, Some, None, option_map}
+use Rattle.std.specs.Prelude.{unwrap_or, List, [], ◌∷◌, length, slice_get, drop, find, sum_by}
 use Rattle.dtap_codec.specs.declared.report.Neighbour.{Neighbour}
 use Rattle.dtap_codec.specs.declared.report.Report.{Report}
 use Rattle.dtap_codec.specs.Report.{neighbours_of}
@@ -34,8 +35,10 @@ names arfcns cell n = is_arfcn (slice_get arfcns n.bcch_freq) cell.arfcn && (n.b
 
 -- the level of a cell in a report: that of the first entry that names it, and 0 without one
 abbrev pub level_in : List ℕ → Cell → Report → ℕ
-level_in arfcns cell r = unwrap_or (option_map (λ n. n.rxlev) (find (names arfcns cell) (neighbours_of r))) 0
+level_in arfcns cell r =
+    unwrap_or (option_map (λ n. n.rxlev) (find (names arfcns cell) (neighbours_of r))) 0
 
 -- the average level of another cell
 abbrev pub neighbour_average : Settings → List Report → Cell → ℕ
-neighbour_average s reports cell = average (level_in (other_arfcns s) cell) s.parameters.neighbour_window reports
+neighbour_average s reports cell =
+    average (level_in (other_arfcns s) cell) s.parameters.neighbour_window reports

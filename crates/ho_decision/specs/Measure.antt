@@ -1,11 +1,13 @@
 -- What the code measures in a report.
-use Rattle.std.specs.Prelude.{ℕ, ◌==◌, Bool, false, ◌&&◌, Option, Some, None, option_map, unwrap_or, cond, position, find}
+use Rattle.std.specs.Prelude.{ℕ, ◌==◌, Bool, false, ◌&&◌, Option, Some, None}
+use Rattle.std.specs.Prelude.{option_map, unwrap_or, cond, position, find}
 use Rattle.dtap_codec.specs.declared.report.Neighbour.{Neighbour}
 use Rattle.dtap_codec.specs.declared.report.Report.{Report}
 use Rattle.dtap_codec.specs.Report.{neighbours_of}
 use Rattle.ho_decision.specs.declared.settings.Cell.{Cell}
 use Rattle.ho_decision.specs.declared.measure.Measure.{Measure}
-use Rattle.ho_decision.specs.declared.measure.Measure.TheVariants.{ServingLevel, ServingQuality, BadQuality, NeighbourLevel}
+use Rattle.ho_decision.specs.declared.measure.Measure.TheVariants.{ServingLevel, ServingQuality}
+use Rattle.ho_decision.specs.declared.measure.Measure.TheVariants.{BadQuality, NeighbourLevel}
 use Rattle.ho_decision.specs.Settings.{Settings, other_arfcns}
 use Rattle.ho_decision.specs.Decision.{is_bad}
 
@@ -16,7 +18,8 @@ names_at (Some place) bsic n = (n.bcch_freq == place) && (n.bsic == bsic)
 
 -- the level of that cell in a report: that of the first entry that names it, and 0 without one
 abbrev pub level_at : Option ℕ → ℕ → Report → ℕ
-level_at place bsic r = unwrap_or (option_map (λ n. n.rxlev) (find (names_at place bsic) (neighbours_of r))) 0
+level_at place bsic r =
+    unwrap_or (option_map (λ n. n.rxlev) (find (names_at place bsic) (neighbours_of r))) 0
 
 -- the value of a measure in a report
 abbrev pub value_of : Measure → Report → ℕ

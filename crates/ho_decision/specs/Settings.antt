@@ -1,9 +1,11 @@
 -- The settings of the handover decision, with the cell that serves.
-use Rattle.std.specs.Prelude.{ℕ, ◌-◌, ◌≤◌, ◌==◌, nat_lt, List, [], length, fold, remove, insert, count_by, if◌then◌else◌}
+use Rattle.std.specs.Prelude.{ℕ, ◌-◌, ◌≤◌, ◌==◌, nat_lt, List, [], length}
+use Rattle.std.specs.Prelude.{fold, remove, insert, count_by, if◌then◌else◌}
 use Rattle.std.specs.List.{list_any}
 use Rattle.ho_decision.specs.declared.settings.Cell.{Cell}
 use Rattle.ho_decision.specs.declared.settings.HoParameters.{HoParameters}
-use Rattle.ho_decision.specs.declared.settings.TheConstants.{MAX_CELLS, MAX_HYSTERESIS, MAX_INTERVAL, MAX_WINDOW}
+use Rattle.ho_decision.specs.declared.settings.TheConstants.{MAX_CELLS, MAX_HYSTERESIS}
+use Rattle.ho_decision.specs.declared.settings.TheConstants.{MAX_INTERVAL, MAX_WINDOW}
 
 -- the numbers, the cells in their order, and the number of the serving one, from 1
 pub record Settings : Type 0 where
@@ -12,13 +14,15 @@ pub record Settings : Type 0 where
   pub serving : ℕ
 
 abbrev pub settings_of : HoParameters → List Cell → ℕ → Settings
-settings_of parameters cells serving = record { parameters = parameters; cells = cells; serving = serving }
+settings_of parameters cells serving =
+    record { parameters = parameters; cells = cells; serving = serving }
 
 -- what the settings' format allows, with the serving cell one of the cells
 pub record IsAllowed (s : Settings) : Type 0 where
   pub rxlev_window : (1 ≤ s.parameters.rxlev_window) × (s.parameters.rxlev_window ≤ MAX_WINDOW)
   pub rxqual_window : (1 ≤ s.parameters.rxqual_window) × (s.parameters.rxqual_window ≤ MAX_WINDOW)
-  pub neighbour_window : (1 ≤ s.parameters.neighbour_window) × (s.parameters.neighbour_window ≤ MAX_WINDOW)
+  pub neighbour_window : (1 ≤ s.parameters.neighbour_window)
+      × (s.parameters.neighbour_window ≤ MAX_WINDOW)
   pub interval : (1 ≤ s.parameters.interval) × (s.parameters.interval ≤ MAX_INTERVAL)
   pub hysteresis : s.parameters.hysteresis ≤ MAX_HYSTERESIS
   pub cells : length s.cells ≤ MAX_CELLS
@@ -31,7 +35,9 @@ others s = remove s.cells (s.serving - 1)
 -- rising ARFCNs with one more in its place, unless it is there
 abbrev pub with_arfcn : List ℕ → ℕ → List ℕ
 with_arfcn arfcns arfcn =
-    if list_any (λ a. a == arfcn) arfcns then arfcns else insert arfcns (count_by (λ a. nat_lt a arfcn) arfcns) arfcn
+    if list_any (λ a. a == arfcn) arfcns
+    then arfcns
+    else insert arfcns (count_by (λ a. nat_lt a arfcn) arfcns) arfcn
 
 abbrev pub with_cell : List ℕ → Cell → List ℕ
 with_cell arfcns cell = with_arfcn arfcns cell.arfcn

@@ -18,4 +18,9 @@ new_state settings = record { settings = settings; reports = []; number = 0 }
 -- a report more, with its number; an invalid one changes nothing
 abbrev pub after_report : State → Report → ℕ → State
 after_report state report number =
-    if report.valid then (record state { reports = last MAX_WINDOW (state.reports ++ report ∷ []); number = number }) else state
+    if report.valid
+    then (record state {
+      reports = last MAX_WINDOW (state.reports ++ report ∷ []);
+      number = number;
+    })
+    else state

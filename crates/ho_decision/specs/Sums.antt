@@ -6,7 +6,8 @@ use Rattle.ho_decision.specs.declared.settings.Cell.{Cell}
 use Rattle.ho_decision.specs.declared.settings.TheConstants.{MAX_WINDOW}
 use Rattle.ho_decision.specs.declared.decision.TheConstants.{QUALITY_WINDOW}
 use Rattle.ho_decision.specs.declared.measure.Measure.{Measure}
-use Rattle.ho_decision.specs.declared.measure.Measure.TheVariants.{ServingLevel, ServingQuality, BadQuality}
+use Rattle.ho_decision.specs.declared.measure.Measure.TheVariants.{ServingLevel}
+use Rattle.ho_decision.specs.declared.measure.Measure.TheVariants.{ServingQuality, BadQuality}
 use Rattle.ho_decision.specs.declared.running.Averaged.{Averaged}
 use Rattle.ho_decision.specs.declared.running.RunningSum.{RunningSum}
 use Rattle.ho_decision.specs.declared.sums.Sums.{Sums}
@@ -14,10 +15,14 @@ use Rattle.ho_decision.specs.Settings.{Settings}
 use Rattle.ho_decision.specs.Average.{last}
 use Rattle.ho_decision.specs.Measure.{value_of, level_of}
 
+-- what a measure adds up to over the last reports of a window
+abbrev pub total_over : Measure → ℕ → List Report → ℕ
+total_over measure window reports = sum_by (value_of measure) (last window reports)
+
 -- The sum is that of its value over the last reports of its window; each value is an octet.
 pub record IsSum (reports : List Report) (sum : RunningSum) : Type 0 where
   pub window : (1 ≤ sum.of.window) × (sum.of.window ≤ MAX_WINDOW)
-  pub total : sum.total ≡ sum_by (value_of sum.of.measure) (last sum.of.window reports)
+  pub total : sum.total ≡ total_over sum.of.measure sum.of.window reports
   pub octets : All (λ r. value_of sum.of.measure r ≤ 255) reports
 
 pub record AreSums (reports : List Report) (sums : Sums) : Type 0 where

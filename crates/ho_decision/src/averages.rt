@@ -35,9 +35,14 @@ impl Model for Averages {
 
     ghost Value = { State };
 
-    ghost view = { λ a. record { settings = a.settings.value; reports = a.reports.items; number = a.number } };
+    ghost view = { λ a. record {
+      settings = a.settings.value;
+      reports = a.reports.items;
+      number = a.number;
+    } };
 
-    ghost invariant = { λ a. (a.reports.capacity ≡ MAX_WINDOW) × IsAllowed a.settings.value × AreOf a.settings.value a.sums × AreSums a.reports.items a.sums };
+    ghost invariant = { λ a. (a.reports.capacity ≡ MAX_WINDOW) × IsAllowed a.settings.value
+        × AreOf a.settings.value a.sums × AreSums a.reports.items a.sums };
 }
 
 impl Averages {

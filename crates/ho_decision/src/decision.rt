@@ -67,7 +67,8 @@ impl Choice {
 fn best(settings: &HoSettings, averages: &Averages) -> Decision
     requires some { 0 < length averages.now.reports }
     requires same { settings.now ≡ averages.now.settings }
-    ensures { Chooses averages.now.settings averages.now.reports (length averages.now.settings.cells) result }
+    ensures { Chooses averages.now.settings averages.now.reports
+        (length averages.now.settings.cells) result }
 {
     let mut choice = Choice {
         decision: Decision::Stay,

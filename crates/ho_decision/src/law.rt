@@ -14,20 +14,22 @@ ghost use Rattle.ho_decision.specs.declared.settings.TheConstants.{MAX_WINDOW};
 pub fn ten_reports_are_enough()
     ensures serving { (s : Settings) (all : List Report) → IsAllowed s
         → serving_average s all ≡ serving_average s (last MAX_WINDOW all) }
-    ensures quality { (s : Settings) (all : List Report) → IsAllowed s → quality s all ≡ quality s (last MAX_WINDOW all) }
+    ensures quality { (s : Settings) (all : List Report) → IsAllowed s
+        → quality s all ≡ quality s (last MAX_WINDOW all) }
     ensures neighbour { (s : Settings) (all : List Report) (cell : Cell) → IsAllowed s
         → neighbour_average s all cell ≡ neighbour_average s (last MAX_WINDOW all) cell }
     ensures decision { (s : Settings) (all : List Report) (number : ℕ) (d : Decision) → IsAllowed s
         → Decides s all number d ↔ Decides s (last MAX_WINDOW all) number d }
     // One report more of the last ten is one more of all.
     ensures one_more { (all : List Report) (report : Report)
-        → last MAX_WINDOW (last MAX_WINDOW all ++ report ∷ []) ≡ last MAX_WINDOW (all ++ report ∷ []) }
+        → last MAX_WINDOW (last MAX_WINDOW all ++ report ∷ []) ≡
+        last MAX_WINDOW (all ++ report ∷ []) }
 {}
 
 /// Reports, the last one's number and the settings have one decision at most.
 pub fn one_decision()
-    ensures { (s : Settings) (reports : List Report) (number : ℕ) (d e : Decision) → Decides s reports number d
-        → Decides s reports number e → d ≡ e }
+    ensures { (s : Settings) (reports : List Report) (number : ℕ) (d e : Decision)
+        → Decides s reports number d → Decides s reports number e → d ≡ e }
 {}
 
 /// BCCH-FREQ counts in a rising list without repeats, of the ARFCNs of the other cells and no
@@ -35,5 +37,6 @@ pub fn one_decision()
 pub fn arfcns_are_rising()
     ensures rising { (s : Settings) → IsStrictlyIncreasing (other_arfcns s) }
     ensures members { (s : Settings) (arfcn : ℕ)
-        → list_any (λ a. a == arfcn) (other_arfcns s) ≡ list_any (λ c. c.arfcn == arfcn) (others s) }
+        → list_any (λ a. a == arfcn) (other_arfcns s) ≡
+        list_any (λ c. c.arfcn == arfcn) (others s) }
 {}

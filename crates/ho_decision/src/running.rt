@@ -1,7 +1,7 @@
-ghost use Rattle.std.specs.Prelude.{◌≡◌, ◌+◌, ◌-◌, ◌<◌, ◌≤◌, [], ◌∷◌, ◌++◌, length, sum_by};
-ghost use Rattle.ho_decision.specs.Average.{average, last};
+ghost use Rattle.std.specs.Prelude.{◌≡◌, ◌+◌, ◌-◌, ◌<◌, ◌≤◌, [], ◌∷◌, ◌++◌, length};
+ghost use Rattle.ho_decision.specs.Average.{average};
 ghost use Rattle.ho_decision.specs.Measure.{value_of};
-ghost use Rattle.ho_decision.specs.Sums.{IsSum};
+ghost use Rattle.ho_decision.specs.Sums.{IsSum, total_over};
 ghost use Rattle.ho_decision.specs.declared.settings.TheConstants.{MAX_WINDOW};
 
 use crate::measure::Measure;
@@ -50,7 +50,8 @@ impl RunningSum {
     // The value of the report that leaves the window as another one comes, 0 while none does.
     fn leaving(&self, reports: &HeapCircularBuffer<Report>) -> u8
         requires { 1 ≤ self.now.of.window }
-        ensures { sum_by (value_of self.now.of.measure) (last self.now.of.window reports.now.items) ≡ result + sum_by (value_of self.now.of.measure) (last (self.now.of.window - 1) reports.now.items) }
+        ensures { total_over self.now.of.measure self.now.of.window reports.now.items ≡
+            result + total_over self.now.of.measure (self.now.of.window - 1) reports.now.items }
     {
         match reports.nth_back(usize::from(self.of.window) - 1) {
             Some(report) => self.of.measure.value(report),
@@ -62,7 +63,8 @@ impl RunningSum {
     pub fn average(&self, reports: &HeapCircularBuffer<Report>) -> u8
         requires sum { IsSum reports.now.items self.now }
         requires some { 0 < length reports.now.items }
-        ensures { result ≡ average (value_of self.now.of.measure) self.now.of.window reports.now.items }
+        ensures { result ≡
+            average (value_of self.now.of.measure) self.now.of.window reports.now.items }
     {
         let count = reports.len().min(usize::from(self.of.window)) as u16;
         (self.total / count) as u8

@@ -1,4 +1,5 @@
-ghost use Rattle.std.specs.Prelude.{◌≡◌, ◌<◌, ◌≤◌, ◌-◌, IfOk, OnOk, fold, drop as dropped, take as taken};
+ghost use Rattle.std.specs.Prelude.{◌≡◌, ◌<◌, ◌≤◌, ◌-◌, IfOk, OnOk, fold};
+ghost use Rattle.std.specs.Prelude.{drop as dropped, take as taken};
 ghost use Rattle.ho_decision.specs.Settings.{with_arfcn, with_cell};
 
 use octets::Memory;
@@ -60,7 +61,9 @@ impl Model for HoSettings {
 
     ghost view = { λ s. settings_of s.parameters s.cells.items s.serving };
 
-    ghost invariant = { λ s. (s.frequencies.items ≡ other_arfcns (settings_of s.parameters s.cells.items s.serving)) × IsAllowed (settings_of s.parameters s.cells.items s.serving) };
+    ghost invariant = { λ s.
+        (s.frequencies.items ≡ other_arfcns (settings_of s.parameters s.cells.items s.serving))
+        × IsAllowed (settings_of s.parameters s.cells.items s.serving) };
 }
 
 impl HoSettings {

@@ -44,8 +44,10 @@ impl Sums {
 
     /// A copy of them.
     pub fn copied(&self, alloc: Global) -> Result<Sums, Memory>
-        ensures of { (settings : Settings) → AreOf settings self.now → IfOk result (λ sums. AreOf settings sums) }
-        ensures sums { (reports : List Report) → AreSums reports self.now → IfOk result (λ sums. AreSums reports sums) }
+        ensures of { (settings : Settings)
+            → AreOf settings self.now → IfOk result (λ sums. AreOf settings sums) }
+        ensures sums { (reports : List Report)
+            → AreSums reports self.now → IfOk result (λ sums. AreSums reports sums) }
     {
         Ok(Sums {
             serving_level: self.serving_level,
@@ -83,7 +85,10 @@ impl Sums {
 
 // The sum of the serving cell's level.
 fn serving_level(settings: &HoSettings) -> RunningSum
-    ensures of { result.of ≡ record { measure = Measure.ServingLevel; window = settings.now.parameters.rxlev_window } }
+    ensures of { result.of ≡ record {
+      measure = Measure.ServingLevel;
+      window = settings.now.parameters.rxlev_window;
+    } }
     ensures sum { IsSum [] result }
     ensures allowed { IsAllowed settings.now }
 {
@@ -92,7 +97,10 @@ fn serving_level(settings: &HoSettings) -> RunningSum
 
 // The sum of the serving cell's quality.
 fn serving_quality(settings: &HoSettings) -> RunningSum
-    ensures of { result.of ≡ record { measure = Measure.ServingQuality; window = settings.now.parameters.rxqual_window } }
+    ensures of { result.of ≡ record {
+      measure = Measure.ServingQuality;
+      window = settings.now.parameters.rxqual_window;
+    } }
     ensures sum { IsSum [] result }
 {
     RunningSum::new(Measure::ServingQuality, settings.parameters.rxqual_window)
@@ -117,7 +125,8 @@ fn level(settings: &HoSettings, cell: Cell) -> RunningSum
 
 // The sum of each cell's level.
 fn levels(alloc: Global, settings: &HoSettings) -> Result<Vec<RunningSum>, Memory>
-    ensures of { IfOk result (λ sums. map (λ sum. sum.of) sums.items ≡ map (level_in_window settings.now) settings.now.cells) }
+    ensures of { IfOk result (λ sums.
+        map (λ sum. sum.of) sums.items ≡ map (level_in_window settings.now) settings.now.cells) }
     ensures sums { IfOk result (λ sums. All (IsSum []) sums.items) }
 {
     let mut sums = Vec::with_capacity(alloc, settings.cells.len())?;
@@ -130,7 +139,8 @@ fn levels(alloc: Global, settings: &HoSettings) -> Result<Vec<RunningSum>, Memor
 // Begins the sums anew, each for the cell at its place.
 fn restart_levels(sums: &mut [RunningSum], settings: &HoSettings)
     requires { length sums.old ≡ length settings.now.cells }
-    ensures of { map (λ sum. sum.of) sums.new ≡ map (level_in_window settings.now) settings.now.cells }
+    ensures of { map (λ sum. sum.of) sums.new ≡
+        map (level_in_window settings.now) settings.now.cells }
     ensures sums { All (IsSum []) sums.new }
 {
     for (place, cell) in settings.cells.iter().enumerate() {

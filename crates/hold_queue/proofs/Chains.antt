@@ -31,12 +31,12 @@ count_put tenures place there next within is grows =
     let same : tenure_count there ≡ tenure_count (slice_index_or tenures place there) = ap tenure_count is in
     omega (arith, count_set place tenures there next within)
 
-pub messages_in_at : (place : ℕ) (sapi : Sapi) (tenures : List Tenure) (there : Tenure) → place < length tenures → messages_in place sapi tenures ≡ tenure_messages (slice_index_or tenures place there) sapi
-messages_in_at place sapi [] there within = absurd (omega (arith, within))
-messages_in_at zero sapi (first ∷ rest) there within = refl
-messages_in_at (suc place) sapi (first ∷ rest) there within = messages_in_at place sapi rest there (omega arith)
+pub messages_at : (place : ℕ) (sapi : Sapi) (tenures : List Tenure) (there : Tenure) → place < length tenures → messages_in place sapi tenures ≡ tenure_messages (slice_index_or tenures place there) sapi
+messages_at place sapi [] there within = absurd (omega (arith, within))
+messages_at zero sapi (first ∷ rest) there within = refl
+messages_at (suc place) sapi (first ∷ rest) there within = messages_at place sapi rest there (omega arith)
 
-pub messages_in_none : (place : ℕ) (sapi : Sapi) (tenures : List Tenure) → length tenures ≤ place → messages_in place sapi tenures ≡ []
-messages_in_none place sapi [] beyond = refl
-messages_in_none zero sapi (first ∷ rest) beyond = absurd (omega (arith, beyond))
-messages_in_none (suc place) sapi (first ∷ rest) beyond = messages_in_none place sapi rest (omega arith)
+pub messages_none : (place : ℕ) (sapi : Sapi) (tenures : List Tenure) → length tenures ≤ place → messages_in place sapi tenures ≡ []
+messages_none place sapi [] beyond = refl
+messages_none zero sapi (first ∷ rest) beyond = absurd (omega (arith, beyond))
+messages_none (suc place) sapi (first ∷ rest) beyond = messages_none place sapi rest (omega arith)

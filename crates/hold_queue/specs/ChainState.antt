@@ -54,13 +54,15 @@ messages_in (suc place) sapi (first ∷ rest) = messages_in place sapi rest
 -- the tenures with a message behind the others of its SAPI in the tenure at this place
 abbrev pub put_in : ℕ → Sapi → List ℕ → List Tenure → List Tenure
 put_in place sapi message [] = []
-put_in zero sapi message (first ∷ rest) = with_tenure_messages first sapi (tenure_messages first sapi ++ message ∷ []) ∷ rest
+put_in zero sapi message (first ∷ rest) =
+    with_tenure_messages first sapi (tenure_messages first sapi ++ message ∷ []) ∷ rest
 put_in (suc place) sapi message (first ∷ rest) = first ∷ put_in place sapi message rest
 
 -- the tenures without the first message of a SAPI in the first of them
 abbrev pub first_taken : Sapi → List Tenure → List Tenure
 first_taken sapi [] = []
-first_taken sapi (first ∷ rest) = with_tenure_messages first sapi (drop 1 (tenure_messages first sapi)) ∷ rest
+first_taken sapi (first ∷ rest) =
+    with_tenure_messages first sapi (drop 1 (tenure_messages first sapi)) ∷ rest
 
 -- the tenures, the first of them without messages
 abbrev pub first_cleared : List Tenure → List Tenure

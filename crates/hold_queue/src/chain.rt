@@ -1,5 +1,7 @@
-ghost use Rattle.std.specs.Prelude.{◌≡◌, ◌<◌, ◌≤◌, ◌↔◌, ◌∷◌, [], ◌++◌, length, IsTrue, IfOk, OnOk, OnErr, IfErr, Some, option_map, slice_get, drop as dropped};
-ghost use Rattle.hold_queue.specs.ChainState.{new_chain, empty_tenure, chain_count, messages_in, put_in, first_taken, first_cleared};
+ghost use Rattle.std.specs.Prelude.{◌≡◌, ◌<◌, ◌≤◌, ◌↔◌, ◌∷◌, [], ◌++◌, length, IsTrue, IfOk, OnOk};
+ghost use Rattle.std.specs.Prelude.{OnErr, IfErr, Some, option_map, slice_get, drop as dropped};
+ghost use Rattle.hold_queue.specs.ChainState.{new_chain, empty_tenure, chain_count};
+ghost use Rattle.hold_queue.specs.ChainState.{messages_in, put_in, first_taken, first_cleared};
 ghost use Rattle.hold_queue.specs.Refusal.{ChainHandsBack};
 
 use crate::HoldFault;
@@ -92,7 +94,8 @@ impl Chain {
     #[tactic(auto, using(crate::proofs::Chains::put_in_at))]
     pub fn put(&mut self, tenure: usize, sapi: Sapi, message: Vec<u8>) -> Result<(), HoldFault>
         requires { tenure < length self.old.tenures }
-        ensures put { OnOk result (self.new ≡ record self.old { tenures = put_in tenure sapi message.items self.old.tenures }) }
+        ensures put { OnOk result (self.new ≡
+            record self.old { tenures = put_in tenure sapi message.items self.old.tenures }) }
         ensures room { OnOk result (chain_count self.old < self.old.limit) }
         ensures refused { IfErr result (ChainHandsBack self.old message.items) }
         ensures err { OnErr result (self.new ≡ self.old) }
@@ -106,7 +109,8 @@ impl Chain {
     /// Takes the first message of a SAPI out of the first tenure, which takes no memory; none where
     /// that has none.
     pub fn next(&mut self, sapi: Sapi) -> Option<Vec<u8>>
-        ensures first { option_map (λ message. message.items) result ≡ slice_get (messages_in 0 sapi self.old.tenures) 0 }
+        ensures first { option_map (λ message. message.items) result ≡
+            slice_get (messages_in 0 sapi self.old.tenures) 0 }
         ensures rest { self.new ≡ record self.old { tenures = first_taken sapi self.old.tenures } }
     {
         self.tenures[0].next(sapi)
@@ -114,9 +118,10 @@ impl Chain {
 
     /// Lends the message of a SAPI at this place in this tenure, both from 0; none where the tenure
     /// has no more than so many, and where there is no such tenure.
-    #[tactic(auto, using(crate::proofs::Chains::messages_in_at, crate::proofs::Chains::messages_in_none))]
+    #[tactic(auto, using(crate::proofs::Chains::messages_at, crate::proofs::Chains::messages_none))]
     pub fn get(&self, tenure: usize, sapi: Sapi, place: usize) -> Option<&[u8]>
-        ensures { option_map (λ message. message.now) result ≡ slice_get (messages_in tenure sapi self.now.tenures) place }
+        ensures { option_map (λ message. message.now) result ≡
+            slice_get (messages_in tenure sapi self.now.tenures) place }
     {
         self.tenures.get(tenure)?.get(sapi, place)
     }

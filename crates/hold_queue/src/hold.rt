@@ -1,4 +1,5 @@
-ghost use Rattle.std.specs.Prelude.{◌≡◌, ◌==◌, ◌<◌, ◌≤◌, ◌↔◌, [], ◌∷◌, ◌++◌, length, IsTrue, OnOk, OnErr, IfErr, option_map, slice_get, drop as dropped};
+ghost use Rattle.std.specs.Prelude.{◌≡◌, ◌==◌, ◌<◌, ◌≤◌, ◌↔◌, [], ◌∷◌, ◌++◌, length, IsTrue};
+ghost use Rattle.std.specs.Prelude.{OnOk, OnErr, IfErr, option_map, slice_get, drop as dropped};
 ghost use Rattle.hold_queue.specs.ChainState.{tenure_count};
 ghost use Rattle.hold_queue.specs.HoldState.{HoldState, new_hold, messages, with_messages, count};
 ghost use Rattle.hold_queue.specs.Refusal.{HandsBack};
@@ -20,7 +21,11 @@ pub struct Hold {
 impl Model for Hold {
     ghost Value = { HoldState };
 
-    ghost view = { λ hold. record { limit = hold.limit; zero = hold.queues.zero; three = hold.queues.three } };
+    ghost view = { λ hold. record {
+      limit = hold.limit;
+      zero = hold.queues.zero;
+      three = hold.queues.three;
+    } };
 
     ghost invariant = { λ hold. tenure_count hold.queues ≤ hold.limit };
 }
@@ -63,7 +68,8 @@ impl Hold {
     /// are held over both SAPIs, then with `Memory`; either hands the message back and leaves the
     /// hold as it was.
     pub fn put(&mut self, sapi: Sapi, message: Vec<u8>) -> Result<(), HoldFault>
-        ensures put { OnOk result (self.new ≡ with_messages self.old sapi (messages self.old sapi ++ message.items ∷ [])) }
+        ensures put { OnOk result (self.new ≡
+            with_messages self.old sapi (messages self.old sapi ++ message.items ∷ [])) }
         ensures room { OnOk result (count self.old < self.old.limit) }
         ensures refused { IfErr result (HandsBack self.old message.items) }
         ensures err { OnErr result (self.new ≡ self.old) }
@@ -77,7 +83,8 @@ impl Hold {
     /// Takes the first message of a SAPI out of the hold, which takes no memory; none where the
     /// SAPI has none.
     pub fn next(&mut self, sapi: Sapi) -> Option<Vec<u8>>
-        ensures first { option_map (λ message. message.items) result ≡ slice_get (messages self.old sapi) 0 }
+        ensures first { option_map (λ message. message.items) result ≡
+            slice_get (messages self.old sapi) 0 }
         ensures rest { self.new ≡ with_messages self.old sapi (dropped 1 (messages self.old sapi)) }
     {
         self.queues.next(sapi)
@@ -86,7 +93,8 @@ impl Hold {
     /// Lends the message of a SAPI at this place, from 0; none where there are no more than so
     /// many.
     pub fn get(&self, sapi: Sapi, place: usize) -> Option<&[u8]>
-        ensures { option_map (λ message. message.now) result ≡ slice_get (messages self.now sapi) place }
+        ensures { option_map (λ message. message.now) result ≡
+            slice_get (messages self.now sapi) place }
     {
         self.queues.get(sapi, place)
     }

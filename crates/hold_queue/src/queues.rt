@@ -1,5 +1,7 @@
-ghost use Rattle.std.specs.Prelude.{◌≡◌, ◌≤◌, ◌+◌, [], ◌∷◌, ◌++◌, length, OnOk, OnErr, IfErr, option_map, slice_get, drop as dropped};
-ghost use Rattle.hold_queue.specs.ChainState.{Tenure, empty_tenure, tenure_messages, with_tenure_messages, tenure_count};
+ghost use Rattle.std.specs.Prelude.{◌≡◌, ◌≤◌, ◌+◌, [], ◌∷◌, ◌++◌, length, OnOk, OnErr};
+ghost use Rattle.std.specs.Prelude.{IfErr, option_map, slice_get, drop as dropped};
+ghost use Rattle.hold_queue.specs.ChainState.{Tenure, empty_tenure, tenure_messages};
+ghost use Rattle.hold_queue.specs.ChainState.{with_tenure_messages, tenure_count};
 ghost use Rattle.hold_queue.specs.Refusal.{IsMemory};
 
 use crate::HoldFault;
@@ -42,7 +44,8 @@ impl Queues {
 
     /// Puts a message behind those of its SAPI, or hands it back for lack of memory.
     pub(crate) fn put(&mut self, sapi: Sapi, message: Vec<u8>) -> Result<(), HoldFault>
-        ensures put { OnOk result (self.new ≡ with_tenure_messages self.old sapi (tenure_messages self.old sapi ++ message.items ∷ [])) }
+        ensures put { OnOk result (self.new ≡ with_tenure_messages self.old sapi
+            (tenure_messages self.old sapi ++ message.items ∷ [])) }
         ensures memory { IfErr result (IsMemory message.items) }
         ensures err { OnErr result (self.new ≡ self.old) }
         ensures count { tenure_count self.new ≤ tenure_count self.old + 1 }
@@ -55,8 +58,10 @@ impl Queues {
 
     /// Takes the first message of a SAPI out, which takes no memory.
     pub(crate) fn next(&mut self, sapi: Sapi) -> Option<Vec<u8>>
-        ensures first { option_map (λ message. message.items) result ≡ slice_get (tenure_messages self.old sapi) 0 }
-        ensures rest { self.new ≡ with_tenure_messages self.old sapi (dropped 1 (tenure_messages self.old sapi)) }
+        ensures first { option_map (λ message. message.items) result ≡
+            slice_get (tenure_messages self.old sapi) 0 }
+        ensures rest { self.new ≡ with_tenure_messages self.old sapi
+            (dropped 1 (tenure_messages self.old sapi)) }
     {
         match sapi {
             Sapi::Zero => take_first(&mut self.zero),
@@ -66,7 +71,8 @@ impl Queues {
 
     /// Lends the message of a SAPI at this place, from 0.
     pub(crate) fn get(&self, sapi: Sapi, place: usize) -> Option<&[u8]>
-        ensures { option_map (λ message. message.now) result ≡ slice_get (tenure_messages self.now sapi) place }
+        ensures { option_map (λ message. message.now) result ≡
+            slice_get (tenure_messages self.now sapi) place }
     {
         let queue = match sapi {
             Sapi::Zero => &self.zero,

@@ -1,5 +1,6 @@
 -- A life of a mobile: any list of calls, in any order.
-use Rattle.std.specs.Prelude.{ℕ, Bool, false, ◌&&◌, not, Option, Some, None, Result, Ok, Err, List, [], ◌∷◌, ◌++◌, option_to_list, if◌then◌else◌}
+use Rattle.std.specs.Prelude.{ℕ, Bool, false, ◌&&◌, not, Option, Some, None, Result, Ok}
+use Rattle.std.specs.Prelude.{Err, List, [], ◌∷◌, ◌++◌, option_to_list, if◌then◌else◌}
 use Rattle.dtap_codec.specs.declared.sapi.Sapi.{Sapi}
 use Rattle.dtap_codec.specs.declared.sapi.Sapi.TheVariants.{Zero, Three}
 use Rattle.mobile_end.specs.declared.fault.MobileFault.{MobileFault}
@@ -7,7 +8,9 @@ use Rattle.mobile_end.specs.declared.mobile_end.Stage.{Stage}
 use Rattle.mobile_end.specs.declared.mobile_end.Stage.TheVariants.{New, Connected}
 use Rattle.mobile_end.specs.Control.{is_control}
 use Rattle.mobile_end.specs.MobileState.{MobileState}
-use Rattle.mobile_end.specs.Mobile.{after_connect, refusal_of_connect, after_queue, refusal_of_send, frame_answer, after_frame, after_acked, is_on_channel, after_leave, after_arrival}
+use Rattle.mobile_end.specs.Mobile.{after_connect, refusal_of_connect, after_queue}
+use Rattle.mobile_end.specs.Mobile.{refusal_of_send, frame_answer, after_frame}
+use Rattle.mobile_end.specs.Mobile.{after_acked, is_on_channel, after_leave, after_arrival}
 
 -- what is called
 pub data Call : Type 0 where
@@ -35,13 +38,17 @@ may_arrive mobile control = not (is_on_channel mobile.place) && is_control contr
 
 abbrev pub after_call : MobileState → Call → MobileState
 after_call mobile (connects initial) =
-    unless_connected mobile.stage mobile (unless_refused (refusal_of_connect initial) mobile (after_connect mobile initial))
-after_call mobile (sends sapi message) = unless_refused (refusal_of_send mobile sapi message) mobile (after_queue mobile sapi message)
+    unless_connected mobile.stage mobile
+    (unless_refused (refusal_of_connect initial) mobile (after_connect mobile initial))
+after_call mobile (sends sapi message) =
+    unless_refused (refusal_of_send mobile sapi message) mobile (after_queue mobile sapi message)
 after_call mobile (frames sapi) = after_frame mobile sapi
 after_call mobile (acknowledges sapi) = after_acked mobile sapi
 after_call mobile leaves = after_leave mobile
-after_call mobile (arrives complete) = if may_arrive mobile complete then after_arrival mobile complete else mobile
-after_call mobile (gives_up failure) = if may_arrive mobile failure then after_arrival mobile failure else mobile
+after_call mobile (arrives complete) =
+    if may_arrive mobile complete then after_arrival mobile complete else mobile
+after_call mobile (gives_up failure) =
+    if may_arrive mobile failure then after_arrival mobile failure else mobile
 
 abbrev pub after_calls : MobileState → List Call → MobileState
 after_calls mobile [] = mobile
@@ -59,7 +66,8 @@ taken_by_call mobile _ = []
 -- what all these calls lend to the station on SAPI 0, in order
 abbrev pub taken_by_calls : MobileState → List Call → List (List ℕ)
 taken_by_calls mobile [] = []
-taken_by_calls mobile (call ∷ calls) = taken_by_call mobile call ++ taken_by_calls (after_call mobile call) calls
+taken_by_calls mobile (call ∷ calls) =
+    taken_by_call mobile call ++ taken_by_calls (after_call mobile call) calls
 
 -- what a call lends to the station on SAPI 3
 abbrev pub taken_on_three_by_call : MobileState → Call → List (List ℕ)
@@ -69,7 +77,8 @@ taken_on_three_by_call mobile _ = []
 -- what all these calls lend to the station on SAPI 3, in order
 abbrev pub taken_on_three_by_calls : MobileState → List Call → List (List ℕ)
 taken_on_three_by_calls mobile [] = []
-taken_on_three_by_calls mobile (call ∷ calls) = taken_on_three_by_call mobile call ++ taken_on_three_by_calls (after_call mobile call) calls
+taken_on_three_by_calls mobile (call ∷ calls) =
+    taken_on_three_by_call mobile call ++ taken_on_three_by_calls (after_call mobile call) calls
 
 -- whether a call begins an establishment: the mobile has layer 2 up on a channel from there on
 abbrev pub begins : MobileState → Call → Bool

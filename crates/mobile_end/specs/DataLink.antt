@@ -26,7 +26,8 @@ lent_message link = offered_message (after_load link).air
 
 -- the link after the station took it
 abbrev pub after_lending : DataLinkState → DataLinkState
-after_lending link = record { waiting = (after_load link).waiting; air = after_reach (after_load link).air }
+after_lending link =
+    record { waiting = (after_load link).waiting; air = after_reach (after_load link).air }
 
 abbrev pub after_acknowledgement : DataLinkState → DataLinkState
 after_acknowledgement link = record { waiting = link.waiting; air = after_ack link.air }
@@ -42,7 +43,8 @@ outstanding_messages link = option_to_list (message_in link.air) ++ link.waiting
 -- The link on another channel: the control message stands in the air, and behind it waits what
 -- wasn't acknowledged, without control messages of an earlier channel.
 abbrev pub after_resume : DataLinkState → List ℕ → DataLinkState
-after_resume link control = record { waiting = without_control (outstanding_messages link); air = Given control }
+after_resume link control =
+    record { waiting = without_control (outstanding_messages link); air = Given control }
 
 -- a message that wasn't acknowledged stands in the air again
 abbrev pub air_after_repeat : Air → Air

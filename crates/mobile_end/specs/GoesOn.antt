@@ -10,4 +10,5 @@ use Rattle.mobile_end.specs.DataLinkState.{DataLinkState}
 -- the mobile sends again on another channel.
 pub record GoesOn (m : ℕ) (sent messages : List (List ℕ)) (link : DataLinkState) : Type 0 where
   pub now : Rise m sent 0 (messages ++ filter is_flow_message (to_be_taken link)) (length sent)
-  pub anew : Rise m sent 0 (messages ++ filter is_flow_message (outstanding_messages link)) (length sent)
+  pub anew : Rise m sent 0
+      (messages ++ filter is_flow_message (outstanding_messages link)) (length sent)

@@ -2,7 +2,8 @@
 -- the one at place k of the sent list carries k modulo m (TS 24.007 clause 11.2.3.2.3). At a change
 -- of channel the message that wasn't acknowledged is sent again, with its number, behind the
 -- control message of the new channel (TS 44.006 clause 5.4.3).
-use Rattle.std.specs.Prelude.{ℕ, ◌%◌, Bool, true, false, ◌&&◌, Option, Some, None, Result, Ok, Err, List, [], ◌∷◌, ◌++◌, length, if◌then◌else◌}
+use Rattle.std.specs.Prelude.{ℕ, ◌%◌, Bool, true, false, ◌&&◌, Option, Some, None, Result}
+use Rattle.std.specs.Prelude.{Ok, Err, List, [], ◌∷◌, ◌++◌, length, if◌then◌else◌}
 use Rattle.octets.specs.Refusal.{first_refusal}
 use Rattle.dtap_codec.specs.Message.{is_flow_message}
 use Rattle.dtap_codec.specs.Number.{with_number}
@@ -17,7 +18,8 @@ use Rattle.mobile_end.specs.declared.mobile_end.Place.TheVariants.{OnChannel, Mo
 use Rattle.mobile_end.specs.declared.mobile_end.Stage.{Stage}
 use Rattle.mobile_end.specs.declared.mobile_end.Stage.TheVariants.{New, Connected}
 use Rattle.mobile_end.specs.DataLinkState.{DataLinkState}
-use Rattle.mobile_end.specs.DataLink.{waits, lent_message, after_lending, after_acknowledgement, after_resume, after_repeat}
+use Rattle.mobile_end.specs.DataLink.{waits, lent_message, after_lending}
+use Rattle.mobile_end.specs.DataLink.{after_acknowledgement, after_resume, after_repeat}
 use Rattle.mobile_end.specs.Lawful.{is_initial, is_sendable}
 use Rattle.mobile_end.specs.MobileState.{MobileState}
 
@@ -26,7 +28,15 @@ idle_link = record { waiting = []; air = Empty }
 
 -- a mobile that never sent
 abbrev pub new_mobile : ℕ → MobileState
-new_mobile m = record { modulus = m; stage = New; place = OnChannel; sent = []; zero = idle_link; three = idle_link }
+new_mobile m =
+    record {
+      modulus = m;
+      stage = New;
+      place = OnChannel;
+      sent = [];
+      zero = idle_link;
+      three = idle_link;
+    }
 
 -- the data link of a SAPI
 abbrev pub link_of : MobileState → Sapi → DataLinkState
@@ -49,7 +59,9 @@ after_number mobile message =
 -- the mobile once a message of the upper layers waits
 abbrev pub after_queue : MobileState → Sapi → List ℕ → MobileState
 after_queue mobile sapi message =
-    if is_flow_message message then after_number mobile message else with_link mobile sapi (waits (link_of mobile sapi) message)
+    if is_flow_message message
+    then after_number mobile message
+    else with_link mobile sapi (waits (link_of mobile sapi) message)
 
 abbrev pub connected_mobile : MobileState → MobileState
 connected_mobile mobile = record mobile { stage = Connected }
@@ -69,7 +81,8 @@ refusal_before_connect Connected = None
 
 abbrev pub refusal_of_send : MobileState → Sapi → List ℕ → Option MobileFault
 refusal_of_send mobile sapi message =
-    first_refusal (refusal_before_connect mobile.stage) (if is_sendable sapi message then None else Some BadMessage)
+    first_refusal (refusal_before_connect mobile.stage)
+    (if is_sendable sapi message then None else Some BadMessage)
 
 abbrev pub frame_answer_at : Stage → Place → Option (List ℕ) → Result (Option (List ℕ)) MobileFault
 frame_answer_at New place message = Err NotConnected
@@ -78,10 +91,12 @@ frame_answer_at Connected OnChannel message = Ok message
 
 -- what `frame` answers: the message in the air that the station hasn't taken yet, if there is one
 abbrev pub frame_answer : MobileState → Sapi → Result (Option (List ℕ)) MobileFault
-frame_answer mobile sapi = frame_answer_at mobile.stage mobile.place (lent_message (link_of mobile sapi))
+frame_answer mobile sapi =
+    frame_answer_at mobile.stage mobile.place (lent_message (link_of mobile sapi))
 
 abbrev pub after_frame_at : Stage → Place → MobileState → Sapi → MobileState
-after_frame_at Connected OnChannel mobile sapi = with_link mobile sapi (after_lending (link_of mobile sapi))
+after_frame_at Connected OnChannel mobile sapi =
+    with_link mobile sapi (after_lending (link_of mobile sapi))
 after_frame_at _ _ mobile sapi = mobile
 
 -- the mobile after `frame`
@@ -96,7 +111,8 @@ abbrev pub is_acknowledged : MobileState → Sapi → Bool
 is_acknowledged mobile sapi = is_on_channel mobile.place && is_reached (link_of mobile sapi).air
 
 abbrev pub after_acked_at : Place → MobileState → Sapi → MobileState
-after_acked_at OnChannel mobile sapi = with_link mobile sapi (after_acknowledgement (link_of mobile sapi))
+after_acked_at OnChannel mobile sapi =
+    with_link mobile sapi (after_acknowledgement (link_of mobile sapi))
 after_acked_at Moving mobile sapi = mobile
 
 -- the mobile after `acked`
@@ -110,4 +126,9 @@ after_leave mobile = record mobile { place = Moving }
 -- The mobile after `arrive` or `give_up`: on the channel its control message comes first, and then
 -- what wasn't acknowledged.
 abbrev pub after_arrival : MobileState → List ℕ → MobileState
-after_arrival mobile control = record mobile { place = OnChannel; zero = after_resume mobile.zero control; three = after_repeat mobile.three }
+after_arrival mobile control =
+    record mobile {
+      place = OnChannel;
+      zero = after_resume mobile.zero control;
+      three = after_repeat mobile.three;
+    }

@@ -4,7 +4,10 @@ ghost use Rattle.std.specs.Borrow.{sem};
 ghost use Rattle.octets.specs.Refusal.{RefusesBy};
 ghost use Rattle.dtap_codec.specs.Message.{is_flow_message};
 ghost use Rattle.dtap_codec.specs.Number.{count_of};
-ghost use Rattle.mobile_end.specs.Mobile.{new_mobile, after_number, after_queue, after_connect, refusal_of_connect, after_frame, frame_answer, after_acked, is_acknowledged, after_leave, after_arrival, refusal_of_send};
+ghost use Rattle.mobile_end.specs.Mobile.{new_mobile, after_number, after_queue};
+ghost use Rattle.mobile_end.specs.Mobile.{after_connect, refusal_of_connect, after_frame};
+ghost use Rattle.mobile_end.specs.Mobile.{frame_answer, after_acked, is_acknowledged};
+ghost use Rattle.mobile_end.specs.Mobile.{after_leave, after_arrival, refusal_of_send};
 ghost use Rattle.mobile_end.specs.Control.{is_control};
 ghost use Rattle.mobile_end.specs.RestsFramed.{RestsFramed};
 
@@ -64,7 +67,8 @@ impl Model for MobileEnd {
       three = mobile.three;
     } };
 
-    ghost invariant = { λ mobile. mobile.send_sequence ≡ length mobile.sent.items % count_of mobile.modulus };
+    ghost invariant = { λ mobile. mobile.send_sequence ≡
+        length mobile.sent.items % count_of mobile.modulus };
 }
 
 impl MobileEnd {
@@ -89,9 +93,11 @@ impl MobileEnd {
     /// management. Any other is `BadMessage`. Without one it takes no memory.
     pub fn connect(&mut self, initial: Option<Vec<u8>>) -> Result<(), MobileFault>
         requires { self.old.stage ≡ Stage.New }
-        ensures ok { OnOk result (self.new ≡ after_connect self.old (option_map (λ message. message.items) initial)) }
+        ensures ok { OnOk result
+            (self.new ≡ after_connect self.old (option_map (λ message. message.items) initial)) }
         ensures without_initial { initial ≡ None → IsOk result }
-        ensures refused { RefusesBy MobileFault.Memory result (refusal_of_connect (option_map (λ message. message.items) initial)) }
+        ensures refused { RefusesBy MobileFault.Memory result
+            (refusal_of_connect (option_map (λ message. message.items) initial)) }
         ensures err { OnErr result (self.new ≡ self.old) }
     {
         if let Some(message) = initial {
@@ -110,7 +116,8 @@ impl MobileEnd {
     /// in it, or isn't on its SAPI, which is 3 for short messages alone.
     pub fn send(&mut self, sapi: Sapi, message: Vec<u8>) -> Result<(), MobileFault>
         ensures ok { OnOk result (self.new ≡ after_queue self.old sapi message.items) }
-        ensures refused { RefusesBy MobileFault.Memory result (refusal_of_send self.old sapi message.items) }
+        ensures refused { RefusesBy MobileFault.Memory result
+            (refusal_of_send self.old sapi message.items) }
         ensures err { OnErr result (self.new ≡ self.old) }
     {
         if let Some(fault) = self.refusal(sapi, &message) {
@@ -168,7 +175,8 @@ impl MobileEnd {
     /// channels there is none. It takes no memory.
     pub fn frame(&mut self, sapi: Sapi) -> Result<Option<&[u8]>, MobileFault>
         ensures* after { sem 𝓛 (RestsFramed self.entry sapi) }
-        ensures frame { result_map_both (option_map (λ frame. frame.now)) (λ fault. fault) result ≡ frame_answer self.old sapi }
+        ensures frame { result_map_both (option_map (λ frame. frame.now)) (λ fault. fault) result ≡
+            frame_answer self.old sapi }
     {
         if self.stage == Stage::New {
             return Err(MobileFault::NotConnected);

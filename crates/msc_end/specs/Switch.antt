@@ -1,21 +1,29 @@
 -- What the switch end does with a message, as functions of the connections that it has, the first
 -- one first.
-use Rattle.std.specs.Prelude.{ℕ, ◌+◌, ◌-◌, nat_le, ◌==◌, if◌then◌else◌, List, [], ◌∷◌, ◌++◌, length, slice_get, slice_set, Option, Some, None, option_to_list}
+use Rattle.std.specs.Prelude.{ℕ, ◌+◌, ◌-◌, nat_le, ◌==◌, if◌then◌else◌, List, [], ◌∷◌, ◌++◌, length}
+use Rattle.std.specs.Prelude.{slice_get, slice_set, Option, Some, None, option_map, option_to_list}
 use Rattle.std.specs.Result.{result_ok}
 use Rattle.bssmap_codec.specs.declared.bssap.Bssap.{Bssap}
 use Rattle.bssmap_codec.specs.declared.bssap.Bssap.TheVariants.{Management, Transfer}
-use Rattle.bssmap_codec.specs.declared.bssmap.Bssmap.TheVariants.{AssignmentRequest, ClearCommand, ClearComplete, ClearRequest, CompleteLayer3Information}
+use Rattle.bssmap_codec.specs.declared.bssmap.Bssmap.TheVariants.{AssignmentRequest, ClearCommand}
+use Rattle.bssmap_codec.specs.declared.bssmap.Bssmap.TheVariants.{ClearComplete, ClearRequest}
+use Rattle.bssmap_codec.specs.declared.bssmap.Bssmap.TheVariants.{CompleteLayer3Information}
 use Rattle.bssmap_codec.specs.declared.fault.InterfaceFault.{InterfaceFault}
 use Rattle.bssmap_codec.specs.declared.sccp.Sccp.{Sccp}
-use Rattle.bssmap_codec.specs.declared.sccp.Sccp.TheVariants.{ConnectionRequest, ConnectionConfirm, ConnectionRefused, Released, DataForm1}
+use Rattle.bssmap_codec.specs.declared.sccp.Sccp.TheVariants.{ConnectionRequest, ConnectionConfirm}
+use Rattle.bssmap_codec.specs.declared.sccp.Sccp.TheVariants.{ConnectionRefused, Released}
+use Rattle.bssmap_codec.specs.declared.sccp.Sccp.TheVariants.{DataForm1}
 use Rattle.bssmap_codec.specs.BssapReading.{bssap_reading, cause_of, channel_of}
 use Rattle.bssmap_codec.specs.BssapText.{bssap_text, bssap_write_fault}
+use Rattle.nsd_filter.specs.AcceptedList.{accepted_list, not_of_the_flow}
 use Rattle.dtap_codec.specs.declared.sapi.Sapi.{Sapi}
 use Rattle.dtap_codec.specs.declared.sapi.Sapi.TheVariants.{Zero, Three}
 use Rattle.msc_end.specs.declared.connection.Connection.{Connection}
 use Rattle.msc_end.specs.declared.connection.Stage.{Stage}
 use Rattle.msc_end.specs.declared.connection.Stage.TheVariants.{Open, Clearing, Ended}
-use Rattle.msc_end.specs.declared.parameters.TheConstants.{CALL_CONTROL_CAUSE, CONNECTION_LIMIT, REFERENCE_BASE, SAPI_0_LINK, SAPI_3_LINK, SPEECH_CHANNEL}
+use Rattle.msc_end.specs.declared.parameters.TheConstants.{CALL_CONTROL_CAUSE, CONNECTION_LIMIT}
+use Rattle.msc_end.specs.declared.parameters.TheConstants.{REFERENCE_BASE, SAPI_0_LINK}
+use Rattle.msc_end.specs.declared.parameters.TheConstants.{SAPI_3_LINK, SPEECH_CHANNEL}
 use Rattle.msc_end.specs.SwitchState.{SwitchState}
 
 -- the message that octets are read as; None where they are refused
@@ -28,13 +36,15 @@ data_form_by (Some fault) form = None
 
 -- the data form 1 that carries a message; None where the message isn't written
 abbrev pub data_form : ℕ → Bssap → Option Sccp
-data_form destination message = data_form_by (bssap_write_fault message) (DataForm1 destination (bssap_text message))
+data_form destination message =
+    data_form_by (bssap_write_fault message) (DataForm1 destination (bssap_text message))
 
 abbrev pub with_stage : Connection → Stage → Connection
-with_stage c stage = record { peer = c.peer; stage = stage; reception = c.reception; number = c.number }
+with_stage c stage = record c { stage = stage }
 
 abbrev pub with_message : Connection → List ℕ → Connection
-with_message c message = record { peer = c.peer; stage = c.stage; reception = record { modulus = c.reception.modulus; taken = c.reception.taken ++ message ∷ [] }; number = c.number }
+with_message c message =
+    record c { reception = record c.reception { taken = c.reception.taken ++ message ∷ [] } }
 
 -- a connection that hasn't ended, after a message: DTAP is taken, CLEAR REQUEST clears, CLEAR
 -- COMPLETE ends
@@ -46,7 +56,8 @@ live_connection_after c (Management _) = c
 
 -- what is answered on it
 abbrev pub live_reply_of : Connection → Bssap → Option Sccp
-live_reply_of c (Management (ClearRequest cause)) = data_form c.peer (Management (ClearCommand cause))
+live_reply_of c (Management (ClearRequest cause)) =
+    data_form c.peer (Management (ClearCommand cause))
 live_reply_of c (Management ClearComplete) = Some (Released c.peer c.number)
 live_reply_of c _ = None
 
@@ -71,6 +82,22 @@ reply_of c message = reply_by c.stage c message
 abbrev pub connection_of : List Connection → ℕ → Option Connection
 connection_of connections n = if n == 0 then None else slice_get connections (n - 1)
 
+abbrev pub connection_in : SwitchState → ℕ → Option Connection
+connection_in switch n = connection_of switch.connections n
+
+-- what was taken on it of its mobile, what of that was given up to the upper layers of the flow,
+-- and what carries no number
+abbrev pub taken_on : SwitchState → ℕ → Option (List (List ℕ))
+taken_on switch n = option_map (λ c. c.reception.taken) (connection_in switch n)
+
+abbrev pub accepted_on : SwitchState → ℕ → Option (List (List ℕ))
+accepted_on switch n =
+    option_map (λ c. accepted_list c.reception.modulus c.reception.taken) (connection_in switch n)
+
+abbrev pub unnumbered_on : SwitchState → ℕ → Option (List (List ℕ))
+unnumbered_on switch n =
+    option_map (λ c. not_of_the_flow c.reception.taken) (connection_in switch n)
+
 -- the initial message that a message carries
 abbrev pub initial_message_of : Option Bssap → List (List ℕ)
 initial_message_of (Some (Management (CompleteLayer3Information cell layer3))) = layer3 ∷ []
@@ -84,10 +111,19 @@ initial_messages (Some octets) = initial_message_of (message_in octets)
 -- the connections with one more, which a connection request asks for
 abbrev pub with_connection : ℕ → List Connection → ℕ → Option (List ℕ) → List Connection
 with_connection m connections source user =
-    connections ++ record { peer = source; stage = Open; reception = record { modulus = m; taken = initial_messages user }; number = REFERENCE_BASE + (length connections + 1) } ∷ []
+    connections ++ record {
+      peer = source;
+      stage = Open;
+      reception = record {
+        modulus = m;
+        taken = initial_messages user;
+      };
+      number = REFERENCE_BASE + (length connections + 1);
+    } ∷ []
 
 abbrev pub connections_by : List Connection → ℕ → Option Connection → Option Bssap → List Connection
-connections_by connections n (Some c) (Some message) = slice_set connections (n - 1) (connection_after c message)
+connections_by connections n (Some c) (Some message) =
+    slice_set connections (n - 1) (connection_after c message)
 connections_by connections n _ _ = connections
 
 abbrev pub replies_by : Option Connection → Option Bssap → List Sccp
@@ -96,19 +132,28 @@ replies_by _ _ = []
 
 -- the connections after a message from the base station controller, m being the modulus
 abbrev pub connections_after : ℕ → List Connection → Sccp → List Connection
-connections_after m connections (ConnectionRequest source user) = if nat_le CONNECTION_LIMIT (length connections) then connections else with_connection m connections source user
-connections_after m connections (DataForm1 destination user) = connections_by connections (destination - REFERENCE_BASE) (connection_of connections (destination - REFERENCE_BASE)) (message_in user)
+connections_after m connections (ConnectionRequest source user) =
+    if nat_le CONNECTION_LIMIT (length connections)
+    then connections
+    else with_connection m connections source user
+connections_after m connections (DataForm1 destination user) =
+    connections_by connections (destination - REFERENCE_BASE)
+    (connection_of connections (destination - REFERENCE_BASE)) (message_in user)
 connections_after m connections _ = connections
 
 -- the switch end after it
 abbrev pub after : SwitchState → Sccp → SwitchState
-after switch message = record { modulus = switch.modulus; connections = connections_after switch.modulus switch.connections message }
+after switch message =
+    record switch { connections = connections_after switch.modulus switch.connections message }
 
 -- what is replied to it
 abbrev pub replies : List Connection → Sccp → List Sccp
 replies connections (ConnectionRequest source user) =
-    if nat_le CONNECTION_LIMIT (length connections) then ConnectionRefused source ∷ [] else ConnectionConfirm source (REFERENCE_BASE + (length connections + 1)) ∷ []
-replies connections (DataForm1 destination user) = replies_by (connection_of connections (destination - REFERENCE_BASE)) (message_in user)
+    if nat_le CONNECTION_LIMIT (length connections)
+    then ConnectionRefused source ∷ []
+    else ConnectionConfirm source (REFERENCE_BASE + (length connections + 1)) ∷ []
+replies connections (DataForm1 destination user) =
+    replies_by (connection_of connections (destination - REFERENCE_BASE)) (message_in user)
 replies connections _ = []
 
 -- the octet of a SAPI's DLCI
@@ -129,8 +174,13 @@ data_forms_on (Some c) message = option_to_list (data_form c.peer message)
 
 abbrev pub connections_after_clear : List Connection → ℕ → Option Connection → List Connection
 connections_after_clear connections n None = connections
-connections_after_clear connections n (Some c) = slice_set connections (n - 1) (with_stage c Clearing)
+connections_after_clear connections n (Some c) =
+    slice_set connections (n - 1) (with_stage c Clearing)
 
 -- the switch end after a CLEAR COMMAND of its own on one of its connections
 abbrev pub after_clear : SwitchState → ℕ → SwitchState
-after_clear switch n = record { modulus = switch.modulus; connections = connections_after_clear switch.connections n (connection_of switch.connections n) }
+after_clear switch n =
+    record switch {
+      connections =
+          connections_after_clear switch.connections n (connection_in switch n);
+    }

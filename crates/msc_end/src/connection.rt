@@ -1,5 +1,6 @@
 ghost use Rattle.std.specs.Prelude.{◌≡◌, OnOk, OnErr, IfOk};
-ghost use Rattle.msc_end.specs.Switch.{connection_after, live_connection_after, live_reply_of, reply_of};
+ghost use Rattle.msc_end.specs.Switch.{connection_after, live_connection_after};
+ghost use Rattle.msc_end.specs.Switch.{live_reply_of, reply_of};
 
 use crate::bssap_data::data_form;
 use bssmap_codec::{Bssap, Bssmap, Reference, Sccp};

@@ -1,12 +1,16 @@
-ghost use Rattle.std.specs.Prelude.{◌≡◌, ◌≤◌, ◌+◌, ◌-◌, ◌∷◌, [], ◌++◌, length, Some, None, OnOk, OnErr, IfOk, MatchResult, option_map, option_to_list, slice_set};
+ghost use Rattle.std.specs.Prelude.{◌≡◌, ◌≤◌, ◌+◌, ◌-◌, ◌∷◌, [], ◌++◌, length};
+ghost use Rattle.std.specs.Prelude.{Some, None, OnOk, OnErr, IfOk, MatchResult};
+ghost use Rattle.std.specs.Prelude.{option_map, option_to_list, slice_set};
 ghost use Rattle.octets.specs.Refusal.{RefusesBy};
 ghost use Rattle.octets.specs.declared.limits.TheConstants.{MESSAGE_LIMIT};
 ghost use Rattle.dtap_codec.specs.Number.{count_of};
-ghost use Rattle.nsd_filter.specs.AcceptedList.{accepted_list, not_of_the_flow};
 ghost use Rattle.msc_end.specs.declared.connection.Stage.TheVariants.{Clearing};
 ghost use Rattle.msc_end.specs.declared.fault.MscFault.TheVariants.{Memory as OutOfMemory};
 ghost use Rattle.msc_end.specs.Refusal.{send_fault};
-ghost use Rattle.msc_end.specs.Switch.{after, after_clear, assignment_request, clear_command, connection_of, data_form as data_form_of, data_forms_on, dlci_for, initial_message_of, initial_messages, replies};
+ghost use Rattle.msc_end.specs.Switch.{after, after_clear, assignment_request, clear_command};
+ghost use Rattle.msc_end.specs.Switch.{replies, connection_in, accepted_on, taken_on};
+ghost use Rattle.msc_end.specs.Switch.{unnumbered_on, data_form as data_form_of, data_forms_on};
+ghost use Rattle.msc_end.specs.Switch.{dlci_for, initial_message_of, initial_messages};
 
 use crate::bssap_data::{data_form, read_data};
 use crate::parameters::{
@@ -35,7 +39,10 @@ impl Model for MscEnd {
 
     ghost Value = { SwitchState };
 
-    ghost view = { λ switch. record { modulus = count_of switch.modulus; connections = switch.connections.items } };
+    ghost view = { λ switch. record {
+      modulus = count_of switch.modulus;
+      connections = switch.connections.items;
+    } };
 }
 
 impl MscEnd {
@@ -54,7 +61,8 @@ impl MscEnd {
     /// changes nothing.
     pub fn on_message(&mut self, message: &Sccp, out: &mut Vec<Sccp>) -> Result<(), Memory>
         ensures state { OnOk result (self.new ≡ after self.old message.now) }
-        ensures replies { OnOk result (out.new.items ≡ out.old.items ++ replies self.old.connections message.now) }
+        ensures replies { OnOk result (out.new.items ≡ out.old.items
+            ++ replies self.old.connections message.now) }
         ensures unchanged { OnErr result (self.new ≡ self.old) }
         ensures unanswered { OnErr result (out.new.items ≡ out.old.items) }
     {
@@ -72,8 +80,10 @@ impl MscEnd {
         user: &Option<Octets>,
         out: &mut Vec<Sccp>,
     ) -> Result<(), Memory>
-        ensures state { OnOk result (self.new ≡ after self.old (Sccp.ConnectionRequest source user.now)) }
-        ensures replies { OnOk result (out.new.items ≡ out.old.items ++ replies self.old.connections (Sccp.ConnectionRequest source user.now)) }
+        ensures state { OnOk result
+            (self.new ≡ after self.old (Sccp.ConnectionRequest source user.now)) }
+        ensures replies { OnOk result (out.new.items ≡ out.old.items
+            ++ replies self.old.connections (Sccp.ConnectionRequest source user.now)) }
         ensures unchanged { OnErr result (self.new ≡ self.old) }
         ensures unanswered { OnErr result (out.new.items ≡ out.old.items) }
     {
@@ -108,8 +118,10 @@ impl MscEnd {
         user: &Octets,
         out: &mut Vec<Sccp>,
     ) -> Result<(), Memory>
-        ensures state { OnOk result (self.new ≡ after self.old (Sccp.DataForm1 destination user.now)) }
-        ensures replies { OnOk result (out.new.items ≡ out.old.items ++ replies self.old.connections (Sccp.DataForm1 destination user.now)) }
+        ensures state { OnOk result
+            (self.new ≡ after self.old (Sccp.DataForm1 destination user.now)) }
+        ensures replies { OnOk result (out.new.items ≡ out.old.items
+            ++ replies self.old.connections (Sccp.DataForm1 destination user.now)) }
         ensures unchanged { OnErr result (self.new ≡ self.old) }
         ensures unanswered { OnErr result (out.new.items ≡ out.old.items) }
     {
@@ -141,10 +153,11 @@ impl MscEnd {
     ) -> Result<(), MscFault>
         requires some { 1 ≤ length message.now }
         requires few { length message.now ≤ MESSAGE_LIMIT }
-        ensures ok { OnOk result (out.new.items ≡ out.old.items ++ data_forms_on (connection_of self.now.connections conn) (Bssap.Transfer (dlci_for sapi) message.now)) }
+        ensures ok { OnOk result (out.new.items ≡ out.old.items ++ data_forms_on
+            (connection_in self.now conn) (Bssap.Transfer (dlci_for sapi) message.now)) }
         ensures sent { OnOk result (length out.new.items ≡ length out.old.items + 1) }
         ensures err { OnErr result (out.new.items ≡ out.old.items) }
-        ensures refused { RefusesBy OutOfMemory result (send_fault (connection_of self.now.connections conn)) }
+        ensures refused { RefusesBy OutOfMemory result (send_fault (connection_in self.now conn)) }
     {
         let peer = self.open_peer(conn)?;
         let message = Bssap::Transfer {
@@ -158,10 +171,11 @@ impl MscEnd {
     /// Asks for a speech channel for a connection. An `Err` changes nothing: `NoConnection`, then
     /// `Closed`, then `Memory`.
     pub fn assign(&self, conn: u32, out: &mut Vec<Sccp>) -> Result<(), MscFault>
-        ensures ok { OnOk result (out.new.items ≡ out.old.items ++ data_forms_on (connection_of self.now.connections conn) assignment_request) }
+        ensures ok { OnOk result (out.new.items ≡ out.old.items
+            ++ data_forms_on (connection_in self.now conn) assignment_request) }
         ensures sent { OnOk result (length out.new.items ≡ length out.old.items + 1) }
         ensures err { OnErr result (out.new.items ≡ out.old.items) }
-        ensures refused { RefusesBy OutOfMemory result (send_fault (connection_of self.now.connections conn)) }
+        ensures refused { RefusesBy OutOfMemory result (send_fault (connection_in self.now conn)) }
     {
         let peer = self.open_peer(conn)?;
         let channel_type = ChannelType(Octets::copy(self.alloc, &SPEECH_CHANNEL)?);
@@ -173,12 +187,13 @@ impl MscEnd {
     /// Sends CLEAR COMMAND, cause call control, on a connection. An `Err` changes nothing:
     /// `NoConnection`, then `Closed`, then `Memory`.
     pub fn clear(&mut self, conn: u32, out: &mut Vec<Sccp>) -> Result<(), MscFault>
-        ensures ok { OnOk result (out.new.items ≡ out.old.items ++ data_forms_on (connection_of self.old.connections conn) clear_command) }
+        ensures ok { OnOk result (out.new.items ≡ out.old.items
+            ++ data_forms_on (connection_in self.old conn) clear_command) }
         ensures sent { OnOk result (length out.new.items ≡ length out.old.items + 1) }
         ensures state { OnOk result (self.new ≡ after_clear self.old conn) }
         ensures err { OnErr result (out.new.items ≡ out.old.items) }
         ensures unchanged { OnErr result (self.new ≡ self.old) }
-        ensures refused { RefusesBy OutOfMemory result (send_fault (connection_of self.old.connections conn)) }
+        ensures refused { RefusesBy OutOfMemory result (send_fault (connection_in self.old conn)) }
     {
         let peer = self.open_peer(conn)?;
         let cause = Cause::one(self.alloc, CALL_CONTROL_CAUSE)?;
@@ -202,8 +217,11 @@ impl MscEnd {
 
     // The reference of the other end of a connection that is open.
     fn open_peer(&self, conn: u32) -> Result<Reference, MscFault>
-        ensures peer { IfOk result (λ peer. option_map (λ c. c.peer) (connection_of self.now.connections conn) ≡ Some peer) }
-        ensures refused { MatchResult result (λ _. send_fault (connection_of self.now.connections conn) ≡ None) (λ fault. send_fault (connection_of self.now.connections conn) ≡ Some fault) }
+        ensures peer { IfOk result (λ peer.
+            option_map (λ c. c.peer) (connection_in self.now conn) ≡ Some peer) }
+        ensures refused { MatchResult result
+            (λ _. send_fault (connection_in self.now conn) ≡ None)
+            (λ fault. send_fault (connection_in self.now conn) ≡ Some fault) }
     {
         match self.connection(conn) {
             None => Err(MscFault::NoConnection),
@@ -216,7 +234,7 @@ impl MscEnd {
 
     // The connection of this number.
     fn connection(&self, conn: u32) -> Option<&Connection>
-        ensures { option_map (λ c. c.now) result ≡ connection_of self.now.connections conn }
+        ensures { option_map (λ c. c.now) result ≡ connection_in self.now conn }
     {
         if conn == 0 {
             return None;
@@ -227,7 +245,7 @@ impl MscEnd {
     /// All messages of the mobile that were taken on a connection up to the CLEAR COMPLETE, in
     /// order, the initial message first; none where there is no connection of that number.
     pub fn taken(&self, conn: u32) -> Option<&[Octets]>
-        ensures { option_map (λ v. v.now) result ≡ option_map (λ c. c.reception.taken) (connection_of self.now.connections conn) }
+        ensures { option_map (λ v. v.now) result ≡ taken_on self.now conn }
     {
         match self.connection(conn) {
             Some(connection) => Some(connection.reception.taken()),
@@ -238,7 +256,7 @@ impl MscEnd {
     /// What was given up to the upper layers of the flow on a connection: the judgement over the
     /// messages taken, numbers cleared.
     pub fn accepted(&self, conn: u32) -> Option<&[Octets]>
-        ensures { option_map (λ v. v.now) result ≡ option_map (λ c. accepted_list c.reception.modulus c.reception.taken) (connection_of self.now.connections conn) }
+        ensures { option_map (λ v. v.now) result ≡ accepted_on self.now conn }
     {
         match self.connection(conn) {
             Some(connection) => Some(connection.reception.accepted()),
@@ -248,7 +266,7 @@ impl MscEnd {
 
     /// The messages taken on a connection that carry no number, in order.
     pub fn unnumbered(&self, conn: u32) -> Option<&[Octets]>
-        ensures { option_map (λ v. v.now) result ≡ option_map (λ c. not_of_the_flow c.reception.taken) (connection_of self.now.connections conn) }
+        ensures { option_map (λ v. v.now) result ≡ unnumbered_on self.now conn }
     {
         match self.connection(conn) {
             Some(connection) => Some(connection.reception.unnumbered()),
@@ -259,7 +277,8 @@ impl MscEnd {
 
 // What is taken of a connection request: the initial message, where there is one.
 fn first_taken(alloc: Global, modulus: Modulus, user: &Option<Octets>) -> Result<Reception, Memory>
-    ensures { IfOk result (λ reception. reception ≡ record { modulus = count_of modulus; taken = initial_messages user.now }) }
+    ensures { IfOk result (λ reception.
+        reception ≡ record { modulus = count_of modulus; taken = initial_messages user.now }) }
 {
     match user {
         Some(data) => {
@@ -292,7 +311,8 @@ fn layer3_of(message: Bssmap) -> Option<Octets>
 
 // A connection on which this was taken.
 fn started(alloc: Global, modulus: Modulus, first: Option<Octets>) -> Result<Reception, Memory>
-    ensures { IfOk result (λ reception. reception ≡ record { modulus = count_of modulus; taken = option_to_list first }) }
+    ensures { IfOk result (λ reception.
+        reception ≡ record { modulus = count_of modulus; taken = option_to_list first }) }
 {
     let mut reception = Reception::new(alloc, modulus);
     match first {
@@ -316,7 +336,8 @@ fn dlci(sapi: Sapi) -> Dlci
 
 // Appends the data that carry a message.
 fn send(alloc: Global, peer: Reference, message: &Bssap, out: &mut Vec<Sccp>) -> Result<(), Memory>
-    ensures ok { OnOk result (out.new.items ≡ out.old.items ++ option_to_list (data_form_of peer message.now)) }
+    ensures ok { OnOk result (out.new.items ≡ out.old.items
+        ++ option_to_list (data_form_of peer message.now)) }
     ensures err { OnErr result (out.new.items ≡ out.old.items) }
 {
     out.reserve(1)?;

@@ -19,11 +19,13 @@ module _ {T : Type 0} where
   -- the two ends of a new queue: the one that takes, and the one that puts
   abbrev pub AreNew : ℕ → EndView T → EndView T → Type 0
   AreNew capacity taker putter =
-      (taker ≡ record { queue = taker.queue; capacity = capacity; seen = taking [] }) × (putter ≡ record { queue = taker.queue; capacity = capacity; seen = putting [] })
+      (taker ≡ record { queue = taker.queue; capacity = capacity; seen = taking [] })
+      × (putter ≡ record { queue = taker.queue; capacity = capacity; seen = putting [] })
 
   -- the item was put
   abbrev pub Puts : EndView T → T → EndView T → Type 0
-  Puts old x new = (new.queue ≡ old.queue) × (new.capacity ≡ old.capacity) × AddsLast old.seen x new.seen
+  Puts old x new =
+      (new.queue ≡ old.queue) × (new.capacity ≡ old.capacity) × AddsLast old.seen x new.seen
 
   -- the queue was full, with the last of what this end has put
   abbrev pub WasFull : ℕ → Seen T → Type 0
@@ -31,7 +33,8 @@ module _ {T : Type 0} where
 
   -- the item was taken
   abbrev pub Takes : EndView T → T → EndView T → Type 0
-  Takes old x new = (new.queue ≡ old.queue) × (new.capacity ≡ old.capacity) × TakesFirst old.seen x new.seen
+  Takes old x new =
+      (new.queue ≡ old.queue) × (new.capacity ≡ old.capacity) × TakesFirst old.seen x new.seen
 
   -- where the end knows what was put, all of it was taken
   abbrev pub IsDrained : Seen T → Type 0
@@ -40,4 +43,5 @@ module _ {T : Type 0} where
   -- the two ends come together: what was put is what was taken, and then a rest
   abbrev pub Joins : EndView T → EndView T → EndView T → Type 0
   Joins taker putter both =
-      (both ≡ knowing taker (left_over putter.seen.put taker.seen.taken)) × ((rest : List T) × (putter.seen.put ≡ taker.seen.taken ++ rest))
+      (both ≡ knowing taker (left_over putter.seen.put taker.seen.taken))
+      × ((rest : List T) × (putter.seen.put ≡ taker.seen.taken ++ rest))

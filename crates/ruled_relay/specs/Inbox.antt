@@ -1,6 +1,7 @@
 -- What the ends of an inbox show, and what their calls do. An item's source is its place in the row
 -- of queues.
-use Rattle.std.specs.Prelude.{◌≡◌, ◌≢◌, ℕ, ◌<◌, List, [], ◌∷◌, ◌++◌, length, Result, Ok, Err, map, slice_set}
+use Rattle.std.specs.Prelude.{◌≡◌, ◌≢◌, ℕ, ◌<◌, List, [], ◌∷◌, ◌++◌}
+use Rattle.std.specs.Prelude.{length, Result, Ok, Err, map, slice_set}
 use mathlib.Core.Option.{some}
 use lib.ListN.{get_elem?}
 use Rattle.atomic_table.specs.Seated.{TableId}
@@ -24,21 +25,27 @@ pub record PassView : Type 0 where
 -- pass's source
 abbrev pub AreNewInbox : ℕ → Row → List PassView → Type 0
 AreNewInbox capacity desk passes =
-    (at : ℕ) (e : EndView What) (p : PassView) → get_elem? desk at ≡ some e → get_elem? passes at ≡ some p
-    → (e ≡ record { queue = p.queue; capacity = capacity; seen = taking [] }) × (p ≡ record { queue = p.queue; capacity = capacity; source = at; put = [] })
+    (at : ℕ) (e : EndView What) (p : PassView)
+    → get_elem? desk at ≡ some e → get_elem? passes at ≡ some p
+    → (e ≡ record { queue = p.queue; capacity = capacity; seen = taking [] })
+    × (p ≡ record { queue = p.queue; capacity = capacity; source = at; put = [] })
 
 -- The item is put last, if it is of the pass's source. A full queue hands it back, as it stood with
 -- the last of what the pass has put; a refusal changes nothing.
 abbrev pub PutsItem : PassView → Item → Result (Unit {0}) PutFault → PassView → Type 0
 PutsItem old item (Ok _) new =
-    (item.source ≡ old.source) × (new ≡ record { queue = old.queue; capacity = old.capacity; source = old.source; put = old.put ++ item.what ∷ [] })
-PutsItem old item (Err (Foreign back)) new = (item.source ≢ old.source) × (back ≡ item) × (new ≡ old)
-PutsItem old item (Err (Full back)) new = (item.source ≡ old.source) × (back ≡ item) × WasFull old.capacity (putting old.put) × (new ≡ old)
+    (item.source ≡ old.source) × (new ≡ record old { put = old.put ++ item.what ∷ [] })
+PutsItem old item (Err (Foreign back)) new =
+    (item.source ≢ old.source) × (back ≡ item) × (new ≡ old)
+PutsItem old item (Err (Full back)) new =
+    (item.source ≡ old.source) × (back ≡ item)
+    × WasFull old.capacity (putting old.put) × (new ≡ old)
 
 -- the item is taken at its source's place, behind what was taken there before
 abbrev pub TakesItem : Row → Item → Row → Type 0
 TakesItem old item new =
-    (e : EndView What) × (get_elem? old item.source ≡ some e) × (new ≡ slice_set old item.source (knowing e (taking (e.seen.taken ++ item.what ∷ []))))
+    (e : EndView What) × (get_elem? old item.source ≡ some e)
+    × (new ≡ slice_set old item.source (knowing e (taking (e.seen.taken ++ item.what ∷ []))))
 
 -- which queues the ends at a desk are of, in the order of the sources
 abbrev pub queues_of : Row → List TableId
@@ -47,8 +54,10 @@ queues_of row = map (λ (e : EndView What). e.queue) row
 -- desk and pass of this place have come together: what was put is what was taken, and then a rest
 abbrev pub IsJoined : Row → List PassView → ℕ → EndView What → Type 0
 IsJoined desk passes at joined =
-    (e : EndView What) × (p : PassView) × (get_elem? desk at ≡ some e) × (get_elem? passes at ≡ some p)
-    × (joined ≡ knowing e (left_over p.put e.seen.taken)) × ((rest : List What) × (p.put ≡ e.seen.taken ++ rest))
+    (e : EndView What) × (p : PassView)
+    × (get_elem? desk at ≡ some e) × (get_elem? passes at ≡ some p)
+    × (joined ≡ knowing e (left_over p.put e.seen.taken))
+    × ((rest : List What) × (p.put ≡ e.seen.taken ++ rest))
 
 abbrev pub AreJoined : Row → List PassView → Row → Type 0
 AreJoined desk passes left = (length left ≡ length desk) × EachAt left (IsJoined desk passes)
@@ -61,6 +70,9 @@ IsAllGiven row = EachAt row (λ at e. e.seen.put ≡ e.seen.taken)
 -- and is taken there
 abbrev pub GivesItem : Row → Item → Row → Type 0
 GivesItem old item new =
-    (e : EndView What) × (get_elem? old item.source ≡ some e) × (new ≡ slice_set old item.source (knowing e (left_over e.seen.put (e.seen.taken ++ item.what ∷ []))))
+    (e : EndView What) × (get_elem? old item.source ≡ some e)
+    × (new ≡ slice_set old item.source
+    (knowing e (left_over e.seen.put (e.seen.taken ++ item.what ∷ []))))
     × ((rest : List What) × (e.seen.put ≡ e.seen.taken ++ item.what ∷ rest))
-    × ((at : ℕ) (d : EndView What) → at < item.source → get_elem? old at ≡ some d → d.seen.put ≡ d.seen.taken)
+    × ((at : ℕ) (d : EndView What) → at < item.source → get_elem? old at ≡ some d
+    → d.seen.put ≡ d.seen.taken)

@@ -30,23 +30,37 @@ pub record UnsentView : Type 0 where
 -- the two ends of a new outbox
 abbrev pub AreNewOutbox : ℕ → PutterView → TakerView → Type 0
 AreNewOutbox capacity putter taker =
-    (putter ≡ record { queue = taker.queue; capacity = capacity; put = []; refused = 0; refusals = 0 }) × (taker ≡ record { queue = taker.queue; capacity = capacity; taken = [] })
+    (putter ≡ record {
+      queue = taker.queue;
+      capacity = capacity;
+      put = [];
+      refused = 0;
+      refusals = 0;
+    })
+    × (taker ≡ record { queue = taker.queue; capacity = capacity; taken = [] })
 
 -- a refusal is counted, of a frame alone, in counts of at most 2^32 - 1
 abbrev pub refusing : Line → PutterView → PutterView
-refusing (Frame _) p = let n = min (p.refused + 1) 4294967295 in record { queue = p.queue; capacity = p.capacity; put = p.put; refused = n; refusals = max p.refusals n }
+refusing (Frame _) p =
+    let n = min (p.refused + 1) 4294967295 in
+    record p { refused = n; refusals = max p.refusals n }
 refusing End p = p
 
 -- The line is put last, and the count of refusals begins anew. Or the outbox was full, with the
 -- last of what was put: the line comes back, and its refusal is counted.
 abbrev pub PutsLine : PutterView → Line → Result (Unit {0}) Full → PutterView → Type 0
-PutsLine old line (Ok _) new = new ≡ record { queue = old.queue; capacity = old.capacity; put = old.put ++ line ∷ []; refused = 0; refusals = old.refusals }
-PutsLine old line (Err full) new = (full.0 ≡ line) × WasFull old.capacity (putting old.put) × (new ≡ refusing line old)
+PutsLine old line (Ok _) new =
+    new ≡ record old { put = old.put ++ line ∷ []; refused = 0 }
+PutsLine old line (Err full) new =
+    (full.0 ≡ line) × WasFull old.capacity (putting old.put) × (new ≡ refusing line old)
 
 -- the line is taken, behind what was taken before
 abbrev pub TakesLine : TakerView → Line → TakerView → Type 0
-TakesLine old line new = new ≡ record { queue = old.queue; capacity = old.capacity; taken = old.taken ++ line ∷ [] }
+TakesLine old line new =
+    new ≡ record old { taken = old.taken ++ line ∷ [] }
 
 -- the line is the next of what was put, and is taken
 abbrev pub GivesLine : UnsentView → Line → UnsentView → Type 0
-GivesLine old line new = (new ≡ record { put = old.put; taken = old.taken ++ line ∷ [] }) × ((rest : List Line) × (old.put ≡ old.taken ++ line ∷ rest))
+GivesLine old line new =
+    (new ≡ record old { taken = old.taken ++ line ∷ [] })
+    × ((rest : List Line) × (old.put ≡ old.taken ++ line ∷ rest))

@@ -12,8 +12,10 @@ pub data Fate : Type 0 where
 -- one putter before and after all these calls of `put`, in order
 abbrev pub Meets : PutterView → List Fate → PutterView → Type 0
 Meets old [] new = new ≡ old
-Meets old (accepted line ∷ fates) new = (next : PutterView) × PutsLine old line (Ok tt) next × Meets next fates new
-Meets old (refused line ∷ fates) new = (next : PutterView) × PutsLine old line (Err (record { 0 = line })) next × Meets next fates new
+Meets old (accepted line ∷ fates) new =
+    (next : PutterView) × PutsLine old line (Ok tt) next × Meets next fates new
+Meets old (refused line ∷ fates) new =
+    (next : PutterView) × PutsLine old line (Err (record { 0 = line })) next × Meets next fates new
 
 -- the frames that are refused before the next line is put
 abbrev pub refused_first : List Fate → ℕ

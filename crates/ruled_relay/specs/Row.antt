@@ -14,7 +14,8 @@ module _ {A : Type 0} where
 
   -- the row is as before but at the place, where this holds of what was and what is
   abbrev pub ChangesAt : ℕ → List A → List A → (A → A → Type 0) → Type 0
-  ChangesAt at old new F = (e : A) × (d : A) × (get_elem? old at ≡ some e) × (new ≡ slice_set old at d) × F e d
+  ChangesAt at old new F =
+      (e : A) × (d : A) × (get_elem? old at ≡ some e) × (new ≡ slice_set old at d) × F e d
 
   -- this holds of what stands at each place of a range
   abbrev pub EachAmong : ℕ → ℕ → List A → (A → Type 0) → Type 0
@@ -33,20 +34,23 @@ EachMayTake row = EachAt row (λ at e. e.seen.takes ≡ true)
 -- The item is taken at the place of its source; or the queue at this place is drained, as far as
 -- its end knows.
 abbrev pub TakesAt : ℕ → Row → Option Item → Row → Type 0
-TakesAt at old (Some item) new = (item.source ≡ at) × ChangesAt at old new (λ e d. Takes e item.what d)
+TakesAt at old (Some item) new =
+    (item.source ≡ at) × ChangesAt at old new (λ e d. Takes e item.what d)
 TakesAt at old None new = (new ≡ old) × HasAt at old (λ e. IsDrained e.seen)
 
 -- The item is taken at the place of its source, the first of the range whose queue isn't drained;
 -- or all are drained.
 abbrev pub TakesAmong : ℕ → ℕ → Row → Option Item → Row → Type 0
 TakesAmong from to old (Some item) new =
-    (from ≤ item.source) × (item.source < to) × ChangesAt item.source old new (λ e d. Takes e item.what d)
+    (from ≤ item.source) × (item.source < to)
+    × ChangesAt item.source old new (λ e d. Takes e item.what d)
     × EachAmong from item.source old (λ e. IsDrained e.seen)
 TakesAmong from to old None new = (new ≡ old) × EachAmong from to old (λ e. IsDrained e.seen)
 
 -- the item is taken at the place of its source, one of so many; or nothing changes
 abbrev pub TakesOne : ℕ → Row → Option Item → Row → Type 0
-TakesOne sources old (Some item) new = (item.source < sources) × ChangesAt item.source old new (λ e d. Takes e item.what d)
+TakesOne sources old (Some item) new =
+    (item.source < sources) × ChangesAt item.source old new (λ e d. Takes e item.what d)
 TakesOne sources old None new = new ≡ old
 
 -- the end at the place takes in the other end of its queue

@@ -26,7 +26,9 @@ module _ {T : Type 0} where
   -- an end that may put is the queue's one such end and knows all that was put; likewise one that
   -- may take
   abbrev pub Fits : ℕ → ℕ → List T → List T → ℕ → Seen T → Type 0
-  Fits writer reader put taken at v = (v.puts ≡ true → (at ≡ writer) × (v.put ≡ put)) × (v.takes ≡ true → (at ≡ reader) × (v.taken ≡ taken))
+  Fits writer reader put taken at v =
+      (v.puts ≡ true → (at ≡ writer) × (v.put ≡ put))
+      × (v.takes ≡ true → (at ≡ reader) × (v.taken ≡ taken))
 
   -- the rule, of what the queue holds and of what each end knows
   abbrev pub Relayed : List T → List (Seen T) → Type 0
@@ -48,4 +50,6 @@ module _ {T : Type 0} where
 
   -- the item is the last of what was taken, and the next of what was put
   abbrev pub TakesFirst : Seen T → T → Seen T → Type 0
-  TakesFirst v x w = (w ≡ seen v.puts v.takes v.put (v.taken ++ x ∷ [])) × ((rest : List T) × IsFollowedBy v (x ∷ rest))
+  TakesFirst v x w =
+      (w ≡ seen v.puts v.takes v.put (v.taken ++ x ∷ []))
+      × ((rest : List T) × IsFollowedBy v (x ∷ rest))

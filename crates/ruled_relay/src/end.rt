@@ -25,7 +25,11 @@ impl<T> Model for End<T> {
 
     ghost Value = { EndView T };
 
-    ghost view = { λ e. record { queue = e.pass.table_id; capacity = ruled_capacity (arc_value e.queue); seen = pass_view e.pass } };
+    ghost view = { λ e. record {
+      queue = e.pass.table_id;
+      capacity = ruled_capacity (arc_value e.queue);
+      seen = pass_view e.pass;
+    } };
 
     ghost invariant = { λ e. IsPassOf (arc_value e.queue) e.pass };
 }
@@ -52,7 +56,8 @@ impl<T: Drop> End<T> {
     /// Puts an item last. A full queue hands it back.
     pub(crate) fn put<R: Wait>(&mut self, rt: &R, item: T) -> Result<(), T>
         requires { self.old.seen.puts ≡ true }
-        ensures { MatchResult result (λ _. Puts self.old item self.new) (λ x. (x ≡ item) × (self.new ≡ self.old) × WasFull self.old.capacity self.old.seen) }
+        ensures { MatchResult result (λ _. Puts self.old item self.new)
+            (λ x. (x ≡ item) × (self.new ≡ self.old) × WasFull self.old.capacity self.old.seen) }
     {
         self.queue.push_as::<Putting, R>(rt, &mut self.pass, item)
     }
@@ -60,7 +65,8 @@ impl<T: Drop> End<T> {
     /// Takes the first item, if there is one.
     pub(crate) fn take<R: Wait>(&mut self, rt: &R) -> Option<T>
         requires { self.old.seen.takes ≡ true }
-        ensures { MatchOption result ((self.new ≡ self.old) × IsDrained self.old.seen) (λ x. Takes self.old x self.new) }
+        ensures { MatchOption result ((self.new ≡ self.old) × IsDrained self.old.seen)
+            (λ x. Takes self.old x self.new) }
     {
         self.queue.pop_as::<Taking, R>(rt, &mut self.pass)
     }

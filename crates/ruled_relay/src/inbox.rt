@@ -1,7 +1,8 @@
 ghost use Rattle.std.specs.Prelude.{◌≡◌, ◌<◌, length, List, IfOk, MatchOption, map, vec_len};
 ghost use Rattle.ruled_relay.specs.Row.{Row};
 ghost use Rattle.ruled_relay.specs.Left.{GivesAll, left_from};
-ghost use Rattle.ruled_relay.specs.Inbox.{AreJoined, AreNewInbox, GivesItem, IsAllGiven, PutsItem, TakesItem, queues_of};
+ghost use Rattle.ruled_relay.specs.Inbox.{AreJoined, AreNewInbox, GivesItem};
+ghost use Rattle.ruled_relay.specs.Inbox.{IsAllGiven, PutsItem, TakesItem, queues_of};
 
 use crate::bell::Bell;
 use crate::end::{End, ends};
@@ -41,7 +42,12 @@ impl Model for SourcePass {
 
     ghost Value = { PassView };
 
-    ghost view = { λ p. record { queue = p.end.queue; capacity = p.end.capacity; source = p.source; put = p.end.seen.put } };
+    ghost view = { λ p. record {
+      queue = p.end.queue;
+      capacity = p.end.capacity;
+      source = p.source;
+      put = p.end.seen.put;
+    } };
 
     ghost invariant = { λ p. p.end.seen ≡ putting p.end.seen.put };
 }
@@ -64,7 +70,8 @@ impl Model for Desk {
 
     ghost view = { λ d. d.ends.items };
 
-    ghost invariant = { λ d. (length d.ends.items ≡ d.sources) × (d.turn ≤ d.sources) × EachAt d.ends.items (λ at e. e.seen ≡ taking e.seen.taken) };
+    ghost invariant = { λ d. (length d.ends.items ≡ d.sources)
+        × (d.turn ≤ d.sources) × EachAt d.ends.items (λ at e. e.seen ≡ taking e.seen.taken) };
 }
 
 /// What an inbox still holds when its desk and all of its passes are done. Contracts see what each
@@ -84,7 +91,8 @@ impl Model for Left {
 
     ghost view = { λ l. l.ends.items };
 
-    ghost invariant = { λ l. (length l.ends.items ≡ l.sources) × EachAt l.ends.items (λ at e. e.seen ≡ left_over e.seen.put e.seen.taken) };
+    ghost invariant = { λ l. (length l.ends.items ≡ l.sources)
+        × EachAt l.ends.items (λ at e. e.seen ≡ left_over e.seen.put e.seen.taken) };
 }
 
 impl Inbox {
@@ -187,7 +195,8 @@ impl Desk {
     /// Takes an item, if a source has one. The sources are asked in turn, beginning after the one
     /// that was taken from last, at first with source 0.
     pub fn take<R: Wait>(&mut self, rt: &R) -> Option<Item>
-        ensures takes { MatchOption result (self.new ≡ self.old) (λ item. TakesItem self.old item self.new) }
+        ensures takes { MatchOption result (self.new ≡ self.old)
+            (λ item. TakesItem self.old item self.new) }
         ensures same { queues_of self.new ≡ queues_of self.old }
     {
         let item = take_in_turn(rt, &mut self.ends, self.turn, self.sources)?;
@@ -205,7 +214,8 @@ impl Left {
     /// Takes the next item that is left: all of source 0 in order, then all of source 1, and so on.
     /// With none, all that was put was taken.
     pub fn next<R: Wait>(&mut self, rt: &R) -> Option<Item>
-        ensures { MatchOption result ((self.new ≡ self.old) × IsAllGiven self.old) (λ item. GivesItem self.old item self.new) }
+        ensures { MatchOption result ((self.new ≡ self.old) × IsAllGiven self.old)
+            (λ item. GivesItem self.old item self.new) }
     {
         take_among(rt, &mut self.ends, 0, self.sources)
     }

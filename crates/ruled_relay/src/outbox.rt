@@ -1,5 +1,6 @@
 ghost use Rattle.std.specs.Prelude.{◌≡◌, ℕ, ◌<◌, ◌++◌, List, IfOk, MatchOption, IfNone, min};
-ghost use Rattle.ruled_relay.specs.Outbox.{AreNewOutbox, PutsLine, PutterView, TakerView, TakesLine, GivesLine};
+ghost use Rattle.ruled_relay.specs.Outbox.{AreNewOutbox, PutsLine, PutterView};
+ghost use Rattle.ruled_relay.specs.Outbox.{TakerView, TakesLine, GivesLine};
 ghost use Rattle.ruled_relay.specs.Refusals.{Fate, Meets, lines_put, most_refused};
 
 use crate::bell::Bell;
@@ -47,7 +48,13 @@ impl Model for Putter {
 
     ghost Value = { PutterView };
 
-    ghost view = { λ p. record { queue = p.end.queue; capacity = p.end.capacity; put = p.end.seen.put; refused = p.refused; refusals = p.refusals } };
+    ghost view = { λ p. record {
+      queue = p.end.queue;
+      capacity = p.end.capacity;
+      put = p.end.seen.put;
+      refused = p.refused;
+      refusals = p.refusals;
+    } };
 
     ghost invariant = { λ p. p.end.seen ≡ putting p.end.seen.put };
 }
@@ -66,7 +73,11 @@ impl Model for Taker {
 
     ghost Value = { TakerView };
 
-    ghost view = { λ t. record { queue = t.end.queue; capacity = t.end.capacity; taken = t.end.seen.taken } };
+    ghost view = { λ t. record {
+      queue = t.end.queue;
+      capacity = t.end.capacity;
+      taken = t.end.seen.taken;
+    } };
 
     ghost invariant = { λ t. t.end.seen ≡ taking t.end.seen.taken };
 }
@@ -148,7 +159,8 @@ impl Putter {
         }
     }
 
-    /// The greatest number of frames that were refused with no line put between them; at most 2^32 - 1.
+    /// The greatest number of frames that were refused with no line put between them; at most
+    /// 2^32 - 1.
     pub fn refusals(&self) -> u32
         ensures { result ≡ self.now.refusals }
     {
@@ -174,7 +186,8 @@ impl Putter {
 impl Taker {
     /// Takes the first line, if there is one.
     pub fn take<R: Wait>(&mut self, rt: &R) -> Option<Line>
-        ensures takes { MatchOption result (self.new ≡ self.old) (λ line. TakesLine self.old line self.new) }
+        ensures takes { MatchOption result (self.new ≡ self.old)
+            (λ line. TakesLine self.old line self.new) }
         ensures same { self.new.queue ≡ self.old.queue }
     {
         self.end.take(rt)
@@ -194,7 +207,8 @@ impl Taker {
 impl Unsent {
     /// Takes the first line that is left. With none, all that was put was taken.
     pub fn next<R: Wait>(&mut self, rt: &R) -> Option<Line>
-        ensures some { MatchOption result (self.new ≡ self.old) (λ line. GivesLine self.old line self.new) }
+        ensures some { MatchOption result (self.new ≡ self.old)
+            (λ line. GivesLine self.old line self.new) }
         ensures none { IfNone result (self.old.put ≡ self.old.taken) }
     {
         self.both.take(rt)
@@ -205,8 +219,10 @@ impl Unsent {
 /// that came back with no line put between them, at most 2^32 - 1, and what was put are the lines
 /// that didn't come back, in order.
 pub fn refusals_are_those_of_all_puts()
-    ensures refusals { (capacity : ℕ) (putter now : PutterView) (taker : TakerView) (fates : List Fate) →
-        AreNewOutbox capacity putter taker → Meets putter fates now → now.refusals ≡ min (most_refused fates) 4294967295 }
-    ensures lines { (capacity : ℕ) (putter now : PutterView) (taker : TakerView) (fates : List Fate) →
-        AreNewOutbox capacity putter taker → Meets putter fates now → now.put ≡ lines_put fates }
+    ensures refusals { (capacity : ℕ)
+        (putter now : PutterView) (taker : TakerView) (fates : List Fate)
+        → AreNewOutbox capacity putter taker → Meets putter fates now
+        → now.refusals ≡ min (most_refused fates) 4294967295 }
+    ensures lines { (capacity : ℕ) (putter now : PutterView) (taker : TakerView) (fates : List Fate)
+        → AreNewOutbox capacity putter taker → Meets putter fates now → now.put ≡ lines_put fates }
 {}

@@ -56,7 +56,8 @@ pub(crate) fn take_in_turn<R: Wait>(
 /// Brings the two ends of one source's queue together.
 pub(crate) fn join_at(ends: &mut Vec<End<What>>, at: usize, other: End<What>)
     requires within { at < vec_len ends.old }
-    requires queue { HasAt at ends.old.items (λ e. (other.queue ≡ e.queue) × (e.seen.takes ≡ true)) }
+    requires queue { HasAt at ends.old.items (λ e.
+        (other.queue ≡ e.queue) × (e.seen.takes ≡ true)) }
     requires puts { other.seen.puts ≡ true }
     ensures { JoinsAt at other ends.old.items ends.new.items }
 {

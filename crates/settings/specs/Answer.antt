@@ -10,6 +10,7 @@ Reads (Ok x) value first = (first ≡ None) × (x ≡ value)
 Reads (Err fault) value first = (fault ≡ Memory) ⊎ (first ≡ Some fault)
 
 -- the same of a list
-abbrev pub ReadsItems : {X : Type 0} → Result (Vec X Global) SettingsFault → List X → Option SettingsFault → Type 0
+abbrev pub ReadsItems : {X : Type 0}
+    → Result (Vec X Global) SettingsFault → List X → Option SettingsFault → Type 0
 ReadsItems (Ok xs) value first = (first ≡ None) × (xs.items ≡ value)
 ReadsItems (Err fault) value first = (fault ≡ Memory) ⊎ (first ≡ Some fault)

@@ -1,5 +1,7 @@
 -- The first fault of a table, by the rules of its keys.
-use Rattle.std.specs.Prelude.{ℕ, ◌+◌, ◌==◌, nat_le, ℤ, pos, int_le, Bool, true, false, not, ◌&&◌, if◌then◌else◌, List, [], ◌∷◌, length, map, Option, Some, None, is_some}
+use Rattle.std.specs.Prelude.{ℕ, ◌+◌, ◌==◌, nat_le, ℤ, pos, int_le, Bool}
+use Rattle.std.specs.Prelude.{true, false, not, ◌&&◌, if◌then◌else◌, List, []}
+use Rattle.std.specs.Prelude.{◌∷◌, length, map, Option, Some, None, is_some}
 use Rattle.std.specs.List.{list_all, list_any}
 use Rattle.std.specs.Char.{is_ascii_digit}
 use Rattle.std.specs.Str.{bytes_eq}
@@ -7,10 +9,12 @@ use Rattle.std.specs.Cmp.Lexicographic.{slice_cmp}
 use Rattle.std.specs.Ordering.{nat_cmp, is_lt}
 use Rattle.octets.specs.Refusal.{first_refusal}
 use Rattle.rsl_codec.specs.declared.channel_number.TheConstants.{FIRST_TCH, LAST_SDCCH}
-use Rattle.toml.specs.Data.{Data, string, integer, boolean, array, table, Items, no_items, item, Members, no_members, member, get_member, as_integer, as_table}
+use Rattle.toml.specs.Data.{Data, string, integer, boolean, array, table, Items, no_items, item}
+use Rattle.toml.specs.Data.{Members, no_members, member, get_member, as_integer, as_table}
 use Rattle.settings.specs.declared.key.Key.{Key}
 use Rattle.settings.specs.declared.fault.SettingsFault.{SettingsFault}
-use Rattle.settings.specs.declared.fault.SettingsFault.TheVariants.{Unknown, Missing, BadType, BadValue}
+use Rattle.settings.specs.declared.fault.SettingsFault.TheVariants.{Unknown, Missing}
+use Rattle.settings.specs.declared.fault.SettingsFault.TheVariants.{BadType, BadValue}
 use Rattle.settings.specs.Keys.{name_of, path_in}
 use Rattle.settings.specs.Rules.{Kind, text, digits, number, flag, channels, Rule}
 
@@ -51,11 +55,13 @@ is_channel _ = false
 -- the fault of a value at a key that holds this kind
 abbrev pub value_fault : Key → Kind → Data → Option SettingsFault
 value_fault key text (string s) = valued key (not (length s == 0))
-value_fault key (digits least most) (string s) = valued key (is_within least most (length s) && list_all is_ascii_digit s)
+value_fault key (digits least most) (string s) =
+    valued key (is_within least most (length s) && list_all is_ascii_digit s)
 value_fault key (number least greatest) (integer z) = valued key (is_between least greatest z)
 value_fault key flag (boolean b) = None
 value_fault key (channels least most) (array ds) =
-    first_refusal (typed key (all_items is_integer ds)) (valued key (is_within least most (count_items ds) && all_items is_channel ds))
+    first_refusal (typed key (all_items is_integer ds))
+    (valued key (is_within least most (count_items ds) && all_items is_channel ds))
 value_fault key _ _ = Some (BadType key)
 
 -- ---- the keys of a table
@@ -91,7 +97,9 @@ lesser name (Some other) = if is_lt (slice_cmp nat_cmp other name) then other el
 abbrev pub least_unknown : List Key → Members → Option (List ℕ)
 least_unknown known no_members = None
 least_unknown known (member name d ms) =
-    if is_known known name then least_unknown known ms else Some (lesser name (least_unknown known ms))
+    if is_known known name
+    then least_unknown known ms
+    else Some (lesser name (least_unknown known ms))
 
 abbrev pub named_fault : Option Key → Option (List ℕ) → Option SettingsFault
 named_fault place None = None
@@ -103,7 +111,8 @@ unknown_fault place known ms = named_fault place (least_unknown known ms)
 
 -- an unknown key, else each key in turn
 abbrev pub table_fault : Key → List Rule → Members → Option SettingsFault
-table_fault key rules ms = first_refusal (unknown_fault (Some key) (map (λ rule. rule.key) rules) ms) (keys_fault rules ms)
+table_fault key rules ms =
+    first_refusal (unknown_fault (Some key) (map (λ rule. rule.key) rules) ms) (keys_fault rules ms)
 
 -- a table that has to be there
 abbrev pub required_table_fault : Key → List Rule → Option Data → Option SettingsFault

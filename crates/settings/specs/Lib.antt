@@ -2,5 +2,6 @@ pub mod Answer
 pub mod Faults
 pub mod Keys
 pub mod Parameters
+pub mod Reading
 pub mod Rules
 pub mod Tables

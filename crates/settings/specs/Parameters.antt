@@ -1,5 +1,6 @@
 -- What settings hold, and what holds of it.
-use Rattle.std.specs.Prelude.{◌≡◌, ℕ, ◌+◌, ◌*◌, ◌/◌, ◌%◌, ◌≤◌, Bool, true, ◌==◌, not, ◌&&◌, List, [], ◌∷◌, length, map, All, nat_eq}
+use Rattle.std.specs.Prelude.{◌≡◌, ℕ, ◌+◌, ◌*◌, ◌/◌, ◌%◌, ◌≤◌, Bool, true, ◌==◌}
+use Rattle.std.specs.Prelude.{not, ◌&&◌, List, [], ◌∷◌, length, map, All, nat_eq}
 use Rattle.std.specs.List.{list_all, list_any}
 use Rattle.std.specs.Str.{bytes_eq}
 use Rattle.ho_decision.specs.declared.settings.Cell.{Cell as AirCell}
@@ -21,7 +22,14 @@ pub record CellParameters : Type 0 where
 
 abbrev pub a_cell : List ℕ → ℕ → ℕ → ℕ → Bsic → List ℕ → CellParameters
 a_cell listen lac ci arfcn bsic channels =
-    record { listen = listen; location_area_code = lac; cell_identity = ci; arfcn = arfcn; bsic = bsic; channels = channels }
+    record {
+      listen = listen;
+      location_area_code = lac;
+      cell_identity = ci;
+      arfcn = arfcn;
+      bsic = bsic;
+      channels = channels;
+    }
 
 -- the settings; cells are numbered from 1
 pub record Parameters : Type 0 where
@@ -33,7 +41,13 @@ pub record Parameters : Type 0 where
 
 abbrev pub parameters : Network → List ℕ → Timers → HoParameters → List CellParameters → Parameters
 parameters network address timers handover cells =
-    record { network = network; switch_address = address; timers = timers; handover = handover; cells = cells }
+    record {
+      network = network;
+      switch_address = address;
+      timers = timers;
+      handover = handover;
+      cells = cells;
+    }
 
 -- ---- base station identity codes
 

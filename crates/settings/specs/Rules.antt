@@ -24,7 +24,8 @@ required key kind = record { key = key; kind = kind; default = None }
 
 -- a number between the least and the greatest, with its default
 abbrev pub optional_number : Key → ℕ → ℕ → ℕ → Rule
-optional_number key least greatest default = record { key = key; kind = number least greatest; default = Some (integer (pos default)) }
+optional_number key least greatest default =
+    record { key = key; kind = number least greatest; default = Some (integer (pos default)) }
 
 abbrev pub optional_flag : Key → Rule
 optional_flag key = record { key = key; kind = flag; default = Some (boolean false) }
@@ -86,7 +87,9 @@ abbrev pub power_budget_hysteresis : Rule
 power_budget_hysteresis = optional_number keys.PowerBudgetHysteresis 0 63 3
 
 abbrev pub handover_rules : List Rule
-handover_rules = rxlev_window ∷ rxqual_window ∷ neighbour_window ∷ power_budget_interval ∷ power_budget_hysteresis ∷ []
+handover_rules =
+    rxlev_window ∷ rxqual_window ∷ neighbour_window ∷ power_budget_interval
+    ∷ power_budget_hysteresis ∷ []
 
 -- ---- a cell, of 1 to 32
 

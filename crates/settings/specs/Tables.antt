@@ -1,21 +1,27 @@
 -- The settings in a text: their values, or the first fault.
-use Rattle.std.specs.Prelude.{ℕ, ℤ, pos, negsuc, Bool, false, if◌then◌else◌, List, [], ◌∷◌, Option, Some, None, Result, Ok, Err}
+use Rattle.std.specs.Prelude.{ℕ, ℤ, pos, negsuc, Bool, false, if◌then◌else◌}
+use Rattle.std.specs.Prelude.{List, [], ◌∷◌, Option, Some, None, Result, Ok, Err}
 use Rattle.std.specs.List.{list_all}
 use Rattle.std.specs.Option.{option_or}
 use Rattle.octets.specs.Refusal.{first_refusal}
 use Rattle.ho_decision.specs.declared.settings.HoParameters.{HoParameters}
-use Rattle.toml.specs.Data.{Data, string, integer, boolean, array, table, Items, no_items, item, Members, no_members, get_member}
+use Rattle.toml.specs.Data.{Data, string, integer, boolean, array, table, Items}
+use Rattle.toml.specs.Data.{no_items, item, Members, no_members, get_member}
 use Rattle.settings.specs.declared.fault.SettingsFault.{SettingsFault}
-use Rattle.settings.specs.declared.fault.SettingsFault.TheVariants.{NotToml, Missing, BadType, Repeated}
+use Rattle.settings.specs.declared.fault.SettingsFault.TheVariants.{NotToml, Missing}
+use Rattle.settings.specs.declared.fault.SettingsFault.TheVariants.{BadType, Repeated}
 use Rattle.settings.specs.declared.key.Key.{Key}
 use Rattle.settings.specs.declared.key.Key.TheVariants as keys
 use Rattle.settings.specs.declared.network.Network.{Network}
 use Rattle.settings.specs.declared.timers.Timers.{Timers}
-use Rattle.settings.specs.Faults.{valued, typed, is_within, all_items, count_items, is_table, required_table_fault, optional_table_fault, unknown_fault}
+use Rattle.settings.specs.Faults.{valued, typed, is_within, all_items, count_items, is_table}
+use Rattle.settings.specs.Faults.{required_table_fault, optional_table_fault, unknown_fault}
 use Rattle.settings.specs.Keys.{name_of}
-use Rattle.settings.specs.Parameters.{CellParameters, Parameters, bsic_of, all_differ, channels_differ, same_listen, same_air}
+use Rattle.settings.specs.Parameters.{CellParameters, Parameters, bsic_of, all_differ}
+use Rattle.settings.specs.Parameters.{channels_differ, same_listen, same_air}
 use Rattle.settings.specs.Rules as rules
-use Rattle.settings.specs.Rules.{Rule, network_rules, switch_rules, timers_rules, handover_rules, cell_rules, least_cells, most_cells}
+use Rattle.settings.specs.Rules.{Rule, network_rules, switch_rules, timers_rules}
+use Rattle.settings.specs.Rules.{handover_rules, cell_rules, least_cells, most_cells}
 
 -- ---- values; where there is a fault, they don't matter
 
@@ -109,7 +115,8 @@ parameters_of ms = record {
 -- each cell in turn
 abbrev pub each_cell_fault : Items → Option SettingsFault
 each_cell_fault no_items = None
-each_cell_fault (item d ds) = first_refusal (required_table_fault keys.Cell cell_rules (Some d)) (each_cell_fault ds)
+each_cell_fault (item d ds) =
+    first_refusal (required_table_fault keys.Cell cell_rules (Some d)) (each_cell_fault ds)
 
 abbrev pub cells_fault : Option Data → Option SettingsFault
 cells_fault None = Some (Missing keys.Cell)

@@ -22,9 +22,11 @@ impl Model for Cell {
 
     ghost Value = { CellParameters };
 
-    ghost view = { λ c. a_cell c.listen c.location_area_code c.cell_identity c.arfcn c.bsic c.channels.items };
+    ghost view = { λ c.
+        a_cell c.listen c.location_area_code c.cell_identity c.arfcn c.bsic c.channels.items };
 
-    ghost invariant = { λ c. IsCell (a_cell c.listen c.location_area_code c.cell_identity c.arfcn c.bsic c.channels.items) };
+    ghost invariant = { λ c. IsCell
+        (a_cell c.listen c.location_area_code c.cell_identity c.arfcn c.bsic c.channels.items) };
 }
 
 impl Cell {

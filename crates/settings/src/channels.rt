@@ -3,7 +3,8 @@ ghost use Rattle.std.specs.Prelude.{◌≡◌, Some, All, IfOk, length};
 ghost use Rattle.toml.specs.Data.{array};
 ghost use Rattle.toml.specs.View.{view, items_view, table_view};
 ghost use Rattle.settings.specs.Answer.{Reads, ReadsItems};
-ghost use Rattle.settings.specs.Faults.{all_items, is_integer, is_channel, valued, value_fault, key_fault};
+ghost use Rattle.settings.specs.Faults.{all_items, is_integer, is_channel};
+ghost use Rattle.settings.specs.Faults.{valued, value_fault, key_fault};
 ghost use Rattle.settings.specs.Parameters.{IsChannel, AreChannels};
 ghost use Rattle.settings.specs.Rules.{channels, required};
 ghost use Rattle.settings.specs.Tables.{by_rule, number_in, items_in, numbers_in};
@@ -23,7 +24,9 @@ pub(crate) fn channels_at(
     most: usize,
 ) -> Result<Vec<ChanNo>, SettingsFault>
     ensures within { IfOk result (λ cs. AreChannels least most cs.items) }
-    ensures reads { let rule = required key (channels least most) in ReadsItems result (numbers_in (items_in (by_rule rule (table_view table.now)))) (key_fault rule (table_view table.now)) }
+    ensures reads { let rule = required key (channels least most) in
+        ReadsItems result (numbers_in (items_in (by_rule rule (table_view table.now))))
+        (key_fault rule (table_view table.now)) }
 {
     match held(table, key) {
         None => Err(SettingsFault::Missing(key)),
@@ -39,7 +42,8 @@ fn channels_of(
     most: usize,
 ) -> Result<Vec<ChanNo>, SettingsFault>
     ensures within { IfOk result (λ cs. AreChannels least most cs.items) }
-    ensures reads { ReadsItems result (numbers_in (items_in (Some (view value.now)))) (value_fault key (channels least most) (view value.now)) }
+    ensures reads { ReadsItems result (numbers_in (items_in (Some (view value.now))))
+        (value_fault key (channels least most) (view value.now)) }
 {
     let Value::Array(values) = value else {
         return Err(SettingsFault::BadType(key));
@@ -56,7 +60,8 @@ fn channels_in(
     most: usize,
 ) -> Result<Vec<ChanNo>, SettingsFault>
     ensures within { IfOk result (λ cs. AreChannels least most cs.items) }
-    ensures reads { ReadsItems result (numbers_in (items_view values.now)) (value_fault key (channels least most) (array (items_view values.now))) }
+    ensures reads { ReadsItems result (numbers_in (items_view values.now))
+        (value_fault key (channels least most) (array (items_view values.now))) }
 {
     if !are_integers(values) {
         return Err(SettingsFault::BadType(key));
@@ -81,7 +86,8 @@ fn are_integers(values: &[Value]) -> bool
 fn each_channel(alloc: Global, values: &[Value], key: Key) -> Result<Vec<ChanNo>, SettingsFault>
     ensures count { IfOk result (λ cs. length cs.items ≡ length values.now) }
     ensures within { IfOk result (λ cs. All IsChannel cs.items) }
-    ensures reads { ReadsItems result (numbers_in (items_view values.now)) (valued key (all_items is_channel (items_view values.now))) }
+    ensures reads { ReadsItems result (numbers_in (items_view values.now))
+        (valued key (all_items is_channel (items_view values.now))) }
 {
     let mut channels = Vec::new(alloc);
     for value in values {
@@ -92,7 +98,8 @@ fn each_channel(alloc: Global, values: &[Value], key: Key) -> Result<Vec<ChanNo>
 
 fn channel_of(value: &Value, key: Key) -> Result<ChanNo, SettingsFault>
     ensures within { IfOk result IsChannel }
-    ensures reads { Reads result (number_in (Some (view value.now))) (valued key (is_channel (view value.now))) }
+    ensures reads { Reads result
+        (number_in (Some (view value.now))) (valued key (is_channel (view value.now))) }
 {
     let Value::Integer(number) = value else {
         return Err(SettingsFault::BadValue(key));

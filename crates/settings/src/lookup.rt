@@ -3,11 +3,12 @@ ghost use Rattle.std.specs.Prelude.{◌≡◌, ◌≤◌, Some, IfOk, option_map
 ghost use Rattle.std.specs.List.{list_all};
 ghost use Rattle.std.specs.Char.{is_ascii_digit};
 ghost use Rattle.toml.specs.View.{view, table_view};
-ghost use Rattle.settings.specs.Answer.{Reads};
-ghost use Rattle.settings.specs.Faults.{is_within, value_fault, key_fault};
+ghost use Rattle.settings.specs.Faults.{is_within};
 ghost use Rattle.settings.specs.Parameters.{AreDigits};
-ghost use Rattle.settings.specs.Rules.{text, digits, number, required, optional_number, optional_flag};
-ghost use Rattle.settings.specs.Tables.{at_key, by_rule, text_in, number_in, flag_in};
+ghost use Rattle.settings.specs.Reading.{ReadsKey, ReadsValue};
+ghost use Rattle.settings.specs.Rules.{text, digits, number, required};
+ghost use Rattle.settings.specs.Rules.{optional_number, optional_flag};
+ghost use Rattle.settings.specs.Tables.{at_key, text_in, number_in, flag_in};
 
 use crate::{Key, SettingsFault, Text};
 use std::alloc::Global;
@@ -22,7 +23,7 @@ pub(crate) fn held<'a>(table: &'a Table, key: Key) -> Option<&'a Value>
 
 // A text that has to be there and isn't empty.
 pub(crate) fn text_at(alloc: Global, table: &Table, key: Key) -> Result<Text, SettingsFault>
-    ensures { let rule = required key text in Reads result (text_in (by_rule rule (table_view table.now))) (key_fault rule (table_view table.now)) }
+    ensures { ReadsKey result (required key text) text_in (table_view table.now) }
 {
     match held(table, key) {
         None => Err(SettingsFault::Missing(key)),
@@ -31,7 +32,7 @@ pub(crate) fn text_at(alloc: Global, table: &Table, key: Key) -> Result<Text, Se
 }
 
 fn text_of(alloc: Global, value: &Value, key: Key) -> Result<Text, SettingsFault>
-    ensures { Reads result (text_in (Some (view value.now))) (value_fault key text (view value.now)) }
+    ensures { ReadsValue result key text text_in (view value.now) }
 {
     let Value::String(text) = value else {
         return Err(SettingsFault::BadType(key));
@@ -51,7 +52,8 @@ pub(crate) fn digits_at(
     most: usize,
 ) -> Result<Text, SettingsFault>
     ensures within { IfOk result (AreDigits least most) }
-    ensures reads { let rule = required key (digits least most) in Reads result (text_in (by_rule rule (table_view table.now))) (key_fault rule (table_view table.now)) }
+    ensures reads { ReadsKey result
+        (required key (digits least most)) text_in (table_view table.now) }
 {
     match held(table, key) {
         None => Err(SettingsFault::Missing(key)),
@@ -67,7 +69,7 @@ fn digits_of(
     most: usize,
 ) -> Result<Text, SettingsFault>
     ensures within { IfOk result (AreDigits least most) }
-    ensures reads { Reads result (text_in (Some (view value.now))) (value_fault key (digits least most) (view value.now)) }
+    ensures reads { ReadsValue result key (digits least most) text_in (view value.now) }
 {
     let Value::String(text) = value else {
         return Err(SettingsFault::BadType(key));
@@ -91,7 +93,8 @@ pub(crate) fn number_at(
     least: u32,
     greatest: u32,
 ) -> Result<u32, SettingsFault>
-    ensures reads { let rule = required key (number least greatest) in Reads result (number_in (by_rule rule (table_view table.now))) (key_fault rule (table_view table.now)) }
+    ensures reads { ReadsKey result
+        (required key (number least greatest)) number_in (table_view table.now) }
     ensures within { IfOk result (λ n. (least ≤ n) × (n ≤ greatest)) }
 {
     match held(table, key) {
@@ -109,7 +112,8 @@ pub(crate) fn optional_number_at(
     default: u32,
 ) -> Result<u32, SettingsFault>
     requires { (least ≤ default) × (default ≤ greatest) }
-    ensures reads { let rule = optional_number key least greatest default in Reads result (number_in (by_rule rule (table_view table.now))) (key_fault rule (table_view table.now)) }
+    ensures reads { ReadsKey result
+        (optional_number key least greatest default) number_in (table_view table.now) }
     ensures within { IfOk result (λ n. (least ≤ n) × (n ≤ greatest)) }
 {
     match held(table, key) {
@@ -119,7 +123,7 @@ pub(crate) fn optional_number_at(
 }
 
 fn number_of(value: &Value, key: Key, least: u32, greatest: u32) -> Result<u32, SettingsFault>
-    ensures reads { Reads result (number_in (Some (view value.now))) (value_fault key (number least greatest) (view value.now)) }
+    ensures reads { ReadsValue result key (number least greatest) number_in (view value.now) }
     ensures within { IfOk result (λ n. (least ≤ n) × (n ≤ greatest)) }
 {
     let Value::Integer(number) = value else {
@@ -134,7 +138,7 @@ fn number_of(value: &Value, key: Key, least: u32, greatest: u32) -> Result<u32, 
 
 // True or false, false by default.
 pub(crate) fn flag_at(table: &Table, key: Key) -> Result<bool, SettingsFault>
-    ensures { let rule = optional_flag key in Reads result (flag_in (by_rule rule (table_view table.now))) (key_fault rule (table_view table.now)) }
+    ensures { ReadsKey result (optional_flag key) flag_in (table_view table.now) }
 {
     match held(table, key) {
         None => Ok(false),

@@ -2,7 +2,8 @@ ghost use Rattle.std.specs.Prelude.{◌≡◌, ◌≢◌, ◌≤◌, ◌-◌, tr
 ghost use Rattle.toml.specs.Parse.{parse_document};
 ghost use Rattle.toml.specs.View.{table_view};
 ghost use Rattle.settings.specs.Answer.{Reads};
-ghost use Rattle.settings.specs.Parameters.{AreAllowed, AreDigits, IsTimer, IsWindow, IsInterval, IsCell, channels_differ, air_of, handover_settings_of};
+ghost use Rattle.settings.specs.Parameters.{AreAllowed, AreDigits, IsTimer, IsWindow, IsInterval};
+ghost use Rattle.settings.specs.Parameters.{IsCell, channels_differ, air_of, handover_settings_of};
 ghost use Rattle.settings.specs.Tables.{parameters_of, first_fault, settings_in};
 
 use crate::network::Network;
@@ -34,13 +35,15 @@ impl Model for Settings {
 
     ghost view = { λ s. parameters s.network s.switch_address s.timers s.handover s.cells.items };
 
-    ghost invariant = { λ s. AreAllowed (parameters s.network s.switch_address s.timers s.handover s.cells.items) };
+    ghost invariant = { λ s. AreAllowed
+        (parameters s.network s.switch_address s.timers s.handover s.cells.items) };
 }
 
 impl Settings {
     /// The settings in a text in TOML, or its first fault. It may answer `Memory` for any text.
     pub fn read(alloc: Global, text: &str) -> Result<Settings, SettingsFault>
-        ensures { result ≢ Err SettingsFault.Memory → result ≡ settings_in (parse_document text.now) }
+        ensures { result ≢ Err SettingsFault.Memory
+            → result ≡ settings_in (parse_document text.now) }
     {
         match toml::table_from_str(alloc, text) {
             Ok(table) => in_table(alloc, &table),
@@ -204,7 +207,8 @@ fn airs(alloc: Global, cells: &[Cell]) -> Result<Vec<ho_decision::Cell>, Memory>
 
 // The settings in a table, or its first fault.
 fn in_table(alloc: Global, table: &Table) -> Result<Settings, SettingsFault>
-    ensures { Reads result (parameters_of (table_view table.now)) (first_fault (table_view table.now)) }
+    ensures { Reads result
+        (parameters_of (table_view table.now)) (first_fault (table_view table.now)) }
 {
     let tables = [
         Key::Network,

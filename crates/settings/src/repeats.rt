@@ -2,7 +2,8 @@
 ghost use Rattle.std.specs.Prelude.{◌≡◌, nat_eq, OnOk};
 ghost use Rattle.std.specs.List.{list_all, list_any};
 ghost use Rattle.settings.specs.Answer.{Reads};
-ghost use Rattle.settings.specs.Parameters.{all_differ, channels_differ, same_listen, same_air, IsUnrepeated};
+ghost use Rattle.settings.specs.Parameters.{all_differ, channels_differ};
+ghost use Rattle.settings.specs.Parameters.{same_listen, same_air, IsUnrepeated};
 ghost use Rattle.settings.specs.Tables.{repeated_fault};
 
 use crate::{Cell, Key, SettingsFault};

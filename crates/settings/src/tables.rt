@@ -2,11 +2,15 @@
 ghost use Rattle.std.specs.Prelude.{◌≡◌, Some, All, IfOk, length};
 ghost use Rattle.toml.specs.Data.{array};
 ghost use Rattle.toml.specs.View.{view, items_view, table_view};
-ghost use Rattle.settings.specs.Answer.{Reads, ReadsItems};
-ghost use Rattle.settings.specs.Faults.{all_items, is_table, table_fault, required_table_fault, optional_table_fault};
+ghost use Rattle.settings.specs.Answer.{ReadsItems};
+ghost use Rattle.settings.specs.Faults.{all_items, is_table};
 ghost use Rattle.settings.specs.Parameters.{IsNetwork, AreTimers, IsHandover, IsCell, AreCells};
-ghost use Rattle.settings.specs.Rules.{network_rules, switch_rules, timers_rules, handover_rules, cell_rules};
-ghost use Rattle.settings.specs.Tables.{at_key, items_in, members_in, network_of, address_of, timers_of, numbers_of, cell_of, cells_of, each_cell_fault, cells_fault};
+ghost use Rattle.settings.specs.Reading.{ReadsTable, ReadsRequired, ReadsOptional};
+ghost use Rattle.settings.specs.Rules.{network_rules, switch_rules};
+ghost use Rattle.settings.specs.Rules.{timers_rules, handover_rules, cell_rules};
+ghost use Rattle.settings.specs.Tables.{at_key, items_in, network_of, address_of};
+ghost use Rattle.settings.specs.Tables.{timers_of, numbers_of, cell_of, cells_of};
+ghost use Rattle.settings.specs.Tables.{each_cell_fault, cells_fault};
 
 use crate::channels::channels_at;
 use crate::lookup::{digits_at, flag_at, held, is_count, number_at, optional_number_at, text_at};
@@ -23,7 +27,8 @@ use toml::{Table, Value};
 
 pub(crate) fn network_at(alloc: Global, table: &Table) -> Result<Network, SettingsFault>
     ensures within { IfOk result IsNetwork }
-    ensures reads { let held = at_key Key.Network (table_view table.now) in Reads result (network_of (members_in held)) (required_table_fault Key.Network network_rules held) }
+    ensures reads { ReadsRequired result Key.Network network_rules network_of
+        (at_key Key.Network (table_view table.now)) }
 {
     match held(table, Key::Network) {
         None => Err(SettingsFault::Missing(Key::Network)),
@@ -33,7 +38,8 @@ pub(crate) fn network_at(alloc: Global, table: &Table) -> Result<Network, Settin
 
 fn network_of(alloc: Global, value: &Value) -> Result<Network, SettingsFault>
     ensures within { IfOk result IsNetwork }
-    ensures reads { let held = Some (view value.now) in Reads result (network_of (members_in held)) (required_table_fault Key.Network network_rules held) }
+    ensures reads { ReadsRequired result Key.Network network_rules network_of
+        (Some (view value.now)) }
 {
     match value {
         Value::Table(network) => network_in(alloc, network),
@@ -43,7 +49,7 @@ fn network_of(alloc: Global, value: &Value) -> Result<Network, SettingsFault>
 
 fn network_in(alloc: Global, table: &Table) -> Result<Network, SettingsFault>
     ensures within { IfOk result IsNetwork }
-    ensures reads { Reads result (network_of (table_view table.now)) (table_fault Key.Network network_rules (table_view table.now)) }
+    ensures reads { ReadsTable result Key.Network network_rules network_of (table_view table.now) }
 {
     let keys = [Key::Mcc, Key::Mnc, Key::Release98];
     refuse_unknown(alloc, table, Some(Key::Network), &keys)?;
@@ -57,7 +63,8 @@ fn network_in(alloc: Global, table: &Table) -> Result<Network, SettingsFault>
 // ---- switch
 
 pub(crate) fn switch_at(alloc: Global, table: &Table) -> Result<Text, SettingsFault>
-    ensures { let held = at_key Key.Switch (table_view table.now) in Reads result (address_of (members_in held)) (required_table_fault Key.Switch switch_rules held) }
+    ensures { ReadsRequired result Key.Switch switch_rules address_of
+        (at_key Key.Switch (table_view table.now)) }
 {
     match held(table, Key::Switch) {
         None => Err(SettingsFault::Missing(Key::Switch)),
@@ -66,7 +73,7 @@ pub(crate) fn switch_at(alloc: Global, table: &Table) -> Result<Text, SettingsFa
 }
 
 fn switch_of(alloc: Global, value: &Value) -> Result<Text, SettingsFault>
-    ensures { let held = Some (view value.now) in Reads result (address_of (members_in held)) (required_table_fault Key.Switch switch_rules held) }
+    ensures { ReadsRequired result Key.Switch switch_rules address_of (Some (view value.now)) }
 {
     match value {
         Value::Table(switch) => switch_in(alloc, switch),
@@ -75,7 +82,7 @@ fn switch_of(alloc: Global, value: &Value) -> Result<Text, SettingsFault>
 }
 
 fn switch_in(alloc: Global, table: &Table) -> Result<Text, SettingsFault>
-    ensures { Reads result (address_of (table_view table.now)) (table_fault Key.Switch switch_rules (table_view table.now)) }
+    ensures { ReadsTable result Key.Switch switch_rules address_of (table_view table.now) }
 {
     refuse_unknown(alloc, table, Some(Key::Switch), &[Key::Address])?;
     text_at(alloc, table, Key::Address)
@@ -85,7 +92,8 @@ fn switch_in(alloc: Global, table: &Table) -> Result<Text, SettingsFault>
 
 pub(crate) fn timers_at(alloc: Global, table: &Table) -> Result<Timers, SettingsFault>
     ensures within { IfOk result AreTimers }
-    ensures reads { let held = at_key Key.Timers (table_view table.now) in Reads result (timers_of (members_in held)) (optional_table_fault Key.Timers timers_rules held) }
+    ensures reads { ReadsOptional result Key.Timers timers_rules timers_of
+        (at_key Key.Timers (table_view table.now)) }
 {
     match held(table, Key::Timers) {
         None => timers_in(alloc, &Table::new(alloc)),
@@ -95,7 +103,7 @@ pub(crate) fn timers_at(alloc: Global, table: &Table) -> Result<Timers, Settings
 
 fn timers_of(alloc: Global, value: &Value) -> Result<Timers, SettingsFault>
     ensures within { IfOk result AreTimers }
-    ensures reads { let held = Some (view value.now) in Reads result (timers_of (members_in held)) (required_table_fault Key.Timers timers_rules held) }
+    ensures reads { ReadsRequired result Key.Timers timers_rules timers_of (Some (view value.now)) }
 {
     match value {
         Value::Table(timers) => timers_in(alloc, timers),
@@ -105,7 +113,7 @@ fn timers_of(alloc: Global, value: &Value) -> Result<Timers, SettingsFault>
 
 fn timers_in(alloc: Global, table: &Table) -> Result<Timers, SettingsFault>
     ensures within { IfOk result AreTimers }
-    ensures reads { Reads result (timers_of (table_view table.now)) (table_fault Key.Timers timers_rules (table_view table.now)) }
+    ensures reads { ReadsTable result Key.Timers timers_rules timers_of (table_view table.now) }
 {
     let keys = [Key::T3101, Key::T3103, Key::T3107, Key::Drain];
     refuse_unknown(alloc, table, Some(Key::Timers), &keys)?;
@@ -121,7 +129,8 @@ fn timers_in(alloc: Global, table: &Table) -> Result<Timers, SettingsFault>
 
 pub(crate) fn handover_at(alloc: Global, table: &Table) -> Result<HoParameters, SettingsFault>
     ensures within { IfOk result IsHandover }
-    ensures reads { let held = at_key Key.Handover (table_view table.now) in Reads result (numbers_of (members_in held)) (optional_table_fault Key.Handover handover_rules held) }
+    ensures reads { ReadsOptional result Key.Handover handover_rules numbers_of
+        (at_key Key.Handover (table_view table.now)) }
 {
     match held(table, Key::Handover) {
         None => handover_in(alloc, &Table::new(alloc)),
@@ -131,7 +140,8 @@ pub(crate) fn handover_at(alloc: Global, table: &Table) -> Result<HoParameters, 
 
 fn handover_of(alloc: Global, value: &Value) -> Result<HoParameters, SettingsFault>
     ensures within { IfOk result IsHandover }
-    ensures reads { let held = Some (view value.now) in Reads result (numbers_of (members_in held)) (required_table_fault Key.Handover handover_rules held) }
+    ensures reads { ReadsRequired result Key.Handover handover_rules numbers_of
+        (Some (view value.now)) }
 {
     match value {
         Value::Table(handover) => handover_in(alloc, handover),
@@ -141,7 +151,8 @@ fn handover_of(alloc: Global, value: &Value) -> Result<HoParameters, SettingsFau
 
 fn handover_in(alloc: Global, table: &Table) -> Result<HoParameters, SettingsFault>
     ensures within { IfOk result IsHandover }
-    ensures reads { Reads result (numbers_of (table_view table.now)) (table_fault Key.Handover handover_rules (table_view table.now)) }
+    ensures reads { ReadsTable result Key.Handover handover_rules numbers_of
+        (table_view table.now) }
 {
     let keys = [
         Key::RxlevWindow,
@@ -164,7 +175,8 @@ fn handover_in(alloc: Global, table: &Table) -> Result<HoParameters, SettingsFau
 
 pub(crate) fn cells_at(alloc: Global, table: &Table) -> Result<Vec<Cell>, SettingsFault>
     ensures within { IfOk result (λ cells. AreCells cells.items) }
-    ensures reads { let held = at_key Key.Cell (table_view table.now) in ReadsItems result (cells_of (items_in held)) (cells_fault held) }
+    ensures reads { let held = at_key Key.Cell (table_view table.now) in
+        ReadsItems result (cells_of (items_in held)) (cells_fault held) }
 {
     match held(table, Key::Cell) {
         None => Err(SettingsFault::Missing(Key::Cell)),
@@ -176,7 +188,8 @@ pub(crate) fn cells_at(alloc: Global, table: &Table) -> Result<Vec<Cell>, Settin
 #[tactic(auto, using(crate::proofs::Lists::count_items_view))]
 fn cells_in(alloc: Global, values: &[Value]) -> Result<Vec<Cell>, SettingsFault>
     ensures within { IfOk result (λ cells. AreCells cells.items) }
-    ensures reads { ReadsItems result (cells_of (items_view values.now)) (cells_fault (Some (array (items_view values.now)))) }
+    ensures reads { ReadsItems result
+        (cells_of (items_view values.now)) (cells_fault (Some (array (items_view values.now)))) }
 {
     if !are_tables(values) {
         return Err(SettingsFault::BadType(Key::Cell));
@@ -201,7 +214,8 @@ fn are_tables(values: &[Value]) -> bool
 fn each_cell(alloc: Global, values: &[Value]) -> Result<Vec<Cell>, SettingsFault>
     ensures count { IfOk result (λ cells. length cells.items ≡ length values.now) }
     ensures within { IfOk result (λ cells. All IsCell cells.items) }
-    ensures reads { ReadsItems result (cells_of (items_view values.now)) (each_cell_fault (items_view values.now)) }
+    ensures reads { ReadsItems result
+        (cells_of (items_view values.now)) (each_cell_fault (items_view values.now)) }
 {
     let mut cells = Vec::new(alloc);
     for value in values {
@@ -212,7 +226,7 @@ fn each_cell(alloc: Global, values: &[Value]) -> Result<Vec<Cell>, SettingsFault
 
 fn cell_at(alloc: Global, value: &Value) -> Result<Cell, SettingsFault>
     ensures within { IfOk result IsCell }
-    ensures reads { Reads result (cell_of (members_in (Some (view value.now)))) (required_table_fault Key.Cell cell_rules (Some (view value.now))) }
+    ensures reads { ReadsRequired result Key.Cell cell_rules cell_of (Some (view value.now)) }
 {
     match value {
         Value::Table(table) => cell_in(alloc, table),
@@ -222,7 +236,7 @@ fn cell_at(alloc: Global, value: &Value) -> Result<Cell, SettingsFault>
 
 fn cell_in(alloc: Global, table: &Table) -> Result<Cell, SettingsFault>
     ensures within { IfOk result IsCell }
-    ensures reads { Reads result (cell_of (table_view table.now)) (table_fault Key.Cell cell_rules (table_view table.now)) }
+    ensures reads { ReadsTable result Key.Cell cell_rules cell_of (table_view table.now) }
 {
     let keys = [
         Key::Listen,

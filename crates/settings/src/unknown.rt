@@ -30,13 +30,15 @@ pub(crate) fn refuse_unknown(
 
 // The least name that isn't one of these keys: the first, since the names of a table rise.
 fn least_other<'a>(table: &'a Table, known: &[Key]) -> Option<&'a String>
-    ensures { option_map (λ name. string_bytes name) (option_copied result) ≡ least_unknown known.now (table_view table.now) }
+    ensures { option_map (λ name. string_bytes name) (option_copied result) ≡
+        least_unknown known.now (table_view table.now) }
 {
     first_other(table, known)
 }
 
 fn first_other<'a>(table: &'a Table, known: &[Key]) -> Option<&'a String>
-    ensures first { option_copied result ≡ find (λ name. not (is_known known.now (string_bytes name))) (keys table.now) }
+    ensures first { option_copied result ≡
+        find (λ name. not (is_known known.now (string_bytes name))) (keys table.now) }
     ensures ordered { IsOrdered string_cmp table.now }
 {
     table.keys().find(|name| !has_name(known, name.as_str()))

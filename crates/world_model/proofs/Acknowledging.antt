@@ -4,15 +4,10 @@ use Rattle.world_model.proofs.Prelude.{◌∷◌, ◌++◌, length, Option, Some
 use Rattle.world_model.proofs.Prelude.{append-nil, length-set, filter-append, place_at, rr_reading, Busy, BaseState, activation_ack}
 use Rattle.world_model.proofs.Prelude.{is_active, after_activate, after_release, after_tell, is_bound_of, Activation, Rsl, DataRequest}
 use Rattle.world_model.proofs.Prelude.{EstablishRequest, ImmediateAssignCommand, ChannelActivation, RfChannelRelease, RfChannelReleaseAck}
-use Rattle.std.proofs.Common.{filter}
-use Rattle.std.proofs.Math.Bool.{or-false}
-use Rattle.std.proofs.lemmas.List.{get_or-set_same}
-use Rattle.link_model.proofs.Tenures.{is_active-push, is_active-released, is_active-kept}
-use Rattle.world_model.specs.declared.limits.TheConstants.{MAX_TENURE}
-use Rattle.world_model.specs.declared.seat.Tenure.{Tenure}
-use Rattle.world_model.specs.Pipe.{acknowledgements, acknowledgement, is_active_then}
-use Rattle.world_model.specs.Stations.{activated_unless, activated, mobile_on, accepts, link_answer, answered, released, took}
-use Rattle.world_model.specs.World.{Actors, Station, no_station, base_of, with_base, spot_at, with_spot, is_active_at, tenure_at, station_of}
+use Rattle.world_model.proofs.Prelude.{filter, or-false, get_or-set_same, is_active-push, is_active-released, is_active-kept, MAX_TENURE}
+use Rattle.world_model.proofs.Prelude.{Tenure, acknowledgements, acknowledgement, is_active_then, activated_unless, activated, mobile_on}
+use Rattle.world_model.proofs.Prelude.{accepts, link_answer, answered, released, took, Actors, Station, no_station, base_of, with_base}
+use Rattle.world_model.proofs.Prelude.{spot_at, with_spot, is_active_at, tenure_at, station_of}
 use Rattle.world_model.proofs.Honesty.{base-with_spot}
 use Rattle.world_model.proofs.Leads.{OfTaken, Seats, unless_last-leads, assigned-leads}
 

@@ -1,11 +1,8 @@
 -- What happens to a mobile's end in a run, and what stations take of it on each channel.
 use Rattle.world_model.proofs.Prelude.{◌≡◌, true, List, [], ◌∷◌, Some, None, refl, usual_settings, Zero, Three, connects, sends, frames}
-use Rattle.world_model.proofs.Prelude.{acknowledges, leaves, arrives, gives_up}
-use Rattle.world_model.specs.declared.event.Event.{Event}
-use Rattle.world_model.specs.declared.event.Event.TheVariants.{Upper, Connect, AirUp, AirAck, AirDown, Move, Arrive, Return, BaseTakes, BasePush, Handle, SwitchTakes, SwitchDoes}
-use Rattle.world_model.specs.declared.event.SwitchAction.TheVariants.{Assign}
+use Rattle.world_model.proofs.Prelude.{acknowledges, leaves, arrives, gives_up, Event, Upper, Connect, AirUp, AirAck, AirDown, Move, Arrive}
+use Rattle.world_model.proofs.Prelude.{Return, BaseTakes, BasePush, Handle, SwitchTakes, SwitchDoes, Assign, Actors, new_actors}
 use Rattle.world_model.specs.Calls.{EachBegins, all_calls, comings, taken_by_channel}
-use Rattle.world_model.specs.World.{Actors, new_actors}
 use Rattle.world_model.proofs.Worlds.{on_literals}
 
 abbrev begin : Actors

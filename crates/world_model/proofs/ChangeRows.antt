@@ -1,9 +1,7 @@
 -- Changes of the channel, and the break of a station while its channel drains.
-use Rattle.world_model.proofs.Prelude.{◌≡◌, [], ◌∷◌, Some, refl, Zero}
-use Rattle.world_model.specs.declared.event.Event.TheVariants.{Upper, AirUp, AirAck, AirDown, Move, Touch, Arrive, Return, BaseTakes, BasePush, Handle, SwitchTakes, SwitchDoes, BaseDown, Report}
-use Rattle.world_model.specs.declared.event.SwitchAction.TheVariants.{Assign, Dtap}
+use Rattle.world_model.proofs.Prelude.{◌≡◌, [], ◌∷◌, Some, refl, Zero, Upper, AirUp, AirAck, AirDown, Move, Touch, Arrive, Return}
+use Rattle.world_model.proofs.Prelude.{BaseTakes, BasePush, Handle, SwitchTakes, SwitchDoes, BaseDown, Report, Assign, Dtap, World}
 use Rattle.world_model.specs.Views.{sent, received, taken, accepted, unnumbered}
-use Rattle.world_model.specs.World.{World}
 use Rattle.world_model.proofs.Worlds.{on_literals, after_all, bodies}
 use Rattle.world_model.proofs.Rows.{opened, opened_eager}
 

@@ -1,11 +1,7 @@
 -- A clear during a handover, and requests that wait for its end.
-use Rattle.world_model.proofs.Prelude.{◌≡◌, true, [], ◌∷◌, Some, refl, Zero}
-use Rattle.conn_rules.specs.declared.state.Stage.TheVariants.{Active, Draining}
-use Rattle.conn_rules.specs.declared.state.State.TheVariants.{Live}
-use Rattle.controller_model.proofs.Lives.{state_of}
-use Rattle.world_model.specs.declared.event.Event.TheVariants.{Upper, Connect, AirUp, AirAck, AirDown, Move, Arrive, BaseTakes, BasePush, Handle, SwitchTakes, SwitchDoes, Report}
-use Rattle.world_model.specs.declared.event.SwitchAction.TheVariants.{Assign, Clear}
-use Rattle.world_model.specs.World.{World}
+use Rattle.world_model.proofs.Prelude.{◌≡◌, true, [], ◌∷◌, Some, refl, Zero, Active, Draining, Live, state_of, Upper, Connect, AirUp}
+use Rattle.world_model.proofs.Prelude.{AirAck, AirDown, Move, Arrive, BaseTakes, BasePush, Handle, SwitchTakes, SwitchDoes, Report, Assign}
+use Rattle.world_model.proofs.Prelude.{Clear, World}
 use Rattle.world_model.proofs.Worlds.{on_literals, after_all, bodies}
 use Rattle.world_model.proofs.Rows.{opened_eager}
 

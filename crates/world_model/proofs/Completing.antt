@@ -4,28 +4,16 @@ use Rattle.world_model.proofs.Prelude.{None, refl, sym, ap, ◌∙◌, subst, eq
 use Rattle.world_model.proofs.Prelude.{Stage, New, Connected, Call, after_call, after_calls, connects, sends, frames, acknowledges, leaves}
 use Rattle.world_model.proofs.Prelude.{arrives, gives_up, is_control, lent_message, waits, DataLinkState, after_acked_at, after_arrival}
 use Rattle.world_model.proofs.Prelude.{after_connect, after_frame_at, after_number, after_queue, link_of, refusal_of_connect}
-use Rattle.world_model.proofs.Prelude.{refusal_of_send, with_link, MobileState, Parameters}
+use Rattle.world_model.proofs.Prelude.{refusal_of_send, with_link, MobileState, Parameters, after_ack, offered_message, Air, Given}
+use Rattle.world_model.proofs.Prelude.{MobileFault, after_load_from, frame_answer_at, Event, Upper, Connect, AirUp, AirAck, Move, Arrive}
+use Rattle.world_model.proofs.Prelude.{Return, Command, Seat, Moving, Tenure, actors_after, event_after, place_in, Actors, Mobile}
+use Rattle.world_model.proofs.Prelude.{mobile_of, modulus_in, new_actors}
 use Rattle.std.specs.Prelude.{option_to_list}
-use Rattle.link_model.specs.AirLink.{after_ack, offered_message}
-use Rattle.link_model.specs.declared.air_link.Air.{Air}
-use Rattle.link_model.specs.declared.air_link.Air.TheVariants.{Given}
-use Rattle.mobile_end.specs.declared.fault.MobileFault.{MobileFault}
 use Rattle.mobile_end.specs.declared.mobile_end.Place.{Place}
 use Rattle.mobile_end.specs.declared.mobile_end.Place.TheVariants as places
 use Rattle.mobile_end.specs.Calls.{begins, frame_lent, may_arrive, taken_by_call, unless_connected, unless_refused}
-use Rattle.mobile_end.specs.DataLink.{after_load_from}
-use Rattle.mobile_end.specs.Mobile.{frame_answer_at}
-use Rattle.world_model.specs.declared.event.Event.{Event}
-use Rattle.world_model.specs.declared.event.Event.TheVariants.{Upper, Connect, AirUp, AirAck, Move, Arrive, Return}
-use Rattle.world_model.specs.declared.seat.Command.{Command}
-use Rattle.world_model.specs.declared.seat.Seat.{Seat}
-use Rattle.world_model.specs.declared.seat.Seat.TheVariants.{Moving}
-use Rattle.world_model.specs.declared.seat.Tenure.{Tenure}
 use Rattle.world_model.specs.Calls.{Begins, CompleteComesFirst, EachBegins, calls_at, calls_to_arrive, calls_to_return, comes_at, comes_with, comings, complete_of, failure_of, frame_of, seat_of, taken_at, taken_by_channel}
-use Rattle.world_model.specs.Life.{actors_after, event_after}
-use Rattle.world_model.specs.Lives.{place_in}
 use Rattle.world_model.specs.Mobiles.{complete, failure}
-use Rattle.world_model.specs.World.{Actors, Mobile, mobile_of, modulus_in, new_actors}
 use Rattle.world_model.proofs.Leads.{and-left, and-right}
 use Rattle.world_model.proofs.Mobility.{Stands, Takes, control-complete, control-failure, end_of, may-come, stands_new, takes_at}
 use Rattle.world_model.proofs.Repeating.{IsBetween, arriving, end-between, frame-same, place_between, returning}
@@ -45,9 +33,8 @@ data Goes (control : List ℕ) (e : MobileState) (call : Call) : Type 0 where
 air-queued : (e : MobileState) (sapi : Sapi) (message : List ℕ) → (after_queue e sapi message).zero.air ≡ e.zero.air
 air-queued e sapi message = by (is_flow_message message) sapi where
   by : (b : Bool) (s : Sapi) → (if b then after_number e message else with_link e s (waits (link_of e s) message)).zero.air ≡ e.zero.air
-  by true s = refl
   by false Zero = refl
-  by false Three = refl
+  by _ _ = refl
 
 air-unless : (fault : Option MobileFault) (e next : MobileState) → next.zero.air ≡ e.zero.air → (unless_refused fault e next).zero.air ≡ e.zero.air
 air-unless None e next same = same
@@ -79,9 +66,8 @@ goes_frame control e Connected places.OnChannel is at air =
     ∙ ap (λ (o : Option (List ℕ)). option_to_list o) (lent-given e.zero control air))
 
 air-framed-three : (stage : Stage) (place : Place) (e : MobileState) → (after_frame_at stage place e Three).zero.air ≡ e.zero.air
-air-framed-three New place e = refl
 air-framed-three Connected places.Moving e = refl
-air-framed-three Connected places.OnChannel e = refl
+air-framed-three _ _ e = refl
 
 air-acked : (place : Place) (sapi : Sapi) (e : MobileState) (control : List ℕ) → e.zero.air ≡ Given control → (after_acked_at place e sapi).zero.air ≡ Given control
 air-acked places.OnChannel Zero e control air = ap after_ack air

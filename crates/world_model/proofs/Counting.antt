@@ -1,8 +1,5 @@
 -- Events leave the number of stations.
-use Rattle.world_model.proofs.Prelude.{◌≡◌, length, set, refl, ◌∙◌, length-set}
-use Rattle.world_model.specs.declared.event.Event.{Event}
-use Rattle.world_model.specs.Life.{actors_after}
-use Rattle.world_model.specs.World.{Actors}
+use Rattle.world_model.proofs.Prelude.{◌≡◌, length, set, refl, ◌∙◌, length-set, Event, actors_after, Actors}
 use Rattle.world_model.proofs.Footprints.{event-keeps}
 
 abbrev Same : Actors → Actors → Type 0

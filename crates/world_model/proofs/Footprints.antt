@@ -6,32 +6,23 @@ use Rattle.world_model.proofs.Prelude.{refusal_of_activate, after_acked, after_a
 use Rattle.world_model.proofs.Prelude.{first_message, frame_answer, refusal_of_connect, refusal_of_send, data_indication}
 use Rattle.world_model.proofs.Prelude.{establish_indication, Item, Rsl, Activation, ChannelActivation, DataRequest, EstablishRequest}
 use Rattle.world_model.proofs.Prelude.{ImmediateAssignCommand, RfChannelRelease, rr_reading, Sccp}
-use Rattle.dtap_codec.specs.declared.report.TheConstants.{REPORT_LENGTH}
-use Rattle.mobile_end.specs.Mobile.{after_leave}
-use Rattle.msc_end.specs.SwitchState.{SwitchState}
 use Rattle.rsl_codec.specs.declared.radio_link.Data.{Data}
 use Rattle.rsl_codec.specs.declared.radio_link.Link.{Link as LinkOf}
 use Rattle.std.specs.Prelude.{◌%◌}
-use Rattle.world_model.specs.declared.event.Event.{Event}
-use Rattle.world_model.specs.declared.event.Event.TheVariants.{Upper, Connect, AirUp, AirAck, AirDown, AirDownLost, Move, Touch, Arrive, Return, BaseTakes, BasePush, Handle, SwitchTakes, SwitchDoes, Tick, BaseDown, Report}
-use Rattle.world_model.specs.declared.line.AirMessage.{AirMessage}
-use Rattle.world_model.specs.declared.line.OutboxEntry.{OutboxEntry}
-use Rattle.world_model.specs.declared.limits.TheConstants.{MAX_TENURE}
-use Rattle.world_model.specs.declared.seat.Command.{Command}
-use Rattle.world_model.specs.declared.seat.Seat.{Seat}
-use Rattle.world_model.specs.declared.seat.Seat.TheVariants.{Asking, On, Moving, Gone}
-use Rattle.world_model.specs.declared.seat.Tenure.{Tenure}
-use Rattle.world_model.specs.Life.{event_after, actors_after}
+use Rattle.world_model.specs.Life.{event_after}
 use Rattle.world_model.specs.Mobiles.{told, may_send, sent_by, channel_required, connected, is_new, frame_in, framed, signalling_brought, short_message_brought, brought, hearing, handover_detection, complete, failure, measurement_result, reported_at, reported}
-use Rattle.world_model.specs.Relay.{target_in}
-use Rattle.world_model.specs.Stations.{rsl_in, activated, activated_unless, accepts, mobile_on, link_answer, answered, released, took}
-use Rattle.world_model.specs.SwitchSide.{sccp_in}
-use Rattle.world_model.specs.World.{Actors, Mobile, Spot, Station, Link, is_up, is_station_up, outbox_of, with_outbox, mobile_of, with_mobile, no_station, base_of, with_base, spot_at, with_spot, is_active_at, tenure_at, is_reached}
 use Rattle.world_model.proofs.Honesty.{reached-up, up-right}
 use Rattle.world_model.proofs.Leads.{OfTaken, FromAir, Seats, only_if-leads, by_mobile-leads, connect-leads, air_up-leads, air_ack-leads, air_down-leads, air_down_lost-leads, move-leads, touch-leads, arrive-leads, return-leads, base_takes-leads, switch_takes-leads, switch_took-leads, push-leads, does-leads, broken-leads, handle-leads, turn-leads, assigned-leads, unless_last-leads, after-taken, and-left, and-right}
 use Rattle.world_model.proofs.Ticketing.{reached-station, spot-with_base}
 use Rattle.world_model.proofs.Leads.{is_aerial}
-use Rattle.world_model.proofs.Prelude.{Change, Assignment, Handover, Err, Ok, Result, RrMessage, RrFault, ChannelRelease, AssignmentCommand, HandoverCommand, is_dtap}
+use Rattle.world_model.proofs.Prelude.{Change, Assignment, Handover, Ok, Result, RrMessage, RrFault, AssignmentCommand, HandoverCommand}
+use Rattle.world_model.proofs.Prelude.{is_dtap, REPORT_LENGTH, after_leave, SwitchState, Event, Upper, Connect, AirUp, AirAck, AirDown}
+use Rattle.world_model.proofs.Prelude.{AirDownLost, Move, Touch, Arrive, Return, BaseTakes, BasePush, Handle, SwitchTakes, SwitchDoes, Tick}
+use Rattle.world_model.proofs.Prelude.{BaseDown, Report, AirMessage, OutboxEntry, MAX_TENURE, Command, Seat, Asking, On, Moving, Tenure}
+use Rattle.world_model.proofs.Prelude.{actors_after, target_in, rsl_in, activated, activated_unless, accepts, mobile_on, link_answer}
+use Rattle.world_model.proofs.Prelude.{answered, released, took, sccp_in, Actors, Mobile, Spot, Station, Link, is_up, is_station_up}
+use Rattle.world_model.proofs.Prelude.{outbox_of, with_outbox, mobile_of, with_mobile, no_station, base_of, with_base, spot_at, with_spot}
+use Rattle.world_model.proofs.Prelude.{is_active_at, tenure_at, is_reached}
 use Rattle.world_model.specs.Mobiles.{remembering, controlled}
 
 -- ---- what a mobile hears changes its seat, or what it received
@@ -43,18 +34,14 @@ hearing-same p a = by_kind (is_dtap a.message) where
 
   by_seat : (change : Change) (target : Tenure) (seat : Seat) → Same (remembering p change target seat)
   by_seat change target Asking = refl
-  by_seat change target (On tenure command) = refl
-  by_seat change target (Moving from command) = refl
-  by_seat change target Gone = refl
+  by_seat change target _ = refl
 
   by_message : (target : Option Tenure) (r : Result RrMessage RrFault) → Same (controlled p target r)
-  by_message target (Ok (ChannelRelease cause)) = refl
   by_message (Some target) (Ok (AssignmentCommand channel)) = by_seat Assignment target p.seat
   by_message (Some target) (Ok (HandoverCommand cell channel reference)) = by_seat Handover target p.seat
   by_message None (Ok (AssignmentCommand channel)) = refl
   by_message None (Ok (HandoverCommand cell channel reference)) = refl
-  by_message target (Ok _) = refl
-  by_message target (Err fault) = refl
+  by_message target _ = refl
 
   by_kind : (b : Bool) → Same (if b then record p { received = p.received ++ a.message ∷ [] } else controlled p a.target (rr_reading a.message))
   by_kind true = refl
@@ -125,16 +112,8 @@ pub data Becomes (w : Actors) (number : ℕ) : Event → Mobile → Mobile → T
 
 -- it keeps its number
 pub became-number : {w : Actors} {number : ℕ} {event : Event} {p q : Mobile} → Becomes w number event p q → q.number ≡ p.number
-became-number (queues sapi message p may) = refl
-became-number (opens p tenure frame lent) = refl
-became-number (lends p tenure frame lent) = refl
-became-number (is_acked sapi p) = refl
 became-number (hears p tenure command first others seat reached stood) = hearing-number p first
-became-number (misses p) = refl
-became-number (leaves p tenure command seat reached) = refl
-became-number (arrives p from command seat reached) = refl
-became-number (returns p from command seat reached) = refl
-became-number (sits station p channel asks) = refl
+became-number _ = refl
 
 -- what a station makes, but acknowledgements
 pub data Tells (w : Actors) : Event → ℕ → Rsl → Type 0 where
@@ -261,7 +240,6 @@ took_keeps : (P : Actors → Type 0) (w : Actors) (station : ℕ) (first : Outbo
     → OnAir P w (BaseTakes station) → is_station_up w station ≡ true → outbox_of w station ≡ first ∷ others → rsl_in first.out.frame ≡ o
     → P (with_outbox station others w) → OfTaken P (took station first.target o (with_outbox station others w))
 unfolding OfTaken Seats
-took_keeps P w station first others None air up stood is h = h
 took_keeps P w station first others (Some (ChannelActivation a)) air up stood is h =
     unless_last-leads P ((spot_at u at).tenure == MAX_TENURE) (activated at u) (by (refusal_of_activate (base_of u station) a.channel) refl) where
       u : Actors
@@ -306,7 +284,7 @@ took_keeps P w station first others (Some (EstablishRequest l)) air up stood is 
   by answer = air.tells _ station _ up (answers station l answer taken) (air.spots u at _ (up-right station w up).0 (asks_up station l answer taken) h)
 took_keeps P w station first others (Some (RfChannelRelease channel)) air up stood is h =
     air.releases (with_outbox station others w) station channel (record { event_is = refl; first = first; others = others; up = up; stood = stood; is = is }) h
-took_keeps P w station first others (Some _) air up stood is h = h
+took_keeps P w station first others _ air up stood is h = h
 
 -- a station takes an entry, or the queues, the controller and the switch stay
 abbrev pub is_on_air : Event → Bool
@@ -355,9 +333,7 @@ air_leads P w (Report number report) is air h =
           let long = and-right (is_reached w tenure) (length report == REPORT_LENGTH) both in
           air.tells _ tenure.at.station _ (reached-up w tenure reached).0 (reports number report tenure reached long)
           (reached_spot P w tenure _ air reached (counts number report tenure reached) h))
-      by Asking = tt
-      by (Moving from command) = tt
-      by Gone = tt
+      by _ = tt
 air_leads P w _ is air h = absurd cc
 
 pub air-after : (P : Actors → Type 0) (w : Actors) (event : Event) → is_on_air event ≡ true → OnAir P w event → P w → P (actors_after w event)

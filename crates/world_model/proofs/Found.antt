@@ -1,8 +1,7 @@
 -- Mobiles found by their numbers.
 use Rattle.world_model.proofs.Prelude.{◌≡◌, ◌≢◌, ℕ, Bool, true, false, if◌then◌else◌, cond, List, [], ◌∷◌, ◌++◌, find, unwrap_or, Option, Some, None}
-use Rattle.world_model.proofs.Prelude.{refl, sym, ap, ◌∙◌, inl, inr, cases_Bool, eqb-true, ne_eqb, eq-eqb}
+use Rattle.world_model.proofs.Prelude.{refl, sym, ap, ◌∙◌, inl, inr, cases_Bool, eqb-true, ne_eqb, eq-eqb, Mobile, has_number, put_back}
 use Rattle.std.proofs.lemmas.Option.{none-some}
-use Rattle.world_model.specs.World.{Mobile, has_number, put_back}
 
 -- one that is found has the number
 pub found-number : (number : ℕ) (xs : List Mobile) (p : Mobile) → find (has_number number) xs ≡ Some p → p.number ≡ number

@@ -1,42 +1,29 @@
 -- What the controller reads of a station is what the station made, over all events.
 use Rattle.world_model.proofs.Prelude.{◌≡◌, ℕ, zero, suc, ◌+◌, ◌-◌, ◌<◌, ◌≤◌, ◌==◌, ◌&&◌, nat_eq, Bool, true, false, if◌then◌else◌, List}
-use Rattle.world_model.proofs.Prelude.{[], ◌∷◌, map, length, get_or, Option, Some, None, option_to_list}
-use Rattle.world_model.proofs.Prelude.{refl, sym, subst, arith, AllByRecursion, is_none, eqb-true, Sccp, AllByRecursion-append, Change}
-use Rattle.world_model.proofs.Prelude.{Assignment, Handover, Place, SWITCH_LINK, place_at, Sapi, Zero, Three}
-use Rattle.world_model.proofs.Prelude.{BaseState}
-use Rattle.world_model.proofs.Prelude.{first_of_messages, first_message}
-use Rattle.world_model.proofs.Prelude.{after_tell, Stage, New, Connected}
-use Rattle.world_model.proofs.Prelude.{lent_message, new_mobile, link_of, after_queue, refusal_of_connect, refusal_of_send}
-use Rattle.world_model.proofs.Prelude.{frame_answer, MobileState, is_channel, Rsl}
-use Rattle.world_model.proofs.Prelude.{IsL3, Parameters}
-use Rattle.world_model.proofs.Prelude.{CellParameters, result_ok}
-use Rattle.dtap_codec.specs.declared.report.TheConstants.{REPORT_LENGTH}
+use Rattle.world_model.proofs.Prelude.{[], ◌∷◌, map, length, get_or, Option, Some, None, option_to_list, refl, sym, subst, arith}
+use Rattle.world_model.proofs.Prelude.{AllByRecursion, is_none, eqb-true, Sccp, AllByRecursion-append, Change, Assignment, Handover, Place}
+use Rattle.world_model.proofs.Prelude.{SWITCH_LINK, place_at, Sapi, Zero, Three, BaseState, first_of_messages, first_message, after_tell}
+use Rattle.world_model.proofs.Prelude.{Stage, New, Connected, lent_message, new_mobile, link_of, after_queue, refusal_of_connect}
+use Rattle.world_model.proofs.Prelude.{refusal_of_send, frame_answer, MobileState, is_channel, Rsl, IsL3, Parameters, CellParameters}
+use Rattle.world_model.proofs.Prelude.{result_ok, REPORT_LENGTH, frame_answer_at, rsl_reading, Event, BasePush, BaseDown, Tenure}
+use Rattle.world_model.proofs.Prelude.{actors_after, actors_after_all, first_of, pushed, all_pushed, station_item, switch_item, HasSized}
+use Rattle.world_model.proofs.Prelude.{rsl_in, Actors, Mobile, Spot, new_actors, stations_from, no_station, station_of, base_of, with_base}
+use Rattle.world_model.proofs.Prelude.{spot_at, with_spot, with_mobile, mobile_of, is_up, is_station_up, is_reached}
 use Rattle.ipa_framing.specs.declared.frame.Frame.{Frame}
 use Rattle.ipa_framing.specs.declared.streams.TheConstants.{RSL_STREAM}
 use Rattle.mobile_end.specs.declared.mobile_end.Place.{Place as Whereabouts}
 use Rattle.mobile_end.specs.declared.mobile_end.Place.TheVariants as places
-use Rattle.mobile_end.specs.Mobile.{frame_answer_at}
 use Rattle.ruled_relay.specs.declared.item.What.TheVariants as whats
-use Rattle.rsl_codec.specs.RslReading.{rsl_reading}
-use Rattle.world_model.specs.declared.event.Event.{Event}
-use Rattle.world_model.specs.declared.event.Event.TheVariants.{BasePush, BaseDown}
-use Rattle.world_model.specs.declared.seat.Tenure.{Tenure}
-use Rattle.world_model.specs.Life.{actors_after, actors_after_all}
 use Rattle.world_model.specs.Mobiles.{may_send, is_new, connected, told, frame_in, complete, failure}
-use Rattle.world_model.specs.Queues.{first_of, pushed, all_pushed}
 use Rattle.world_model.specs.Reading.{IsReadItem, AreRead}
-use Rattle.world_model.specs.Relay.{station_item, switch_item}
-use Rattle.world_model.specs.Sized.{HasSized}
-use Rattle.world_model.specs.Stations.{rsl_in}
-use Rattle.world_model.specs.World.{Actors, Mobile, Spot, new_actors, stations_from, no_station, station_of, base_of, with_base, spot_at, with_spot, with_mobile, mobile_of, is_up, is_station_up, is_reached}
 use Rattle.world_model.proofs.Honesty.{reached-up}
 use Rattle.world_model.proofs.Lawful.{IsOnChannel, IsOnChannelIf, read_lawful}
 use Rattle.world_model.proofs.Leads.{and-right}
 use Rattle.world_model.proofs.Mobility.{back-all, behind-all, found-all}
-use Rattle.world_model.proofs.Sizing.{lent_sized, link_sized, queue-sized, frame_sized, acked_sized, arrival-sized, sendable-sized, initial_sized}
+use Rattle.world_model.proofs.Sizing.{lent_sized, queue-sized, frame_sized, acked_sized, arrival-sized, sendable-sized, initial_sized}
 use Rattle.world_model.proofs.Soundness.{IsSound, SoundEnd, Ends, sound-read, sound_tell, sound_activated, sound_released, sound_behind, active_lawful, ends_set, sound_request, sound_detection, sound_establishment, sound_initial, sound_data, sound_report, sound_answer}
 use Rattle.world_model.proofs.Footprints.{Becomes, Joins, Lends, Takes, Tells, event-keeps, hearing-end}
-use Rattle.world_model.proofs.Footprints.Becomes.{arrives, hears, is_acked, leaves, lends, misses, opens, queues, returns, sits}
+use Rattle.world_model.proofs.Footprints.Becomes.{arrives, hears, is_acked, leaves, lends, opens, queues, returns}
 use Rattle.world_model.proofs.Footprints.Joins.{connects}
 use Rattle.world_model.proofs.Footprints.Tells.{answers, brings, detects, establishes, links, opens_with, reports, requires}
 
@@ -72,7 +59,7 @@ reached-lawful w tenure good reached = active_lawful (base_of w tenure.at.statio
 -- ---- a frame that is brought
 
 frame_l3 : (p : MobileState) (sapi : Sapi) (frame : List ℕ) → HasSized p → frame_in (frame_answer p sapi) ≡ Some frame → IsL3 (Some frame)
-frame_l3 p sapi frame sized is = by_state p.stage p.place (lent_message (link_of p sapi)) (lent_sized (link_of p sapi) (link_sized p sapi sized)) is where
+frame_l3 p sapi frame sized is = by_state p.stage p.place (lent_message (link_of p sapi)) (lent_sized p sapi sized) is where
   by_state : (stage : Stage) (place : Whereabouts) (o : Option (List ℕ)) → IsL3 o → frame_in (frame_answer_at stage place o) ≡ Some frame → IsL3 (Some frame)
   by_state New place o l3 h = absurd cc
   by_state Connected places.Moving o l3 h = absurd cc
@@ -120,11 +107,10 @@ becomes_sized sized (opens p tenure frame lent) = frame_sized p.end Zero sized
 becomes_sized sized (lends p tenure frame lent) = frame_sized p.end Three sized
 becomes_sized sized (is_acked sapi p) = acked_sized p.end sapi sized
 becomes_sized sized (hears p tenure command first others seat reached stood) = subst HasSized (sym (hearing-end p first)) sized
-becomes_sized sized (misses p) = sized
 becomes_sized sized (leaves p tenure command seat reached) = record { zero = sized.zero; three = sized.three }
 becomes_sized sized (arrives p from command seat reached) = arrival-sized p.end (complete command.change) (complete_l3 command.change) sized
 becomes_sized sized (returns p from command seat reached) = arrival-sized p.end (failure command.change) (failure_l3 command.change) sized
-becomes_sized sized (sits station p channel asks) = sized
+becomes_sized sized _ = sized
 
 joins_sized : {w : Actors} {event : Event} {number : ℕ} {initial : List ℕ} {accepting : Bool} → Joins w event number initial accepting → HasSizedEnd (connected w.modulus number initial accepting)
 joins_sized {w} (connects number station initial accepting may) =

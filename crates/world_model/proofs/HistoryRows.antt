@@ -1,22 +1,14 @@
 -- Histories of queues, stations and the controller.
 use Rattle.world_model.proofs.Prelude.{◌≡◌, ℕ, true, false, List, [], ◌∷◌, length, map, None, refl, Assignment, place_at, usual_settings}
-use Rattle.world_model.proofs.Prelude.{Zero, activation_ack, RfChannelReleaseAck, rsl_text, Item, What}
-use Rattle.world_model.specs.declared.event.Event.TheVariants.{Connect, AirUp, AirAck, BaseTakes, BasePush, Handle, SwitchTakes, SwitchDoes, Tick, BaseDown}
-use Rattle.world_model.specs.declared.event.SwitchAction.TheVariants.{Clear}
-use Rattle.world_model.specs.declared.seat.Seat.TheVariants.{Asking, On, Moving, Gone}
+use Rattle.world_model.proofs.Prelude.{Zero, activation_ack, RfChannelReleaseAck, rsl_text, Item, What, Connect, AirUp, AirAck, BaseTakes}
+use Rattle.world_model.proofs.Prelude.{BasePush, Handle, SwitchTakes, SwitchDoes, Tick, BaseDown, Clear, Asking, On, Moving, Gone, Event}
+use Rattle.world_model.proofs.Prelude.{all_given, acknowledgements, due, active_all, all_pushed, all_popped, of_source, all_put, all_taken}
+use Rattle.world_model.proofs.Prelude.{all_steps, Actors, new_actors, Step, place_in}
 use Rattle.world_model.proofs.Worlds.{on_literals}
 use Rattle.controller_model.specs.declared.step.Step.TheVariants as taken_steps
 use Rattle.ruled_relay.specs.declared.item.What.TheVariants as whats
-use Rattle.world_model.specs.declared.event.Event.{Event}
-use Rattle.world_model.specs.Honest.{all_given}
-use Rattle.world_model.specs.Pipe.{acknowledgements, due, active_all}
-use Rattle.world_model.specs.Queues.{all_pushed, all_popped, of_source, all_put, all_taken}
-use Rattle.world_model.specs.Steps.{all_steps}
-use Rattle.world_model.specs.World.{Actors, new_actors}
-use Rattle.controller_model.specs.declared.step.Step.{Step}
 use Rattle.mobile_end.specs.declared.mobile_end.Place.TheVariants as mobile_places
 use Rattle.mobile_end.specs.declared.mobile_end.Place.TheVariants.{OnChannel}
-use Rattle.world_model.specs.Lives.{place_in}
 use Rattle.world_model.specs.Reading.{frame_of}
 
 abbrev begin : Actors

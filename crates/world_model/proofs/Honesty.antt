@@ -5,25 +5,22 @@ use Rattle.world_model.proofs.Prelude.{subst, append_assoc, inl, inr, ◌⊎◌,
 use Rattle.world_model.proofs.Prelude.{SWITCH_LINK, take, tick, Sapi, Zero, Three, LinkFault, BaseState, is_active, refusal_of_activate}
 use Rattle.world_model.proofs.Prelude.{after_activate, after_establish, after_release, after_tell, first_of_messages, first_message}
 use Rattle.world_model.proofs.Prelude.{after_next, after_take_down, Rsl, Parameters, CellParameters, Place, place_at, Sccp}
-use Rattle.world_model.proofs.Prelude.{refusal_of_connect, is_none}
-use Rattle.link_model.specs.declared.fault.LinkFault.TheVariants.{NotActive}
+use Rattle.world_model.proofs.Prelude.{refusal_of_connect, is_none, NotActive, Tenures, Tenures-given, Actors, new_actors, stations_from}
+use Rattle.world_model.proofs.Prelude.{Mobile, Station, Spot, Link, broken_link, is_up, is_station_up, no_station, station_of, base_of}
+use Rattle.world_model.proofs.Prelude.{with_base, spot_at, with_spot, with_outbox, is_active_at, is_reached, Tenure, Event, Upper, Connect}
+use Rattle.world_model.proofs.Prelude.{AirUp, AirAck, AirDown, AirDownLost, Move, Touch, Arrive, Return, BaseTakes, BasePush, Handle}
+use Rattle.world_model.proofs.Prelude.{SwitchTakes, SwitchDoes, Tick, BaseDown, Report, given, all_given, AreHonest, actors_after}
+use Rattle.world_model.proofs.Prelude.{actors_after_all, with_item, pushed_by_station, pushed_by_switch, after_base_push, target_in}
+use Rattle.world_model.proofs.Prelude.{after_handle, after_tick, broken, after_break, sccp_in, after_switch_takes, after_switch_does}
+use Rattle.world_model.proofs.Prelude.{link_answer, answered, took, rsl_in, after_base_takes}
 use Rattle.link_model.specs.Base.{new_base, refusal_unless_active, after_up, is_told}
 use Rattle.link_model.specs.BaseCalls.{BaseCall, state_unless, after_call, after_calls, messages_given_by_call, messages_given}
 use Rattle.link_model.specs.BaseCalls.BaseCall.{activates, establishes, brings_up, releases, tells, gives_next}
-use Rattle.link_model.specs.Tenures.{Tenures}
 use Rattle.link_model.specs.Tenures.Tenures.{over, begins, brings, ends, apart}
-use Rattle.link_model.proofs.Tenures.{Tenures-given}
-use Rattle.world_model.specs.World.{Actors, new_actors, stations_from, Mobile, Station, Spot, Link, broken_link, with_link, is_up, is_station_up, no_station, station_of, base_of, with_base, spot_at, with_spot, with_outbox, is_active_at, is_reached}
-use Rattle.world_model.specs.declared.seat.Tenure.{Tenure}
+use Rattle.world_model.specs.World.{with_link}
 use Rattle.world_model.specs.Mobiles.{is_new, complete, failure, after_upper, after_connecting, after_air_up, after_air_ack, after_air_down, after_air_down_lost, after_move, after_touch, after_arriving, after_return, after_report, told, channel_required, signalling_brought, short_message_brought, brought, handover_detection, seated}
 use Rattle.ruled_relay.specs.declared.item.What.TheVariants as whats
-use Rattle.world_model.specs.declared.event.Event.{Event}
-use Rattle.world_model.specs.declared.event.Event.TheVariants.{Upper, Connect, AirUp, AirAck, AirDown, AirDownLost, Move, Touch, Arrive, Return, BaseTakes, BasePush, Handle, SwitchTakes, SwitchDoes, Tick, BaseDown, Report}
-use Rattle.world_model.specs.Honest.{given, all_given, AreHonest}
-use Rattle.world_model.specs.Life.{event_after, actors_after, actors_after_all}
-use Rattle.world_model.specs.Relay.{with_item, pushed_by_station, pushed_by_switch, after_base_push, target_in, after_handle, after_tick, broken, after_break}
-use Rattle.world_model.specs.SwitchSide.{sccp_in, after_switch_takes, after_switch_does}
-use Rattle.world_model.specs.Stations.{link_answer, answered, took, rsl_in, after_base_takes}
+use Rattle.world_model.specs.Life.{event_after}
 use Rattle.world_model.proofs.Outboxes.{changed_link, down-after}
 use Rattle.world_model.proofs.Leads.{OfTaken, FromAir, and-left, and-right, upper-leads, connect-leads, air_up-leads, air_ack-leads, air_down-leads, air_down_lost-leads, move-leads, touch-leads, arrive-leads, return-leads, report-leads, base_takes-leads, took-leads, handle-leads, turn-leads, switch_takes-leads, switch_took-leads, does-leads, after-taken}
 
@@ -36,21 +33,17 @@ set-or-not (first ∷ stations) zero station = inl refl
 set-or-not (first ∷ stations) (suc k) station = set-or-not stations k station
 
 pub set-elsewhere : (stations : List Station) (k j : ℕ) (station : Station) → j ≢ k → get_or (set stations k station) j no_station ≡ get_or stations j no_station
-set-elsewhere [] k j station differs = refl
 set-elsewhere (first ∷ stations) zero zero station differs = absurd (differs refl)
-set-elsewhere (first ∷ stations) zero (suc j) station differs = refl
-set-elsewhere (first ∷ stations) (suc k) zero station differs = refl
 set-elsewhere (first ∷ stations) (suc k) (suc j) station differs = set-elsewhere stations k j station (λ same. differs (ap suc same))
+set-elsewhere _ _ _ station differs = refl
 
 -- another station with the same end
 set-same-base : (stations : List Station) (k j : ℕ) (station : Station) → station.base ≡ (get_or stations k no_station).base → (get_or (set stations k station) j no_station).base ≡ (get_or stations j no_station).base
-set-same-base [] k j station same = refl
 set-same-base (first ∷ stations) zero zero station same = same
-set-same-base (first ∷ stations) zero (suc j) station same = refl
-set-same-base (first ∷ stations) (suc k) zero station same = refl
 set-same-base (first ∷ stations) (suc k) (suc j) station same = set-same-base stations k j station same
+set-same-base _ _ _ station same = refl
 
-less_one : (n m : ℕ) → n ≢ 0 → m ≢ 0 → n ≢ m → n - 1 ≢ m - 1
+pub less_one : (n m : ℕ) → n ≢ 0 → m ≢ 0 → n ≢ m → n - 1 ≢ m - 1
 less_one n m n_is m_is differs same = differs (omega arith)
 
 -- ---- ends of stations
@@ -325,7 +318,7 @@ tenures_of {channel} is h = (h.0, subst (λ (ms : List Rsl). Tenures channel fal
 so_far_tenures : (channel station : ℕ) (calls : List BaseCall) → (end : Bool) × Tenures channel false (messages_given (new_base station) calls) end
 so_far_tenures channel station calls = tenures_front (messages_given (new_base station) calls) (after_calls (new_base station) calls).messages (Tenures-given channel station calls)
 
-up_and_down : {b : Bool} → b ≡ true → b ≡ false → ⊥
+pub up_and_down : {b : Bool} → b ≡ true → b ≡ false → ⊥
 up_and_down is_true is_false = impossible (sym is_true ∙ is_false) where
   impossible : true ≡ false → ⊥
   impossible h = absurd cc

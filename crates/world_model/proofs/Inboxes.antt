@@ -1,17 +1,15 @@
 -- The inbox gives what was put there, in order.
 use Rattle.world_model.proofs.Prelude.{◌≡◌, ℕ, ◌==◌, Bool, true, false, if◌then◌else◌, List, [], ◌∷◌, ◌++◌, fold, map, unwrap_or, Option}
 use Rattle.world_model.proofs.Prelude.{Some, None, option_to_list, refl, sym, ap, ◌∙◌, append_assoc, append-nil, filter-append, Sccp, Out}
-use Rattle.world_model.proofs.Prelude.{SWITCH_LINK, Turn, take, tick, first_message, after_take_down, Item, Rsl}
+use Rattle.world_model.proofs.Prelude.{SWITCH_LINK, Turn, take, tick, first_message, after_take_down, Item, Rsl, Event, BaseTakes, BasePush}
+use Rattle.world_model.proofs.Prelude.{Handle, SwitchTakes, SwitchDoes, Tick, BaseDown, Tenure, actors_after, actors_after_all, first_of}
+use Rattle.world_model.proofs.Prelude.{made_item, pushed, popped, all_pushed, all_popped, of_source, station_item, switch_item}
+use Rattle.world_model.proofs.Prelude.{pushed_by_station, pushed_by_switch, after_base_push, entry_of, joined_by, with_turn, target_in}
+use Rattle.world_model.proofs.Prelude.{handled, without_made, broken, after_break, after_base_takes, sccp_in, after_switch_takes}
+use Rattle.world_model.proofs.Prelude.{after_switch_does, Actors, is_up, broken_link, outbox_of, with_outbox, base_of, with_base}
 use Rattle.ruled_relay.specs.declared.item.What.TheVariants as whats
-use Rattle.world_model.specs.declared.event.Event.{Event}
-use Rattle.world_model.specs.declared.event.Event.TheVariants.{BaseTakes, BasePush, Handle, SwitchTakes, SwitchDoes, Tick, BaseDown}
-use Rattle.world_model.specs.declared.seat.Tenure.{Tenure}
-use Rattle.world_model.specs.Life.{event_after, actors_after, actors_after_all}
-use Rattle.world_model.specs.Queues.{first_of, made_item, pushed, popped, all_pushed, all_popped, of_source}
-use Rattle.world_model.specs.Relay.{station_item, switch_item, pushed_by_station, pushed_by_switch, after_base_push, entry_of, joined_by, with_turn, target_in, handled, without_made, broken, after_break}
-use Rattle.world_model.specs.Stations.{after_base_takes}
-use Rattle.world_model.specs.SwitchSide.{sccp_in, after_switch_takes, after_switch_does}
-use Rattle.world_model.specs.World.{Actors, is_up, broken_link, with_link, outbox_of, with_outbox, base_of, with_base}
+use Rattle.world_model.specs.Life.{event_after}
+use Rattle.world_model.specs.World.{with_link}
 use Rattle.world_model.proofs.Leads.{OfTaken, FromAir, switch_takes-leads, switch_took-leads, does-leads, after-taken}
 use Rattle.world_model.proofs.Leads.{aerial-leads, taking-leads}
 

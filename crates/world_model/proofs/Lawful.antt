@@ -1,6 +1,6 @@
 -- Messages to a station that are read are on a lawful channel.
 use Rattle.world_model.proofs.Prelude.{◌≡◌, ℕ, true, List, [], ◌∷◌, Option, Some, None, Result, Ok, Err, refl, subst, result_ok, is_channel}
-use Rattle.world_model.proofs.Prelude.{Activation, Rsl}
+use Rattle.world_model.proofs.Prelude.{Activation, Rsl, needed_value, channel_at, elements_of, breaks_off, rsl_reading_by}
 use Rattle.octets.specs.Answer.{result_map}
 use Rattle.octets.specs.Element.{Element}
 use Rattle.octets.proofs.Steps.{bind_ok, ok_is, result_map_ok, guard, passed}
@@ -11,7 +11,7 @@ use Rattle.rsl_codec.specs.declared.radio_link.Link.{Link}
 use Rattle.rsl_codec.specs.declared.rsl.Rsl.TheVariants as messages
 use Rattle.rsl_codec.specs.declared.rsl_type.RslType.{RslType}
 use Rattle.rsl_codec.specs.declared.rsl_type.RslType.TheVariants as types
-use Rattle.rsl_codec.specs.RslReading.{needed_value, channel_at, channel_only_at, link_at, activation_at, elements_of, breaks_off, message_at, rsl_reading_by, rsl_reading}
+use Rattle.rsl_codec.specs.RslReading.{channel_only_at, link_at, activation_at, message_at, rsl_reading}
 use Rattle.rsl_codec.specs.RslType.{rsl_type}
 
 -- of the messages to a station that name a channel which it answers for
@@ -86,9 +86,8 @@ reading_by_lawful (Some kind) body v h =
 
 reading_lawful : (octets : List ℕ) (v : Rsl) → rsl_reading octets ≡ Ok v → IsOnChannel v
 unfolding rsl_reading
-reading_lawful [] v h = absurd cc
-reading_lawful (a ∷ []) v h = absurd cc
 reading_lawful (a ∷ b ∷ body) v h = reading_by_lawful (rsl_type a b) body v h
+reading_lawful _ v h = absurd cc
 
 -- where one is read
 unfoldable pub IsOnChannelIf : Option Rsl → Type 0

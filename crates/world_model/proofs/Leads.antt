@@ -1,39 +1,30 @@
 -- What an event leads to, where its actor can take it: the ways to show something of the actors
 -- after it.
 use Rattle.world_model.proofs.Prelude.{◌≡◌, ◌≢◌, ℕ, ◌==◌, ◌&&◌, nat_eq, Bool, true, false, if◌then◌else◌, List, [], ◌∷◌, ◌++◌, length, fold}
-use Rattle.world_model.proofs.Prelude.{set, unwrap_or, slice_index_or, Option, Some, None, Result, Ok, Err, refl, sym, ap, ◌∙◌, subst}
-use Rattle.world_model.proofs.Prelude.{is_none, eqb-true, eqb-false, Sccp, Turn, place_at, Out, SWITCH_LINK, take, Sapi, LinkFault}
+use Rattle.world_model.proofs.Prelude.{set, unwrap_or, slice_index_or, Option, Some, None, Result, Ok, refl, sym, ap, ◌∙◌, subst, is_none}
+use Rattle.world_model.proofs.Prelude.{eqb-true, eqb-false, Sccp, Turn, place_at, Out, SWITCH_LINK, take, Sapi, LinkFault}
 use Rattle.world_model.proofs.Prelude.{refusal_of_activate, after_activate, first_message, after_next, after_take_down, after_queue}
 use Rattle.world_model.proofs.Prelude.{refusal_of_connect, refusal_of_send, frame_answer, after_acked, Item, is_channel, Rsl, DataRequest}
 use Rattle.world_model.proofs.Prelude.{EstablishRequest, ImmediateAssignCommand, ChannelActivation, RfChannelRelease, RrMessage}
-use Rattle.world_model.proofs.Prelude.{ImmediateAssignment, RrFault, rr_reading}
-use Rattle.std.specs.Option.{option_and_then}
+use Rattle.world_model.proofs.Prelude.{ImmediateAssignment, RrFault, rr_reading, Zero, Three, option_and_then, REPORT_LENGTH}
+use Rattle.world_model.proofs.Prelude.{is_acknowledged, SwitchState, Assign, Clear, Dtap, AirMessage, OutboxEntry, MAX_TENURE, Command}
+use Rattle.world_model.proofs.Prelude.{Seat, Asking, On, Moving, Tenure, rsl_in, new_tenure, activated_unless, activated, assigned_from}
+use Rattle.world_model.proofs.Prelude.{assigned_to, assigned, mobile_on, accepts, answered, released, took, took_first, after_base_takes}
+use Rattle.world_model.proofs.Prelude.{station_item, switch_item, with_item, pushed_by_station, pushed_by_switch, after_base_push, entry_of}
+use Rattle.world_model.proofs.Prelude.{joined_by, with_turn, target_in, handled, after_handle, broken, after_break, sccp_in, switch_took}
+use Rattle.world_model.proofs.Prelude.{switch_took_first, after_switch_takes, sent_on, may_send_on, is_layer_3, after_switch_does, Actors}
+use Rattle.world_model.proofs.Prelude.{Mobile, Link, broken_link, is_up, is_station_up, outbox_of, with_outbox, mobile_of, with_mobile}
+use Rattle.world_model.proofs.Prelude.{base_of, with_base, spot_at, with_spot, is_active_at, tenure_at, is_reached, Event, Upper, Connect}
+use Rattle.world_model.proofs.Prelude.{AirUp, AirAck, AirDown, AirDownLost, Move, Touch, Arrive, Return, BaseTakes, BasePush, Handle}
+use Rattle.world_model.proofs.Prelude.{SwitchTakes, SwitchDoes, Tick, BaseDown, Report, Station}
 use Rattle.ruled_relay.specs.declared.item.What.TheVariants as whats
 use Rattle.bssmap_codec.specs.declared.bssap.Bssap.{Bssap}
 use Rattle.bssmap_codec.specs.declared.bssap.Bssap.TheVariants.{Transfer}
-use Rattle.dtap_codec.specs.declared.report.TheConstants.{REPORT_LENGTH}
-use Rattle.mobile_end.specs.Mobile.{is_acknowledged}
 use Rattle.msc_end.specs.Switch.{after, after_clear, assignment_request, clear_command, connection_of, data_forms_on, dlci_for, replies}
-use Rattle.msc_end.specs.SwitchState.{SwitchState}
 use Rattle.world_model.specs.declared.event.SwitchAction.{SwitchAction}
-use Rattle.world_model.specs.declared.event.SwitchAction.TheVariants.{Assign, Clear, Dtap}
-use Rattle.world_model.specs.declared.line.AirMessage.{AirMessage}
-use Rattle.world_model.specs.declared.line.OutboxEntry.{OutboxEntry}
-use Rattle.world_model.specs.declared.limits.TheConstants.{MAX_TENURE}
-use Rattle.world_model.specs.declared.seat.Command.{Command}
-use Rattle.world_model.specs.declared.seat.Seat.{Seat}
-use Rattle.world_model.specs.declared.seat.Seat.TheVariants.{Asking, On, Moving, Gone}
-use Rattle.world_model.specs.declared.seat.Tenure.{Tenure}
 use Rattle.world_model.specs.Mobiles.{only_if, by_mobile, told, may_send, sent_by, after_upper, channel_required, connected, is_new, after_connecting, frame_in, brought, brought_up, after_air_up, acknowledged, after_air_ack, hearing, unheard, taken_from_air, brought_down, after_air_down, after_air_down_lost, left, moved, after_move, is_to_handover, handover_detection, touched, after_touch, complete, failure, seated, arrived, after_arriving, returned, after_return, reported_at, reported, after_report}
-use Rattle.world_model.specs.Stations.{rsl_in, new_tenure, activated_unless, activated, assigned_from, assigned_to, assigned, mobile_on, accepts, answered, released, took, took_first, after_base_takes}
-use Rattle.world_model.specs.Relay.{station_item, switch_item, with_item, pushed_by_station, pushed_by_switch, after_base_push, entry_of, joined_by, with_turn, target_in, handled, after_handle, broken, after_break}
-use Rattle.world_model.specs.SwitchSide.{sccp_in, switch_took, switch_took_first, after_switch_takes, sent_on, may_send_on, is_layer_3, after_switch_does}
-use Rattle.world_model.specs.World.{Actors, Mobile, Link, broken_link, with_link, link_of, is_up, is_station_up, outbox_of, with_outbox, mobile_of, with_mobile, base_of, with_base, spot_at, with_spot, is_active_at, tenure_at, is_reached}
-use Rattle.world_model.specs.declared.event.Event.{Event}
-use Rattle.world_model.specs.declared.event.Event.TheVariants.{Upper, Connect, AirUp, AirAck, AirDown, AirDownLost, Move, Touch, Arrive, Return, BaseTakes, BasePush, Handle, SwitchTakes, SwitchDoes, Tick, BaseDown, Report}
-use Rattle.world_model.specs.Life.{event_after, actors_after}
-use Rattle.world_model.specs.World.{Station}
-use Rattle.world_model.proofs.Prelude.{Zero, Three}
+use Rattle.world_model.specs.World.{with_link, link_of}
+use Rattle.world_model.specs.Life.{event_after}
 
 -- of the actors after an event, where there are some
 unfoldable pub OfTaken : (Actors → Type 0) → Option Actors → Type 0
@@ -72,10 +63,8 @@ framed_leads P w sapi p tenure (Some frame) h = only_if-leads P (is_reached w te
 
 brought_up_leads : (P : Actors → Type 0) (w : Actors) (sapi : Sapi) (p : Mobile) (seat : Seat) → ((tenure : Tenure) (command : Option Command) (frame : List ℕ) → seat ≡ On tenure command → frame_in (frame_answer p.end sapi) ≡ Some frame → is_reached w tenure ≡ true → P (brought w p tenure.at sapi frame)) → OfTaken P (brought_up w sapi p seat)
 unfolding OfTaken
-brought_up_leads P w sapi p Asking h = tt
 brought_up_leads P w sapi p (On tenure command) h = framed_leads P w sapi p tenure (frame_in (frame_answer p.end sapi)) (λ frame is up. h tenure command frame refl is up)
-brought_up_leads P w sapi p (Moving from command) h = tt
-brought_up_leads P w sapi p Gone h = tt
+brought_up_leads P w sapi p _ h = tt
 
 pub air_up-leads : (P : Actors → Type 0) (w : Actors) (number : ℕ) (sapi : Sapi) → ((p : Mobile) (tenure : Tenure) (command : Option Command) (frame : List ℕ) → mobile_of w number ≡ Some p → p.seat ≡ On tenure command → frame_in (frame_answer p.end sapi) ≡ Some frame → is_reached w tenure ≡ true → P (brought w p tenure.at sapi frame)) → OfTaken P (after_air_up w number sapi)
 air_up-leads P w number sapi h =
@@ -83,10 +72,8 @@ air_up-leads P w number sapi h =
 
 acknowledged_leads : (P : Actors → Type 0) (w : Actors) (sapi : Sapi) (p : Mobile) (seat : Seat) → P (with_mobile (record p { end = after_acked p.end sapi }) w) → OfTaken P (acknowledged w sapi p seat)
 unfolding OfTaken
-acknowledged_leads P w sapi p Asking h = tt
 acknowledged_leads P w sapi p (On tenure command) h = only_if-leads P (is_reached w tenure && is_acknowledged p.end sapi) (with_mobile (record p { end = after_acked p.end sapi }) w) (λ _. h)
-acknowledged_leads P w sapi p (Moving from command) h = tt
-acknowledged_leads P w sapi p Gone h = tt
+acknowledged_leads P w sapi p _ h = tt
 
 pub air_ack-leads : (P : Actors → Type 0) (w : Actors) (number : ℕ) (sapi : Sapi) → ((p : Mobile) → mobile_of w number ≡ Some p → P (with_mobile (record p { end = after_acked p.end sapi }) w)) → OfTaken P (after_air_ack w number sapi)
 air_ack-leads P w number sapi h = by_mobile-leads P w number (λ p. acknowledged w sapi p p.seat) (λ p is. acknowledged_leads P w sapi p p.seat (h p is))
@@ -108,11 +95,9 @@ air_where P false o h = tt
 
 brought_down_leads : (P : Actors → Type 0) (w : Actors) (hears : Mobile → AirMessage → Mobile) (p : Mobile) (seat : Seat) → ((tenure : Tenure) (command : Option Command) → seat ≡ On tenure command → is_reached w tenure ≡ true → FromAir P w hears p tenure) → OfTaken P (brought_down w hears p seat)
 unfolding OfTaken
-brought_down_leads P w hears p Asking h = tt
 brought_down_leads P w hears p (On tenure command) h =
     air_where P (is_reached w tenure) (taken_from_air w hears p tenure.at (spot_at w tenure.at).air) (λ up. taken_from_air_leads P w hears p tenure (spot_at w tenure.at).air refl (h tenure command refl up))
-brought_down_leads P w hears p (Moving from command) h = tt
-brought_down_leads P w hears p Gone h = tt
+brought_down_leads P w hears p _ h = tt
 
 pub air_down-leads : (P : Actors → Type 0) (w : Actors) (number : ℕ) → ((p : Mobile) (tenure : Tenure) (command : Option Command) → mobile_of w number ≡ Some p → p.seat ≡ On tenure command → is_reached w tenure ≡ true → FromAir P w hearing p tenure) → OfTaken P (after_air_down w number)
 air_down-leads P w number h = by_mobile-leads P w number (λ p. brought_down w hearing p p.seat) (λ p is. brought_down_leads P w hearing p p.seat (λ tenure command. h p tenure command is))
@@ -122,11 +107,8 @@ air_down_lost-leads P w number h = by_mobile-leads P w number (λ p. brought_dow
 
 moved_leads : (P : Actors → Type 0) (w : Actors) (p : Mobile) (seat : Seat) → ((tenure : Tenure) (command : Command) → seat ≡ On tenure (Some command) → is_reached w tenure ≡ true → P (left w p tenure command)) → OfTaken P (moved w p seat)
 unfolding OfTaken
-moved_leads P w p Asking h = tt
-moved_leads P w p (On tenure None) h = tt
 moved_leads P w p (On tenure (Some command)) h = only_if-leads P (is_reached w tenure) (left w p tenure command) (h tenure command refl)
-moved_leads P w p (Moving from command) h = tt
-moved_leads P w p Gone h = tt
+moved_leads P w p _ h = tt
 
 pub move-leads : (P : Actors → Type 0) (w : Actors) (number : ℕ) → ((p : Mobile) (tenure : Tenure) (command : Command) → mobile_of w number ≡ Some p → p.seat ≡ On tenure (Some command) → is_reached w tenure ≡ true → P (left w p tenure command)) → OfTaken P (after_move w number)
 move-leads P w number h = by_mobile-leads P w number (λ p. moved w p p.seat) (λ p is. moved_leads P w p p.seat (λ tenure command. h p tenure command is))
@@ -141,42 +123,34 @@ and-left false b is = absurd cc
 
 touched_leads : (P : Actors → Type 0) (w : Actors) (seat : Seat) → ((from : Tenure) (command : Command) → seat ≡ Moving from command → is_reached w command.target ≡ true → P (told command.target.at.station (handover_detection command.target.at.number) w)) → OfTaken P (touched w seat)
 unfolding OfTaken
-touched_leads P w Asking h = tt
-touched_leads P w (On tenure command) h = tt
 touched_leads P w (Moving from command) h =
     only_if-leads P (is_to_handover command.change && is_reached w command.target) (told command.target.at.station (handover_detection command.target.at.number) w) (λ both. h from command refl (and-right (is_to_handover command.change) (is_reached w command.target) both))
-touched_leads P w Gone h = tt
+touched_leads P w _ h = tt
 
 pub touch-leads : (P : Actors → Type 0) (w : Actors) (number : ℕ) → ((command : Command) → is_reached w command.target ≡ true → P (told command.target.at.station (handover_detection command.target.at.number) w)) → OfTaken P (after_touch w number)
 touch-leads P w number h = by_mobile-leads P w number (λ p. touched w p.seat) (λ p is. touched_leads P w p.seat (λ from command is_seat. h command))
 
 arrived_leads : (P : Actors → Type 0) (w : Actors) (p : Mobile) (seat : Seat) → ((from : Tenure) (command : Command) → seat ≡ Moving from command → is_reached w command.target ≡ true → P (seated w p command.target (complete command.change))) → OfTaken P (arrived w p seat)
 unfolding OfTaken
-arrived_leads P w p Asking h = tt
-arrived_leads P w p (On tenure command) h = tt
 arrived_leads P w p (Moving from command) h = only_if-leads P (is_reached w command.target) (seated w p command.target (complete command.change)) (h from command refl)
-arrived_leads P w p Gone h = tt
+arrived_leads P w p _ h = tt
 
 pub arrive-leads : (P : Actors → Type 0) (w : Actors) (number : ℕ) → ((p : Mobile) (from : Tenure) (command : Command) → mobile_of w number ≡ Some p → p.seat ≡ Moving from command → is_reached w command.target ≡ true → P (seated w p command.target (complete command.change))) → OfTaken P (after_arriving w number)
 arrive-leads P w number h = by_mobile-leads P w number (λ p. arrived w p p.seat) (λ p is. arrived_leads P w p p.seat (λ from command. h p from command is))
 
 returned_leads : (P : Actors → Type 0) (w : Actors) (p : Mobile) (seat : Seat) → ((from : Tenure) (command : Command) → seat ≡ Moving from command → is_reached w from ≡ true → P (seated w p from (failure command.change))) → OfTaken P (returned w p seat)
 unfolding OfTaken
-returned_leads P w p Asking h = tt
-returned_leads P w p (On tenure command) h = tt
 returned_leads P w p (Moving from command) h = only_if-leads P (is_reached w from) (seated w p from (failure command.change)) (h from command refl)
-returned_leads P w p Gone h = tt
+returned_leads P w p _ h = tt
 
 pub return-leads : (P : Actors → Type 0) (w : Actors) (number : ℕ) → ((p : Mobile) (from : Tenure) (command : Command) → mobile_of w number ≡ Some p → p.seat ≡ Moving from command → is_reached w from ≡ true → P (seated w p from (failure command.change))) → OfTaken P (after_return w number)
 return-leads P w number h = by_mobile-leads P w number (λ p. returned w p p.seat) (λ p is. returned_leads P w p p.seat (λ from command. h p from command is))
 
 reported_leads : (P : Actors → Type 0) (w : Actors) (report : List ℕ) (seat : Seat) → ((tenure : Tenure) → is_reached w tenure ≡ true → P (reported_at w tenure.at report)) → OfTaken P (reported w report seat)
 unfolding OfTaken
-reported_leads P w report Asking h = tt
 reported_leads P w report (On tenure command) h =
     only_if-leads P (is_reached w tenure && (length report == REPORT_LENGTH)) (reported_at w tenure.at report) (λ both. h tenure (and-left (is_reached w tenure) (length report == REPORT_LENGTH) both))
-reported_leads P w report (Moving from command) h = tt
-reported_leads P w report Gone h = tt
+reported_leads P w report _ h = tt
 
 pub report-leads : (P : Actors → Type 0) (w : Actors) (number : ℕ) (report : List ℕ) → ((tenure : Tenure) → is_reached w tenure ≡ true → P (reported_at w tenure.at report)) → OfTaken P (after_report w number report)
 report-leads P w number report h = by_mobile-leads P w number (λ p. reported w report p.seat) (λ p is. reported_leads P w report p.seat h)
@@ -274,9 +248,7 @@ Seats P station w = (p : Mobile) (number channel : ℕ) → mobile_of w number �
 seated_from_leads : (P : Actors → Type 0) (station number channel : ℕ) (w : Actors) (p : Mobile) (seat : Seat) → mobile_of w number ≡ Some p → p.seat ≡ seat → P w → Seats P station w → P (assigned_from seat (tenure_at w (place_at station channel)) p w)
 unfolding Seats
 seated_from_leads P station number channel w p Asking found is nothing seats = seats p number channel found is
-seated_from_leads P station number channel w p (On tenure command) found is nothing seats = nothing
-seated_from_leads P station number channel w p (Moving from command) found is nothing seats = nothing
-seated_from_leads P station number channel w p Gone found is nothing seats = nothing
+seated_from_leads P station number channel w p _ found is nothing seats = nothing
 
 assigned_to_leads : (P : Actors → Type 0) (station number channel : ℕ) (w : Actors) (o : Option Mobile) → mobile_of w number ≡ o → P w → Seats P station w → P (assigned_to o (tenure_at w (place_at station channel)) w)
 assigned_to_leads P station number channel w None found nothing seats = nothing
@@ -289,8 +261,7 @@ assigned_in_leads P station number channel w false nothing seats = nothing
 pub assigned-leads : (P : Actors → Type 0) (station : ℕ) (w : Actors) (r : Result RrMessage RrFault) → P w → Seats P station w → P (assigned station r w)
 assigned-leads P station w (Ok (ImmediateAssignment channel request advance)) nothing seats =
     assigned_in_leads P station (slice_index_or request 0 0) channel.channel.0 w (is_channel channel.channel.0) nothing seats
-assigned-leads P station w (Ok _) nothing seats = nothing
-assigned-leads P station w (Err fault) nothing seats = nothing
+assigned-leads P station w _ nothing seats = nothing
 
 aired_leads : (P : Actors → Type 0) (station channel : ℕ) (message : List ℕ) (target : Option Tenure) (w : Actors) (b : Bool) → is_active_at w (place_at station channel) ≡ b → Taking P station target w → P (if b then with_spot (place_at station channel) (record (spot_at w (place_at station channel)) { air = (spot_at w (place_at station channel)).air ++ record { message = message; target = target } ∷ [] }) w else w)
 aired_leads P station channel message target w true is h = h.airs channel message is
@@ -298,14 +269,13 @@ aired_leads P station channel message target w false is h = h.nothing
 
 pub took-leads : (P : Actors → Type 0) (station : ℕ) (target : Option Tenure) (o : Option Rsl) (w : Actors) → Taking P station target w → OfTaken P (took station target o w)
 unfolding OfTaken Seats
-took-leads P station target None w h = h.nothing
 took-leads P station target (Some (ChannelActivation a)) w h =
     unless_last-leads P ((spot_at w (place_at station a.channel)).tenure == MAX_TENURE) (activated (place_at station a.channel) w) (activated_leads P station a.channel target w (refusal_of_activate (base_of w station) a.channel) refl h)
 took-leads P station target (Some (ImmediateAssignCommand i)) w h = assigned-leads P station w (rr_reading i.information) h.nothing h.seats
 took-leads P station target (Some (DataRequest d)) w h = aired_leads P station d.channel d.l3 target w (is_active_at w (place_at station d.channel)) refl h
 took-leads P station target (Some (EstablishRequest l)) w h = h.answers (is_active_at w (place_at station l.channel) && accepts (mobile_on w (tenure_at w (place_at station l.channel)))) l.channel
 took-leads P station target (Some (RfChannelRelease channel)) w h = h.releases channel
-took-leads P station target (Some _) w h = h.nothing
+took-leads P station target _ w h = h.nothing
 
 -- ---- the actors after an event, taken or not
 
@@ -364,9 +334,6 @@ aerial-leads P w (Arrive number) is h = arrive-leads P w number (λ p from comma
 aerial-leads P w (Return number) is h = return-leads P w number (λ p from command _ _ _. h _ _)
 aerial-leads P w (Report number report) is h = report-leads P w number report (λ tenure _. h _ _)
 aerial-leads P w _ is h = absurd cc
-
-pub aerial_after : (P : Actors → Type 0) (w : Actors) (event : Event) → is_aerial event ≡ true → ((mobiles : List Mobile) (stations : List Station) → P (record w { mobiles = mobiles; stations = stations })) → P (actors_after w event)
-aerial_after P w event is h = after-taken P (event_after w event) w (aerial-leads P w event is h) (h w.mobiles w.stations)
 
 -- and of a station that takes an entry, only its outbox changes beside
 pub taking-leads : (P : Actors → Type 0) (w : Actors) (station : ℕ) → ((first : OutboxEntry) (others : List OutboxEntry) → is_station_up w station ≡ true → outbox_of w station ≡ first ∷ others → (mobiles : List Mobile) (stations : List Station) → P (record (with_outbox station others w) { mobiles = mobiles; stations = stations })) → OfTaken P (after_base_takes w station)

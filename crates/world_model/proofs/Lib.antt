@@ -24,6 +24,7 @@ mod MoveRows
 pub mod Rows
 pub mod Piping
 mod QueueRows
+pub mod LinkMessages
 pub mod Sizing
 pub mod Soundness
 mod StationRows

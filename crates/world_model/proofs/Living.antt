@@ -1,20 +1,14 @@
 -- The controller of a world is the one after the steps that it took.
 use Rattle.world_model.proofs.Prelude.{◌≡◌, List, [], ◌∷◌, ◌++◌, map, unwrap_or, Option, None, Some, append_assoc, refl, sym, ap, ◌∙◌}
-use Rattle.world_model.proofs.Prelude.{Out, SWITCH_LINK, Controller, Turn, take, tick, Item, Parameters}
+use Rattle.world_model.proofs.Prelude.{Out, SWITCH_LINK, Controller, Turn, take, tick, Item, Parameters, Step, each, new_controller, turn}
+use Rattle.world_model.proofs.Prelude.{step, Event, BaseTakes, BasePush, Handle, SwitchTakes, SwitchDoes, Tick, BaseDown, Tenure}
+use Rattle.world_model.proofs.Prelude.{actors_after, actors_after_all, with_turn, entry_of, target_in, handled, after_base_push}
+use Rattle.world_model.proofs.Prelude.{after_break, after_base_takes, outputs, outputs_at, first_taken, step_at, all_steps, all_outputs}
+use Rattle.world_model.proofs.Prelude.{LivesByTable, RunsByTable, sccp_in, after_switch_takes, after_switch_does, Actors, new_actors}
+use Rattle.world_model.proofs.Prelude.{with_outbox}
 use Rattle.std.proofs.Common.{append-nil}
-use Rattle.controller_model.specs.declared.step.Step.{Step}
-use Rattle.controller_model.specs.Controller.{each, new_controller, turn}
-use Rattle.controller_model.specs.Life.{step, life}
-use Rattle.world_model.specs.declared.event.Event.{Event}
-use Rattle.world_model.specs.declared.event.Event.TheVariants.{BaseTakes, BasePush, Handle, SwitchTakes, SwitchDoes, Tick, BaseDown}
-use Rattle.world_model.specs.declared.seat.Tenure.{Tenure}
-use Rattle.world_model.specs.Life.{event_after, actors_after, actors_after_all}
-use Rattle.world_model.specs.Relay.{with_turn, entry_of, target_in, handled, after_base_push, after_break}
-use Rattle.world_model.specs.Stations.{after_base_takes}
-use Rattle.world_model.specs.Queues.{outputs, outputs_at}
-use Rattle.world_model.specs.Steps.{first_taken, step_at, all_steps, all_outputs, LivesByTable, RunsByTable}
-use Rattle.world_model.specs.SwitchSide.{sccp_in, after_switch_takes, after_switch_does}
-use Rattle.world_model.specs.World.{Actors, new_actors, with_outbox}
+use Rattle.controller_model.specs.Life.{life}
+use Rattle.world_model.specs.Life.{event_after}
 use Rattle.world_model.proofs.Leads.{OfTaken, FromAir, turn-leads, switch_takes-leads, switch_took-leads, push-leads, does-leads, broken-leads, after-taken}
 use Rattle.world_model.proofs.Leads.{aerial-leads, taking-leads}
 

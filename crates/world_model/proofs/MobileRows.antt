@@ -1,16 +1,11 @@
 -- Events of mobiles: when they are taken, and what they make.
 use Rattle.world_model.proofs.Prelude.{◌≡◌, true, false, [], ◌∷◌, map, replicate, Some, None, option_map, refl, place_at, usual_settings}
-use Rattle.world_model.proofs.Prelude.{Zero, Three}
-use Rattle.world_model.specs.declared.event.Event.TheVariants.{Upper, Connect, AirUp, AirAck, AirDown, AirDownLost, Move, Touch, Arrive, Return, BaseTakes, BasePush, Handle, SwitchDoes, BaseDown, Report}
-use Rattle.world_model.specs.declared.event.SwitchAction.TheVariants.{Dtap}
-use Rattle.world_model.specs.declared.seat.Seat.TheVariants.{Asking, On, Gone}
+use Rattle.world_model.proofs.Prelude.{Zero, Three, Upper, Connect, AirUp, AirAck, AirDown, AirDownLost, Move, Touch, Arrive, Return}
+use Rattle.world_model.proofs.Prelude.{BaseTakes, BasePush, Handle, SwitchDoes, BaseDown, Report, Dtap, Asking, On, Gone, World, new_world}
+use Rattle.world_model.proofs.Prelude.{spot_at, with_spot, event_after}
 use Rattle.world_model.specs.Views.{received}
-use Rattle.world_model.specs.World.{World, new_world, spot_at}
-use Rattle.world_model.proofs.Worlds.{on_literals, after_all, made_bodies, seat_of}
+use Rattle.world_model.proofs.Worlds.{on_literals, after_all, made_bodies, seat_of, takes}
 use Rattle.world_model.proofs.Rows.{opened}
-use Rattle.world_model.specs.World.{with_spot}
-use Rattle.world_model.specs.Life.{event_after}
-use Rattle.world_model.proofs.Worlds.{takes}
 
 -- there is no mobile
 nothing_happens_before : map (takes (new_world usual_settings)) (Upper 1 Zero (0x03 ∷ 0x05 ∷ []) ∷ AirUp 1 Zero ∷ AirAck 1 Zero ∷ AirDown 1 ∷ AirDownLost 1 ∷ Move 1 ∷ Touch 1 ∷ Arrive 1 ∷ Return 1 ∷ Report 1 (0x14 ∷ 0x14 ∷ 0x00 ∷ 0x57 ∷ 0x02 ∷ 0x40 ∷ 0x00 ∷ 0x00 ∷ 0x00 ∷ 0x00 ∷ 0x00 ∷ 0x00 ∷ 0x00 ∷ 0x00 ∷ 0x00 ∷ 0x00 ∷ []) ∷ []) ≡ false ∷ false ∷ false ∷ false ∷ false ∷ false ∷ false ∷ false ∷ false ∷ false ∷ []

@@ -1,33 +1,24 @@
 -- The mobiles of a world live by their ends.
 use Rattle.world_model.proofs.Prelude.{◌≡◌, ℕ, ◌==◌, ◌&&◌, nat_eq, nat_lt, not, is_some, Bool, true, false, cond, if◌then◌else◌, List, []}
-use Rattle.world_model.proofs.Prelude.{◌∷◌, ◌++◌, find, unwrap_or, Option, Some, None, Result, Ok, Err, refl, sym, ap, ◌∙◌, subst, inl, inr}
+use Rattle.world_model.proofs.Prelude.{◌∷◌, ◌++◌, find, unwrap_or, Option, Some, None, Result, Ok, refl, sym, ap, ◌∙◌, subst, inl, inr}
 use Rattle.world_model.proofs.Prelude.{AllByRecursion, is_none, cases_Bool, eqb-true, eqb-false, Change, Assignment, Handover, SWITCH_LINK}
 use Rattle.world_model.proofs.Prelude.{is_dtap, take, tick, RrMessage, AssignmentCommand, HandoverCommand, ChannelRelease, RrFault, Sapi}
-use Rattle.world_model.proofs.Prelude.{Zero, Three, is_flow_message, rr_reading, Stage, New, Connected, MobileState, is_control, Call}
+use Rattle.world_model.proofs.Prelude.{Zero, Three, is_flow_message, rr_reading, Stage, Connected, MobileState, is_control, Call}
 use Rattle.world_model.proofs.Prelude.{after_call, after_calls, connects, sends, frames, acknowledges, leaves, arrives, gives_up, waits}
 use Rattle.world_model.proofs.Prelude.{DataLinkState, new_mobile, link_of, with_link, after_number, after_queue, after_connect}
 use Rattle.world_model.proofs.Prelude.{refusal_of_connect, refusal_of_send, after_frame_at, after_acked, after_acked_at, after_arrival}
-use Rattle.world_model.proofs.Prelude.{Parameters, place_at, Rsl}
-use Rattle.mobile_end.specs.declared.fault.MobileFault.{MobileFault}
+use Rattle.world_model.proofs.Prelude.{Parameters, place_at, Rsl, MobileFault, after_frame, after_leave, is_on_channel, Event, Upper}
+use Rattle.world_model.proofs.Prelude.{Connect, AirUp, AirAck, AirDown, AirDownLost, Move, Touch, Arrive, Return, BaseTakes, BasePush}
+use Rattle.world_model.proofs.Prelude.{Handle, SwitchTakes, SwitchDoes, Tick, BaseDown, Report, AirMessage, Command, Seat, On, Moving}
+use Rattle.world_model.proofs.Prelude.{Tenure, actors_after, actors_after_all, place_in, MobilesLive, target_in, took, rsl_in, sccp_in}
+use Rattle.world_model.proofs.Prelude.{Actors, Mobile, new_actors, modulus_in, has_number, mobile_of, put_back, with_mobile, with_outbox}
+use Rattle.world_model.proofs.Prelude.{is_station_up, tenure_at}
 use Rattle.mobile_end.specs.declared.mobile_end.Place.{Place}
 use Rattle.mobile_end.specs.declared.mobile_end.Place.TheVariants as places
 use Rattle.mobile_end.specs.Calls.{unless_refused, may_arrive}
-use Rattle.mobile_end.specs.Mobile.{after_frame, after_leave, is_on_channel}
-use Rattle.world_model.specs.declared.event.Event.{Event}
-use Rattle.world_model.specs.declared.event.Event.TheVariants.{Upper, Connect, AirUp, AirAck, AirDown, AirDownLost, Move, Touch, Arrive, Return, BaseTakes, BasePush, Handle, SwitchTakes, SwitchDoes, Tick, BaseDown, Report}
-use Rattle.world_model.specs.declared.line.AirMessage.{AirMessage}
-use Rattle.world_model.specs.declared.seat.Command.{Command}
-use Rattle.world_model.specs.declared.seat.Seat.{Seat}
-use Rattle.world_model.specs.declared.seat.Seat.TheVariants.{Asking, On, Moving, Gone}
-use Rattle.world_model.specs.declared.seat.Tenure.{Tenure}
 use Rattle.world_model.specs.Calls.{all_calls, calls_at, calls_to_arrive, calls_to_return, seat_of}
-use Rattle.world_model.specs.Life.{event_after, actors_after, actors_after_all}
-use Rattle.world_model.specs.Lives.{place_in, MobilesLive}
+use Rattle.world_model.specs.Life.{event_after}
 use Rattle.world_model.specs.Mobiles.{may_send, sent_by, is_new, connected, framed, brought, remembering, controlled, hearing, complete, failure, seated}
-use Rattle.world_model.specs.Relay.{target_in}
-use Rattle.world_model.specs.Stations.{took, rsl_in}
-use Rattle.world_model.specs.SwitchSide.{sccp_in}
-use Rattle.world_model.specs.World.{Actors, Mobile, new_actors, modulus_in, has_number, mobile_of, put_back, with_mobile, with_outbox, is_station_up, tenure_at}
 use Rattle.world_model.proofs.Found.{back-found, back-other, found-number, new_found, new_other}
 use Rattle.world_model.proofs.Leads.{OfTaken, FromAir, and-left, and-right, only_if-leads, by_mobile-leads, connect-leads, air_up-leads, air_ack-leads, air_down-leads, air_down_lost-leads, move-leads, touch-leads, arrive-leads, return-leads, report-leads, base_takes-leads, took-leads, handle-leads, turn-leads, switch_takes-leads, switch_took-leads, push-leads, does-leads, broken-leads}
 
@@ -178,10 +169,8 @@ place-queue mobile sapi message = by_flow (is_flow_message message) where
 place-frame : (mobile : MobileState) (sapi : Sapi) → (after_frame mobile sapi).place ≡ mobile.place
 place-frame mobile sapi = by_state mobile.stage mobile.place where
   by_state : (stage : Stage) (place : Place) → (after_frame_at stage place mobile sapi).place ≡ mobile.place
-  by_state New places.OnChannel = refl
-  by_state New places.Moving = refl
   by_state Connected places.OnChannel = place-with_link mobile sapi _
-  by_state Connected places.Moving = refl
+  by_state _ _ = refl
 
 place-acked : (mobile : MobileState) (sapi : Sapi) → (after_acked mobile sapi).place ≡ mobile.place
 place-acked mobile sapi = by_place mobile.place where
@@ -198,19 +187,14 @@ sends_becomes p sapi message may place = record {
 }
 
 remembers : (p : Mobile) (change : Change) (target : Tenure) (seat : Seat) → p.seat ≡ seat → Keeps p (remembering p change target seat)
-remembers p change target Asking is = record { number = refl; end = refl; place = refl }
 remembers p change target (On tenure command) is = record { number = refl; end = refl; place = sym (ap place_in is) }
-remembers p change target (Moving from command) is = record { number = refl; end = refl; place = refl }
-remembers p change target Gone is = record { number = refl; end = refl; place = refl }
+remembers p change target _ is = record { number = refl; end = refl; place = refl }
 
 controls : (p : Mobile) (tenure : Tenure) (command : Option Command) (target : Option Tenure) (r : Result RrMessage RrFault) → p.seat ≡ On tenure command → Keeps p (controlled p target r)
 controls p tenure command target (Ok (ChannelRelease cause)) seat = record { number = refl; end = refl; place = sym (ap place_in seat) }
 controls p tenure command (Some target) (Ok (AssignmentCommand channel)) seat = remembers p Assignment target p.seat refl
 controls p tenure command (Some target) (Ok (HandoverCommand cell channel reference)) seat = remembers p Handover target p.seat refl
-controls p tenure command None (Ok (AssignmentCommand channel)) seat = record { number = refl; end = refl; place = refl }
-controls p tenure command None (Ok (HandoverCommand cell channel reference)) seat = record { number = refl; end = refl; place = refl }
-controls p tenure command target (Ok _) seat = record { number = refl; end = refl; place = refl }
-controls p tenure command target (Err fault) seat = record { number = refl; end = refl; place = refl }
+controls p tenure command _ _ seat = record { number = refl; end = refl; place = refl }
 
 hears : (p : Mobile) (tenure : Tenure) (command : Option Command) (a : AirMessage) → p.seat ≡ On tenure command → Keeps p (hearing p a)
 hears p tenure command a seat = by_kind (is_dtap a.message) where

@@ -1,13 +1,10 @@
 -- Events of a mobile that changes its channel.
-use Rattle.world_model.proofs.Prelude.{◌≡◌, true, false, [], ◌∷◌, map, Some, None, refl, Assignment, place_at, usual_settings, Zero}
-use Rattle.world_model.specs.declared.event.Event.TheVariants.{Upper, Connect, AirUp, AirAck, AirDown, AirDownLost, Move, Touch, Arrive, Return, BaseTakes, BasePush, Handle, SwitchTakes, SwitchDoes, BaseDown, Report}
-use Rattle.world_model.specs.declared.event.SwitchAction.TheVariants.{Assign, Clear}
-use Rattle.world_model.specs.declared.seat.Seat.TheVariants.{On, Moving}
-use Rattle.world_model.specs.World.{World, new_world}
-use Rattle.world_model.proofs.Worlds.{on_literals, after_all, made_bodies, seat_of}
+use Rattle.world_model.proofs.Prelude.{◌≡◌, true, false, [], ◌∷◌, map, Some, None, refl, Assignment, place_at, usual_settings, Zero, Upper}
+use Rattle.world_model.proofs.Prelude.{Connect, AirUp, AirAck, AirDown, AirDownLost, Move, Touch, Arrive, Return, BaseTakes, BasePush}
+use Rattle.world_model.proofs.Prelude.{Handle, SwitchTakes, SwitchDoes, BaseDown, Report, Assign, Clear, On, Moving, World, new_world}
+use Rattle.world_model.proofs.Prelude.{Mobile}
+use Rattle.world_model.proofs.Worlds.{on_literals, after_all, made_bodies, seat_of, takes}
 use Rattle.world_model.proofs.Rows.{opened, opened_eager}
-use Rattle.world_model.specs.World.{Mobile}
-use Rattle.world_model.proofs.Worlds.{takes}
 
 -- an ASSIGNMENT COMMAND is remembered
 abbrev pub commanded : World

@@ -2,23 +2,19 @@
 use Rattle.world_model.proofs.Prelude.{◌≡◌, ◌≢◌, ℕ, suc, zero, ◌==◌, ◌&&◌, not, nat_eq, Bool, true, false, cond, if◌then◌else◌, List, []}
 use Rattle.world_model.proofs.Prelude.{◌∷◌, ◌++◌, ◌+◌, fold, map, unwrap_or, is_some, get_or, set, length, replicate, Option, Some, None}
 use Rattle.world_model.proofs.Prelude.{refl, sym, ap, ◌∙◌, subst, append_assoc, inl, inr, cases_Bool, eqb-true, eqb-false, eq-eqb}
-use Rattle.world_model.proofs.Prelude.{append-nil, filter-append, Out, SWITCH_LINK, Turn, take, tick, after_take_down}
-use Rattle.world_model.proofs.Prelude.{Item, Parameters}
-use Rattle.std.proofs.lemmas.List.{get_or-set_other}
-use Rattle.octets.specs.Lists.{IsPrefix}
-use Rattle.world_model.specs.declared.event.Event.{Event}
-use Rattle.world_model.specs.declared.event.Event.TheVariants.{BaseTakes, BasePush, Handle, SwitchTakes, SwitchDoes, Tick, BaseDown}
-use Rattle.world_model.specs.declared.line.OutboxEntry.{OutboxEntry}
-use Rattle.world_model.specs.declared.seat.Tenure.{Tenure}
-use Rattle.world_model.specs.Life.{event_after, actors_after, actors_after_all}
-use Rattle.world_model.specs.Queues.{first_of, outputs_at, outputs, to_link, put, taken, all_put, all_taken, KeepsQueues}
-use Rattle.world_model.specs.Relay.{after_base_push, entry_of, joined_by, with_turn, target_in, handled, without_made, broken, after_break}
-use Rattle.world_model.specs.Stations.{after_base_takes}
-use Rattle.world_model.specs.SwitchSide.{sccp_in, after_switch_takes, after_switch_does}
+use Rattle.world_model.proofs.Prelude.{append-nil, filter-append, Out, SWITCH_LINK, Turn, take, tick, after_take_down, Item, Parameters}
+use Rattle.world_model.proofs.Prelude.{get_or-set_other, IsPrefix, Event, BaseTakes, BasePush, Handle, SwitchTakes, SwitchDoes, Tick}
+use Rattle.world_model.proofs.Prelude.{BaseDown, OutboxEntry, Tenure, actors_after, actors_after_all, first_of, outputs_at, outputs}
+use Rattle.world_model.proofs.Prelude.{to_link, put, taken, all_put, all_taken, KeepsQueues, after_base_push, entry_of, joined_by}
+use Rattle.world_model.proofs.Prelude.{with_turn, target_in, handled, without_made, broken, after_break, after_base_takes, sccp_in}
+use Rattle.world_model.proofs.Prelude.{after_switch_takes, after_switch_does, Actors, Link, new_actors, new_link, is_up, broken_link}
+use Rattle.world_model.proofs.Prelude.{outbox_of, with_outbox, base_of, with_base}
+use Rattle.world_model.specs.Life.{event_after}
 use Rattle.world_model.proofs.Inboxes.{inbox-all, sources_all}
-use Rattle.world_model.specs.World.{Actors, Link, new_actors, new_link, link_of, is_up, broken_link, with_link, outbox_of, with_outbox, base_of, with_base}
-use Rattle.world_model.proofs.Leads.{OfTaken, FromAir, switch_takes-leads, switch_took-leads, push-leads, does-leads, after-taken}
+use Rattle.world_model.specs.World.{link_of, with_link}
+use Rattle.world_model.proofs.Leads.{OfTaken, FromAir, switch_takes-leads, switch_took-leads, push-leads, does-leads, after-taken, and-right}
 use Rattle.world_model.proofs.Leads.{aerial-leads, taking-leads}
+use Rattle.world_model.proofs.OwnerPuts.{entry-out}
 
 -- ---- links in a list
 
@@ -66,10 +62,6 @@ quietly link w event o none nobody leads = quiet link w event (unwrap_or o w) no
 record Joins (link : ℕ) (target : Option Tenure) (w : Actors) (out : Out) (v : Actors) : Type 0 where
   up : is_up v link ≡ is_up w link
   outbox : outbox_of v link ≡ outbox_of w link ++ (if is_up w link then to_link link (entry_of target out ∷ []) else [])
-
-entry-out : (target : Option Tenure) (out : Out) → (entry_of target out).out ≡ out
-entry-out None out = refl
-entry-out (Some tenure) out = refl
 
 one_to_link : (link : ℕ) (target : Option Tenure) (out : Out) (b : Bool) → nat_eq out.to link ≡ b → to_link link (entry_of target out ∷ []) ≡ (if b then entry_of target out ∷ [] else [])
 one_to_link link target out b is =
@@ -198,13 +190,9 @@ unfolding OfTaken
 takes_step link other w event None none takes h = quiet link w event w none (takes ∙ no_entries (other == link) (first_of (outbox_of w link))) refl
 takes_step link other w event (Some v) none takes h = popped_step link other w event v none takes h
 
-pub right_of : (a b : Bool) → a && b ≡ true → b ≡ true
-right_of true b is = is
-right_of false b is = absurd cc
-
 base_takes_popped : (w : Actors) (station : ℕ) → OfTaken (Popped station w) (after_base_takes w station)
 base_takes_popped w station = taking-leads (Popped station w) w station (λ first others up stood mobiles stations.
-    record { first = first; others = others; up = right_of (not (station == SWITCH_LINK)) (is_up w station) up; stood = stood; links = refl })
+    record { first = first; others = others; up = and-right (not (station == SWITCH_LINK)) (is_up w station) up; stood = stood; links = refl })
 
 switch_takes_popped : (w : Actors) → OfTaken (Popped SWITCH_LINK w) (after_switch_takes w)
 switch_takes_popped w = switch_takes-leads (Popped SWITCH_LINK w) w (λ first others up stood.

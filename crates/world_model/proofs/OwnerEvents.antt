@@ -1,17 +1,11 @@
 -- Channels still agree with an ownership after each event in which the controller does nothing.
 use Rattle.world_model.proofs.Prelude.{◌≡◌, ◌≢◌, ℕ, ◌-◌, ◌<◌, Bool, true, false, if◌then◌else◌, is_some, List, [], ◌++◌, length, refl, sym}
-use Rattle.world_model.proofs.Prelude.{ap, ◌∙◌, append_assoc, ne_eqb, append-nil, flat_map, Place, SWITCH_LINK, Item, Rsl}
+use Rattle.world_model.proofs.Prelude.{ap, ◌∙◌, append_assoc, ne_eqb, append-nil, flat_map, Place, SWITCH_LINK, Item, Rsl, Event, BaseTakes}
+use Rattle.world_model.proofs.Prelude.{Handle, SwitchTakes, Tick, OutboxEntry, Tenure, given, event_after, actors_after, acknowledgements}
+use Rattle.world_model.proofs.Prelude.{due, first_of, outputs, popped, pushed, put, taken, to_link, Actors, Link, base_of, is_active_at}
+use Rattle.world_model.proofs.Prelude.{is_up, outbox_of, spot_at}
 use Rattle.std.proofs.lemmas.Grind.{flat_map-append}
-use Rattle.world_model.specs.declared.event.Event.{Event}
-use Rattle.world_model.specs.declared.event.Event.TheVariants.{BaseTakes, Handle, SwitchTakes, Tick}
-use Rattle.world_model.specs.declared.line.OutboxEntry.{OutboxEntry}
-use Rattle.world_model.specs.declared.seat.Tenure.{Tenure}
-use Rattle.world_model.specs.Honest.{given}
-use Rattle.world_model.specs.Life.{event_after, actors_after}
 use Rattle.world_model.specs.OwnerLines.{Agrees, acknowledged_in, said, tenure_all, to_come}
-use Rattle.world_model.specs.Pipe.{acknowledgements, due}
-use Rattle.world_model.specs.Queues.{first_of, outputs, popped, pushed, put, taken, to_link}
-use Rattle.world_model.specs.World.{Actors, Link, base_of, is_active_at, is_up, outbox_of, spot_at}
 use Rattle.world_model.proofs.Heard.{Good}
 use Rattle.world_model.proofs.Inboxes.{inbox-goes}
 use Rattle.world_model.proofs.Outboxes.{step as outbox-step, Step as OutboxStep}

@@ -2,17 +2,11 @@
 -- which is no CHANNEL ACTIVATION NACK.
 use Rattle.world_model.proofs.Prelude.{◌≡◌, ◌≢◌, nat_eq, Bool, true, false, if◌then◌else◌, List, [], ◌∷◌, ◌++◌, map, option_to_list, None}
 use Rattle.world_model.proofs.Prelude.{Ok, refl, subst, eqb-true, eqb-false, AllByRecursion, Sccp, SWITCH_LINK, AllByRecursion-append}
-use Rattle.world_model.proofs.Prelude.{first_message, first_of_messages, Item, What, Rsl, rsl_text, Parameters}
+use Rattle.world_model.proofs.Prelude.{first_message, first_of_messages, Item, What, Rsl, rsl_text, Parameters, rsl_reading, Event}
+use Rattle.world_model.proofs.Prelude.{BasePush, BaseDown, actors_after, actors_after_all, first_of, popped, pushed, station_item}
+use Rattle.world_model.proofs.Prelude.{switch_item, rsl_in, Actors, base_of, is_up, new_actors}
 use Rattle.ruled_relay.specs.declared.item.What.TheVariants as whats
-use Rattle.rsl_codec.specs.RslReading.{rsl_reading}
-use Rattle.world_model.specs.declared.event.Event.{Event}
-use Rattle.world_model.specs.declared.event.Event.TheVariants.{BasePush, BaseDown}
-use Rattle.world_model.specs.Life.{actors_after, actors_after_all}
-use Rattle.world_model.specs.Queues.{first_of, popped, pushed}
 use Rattle.world_model.specs.Reading.{frame_of}
-use Rattle.world_model.specs.Relay.{station_item, switch_item}
-use Rattle.world_model.specs.Stations.{rsl_in}
-use Rattle.world_model.specs.World.{Actors, base_of, is_up, new_actors}
 use Rattle.world_model.proofs.Heard.{Good, end-of, good-new, good-step}
 use Rattle.world_model.proofs.Inboxes.{inbox-goes}
 use Rattle.world_model.proofs.Soundness.{IsSound, is_nack, sound-read}

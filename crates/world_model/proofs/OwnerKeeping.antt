@@ -2,21 +2,12 @@
 -- breaks.
 use Rattle.world_model.proofs.Prelude.{◌≡◌, ◌≢◌, ℕ, ◌==◌, Bool, true, false, if◌then◌else◌, List, [], ◌∷◌, ◌++◌, map, Some, option_to_list}
 use Rattle.world_model.proofs.Prelude.{refl, sym, ap, ◌∙◌, subst, append_assoc, eq-eqb, eqb-true, ne_eqb, AllByRecursion, flat_map}
-use Rattle.world_model.proofs.Prelude.{result_ok, Sccp, Place, SWITCH_LINK, Controller, channel_state, ChannelState, Free, InUse, Releasing}
-use Rattle.world_model.proofs.Prelude.{first_message, first_of_messages, Item, Rsl}
-use Rattle.controller_model.specs.Controller.{is_up as hears}
+use Rattle.world_model.proofs.Prelude.{result_ok, Sccp, Place, SWITCH_LINK, Controller, channel_state, ChannelState, InUse}
+use Rattle.world_model.proofs.Prelude.{first_message, first_of_messages, Item, Rsl, hears, Event, BasePush, BaseDown, OutboxEntry, Tenure}
+use Rattle.world_model.proofs.Prelude.{given, began, begins, active_all, due, first_of, pushed, station_item, switch_item, Actors, base_of}
+use Rattle.world_model.proofs.Prelude.{is_active_at, is_up, outbox_of, spot_at}
 use Rattle.ruled_relay.specs.declared.item.What.TheVariants as whats
-use Rattle.world_model.specs.declared.event.Event.{Event}
-use Rattle.world_model.specs.declared.event.Event.TheVariants.{BasePush, BaseDown}
-use Rattle.world_model.specs.declared.line.OutboxEntry.{OutboxEntry}
-use Rattle.world_model.specs.declared.seat.Tenure.{Tenure}
-use Rattle.world_model.specs.Honest.{given}
 use Rattle.world_model.specs.OwnerLines.{Agrees, AreFitting, Comes, IsOnItsWay, active_behind, asker, said, said_by, tenure_all, tenure_behind, to_come}
-use Rattle.world_model.specs.OwnerLines.Comes.{began, begins}
-use Rattle.world_model.specs.Pipe.{active_all, due}
-use Rattle.world_model.specs.Queues.{first_of, pushed}
-use Rattle.world_model.specs.Relay.{station_item, switch_item}
-use Rattle.world_model.specs.World.{Actors, base_of, is_active_at, is_up, outbox_of, spot_at}
 use Rattle.world_model.proofs.Heard.{Good, end-of}
 use Rattle.world_model.proofs.OwnerLines.{fitting_behind, none-due, tenure-append}
 use Rattle.world_model.proofs.Outboxes.{Both-empty}
@@ -80,7 +71,6 @@ pub record Loses (at : Place) (w v : Actors) : Type 0 where
 -- of a channel in use one acknowledgement comes at most
 pub one-at-most : (channel number : ℕ) (state : ChannelState) (all xs ys : List Rsl) → Comes channel state all → state ≡ InUse number → all ≡ xs ++ ys → xs ≢ [] → ys ≡ []
 one-at-most channel number state all [] ys comes used is some = absurd (some refl)
-one-at-most channel number (InUse n) [] (x ∷ xs) ys comes used is some = absurd cc
 one-at-most channel number (InUse n) (one ∷ []) (x ∷ xs) ys comes used is some = (Both-empty xs ys (tail_same is)).1 where
   tail_same : {a b : Rsl} {others more : List Rsl} → a ∷ others ≡ b ∷ more → others ≡ more
   tail_same same = cc
@@ -88,8 +78,7 @@ one-at-most channel number (InUse n) (one ∷ two ∷ rest) (x ∷ xs) ys comes 
   never : {l : List Rsl} → Comes channel (InUse n) l → l ≡ one ∷ two ∷ rest → ⊥
   never began same = absurd cc
   never begins same = absurd cc
-one-at-most channel number Free all (x ∷ xs) ys comes used is some = absurd cc
-one-at-most channel number (Releasing n) all (x ∷ xs) ys comes used is some = absurd cc
+one-at-most channel number _ _ _ ys comes used is some = absurd cc
 
 pub agrees_lost : (owner : Tenure → ℕ) (at : Place) (w v : Actors) → Loses at w v → Agrees owner w at → Agrees owner v at
 agrees_lost owner at w v loses agrees = record {

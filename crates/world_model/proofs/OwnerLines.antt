@@ -1,20 +1,14 @@
 -- What waits for a station, in parts; and at the beginning, where every channel agrees with any
 -- ownership.
 use Rattle.world_model.proofs.Prelude.{◌≡◌, ℕ, zero, suc, ◌+◌, ◌-◌, ◌==◌, ◌&&◌, not, ◌≤◌, Bool, true, false, if◌then◌else◌, List, [], ◌∷◌}
-use Rattle.world_model.proofs.Prelude.{◌++◌, length, replicate, slice_index_or, Option, Some, None, refl, sym, ap, ◌∙◌, subst, Place}
+use Rattle.world_model.proofs.Prelude.{◌++◌, length, replicate, slice_index_or, Option, Some, refl, sym, ap, ◌∙◌, subst, Place}
 use Rattle.world_model.proofs.Prelude.{channel_state, place_at, ChannelState, Free, InUse, CHANNEL_NUMBERS, RrMessage, ImmediateAssignment}
 use Rattle.world_model.proofs.Prelude.{RrFault, rr_reading, activation_ack, Rsl, DataRequest, ImmediateAssignCommand, ChannelActivation}
-use Rattle.world_model.proofs.Prelude.{Parameters}
-use Rattle.controller_model.specs.Controller.{free_channels}
-use Rattle.std.specs.Prelude.{Result, Ok, Err}
-use Rattle.world_model.specs.declared.line.OutboxEntry.{OutboxEntry}
-use Rattle.world_model.specs.declared.seat.Tenure.{Tenure}
+use Rattle.world_model.proofs.Prelude.{Parameters, free_channels, OutboxEntry, Tenure, nothing, acknowledgement, active_all, due}
+use Rattle.world_model.proofs.Prelude.{is_active_then, rsl_in, AssignsBy, TakesBy, TakesFirstBy, Actors, is_active_at, new_actors}
+use Rattle.world_model.proofs.Prelude.{outbox_of, spot_at}
+use Rattle.std.specs.Prelude.{Result, Ok}
 use Rattle.world_model.specs.OwnerLines.{AllAgree, AreFitting, AssignsIn, Comes, FitsTenure, is_in_use, tenure_all, tenure_then, to_come}
-use Rattle.world_model.specs.OwnerLines.Comes.{nothing}
-use Rattle.world_model.specs.Pipe.{acknowledgement, active_all, due, is_active_then}
-use Rattle.world_model.specs.Stations.{rsl_in}
-use Rattle.world_model.specs.Tickets.{AssignsBy, TakesBy, TakesFirstBy}
-use Rattle.world_model.specs.World.{Actors, is_active_at, new_actors, outbox_of, spot_at}
 use Rattle.world_model.proofs.Outboxes.{Both-empty, new_outbox}
 use Rattle.world_model.proofs.Piping.{new_end}
 
@@ -41,8 +35,7 @@ due_none channel active tenure (Some (ChannelActivation a)) none = by ((a.channe
   by : (b : Bool) → (if b then activation_ack channel ∷ [] else []) ≡ [] → (if b then tenure + 1 else tenure) ≡ tenure
   by true is = absurd cc
   by false is = refl
-due_none channel active tenure None none = refl
-due_none channel active tenure (Some _) none = refl
+due_none channel active tenure _ none = refl
 
 pub none-due : (channel : ℕ) (active : Bool) (tenure : ℕ) (entries : List OutboxEntry) → due channel active entries ≡ [] → tenure_all channel active tenure entries ≡ tenure
 none-due channel active tenure [] none = refl
@@ -55,14 +48,12 @@ none-due channel active tenure (x ∷ xs) none =
 
 assigns_by : (owner : Tenure → ℕ) (w : Actors) (station : ℕ) (r : Result RrMessage RrFault) → ((number : ℕ) → AssignsIn owner (place_at station number) (spot_at w (place_at station number)).tenure r) → AssignsBy owner w station r
 assigns_by owner w station (Ok (ImmediateAssignment channel request advance)) fits = fits channel.channel.0 refl
-assigns_by owner w station (Ok _) fits = tt
-assigns_by owner w station (Err fault) fits = tt
+assigns_by owner w station _ fits = tt
 
 takes_by : (owner : Tenure → ℕ) (w : Actors) (station : ℕ) (target : Option Tenure) (o : Option Rsl) → ((number : ℕ) → FitsTenure owner (place_at station number) (is_active_at w (place_at station number)) (spot_at w (place_at station number)).tenure target o) → TakesBy owner w station target o
 takes_by owner w station target (Some (ImmediateAssignCommand i)) fits = assigns_by owner w station (rr_reading i.information) fits
 takes_by owner w station target (Some (DataRequest d)) fits = fits d.channel refl
-takes_by owner w station target None fits = tt
-takes_by owner w station target (Some _) fits = tt
+takes_by owner w station target _ fits = tt
 
 takes_first : (owner : Tenure → ℕ) (w : Actors) (station : ℕ) (entries : List OutboxEntry) → ((number : ℕ) → AreFitting owner (place_at station number) (is_active_at w (place_at station number)) (spot_at w (place_at station number)).tenure entries) → TakesFirstBy owner w station entries
 takes_first owner w station [] fits = tt

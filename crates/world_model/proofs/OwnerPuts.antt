@@ -4,17 +4,10 @@ use Rattle.world_model.proofs.Prelude.{◌≡◌, ◌≢◌, ◌⊎◌, inl, inr
 use Rattle.world_model.proofs.Prelude.{if◌then◌else◌, List, [], ◌∷◌, ◌++◌, map, Option, Some, None, refl, sym, ap, ◌∙◌, subst, append_assoc}
 use Rattle.world_model.proofs.Prelude.{cases_Bool, ne_eqb, eq-eqb, append-nil, AllByRecursion, Place, Out, ChannelState, Free, InUse}
 use Rattle.world_model.proofs.Prelude.{Releasing, CHANNEL_NUMBERS, rr_reading, activation_ack, Activation, Rsl, DataRequest}
-use Rattle.world_model.proofs.Prelude.{ImmediateAssignCommand, ChannelActivation, RfChannelRelease, RfChannelReleaseAck}
-use Rattle.std.proofs.Math.Bool.{or-false}
-use Rattle.world_model.specs.declared.line.OutboxEntry.{OutboxEntry}
-use Rattle.world_model.specs.declared.seat.Tenure.{Tenure}
+use Rattle.world_model.proofs.Prelude.{ImmediateAssignCommand, ChannelActivation, RfChannelRelease, RfChannelReleaseAck, or-false}
+use Rattle.world_model.proofs.Prelude.{OutboxEntry, Tenure, nothing, began, begins, ends, begins_and_ends, acknowledgement, active_all, due}
+use Rattle.world_model.proofs.Prelude.{is_active_then, to_link, entry_of, rsl_in, LeadsBy}
 use Rattle.world_model.specs.OwnerLines.{AreFitting, AssignsIn, Comes, FitsTenure, is_in_use, tenure_all, tenure_then}
-use Rattle.world_model.specs.OwnerLines.Comes.{nothing, began, begins, ends, begins_and_ends}
-use Rattle.world_model.specs.Pipe.{acknowledgement, active_all, due, is_active_then}
-use Rattle.world_model.specs.Queues.{to_link}
-use Rattle.world_model.specs.Relay.{entry_of}
-use Rattle.world_model.specs.Stations.{rsl_in}
-use Rattle.world_model.specs.Tickets.{LeadsBy}
 
 -- ---- what the outputs of a turn do to a channel
 
@@ -66,7 +59,6 @@ record Passing (owner : Tenure → ℕ) (at : Place) (active : Bool) (tenure : �
   fits : FitsTenure owner at active tenure target o
 
 passing : (owner : Tenure → ℕ) (at : Place) (active : Bool) (tenure : ℕ) (target : Option Tenure) (o : Option Rsl) → Passes at.number o → FitsBeside owner at tenure target o → Passing owner at active tenure target o
-passing owner at active tenure target None beside fits = record { asks = refl; stays = refl; same = refl; fits = tt }
 passing owner at active tenure target (Some (ChannelActivation a)) beside fits =
     let miss : (a.channel == at.number) ≡ false = ne_eqb a.channel at.number beside in
     record {
@@ -85,7 +77,7 @@ passing owner at active tenure target (Some (RfChannelRelease number)) beside fi
     }
 passing owner at active tenure target (Some (ImmediateAssignCommand i)) beside fits = record { asks = refl; stays = refl; same = refl; fits = fits }
 passing owner at active tenure target (Some (DataRequest d)) beside fits = record { asks = refl; stays = refl; same = refl; fits = fits }
-passing owner at active tenure target (Some _) beside fits = record { asks = refl; stays = refl; same = refl; fits = tt }
+passing owner at active tenure target _ beside fits = record { asks = refl; stays = refl; same = refl; fits = tt }
 
 -- ---- what entries do behind what waits
 
@@ -116,8 +108,7 @@ works_behind owner at active tenure x entries state end last p works =
 released_comes : (k number : ℕ) (state : ChannelState) (xs : List Rsl) → state ≡ InUse number → Comes k state xs → Comes k (Releasing number) (xs ++ RfChannelReleaseAck k ∷ [])
 released_comes k number (InUse m) xs is began = ends
 released_comes k number (InUse m) xs is begins = begins_and_ends
-released_comes k number Free xs is comes = absurd cc
-released_comes k number (Releasing m) xs is comes = absurd cc
+released_comes k number _ xs is comes = absurd cc
 
 -- a release of a channel that is in use
 works_release : (owner : Tenure → ℕ) (at : Place) (number tenure : ℕ) (x : OutboxEntry) (entries : List OutboxEntry) (end : ChannelState) → rsl_in x.out.frame ≡ Some (RfChannelRelease at.number) → Works owner at false tenure entries (Releasing number) end tenure → Works owner at true tenure (x ∷ entries) (InUse number) end tenure
@@ -167,7 +158,7 @@ works_activation owner at number tenure last x a entries end says is few works =
 abbrev pub entries_to : Place → Option Tenure → List Out → List OutboxEntry
 entries_to at target outs = to_link at.station (map (entry_of target) outs)
 
-entry-out : (target : Option Tenure) (out : Out) → (entry_of target out).out ≡ out
+pub entry-out : (target : Option Tenure) (out : Out) → (entry_of target out).out ≡ out
 entry-out None out = refl
 entry-out (Some tenure) out = refl
 
@@ -190,9 +181,6 @@ other_says at out is = ap (λ (b : Bool). if b then rsl_in out.frame else None) 
 
 never_none : {m : Rsl} → None ≡ Some m → ⊥
 never_none is = absurd cc
-
-true_false : true ≡ false → ⊥
-true_false is = absurd cc
 
 works_passes : (owner : Tenure → ℕ) (at : Place) (target : Option Tenure) (active : Bool) (tenure : ℕ) (out : Out) (outs : List Out) (state end : ChannelState) (last : ℕ) → Passes at.number (said_to at out) → FitsOut owner at tenure target out → Works owner at active tenure (entries_to at target outs) state end last → Works owner at active tenure (entries_to at target (out ∷ outs)) state end last
 works_passes owner at target active tenure out outs state end last beside fits works =

@@ -1,11 +1,9 @@
 -- What waits for a station and what comes of a channel, at literal worlds.
 use Rattle.world_model.proofs.Prelude.{◌⊎◌, inl, inr, ◌≡◌, ℕ, ◌+◌, true, false, List, [], ◌∷◌, Some, refl, arith, Place, Free, InUse}
 use Rattle.world_model.proofs.Prelude.{Releasing, channel_state, place_at, usual_settings, activation_ack, Rsl, RfChannelReleaseAck}
-use Rattle.world_model.specs.declared.event.Event.TheVariants.{Connect, BaseTakes, BasePush, BaseDown, Handle}
+use Rattle.world_model.proofs.Prelude.{Connect, BaseTakes, BasePush, BaseDown, Handle, nothing, began, begins, ends, begins_and_ends}
+use Rattle.world_model.proofs.Prelude.{actors_after_all, Actors, new_actors, outbox_of}
 use Rattle.world_model.specs.OwnerLines.{AreFitting, Comes, active_behind, asker, tenure_behind, to_come}
-use Rattle.world_model.specs.OwnerLines.Comes.{nothing, began, begins, ends, begins_and_ends}
-use Rattle.world_model.specs.Life.{actors_after_all}
-use Rattle.world_model.specs.World.{Actors, new_actors, outbox_of}
 use Rattle.world_model.proofs.Worlds.{on_literals}
 
 begin : Actors

@@ -2,23 +2,15 @@
 use Rattle.world_model.proofs.Prelude.{◌≡◌, ◌≢◌, inl, inr, ℕ, zero, suc, ◌+◌, ◌-◌, ◌≤◌, ◌<◌, ◌==◌, ◌&&◌, not, nat_lt, Bool, true, false}
 use Rattle.world_model.proofs.Prelude.{cond, if◌then◌else◌, unwrap_or, List, [], ◌∷◌, ◌++◌, length, replicate, option_to_list}
 use Rattle.world_model.proofs.Prelude.{slice_index_or, Option, Some, None, refl, sym, ap, ◌∙◌, subst, arith, append-nil, flat_map, Place}
-use Rattle.world_model.proofs.Prelude.{Turn, take, tick, is_active, is_bound_of, Item, What, Rsl, ChannelActivation, Parameters}
-use Rattle.std.proofs.Common.{nat_le}
-use Rattle.std.proofs.lemmas.Bool.{cond-true, cond-false, le-leb, leb-true}
+use Rattle.world_model.proofs.Prelude.{Turn, take, tick, is_active, is_bound_of, Item, What, Rsl, ChannelActivation, Parameters, nat_le}
+use Rattle.world_model.proofs.Prelude.{cond-true, cond-false, le-leb, leb-true, Event, BaseTakes, Handle, Tick, OutboxEntry, Tenure}
+use Rattle.world_model.proofs.Prelude.{actors_after, is_begun, owner_in, user_by, user_of, acknowledgements, active_all, is_active_then}
+use Rattle.world_model.proofs.Prelude.{outputs, put, taken, to_link, handled, target_in, with_turn, rsl_in, AllAreBy, IsBy, TakesFirstBy}
+use Rattle.world_model.proofs.Prelude.{Actors, base_of, broken_link, is_active_at, is_station_up, is_up, new_actors, new_link, new_spot}
+use Rattle.world_model.proofs.Prelude.{no_station, outbox_of, spot_at}
 use Rattle.ruled_relay.specs.declared.item.What.TheVariants as whats
-use Rattle.world_model.specs.declared.event.Event.{Event}
-use Rattle.world_model.specs.declared.event.Event.TheVariants.{BaseTakes, Handle, Tick}
-use Rattle.world_model.specs.declared.line.OutboxEntry.{OutboxEntry}
-use Rattle.world_model.specs.declared.seat.Tenure.{Tenure}
-use Rattle.world_model.specs.Life.{event_after, actors_after}
+use Rattle.world_model.specs.Life.{event_after}
 use Rattle.world_model.specs.OwnerLines.{Agrees, AllAgree, acknowledged_in, said, said_by, tenure_all, tenure_behind, tenure_then}
-use Rattle.world_model.specs.Owners.{is_begun, owner_in, user_by, user_of}
-use Rattle.world_model.specs.Pipe.{acknowledgements, active_all, is_active_then}
-use Rattle.world_model.specs.Queues.{outputs, put, taken, to_link}
-use Rattle.world_model.specs.Relay.{handled, target_in, with_turn}
-use Rattle.world_model.specs.Stations.{rsl_in}
-use Rattle.world_model.specs.Tickets.{AllAreBy, IsBy, TakesFirstBy}
-use Rattle.world_model.specs.World.{Actors, base_of, broken_link, is_active_at, is_station_up, is_up, new_actors, new_link, new_spot, no_station, outbox_of, spot_at}
 use Rattle.world_model.proofs.Counting.{same-stations}
 use Rattle.world_model.proofs.Heard.{Good, good-new, good-step}
 use Rattle.world_model.proofs.Honesty.{up-right}
@@ -89,8 +81,7 @@ then_more k active tenure (Some (ChannelActivation a)) = by ((a.channel == k) &&
   by : (b : Bool) → tenure ≤ (if b then tenure + 1 else tenure)
   by true = omega arith
   by false = omega arith
-then_more k active tenure None = omega arith
-then_more k active tenure (Some _) = omega arith
+then_more k active tenure _ = omega arith
 
 all_more : (k : ℕ) (active : Bool) (tenure : ℕ) (entries : List OutboxEntry) → tenure ≤ tenure_all k active tenure entries
 all_more k active tenure [] = omega arith

@@ -4,16 +4,12 @@ use Rattle.world_model.proofs.Prelude.{[], ◌∷◌, ◌++◌, length, slice_in
 use Rattle.world_model.proofs.Prelude.{inr, cases_Bool, eqb-true, eqb-false, ne_eqb, length-set, Place, place_at, CHANNEL_NUMBERS}
 use Rattle.world_model.proofs.Prelude.{rr_reading, BaseState, after_activate, after_release, after_tell, is_active, Busy, Activation, Rsl}
 use Rattle.world_model.proofs.Prelude.{DataRequest, EstablishRequest, ImmediateAssignCommand, ChannelActivation, RfChannelRelease}
-use Rattle.std.proofs.lemmas.List.{get_or-set_same}
-use Rattle.world_model.specs.declared.event.Event.TheVariants.{BaseTakes}
-use Rattle.world_model.specs.declared.limits.TheConstants.{MAX_TENURE}
-use Rattle.world_model.specs.declared.line.OutboxEntry.{OutboxEntry}
-use Rattle.world_model.specs.declared.seat.Tenure.{Tenure}
-use Rattle.world_model.specs.Life.{event_after, actors_after}
+use Rattle.world_model.proofs.Prelude.{get_or-set_same, BaseTakes, MAX_TENURE, OutboxEntry, Tenure, actors_after, first_of, taken, accepts}
+use Rattle.world_model.proofs.Prelude.{activated, activated_unless, link_answer, mobile_on, new_tenure, rsl_in, took, after_base_takes}
+use Rattle.world_model.proofs.Prelude.{Actors, Spot, Station, base_of, is_active_at, new_spot, no_station, outbox_of, spot_at, station_of}
+use Rattle.world_model.proofs.Prelude.{tenure_at, with_base, with_outbox, with_spot}
+use Rattle.world_model.specs.Life.{event_after}
 use Rattle.world_model.specs.OwnerLines.{Agrees, AreFitting, FitsTenure, tenure_all, tenure_then}
-use Rattle.world_model.specs.Queues.{first_of, taken}
-use Rattle.world_model.specs.Stations.{accepts, activated, activated_unless, link_answer, mobile_on, new_tenure, rsl_in, took, after_base_takes}
-use Rattle.world_model.specs.World.{Actors, Spot, Station, base_of, is_active_at, new_spot, no_station, outbox_of, spot_at, station_of, tenure_at, with_base, with_outbox, with_spot}
 use Rattle.world_model.proofs.Heard.{Good}
 use Rattle.world_model.proofs.Honesty.{up-right}
 use Rattle.world_model.proofs.Leads.{OfTaken, Seats, after-taken, assigned-leads, base_takes-leads, took-leads, unless_last-leads}
@@ -98,7 +94,6 @@ begun_tenure n k u a n_is there all few idle =
 
 took_tenure : (n k : ℕ) (target : Option Tenure) (o : Option Rsl) (u : Actors) → n ≢ 0 → n - 1 < length u.stations → HaveSpots u → ((a : Activation) → o ≡ Some (ChannelActivation a) → a.channel ≡ k → k < CHANNEL_NUMBERS) → OfTaken (HasTenure n u (place_at n k) o) (took n target o u)
 unfolding OfTaken Seats HasTenure
-took_tenure n k target None u n_is there all few = refl
 took_tenure n k target (Some (ChannelActivation a)) u n_is there all few =
     unless_last-leads (HasTenure n u (place_at n k) (Some (ChannelActivation a))) ((spot_at u (place_at n a.channel)).tenure == MAX_TENURE) (activated (place_at n a.channel) u) (by_activity (is_active (base_of u n).active a.channel) refl) where
       by_activity : (b : Bool) → is_active (base_of u n).active a.channel ≡ b → HasTenure n u (place_at n k) (Some (ChannelActivation a)) (activated_unless (if b then Some Busy else None) (place_at n a.channel) u)
@@ -123,7 +118,7 @@ took_tenure n k target (Some (EstablishRequest l)) u n_is there all few =
 took_tenure n k target (Some (RfChannelRelease number)) u n_is there all few =
     let middle : Actors = with_base n (after_release (base_of u n) number) u in
     same_tenure n middle (place_at n number) (place_at n k) _ n_is n_is (sym (based_tenure n (after_release (base_of u n) number) u (place_at n number))) ∙ based_tenure n (after_release (base_of u n) number) u (place_at n k)
-took_tenure n k target (Some _) u n_is there all few = refl
+took_tenure n k target _ u n_is there all few = refl
 
 -- another station takes an entry
 unfoldable pub OtherTenure : Actors → Place → Actors → Type 0

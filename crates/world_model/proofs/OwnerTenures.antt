@@ -2,19 +2,16 @@
 -- station activates.
 use Rattle.world_model.proofs.Prelude.{◌≡◌, ◌≢◌, ℕ, zero, suc, ◌+◌, ◌-◌, ◌<◌, Bool, true, false, List, [], ◌∷◌, length, get_or, set}
 use Rattle.world_model.proofs.Prelude.{unwrap_or, Option, refl, sym, ap, ◌∙◌, arith, length-set, Place, SWITCH_LINK, CHANNEL_NUMBERS}
-use Rattle.world_model.proofs.Prelude.{BaseState, CellParameters, Parameters, AllByRecursion}
-use Rattle.std.proofs.lemmas.List.{length-replicate}
-use Rattle.world_model.specs.declared.event.Event.{Event}
-use Rattle.world_model.specs.declared.event.Event.TheVariants.{BaseTakes, BasePush, Handle, SwitchTakes, SwitchDoes, Tick, BaseDown}
-use Rattle.world_model.specs.Life.{event_after, actors_after}
-use Rattle.world_model.specs.Relay.{after_base_push, after_break}
-use Rattle.world_model.specs.SwitchSide.{sccp_in, after_switch_takes, after_switch_does}
-use Rattle.world_model.specs.World.{Actors, Mobile, Spot, Station, new_actors, new_spot, no_station, spot_at, station_of, stations_from, with_base, with_mobile, with_outbox, with_spot}
+use Rattle.world_model.proofs.Prelude.{BaseState, CellParameters, Parameters, AllByRecursion, length-replicate, Event, BaseTakes, BasePush}
+use Rattle.world_model.proofs.Prelude.{Handle, SwitchTakes, SwitchDoes, Tick, BaseDown, actors_after, after_base_push, after_break, sccp_in}
+use Rattle.world_model.proofs.Prelude.{after_switch_takes, after_switch_does, Actors, Mobile, Spot, Station, new_actors, new_spot}
+use Rattle.world_model.proofs.Prelude.{no_station, spot_at, station_of, stations_from, with_base, with_mobile, with_outbox, with_spot}
+use Rattle.world_model.proofs.Prelude.{true≢false}
+use Rattle.world_model.specs.Life.{event_after}
 use Rattle.world_model.proofs.Leads.{OfTaken, switch_takes-leads, switch_took-leads, push-leads, does-leads, broken-leads, after-taken}
 use Rattle.world_model.proofs.Ticketing.{spot_all, spot-with_base}
-use Rattle.std.proofs.lemmas.Bool.{true≢false}
 use Rattle.world_model.proofs.Footprints.{Respots, air-after, is_on_air}
-use Rattle.world_model.proofs.Footprints.Respots.{airs, asks_up, counts, goes_down, is_left, short_up}
+use Rattle.world_model.proofs.Footprints.Respots.{short_up}
 
 -- ---- each station has all channels
 
@@ -77,11 +74,7 @@ is_beside event = true
 -- a channel has the tenure that it had
 respot_tenure : {w u : Actors} {event : Event} {at : Place} {spot : Spot} → Respots w u event at spot → spot.tenure ≡ (spot_at u at).tenure
 respot_tenure (short_up number tenure reached) = refl
-respot_tenure (goes_down tenure first others reached stood) = refl
-respot_tenure (is_left number tenure reached) = refl
-respot_tenure (counts number report tenure reached) = refl
-respot_tenure (airs station d taken active) = refl
-respot_tenure (asks_up station l answer taken) = refl
+respot_tenure _ = refl
 
 air_beside : (w : Actors) (event : Event) → is_on_air event ≡ true → is_beside event ≡ true → Beside w (actors_after w event)
 air_beside w event on is = air-after (Beside w) w event on (record {

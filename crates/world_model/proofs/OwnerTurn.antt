@@ -1,14 +1,10 @@
 -- A channel still agrees with an ownership after a turn of the controller that serves it.
 use Rattle.world_model.proofs.Prelude.{◌≡◌, ◌⊎◌, inl, inr, ℕ, ◌+◌, Bool, true, false, List, [], ◌∷◌, ◌++◌, Option, Some, refl, sym, ap, ◌∙◌}
 use Rattle.world_model.proofs.Prelude.{subst, append_assoc, append-nil, Place, Controller, Turn, channel_state, ChannelState, Free, InUse}
-use Rattle.world_model.proofs.Prelude.{Releasing, BaseState, is_active, activation_ack, Rsl, RfChannelReleaseAck}
-use Rattle.controller_model.specs.Controller.{is_up as hears}
-use Rattle.world_model.specs.declared.line.OutboxEntry.{OutboxEntry}
-use Rattle.world_model.specs.declared.seat.Tenure.{Tenure}
+use Rattle.world_model.proofs.Prelude.{Releasing, BaseState, is_active, activation_ack, Rsl, RfChannelReleaseAck, hears, OutboxEntry}
+use Rattle.world_model.proofs.Prelude.{Tenure, nothing, began, begins, ends, begins_and_ends, acknowledgements, active_all, due, Actors}
+use Rattle.world_model.proofs.Prelude.{base_of, is_active_at, is_up, outbox_of, spot_at}
 use Rattle.world_model.specs.OwnerLines.{Agrees, AreFitting, Comes, IsOnItsWay, acknowledged_in, active_behind, asker, is_in_use, tenure_all, tenure_behind, to_come}
-use Rattle.world_model.specs.OwnerLines.Comes.{nothing, began, begins, ends, begins_and_ends}
-use Rattle.world_model.specs.Pipe.{acknowledgements, active_all, due}
-use Rattle.world_model.specs.World.{Actors, base_of, is_active_at, is_up, outbox_of, spot_at}
 use Rattle.world_model.proofs.OwnerLines.{fitting_append, tenure-append}
 use Rattle.world_model.proofs.OwnerPuts.{FitAll, Goes, Puts, entries_to, goes_lost, goes-put}
 use Rattle.world_model.proofs.Outboxes.{Both-empty}
@@ -25,19 +21,13 @@ hear heard state = state
 abbrev pub IsOne : List Rsl → Type 0
 IsOne heard = (heard ≡ []) ⊎ ((m : Rsl) × (heard ≡ m ∷ []))
 
-hear-use : (heard : List Rsl) (state : ChannelState) → is_in_use (hear heard state) ≡ is_in_use state
-hear-use [] state = refl
+pub hear-use : (heard : List Rsl) (state : ChannelState) → is_in_use (hear heard state) ≡ is_in_use state
 hear-use (RfChannelReleaseAck channel ∷ rest) (Releasing number) = refl
-hear-use (RfChannelReleaseAck channel ∷ rest) Free = refl
-hear-use (RfChannelReleaseAck channel ∷ rest) (InUse number) = refl
-hear-use (_ ∷ rest) state = refl
+hear-use _ _ = refl
 
-hear_in_use : (heard : List Rsl) (state : ChannelState) (number : ℕ) → hear heard state ≡ InUse number → state ≡ InUse number
-hear_in_use [] state number is = is
+pub hear_in_use : (heard : List Rsl) (state : ChannelState) (number : ℕ) → hear heard state ≡ InUse number → state ≡ InUse number
 hear_in_use (RfChannelReleaseAck channel ∷ rest) (Releasing m) number is = absurd cc
-hear_in_use (RfChannelReleaseAck channel ∷ rest) Free number is = is
-hear_in_use (RfChannelReleaseAck channel ∷ rest) (InUse m) number is = is
-hear_in_use (_ ∷ rest) state number is = is
+hear_in_use _ _ number is = is
 
 comes_one : (k : ℕ) (m : Rsl) (state : ChannelState) (all rest : List Rsl) → Comes k state all → all ≡ m ∷ rest → Comes k (hear (m ∷ []) state) rest
 comes_one k m Free all rest nothing is = absurd cc
@@ -198,8 +188,7 @@ module _ (owner : Tenure → ℕ) (w v : Actors) (at : Place) (target : Option T
       ] where
         none_free : (xs : List Rsl) (now : ChannelState) → now ≡ Free → Comes k now xs → xs ≡ []
         none_free xs Free is nothing = refl
-        none_free xs (InUse m) is comes = absurd cc
-        none_free xs (Releasing m) is comes = absurd cc
+        none_free xs _ is comes = absurd cc
 
   pub turn_agrees : Agrees owner v at
   turn_agrees = record {

@@ -1,10 +1,7 @@
 -- Whose tenures are, at literal events.
-use Rattle.world_model.proofs.Prelude.{◌≡◌, true, false, List, [], ◌∷◌, ◌++◌, refl, Place, place_at, usual_settings}
-use Rattle.world_model.specs.declared.event.Event.{Event}
-use Rattle.world_model.specs.declared.event.Event.TheVariants.{Connect, BaseDown, BaseTakes, BasePush, Handle}
-use Rattle.world_model.specs.Life.{actors_after_all}
-use Rattle.world_model.specs.Owners.{is_begun, owner_in, user_of}
-use Rattle.world_model.specs.World.{Actors, new_actors}
+use Rattle.world_model.proofs.Prelude.{◌≡◌, true, false, List, [], ◌∷◌, ◌++◌, refl, Place, place_at, usual_settings, Event, Connect}
+use Rattle.world_model.proofs.Prelude.{BaseDown, BaseTakes, BasePush, Handle, actors_after_all, is_begun, owner_in, user_of, Actors}
+use Rattle.world_model.proofs.Prelude.{new_actors}
 use Rattle.world_model.proofs.Worlds.{on_literals}
 
 begin : Actors

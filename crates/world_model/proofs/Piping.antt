@@ -1,23 +1,15 @@
 -- The pipe of one channel, over all events.
-use Rattle.world_model.proofs.Prelude.{◌≡◌, ◌≢◌, ℕ, zero, suc, ◌+◌, ◌-◌, ◌<◌, ◌≤◌, ◌==◌, nat_eq, Bool, true, false, if◌then◌else◌}
-use Rattle.world_model.proofs.Prelude.{List, [], ◌∷◌, ◌++◌, length, unwrap_or, is_some, get_or, Option, Some, None, refl, sym, ap, ◌∙◌}
-use Rattle.world_model.proofs.Prelude.{subst, append_assoc, inl, inr, arith, cases_Bool, eqb-true, eqb-false, ne_eqb, append-nil}
-use Rattle.world_model.proofs.Prelude.{filter-append, SWITCH_LINK, place_at, take, tick, BaseState, is_active}
-use Rattle.world_model.proofs.Prelude.{after_tell, first_of_messages}
-use Rattle.world_model.proofs.Prelude.{is_bound_of, Rsl, Parameters, CellParameters}
-use Rattle.link_model.specs.Base.{messages_behind_first}
-use Rattle.octets.specs.Lists.{IsPrefix}
-use Rattle.world_model.specs.declared.event.Event.{Event}
-use Rattle.world_model.specs.declared.event.Event.TheVariants.{BaseTakes, BasePush, Handle, SwitchTakes, SwitchDoes, Tick, BaseDown}
-use Rattle.world_model.specs.declared.line.OutboxEntry.{OutboxEntry}
-use Rattle.world_model.specs.Honest.{given, all_given}
-use Rattle.world_model.specs.Life.{event_after, actors_after, actors_after_all}
-use Rattle.world_model.specs.Pipe.{acknowledgements, acknowledgement, is_active_then, due, active_all, ArePipes}
-use Rattle.world_model.specs.Queues.{first_of, taken, all_taken, all_put}
-use Rattle.world_model.specs.Relay.{target_in, after_handle, after_tick}
-use Rattle.world_model.specs.Stations.{took, rsl_in, after_base_takes}
-use Rattle.world_model.specs.SwitchSide.{sccp_in, after_switch_takes, after_switch_does}
-use Rattle.world_model.specs.World.{Actors, new_actors, stations_from, is_up, is_station_up, no_station, base_of, with_base, outbox_of, with_outbox}
+use Rattle.world_model.proofs.Prelude.{◌≡◌, ◌≢◌, ℕ, zero, suc, ◌+◌, ◌-◌, ◌<◌, ◌≤◌, ◌==◌, nat_eq, Bool, true, false, if◌then◌else◌, List, []}
+use Rattle.world_model.proofs.Prelude.{◌∷◌, ◌++◌, length, unwrap_or, is_some, get_or, Option, Some, None, refl, sym, ap, ◌∙◌, subst}
+use Rattle.world_model.proofs.Prelude.{append_assoc, inl, inr, arith, cases_Bool, eqb-true, eqb-false, ne_eqb, append-nil, filter-append}
+use Rattle.world_model.proofs.Prelude.{SWITCH_LINK, place_at, take, tick, BaseState, is_active, after_tell, first_of_messages, is_bound_of}
+use Rattle.world_model.proofs.Prelude.{Rsl, Parameters, CellParameters, messages_behind_first, IsPrefix, Event, BaseTakes, BasePush, Handle}
+use Rattle.world_model.proofs.Prelude.{SwitchTakes, SwitchDoes, Tick, BaseDown, OutboxEntry, given, all_given, actors_after}
+use Rattle.world_model.proofs.Prelude.{actors_after_all, acknowledgements, acknowledgement, is_active_then, due, active_all, ArePipes}
+use Rattle.world_model.proofs.Prelude.{first_of, taken, all_taken, all_put, target_in, after_handle, after_tick, took, rsl_in}
+use Rattle.world_model.proofs.Prelude.{after_base_takes, sccp_in, after_switch_takes, after_switch_does, Actors, new_actors, stations_from}
+use Rattle.world_model.proofs.Prelude.{is_up, is_station_up, no_station, base_of, with_base, outbox_of, with_outbox}
+use Rattle.world_model.specs.Life.{event_after}
 use Rattle.world_model.proofs.Acknowledging.{Answers, AnswersAt, acks_tell, took_answers}
 use Rattle.world_model.proofs.Counting.{same-stations}
 use Rattle.world_model.proofs.Honesty.{Plain, base-with_spot, base-elsewhere, base-there, up-right, pushing, breaking}
@@ -25,7 +17,7 @@ use Rattle.world_model.proofs.Honesty.Plain.{as_before, next, ends_now}
 use Rattle.world_model.proofs.Leads.{OfTaken, FromAir, base_takes-leads, handle-leads, turn-leads, switch_takes-leads, switch_took-leads, does-leads, after-taken}
 use Rattle.world_model.proofs.Outboxes.{down-after, down_empty, down-outbox, outboxes_all, rest_all, Both-empty, new_outbox}
 use Rattle.world_model.proofs.Footprints.{OnAir, Tells, air_leads}
-use Rattle.world_model.proofs.Footprints.Tells.{answers, brings, detects, establishes, links, opens_with, reports, requires}
+use Rattle.world_model.proofs.Footprints.Tells.{answers, links}
 
 -- ---- events that ask a station for nothing
 
@@ -60,15 +52,8 @@ quiet_end {n} {k} {w} {u} m base n_is up active acks quiet =
       ]
 
 tells_free : {w : Actors} {event : Event} {m : ℕ} {message : Rsl} (k : ℕ) → Tells w event m message → is_bound_of k message ≡ false
-tells_free k (requires number station initial accepts) = refl
-tells_free k (opens_with number p tenure frame lent) = refl
-tells_free k (brings number sapi p tenure frame lent) = refl
-tells_free k (links number p tenure frame lent) = refl
-tells_free k (detects number tenure reached) = refl
-tells_free k (establishes tenure reached) = refl
 tells_free k (answers station l true taken) = refl
-tells_free k (answers station l false taken) = refl
-tells_free k (reports number report tenure reached long) = refl
+tells_free k _ = refl
 
 -- an event at which the station takes no entry
 keeps_quiet : (n k : ℕ) (w : Actors) (event : Event) → n ≢ 0 → (event ≡ BaseTakes n → ⊥) → OnAir (Quiet n k w) w event

@@ -1,17 +1,13 @@
 -- The queues of the relay, breaks of links, and the switch.
 use Rattle.world_model.proofs.Prelude.{◌≡◌, true, false, [], ◌∷◌, map, replicate, Some, None, refl, place_at, usual_settings, Zero, Three}
-use Rattle.world_model.proofs.Prelude.{Parameters}
-use Rattle.controller_model.proofs.Lives.{eager_settings}
-use Rattle.world_model.specs.declared.event.Event.TheVariants.{Upper, Connect, AirUp, AirAck, AirDown, Move, Touch, Arrive, BaseTakes, BasePush, Handle, SwitchTakes, SwitchDoes, Tick, BaseDown, Report}
-use Rattle.world_model.specs.declared.event.SwitchAction.TheVariants.{Assign, Clear, Dtap}
+use Rattle.world_model.proofs.Prelude.{Parameters, eager_settings, Upper, Connect, AirUp, AirAck, AirDown, Move, Touch, Arrive, BaseTakes}
+use Rattle.world_model.proofs.Prelude.{BasePush, Handle, SwitchTakes, SwitchDoes, Tick, BaseDown, Report, Assign, Clear, Dtap, World}
+use Rattle.world_model.proofs.Prelude.{new_world, with_outbox, outbox_of}
 use Rattle.world_model.specs.Views.{sent, taken, accepted, unnumbered, progress_of}
-use Rattle.world_model.specs.World.{World, new_world}
-use Rattle.world_model.proofs.Worlds.{on_literals, after_all, bodies, made_bodies}
+use Rattle.world_model.proofs.Worlds.{on_literals, after_all, bodies, made_bodies, takes}
 use Rattle.world_model.proofs.Rows.{opened, opened_eager}
 use Rattle.bssmap_codec.specs.SccpText.{sccp_text}
 use Rattle.ruled_relay.specs.declared.item.What.TheVariants.{Down}
-use Rattle.world_model.specs.World.{with_outbox, outbox_of}
-use Rattle.world_model.proofs.Worlds.{takes}
 
 queues_are_empty : map (takes (new_world usual_settings)) (BasePush 0 ∷ BasePush 1 ∷ BasePush 2 ∷ BasePush 3 ∷ Handle ∷ SwitchTakes ∷ []) ≡ false ∷ false ∷ false ∷ false ∷ false ∷ false ∷ []
 unfolding on_literals

@@ -2,20 +2,15 @@
 use Rattle.world_model.proofs.Prelude.{◌≡◌, ℕ, ◌==◌, ◌&&◌, is_some, Bool, true, false, if◌then◌else◌, List, [], ◌∷◌, ◌++◌, Option, Some}
 use Rattle.world_model.proofs.Prelude.{None, refl, sym, ap, ◌∙◌, subst, eqb-true, append-nil, Zero, Three, Call, after_call, after_calls}
 use Rattle.world_model.proofs.Prelude.{connects, sends, frames, acknowledges, leaves, arrives, gives_up, frame_answer, new_mobile}
-use Rattle.world_model.proofs.Prelude.{MobileState, Parameters}
-use Rattle.mobile_end.specs.Calls.{begins, establishments, frame_lent, taken_by_call}
+use Rattle.world_model.proofs.Prelude.{MobileState, Parameters, is_control, Change, Event, Upper, Connect, AirUp, AirAck, Move, Arrive}
+use Rattle.world_model.proofs.Prelude.{Return, Command, Seat, Moving, Tenure, actors_after, place_in, Actors, Mobile, mobile_of, modulus_in}
+use Rattle.world_model.proofs.Prelude.{new_actors}
+use Rattle.mobile_end.specs.Calls.{begins, establishments, frame_lent, may_arrive, taken_by_call}
 use Rattle.mobile_end.specs.OneRepeat.{OneRepeat}
 use Rattle.mobile_end.proofs.Lives.{IsGoing-new, OneRepeat-calls}
-use Rattle.world_model.specs.declared.event.Event.{Event}
-use Rattle.world_model.specs.declared.event.Event.TheVariants.{Upper, Connect, AirUp, AirAck, Move, Arrive, Return}
-use Rattle.world_model.specs.declared.seat.Command.{Command}
-use Rattle.world_model.specs.declared.seat.Seat.TheVariants.{Moving}
-use Rattle.world_model.specs.declared.seat.Tenure.{Tenure}
 use Rattle.world_model.specs.Calls.{all_calls, calls_at, calls_to_arrive, calls_to_return, comes_at, frame_of, seat_of, taken_at, taken_by_channel, MobilesRepeatAtMostOne}
-use Rattle.world_model.specs.Life.{actors_after, event_after}
-use Rattle.world_model.specs.Lives.{place_in}
+use Rattle.world_model.specs.Life.{event_after}
 use Rattle.world_model.specs.Mobiles.{complete, failure}
-use Rattle.world_model.specs.World.{Actors, Mobile, mobile_of, modulus_in, new_actors}
 use Rattle.world_model.proofs.Leads.{OfTaken, and-left, and-right, arrive-leads, return-leads}
 use Rattle.world_model.proofs.Mobility.{Fits, MobilesLive-new, Stands, Takes, control-complete, control-failure, end_of, may-come, stands_new, takes_at}
 
@@ -84,29 +79,20 @@ place_between {w = w} n stands same between = subst Fits (ap (mobile_of w) (sym 
 pub end-between : (m number : ℕ) (w : Actors) (n : ℕ) → n ≡ number → (between : IsBetween w n) → end_of m (mobile_of w number) ≡ between.p.end
 end-between m number w n same between = ap (end_of m) (ap (mobile_of w) (sym same) ∙ between.found)
 
-turn_arrive : (m number : ℕ) (w : Actors) (n : ℕ) (b : Bool) → (n == number) && is_some (event_after w (Arrive n)) ≡ b → Stands m number w
-    → IsTurn (end_of m (mobile_of w number)) (if b then calls_to_arrive (seat_of (mobile_of w n)) else []) b []
-turn_arrive m number w n true does stands =
-    let same : n ≡ number = eqb-true n number (and-left (n == number) (is_some (event_after w (Arrive n))) does) in
-    let at : IsBetween w n = arriving w n (and-right (n == number) (is_some (event_after w (Arrive n))) does) in
-    let calls : calls_to_arrive (seat_of (mobile_of w n)) ≡ arrives (complete at.command.change) ∷ [] = ap (λ (o : Option Mobile). calls_to_arrive (seat_of o)) at.found ∙ ap calls_to_arrive at.seat in
-    let end : end_of m (mobile_of w number) ≡ at.p.end = end-between m number w n same at in
-    subst (λ (cs : List Call). IsTurn (end_of m (mobile_of w number)) cs true []) (sym calls)
-    (turn_one (end_of m (mobile_of w number)) (arrives (complete at.command.change)) true []
-    (ap (λ (e : MobileState). begins e (arrives (complete at.command.change))) end ∙ may-come at.p.end at.from at.command (complete at.command.change) (place_between n stands same at ∙ ap place_in at.seat) (control-complete at.command.change)) refl)
-turn_arrive m number w n false doesnt stands = turn_none (end_of m (mobile_of w number))
-
-turn_return : (m number : ℕ) (w : Actors) (n : ℕ) (b : Bool) → (n == number) && is_some (event_after w (Return n)) ≡ b → Stands m number w
-    → IsTurn (end_of m (mobile_of w number)) (if b then calls_to_return (seat_of (mobile_of w n)) else []) b []
-turn_return m number w n true does stands =
-    let same : n ≡ number = eqb-true n number (and-left (n == number) (is_some (event_after w (Return n))) does) in
-    let at : IsBetween w n = returning w n (and-right (n == number) (is_some (event_after w (Return n))) does) in
-    let calls : calls_to_return (seat_of (mobile_of w n)) ≡ gives_up (failure at.command.change) ∷ [] = ap (λ (o : Option Mobile). calls_to_return (seat_of o)) at.found ∙ ap calls_to_return at.seat in
-    let end : end_of m (mobile_of w number) ≡ at.p.end = end-between m number w n same at in
-    subst (λ (cs : List Call). IsTurn (end_of m (mobile_of w number)) cs true []) (sym calls)
-    (turn_one (end_of m (mobile_of w number)) (gives_up (failure at.command.change)) true []
-    (ap (λ (e : MobileState). begins e (gives_up (failure at.command.change))) end ∙ may-come at.p.end at.from at.command (failure at.command.change) (place_between n stands same at ∙ ap place_in at.seat) (control-failure at.command.change)) refl)
-turn_return m number w n false doesnt stands = turn_none (end_of m (mobile_of w number))
+-- it comes to a channel with this text
+turn_come : (m number : ℕ) (w : Actors) (n : ℕ) (call : List ℕ → Call) (text : Change → List ℕ) (calls : Seat → List Call)
+    → ((from : Tenure) (command : Command) → calls (Moving from command) ≡ call (text command.change) ∷ []) → ((change : Change) → is_control (text change) ≡ true)
+    → ((e : MobileState) (xs : List ℕ) → begins e (call xs) ≡ may_arrive e xs) → ((e : MobileState) (xs : List ℕ) → taken_by_call e (call xs) ≡ []) → (taken b : Bool) → (taken ≡ true → IsBetween w n) → (n == number) && taken ≡ b
+    → Stands m number w → IsTurn (end_of m (mobile_of w number)) (if b then calls (seat_of (mobile_of w n)) else []) b []
+turn_come m number w n call text calls called control begun gives taken true between does stands =
+    let e : MobileState = end_of m (mobile_of w number) in
+    let at : IsBetween w n = between (and-right (n == number) taken does) in
+    let same : n ≡ number = eqb-true n number (and-left (n == number) taken does) in
+    let xs : List ℕ = text at.command.change in
+    subst (λ (cs : List Call). IsTurn e cs true []) (sym (ap (λ (o : Option Mobile). calls (seat_of o)) at.found ∙ ap calls at.seat ∙ called at.from at.command))
+    (turn_one e (call xs) true [] (begun e xs ∙ ap (λ (x : MobileState). may_arrive x xs) (end-between m number w n same at)
+    ∙ may-come at.p.end at.from at.command xs (place_between n stands same at ∙ ap place_in at.seat) (control at.command.change)) (gives e xs))
+turn_come m number w n call text calls called control begun gives taken false between doesnt stands = turn_none (end_of m (mobile_of w number))
 
 -- ---- each event
 
@@ -117,8 +103,8 @@ turn_at m number w (AirUp n Zero) stands = turn_frame m number w n (is_some (eve
 turn_at m number w (AirUp n Three) stands = turn_silent (end_of m (mobile_of w number)) (frames Three) ((n == number) && is_some (event_after w (AirUp n Three))) refl refl
 turn_at m number w (AirAck n sapi) stands = turn_silent (end_of m (mobile_of w number)) (acknowledges sapi) ((n == number) && is_some (event_after w (AirAck n sapi))) refl refl
 turn_at m number w (Move n) stands = turn_silent (end_of m (mobile_of w number)) leaves ((n == number) && is_some (event_after w (Move n))) refl refl
-turn_at m number w (Arrive n) stands = turn_arrive m number w n ((n == number) && is_some (event_after w (Arrive n))) refl stands
-turn_at m number w (Return n) stands = turn_return m number w n ((n == number) && is_some (event_after w (Return n))) refl stands
+turn_at m number w (Arrive n) stands = turn_come m number w n (λ xs. arrives xs) complete calls_to_arrive (λ from command. refl) control-complete (λ e xs. refl) (λ e xs. refl) _ _ (arriving w n) refl stands
+turn_at m number w (Return n) stands = turn_come m number w n (λ xs. gives_up xs) failure calls_to_return (λ from command. refl) control-failure (λ e xs. refl) (λ e xs. refl) _ _ (returning w n) refl stands
 turn_at m number w _ stands = turn_none (end_of m (mobile_of w number))
 
 -- ---- all these events

@@ -1,12 +1,8 @@
 -- A mobile opens a connection.
-use Rattle.world_model.proofs.Prelude.{◌≡◌, ℕ, true, [], ◌∷◌, map, Some, None, refl, usual_settings, Zero}
-use Rattle.conn_rules.specs.declared.state.Stage.TheVariants.{Active}
-use Rattle.conn_rules.specs.declared.state.State.TheVariants.{Live}
-use Rattle.controller_model.proofs.Lives.{eager_settings, state_of}
-use Rattle.world_model.specs.declared.event.Event.TheVariants.{Upper, Connect, AirUp, AirAck, BaseTakes, BasePush, Handle, SwitchTakes}
+use Rattle.world_model.proofs.Prelude.{◌≡◌, ℕ, true, [], ◌∷◌, map, Some, None, refl, usual_settings, Zero, Active, Live, eager_settings}
+use Rattle.world_model.proofs.Prelude.{state_of, Upper, Connect, AirUp, AirAck, BaseTakes, BasePush, Handle, SwitchTakes, World, new_world}
 use Rattle.world_model.specs.Lists.{behind_first, first_in}
 use Rattle.world_model.specs.Views.{sent, received, taken, accepted, unnumbered}
-use Rattle.world_model.specs.World.{World, new_world}
 use Rattle.world_model.proofs.Worlds.{on_literals, after_all, bodies}
 
 -- what the opening makes of two cells

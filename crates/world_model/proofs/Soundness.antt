@@ -3,19 +3,12 @@ use Rattle.world_model.proofs.Prelude.{◌≡◌, ℕ, suc, ◌<◌, ◌≤◌, 
 use Rattle.world_model.proofs.Prelude.{get_or, set, Some, None, Ok, refl, sym, ap, ◌∙◌, subst, inl, inr, arith, AllByRecursion, cases_Bool}
 use Rattle.world_model.proofs.Prelude.{eqb-true, eqb-false, ne_eqb, append-nil, AllByRecursion-append, Sapi, Zero, BaseState, is_active}
 use Rattle.world_model.proofs.Prelude.{after_activate, after_release, after_tell, activation_ack, establish_indication, data_indication}
-use Rattle.world_model.proofs.Prelude.{is_channel, Rsl, RfChannelReleaseAck, IsL3, rsl_text}
-use Rattle.conn_rules.proofs.DownlinkMessages.{AllByRecursion-filter}
-use Rattle.link_model.specs.Base.{messages_behind_first}
-use Rattle.octets.specs.declared.limits.TheConstants.{MESSAGE_LIMIT}
+use Rattle.world_model.proofs.Prelude.{is_channel, Rsl, RfChannelReleaseAck, IsL3, rsl_text, AllByRecursion-filter, messages_behind_first}
+use Rattle.world_model.proofs.Prelude.{MESSAGE_LIMIT, ChannelActivationNack, IsLawful, IsRsl, rsl_reading, link_answer, Station, no_station}
 use Rattle.rsl_codec.specs.declared.fault.RslFault.TheVariants.{Short, TooLong}
-use Rattle.rsl_codec.specs.declared.rsl.Rsl.TheVariants.{ChannelActivationNack}
-use Rattle.rsl_codec.specs.Rsl.{IsLawful, IsRsl}
-use Rattle.rsl_codec.specs.RslReading.{rsl_reading}
 use Rattle.rsl_codec.specs.RslText.{rsl_write_fault}
 use Rattle.rsl_codec.proofs.Messages.{rsl_text_is_text, text_is_read}
 use Rattle.world_model.specs.Mobiles.{channel_required, handover_detection, measurement_result}
-use Rattle.world_model.specs.Stations.{link_answer}
-use Rattle.world_model.specs.World.{Station, no_station}
 use Rattle.world_model.proofs.Honesty.{set-or-not, set-elsewhere}
 
 -- ---- sound messages

@@ -1,15 +1,11 @@
 -- What stations make of what they take.
 use Rattle.world_model.proofs.Prelude.{◌≡◌, true, false, [], ◌∷◌, map, Some, None, option_map, refl, place_at, usual_settings, Zero, Three}
-use Rattle.world_model.specs.declared.event.Event.TheVariants.{Upper, Connect, AirUp, AirAck, AirDown, AirDownLost, Move, Arrive, Return, BaseTakes, BasePush, Handle, SwitchTakes, SwitchDoes, Report}
-use Rattle.world_model.specs.declared.event.SwitchAction.TheVariants.{Assign, Clear, Dtap}
-use Rattle.world_model.specs.declared.seat.Seat.TheVariants.{Asking, On}
+use Rattle.world_model.proofs.Prelude.{Upper, Connect, AirUp, AirAck, AirDown, AirDownLost, Move, Arrive, Return, BaseTakes, BasePush}
+use Rattle.world_model.proofs.Prelude.{Handle, SwitchTakes, SwitchDoes, Report, Assign, Clear, Dtap, Asking, On, World, new_world}
+use Rattle.world_model.proofs.Prelude.{is_active_at, spot_at, with_spot, with_outbox, event_after}
 use Rattle.world_model.specs.Views.{received}
-use Rattle.world_model.specs.World.{World, new_world, is_active_at, spot_at}
-use Rattle.world_model.proofs.Worlds.{on_literals, after_all, bodies, made_bodies, seat_of}
+use Rattle.world_model.proofs.Worlds.{on_literals, after_all, bodies, made_bodies, seat_of, takes}
 use Rattle.world_model.proofs.Rows.{opened}
-use Rattle.world_model.specs.World.{with_spot, with_outbox}
-use Rattle.world_model.specs.Life.{event_after}
-use Rattle.world_model.proofs.Worlds.{takes}
 
 takes_nothing : map (takes (new_world usual_settings)) (BaseTakes 0 ∷ BaseTakes 1 ∷ BaseTakes 2 ∷ BaseTakes 3 ∷ []) ≡ false ∷ false ∷ false ∷ false ∷ []
 unfolding on_literals

@@ -1,13 +1,8 @@
 -- Who sends in which tenure, and what stations take of it, at literal events.
 use Rattle.world_model.proofs.Prelude.{◌≡◌, ℕ, ◌==◌, if◌then◌else◌, true, List, [], ◌∷◌, ◌++◌, Some, None, refl, arith, Assignment}
-use Rattle.world_model.proofs.Prelude.{place_at, usual_settings, Zero}
-use Rattle.world_model.specs.declared.event.Event.{Event}
-use Rattle.world_model.specs.declared.event.Event.TheVariants.{Connect, AirUp, BaseTakes, BasePush, Handle, BaseDown}
-use Rattle.world_model.specs.declared.seat.Seat.TheVariants.{Asking, On, Moving, Gone}
-use Rattle.world_model.specs.declared.seat.Tenure.{Tenure}
-use Rattle.world_model.specs.Tickets.{IsBy, LeadsBy, SitsBy, TakesFirstBy, on_seat, senders}
-use Rattle.world_model.specs.Life.{actors_after_all}
-use Rattle.world_model.specs.World.{Actors, new_actors, outbox_of}
+use Rattle.world_model.proofs.Prelude.{place_at, usual_settings, Zero, Event, Connect, AirUp, BaseTakes, BasePush, Handle, BaseDown, Asking}
+use Rattle.world_model.proofs.Prelude.{On, Moving, Gone, Tenure, IsBy, LeadsBy, SitsBy, TakesFirstBy, on_seat, senders, actors_after_all}
+use Rattle.world_model.proofs.Prelude.{Actors, new_actors, outbox_of}
 use Rattle.world_model.proofs.Worlds.{on_literals}
 
 begin : Actors

@@ -1,43 +1,36 @@
 -- One mobile per tenure, where stations take what names the tenure's mobile.
 use Rattle.world_model.proofs.Prelude.{◌≡◌, ◌≢◌, ◌⊎◌, ◌<◌, is_some, length, ℕ, zero, suc, ◌+◌, ◌-◌, ◌==◌, ◌&&◌, nat_eq, Bool, true, false}
-use Rattle.world_model.proofs.Prelude.{cond, if◌then◌else◌, List, [], ◌∷◌, ◌++◌, find, get_or, replicate, set, slice_index_or, unwrap_or}
+use Rattle.world_model.proofs.Prelude.{if◌then◌else◌, List, [], ◌∷◌, ◌++◌, get_or, replicate, set, slice_index_or, unwrap_or}
 use Rattle.world_model.proofs.Prelude.{Option, Some, None, Result, Ok, Err, refl, sym, ap, ◌∙◌, subst, inl, inr, arith, cases_Bool}
 use Rattle.world_model.proofs.Prelude.{eqb-true, eqb-false, AllByRecursion, Change, Assignment, Handover, Place, SWITCH_LINK}
 use Rattle.world_model.proofs.Prelude.{AllByRecursion-append, is_dtap, place_at, CHANNEL_NUMBERS, take, tick, RrMessage, AssignmentCommand}
 use Rattle.world_model.proofs.Prelude.{HandoverCommand, ChannelRelease, ImmediateAssignment, RrFault, Sapi, Zero, Three, rr_reading}
 use Rattle.world_model.proofs.Prelude.{LinkFault, after_activate, after_release, refusal_of_activate, BaseState, after_acked, after_arrival}
 use Rattle.world_model.proofs.Prelude.{after_queue, is_channel, Rsl, DataRequest, EstablishRequest, ImmediateAssignCommand}
-use Rattle.world_model.proofs.Prelude.{ChannelActivation, RfChannelRelease, CellParameters, Parameters}
-use Rattle.std.proofs.Common.{Contains, ◌%◌}
-use Rattle.mobile_end.specs.Mobile.{after_leave}
-use Rattle.world_model.specs.declared.event.Event.{Event}
-use Rattle.world_model.specs.declared.event.Event.TheVariants.{Upper, Connect, AirUp, AirAck, AirDown, AirDownLost, Move, Touch, Arrive, Return, BaseTakes, BasePush, Handle, SwitchTakes, SwitchDoes, Tick, BaseDown, Report}
-use Rattle.world_model.specs.declared.limits.TheConstants.{MAX_TENURE}
-use Rattle.world_model.specs.declared.line.AirMessage.{AirMessage}
-use Rattle.world_model.specs.declared.line.OutboxEntry.{OutboxEntry}
-use Rattle.world_model.specs.declared.seat.Command.{Command}
-use Rattle.world_model.specs.declared.seat.Seat.{Seat}
-use Rattle.world_model.specs.declared.seat.Seat.TheVariants.{Asking, On, Moving, Gone}
-use Rattle.world_model.specs.declared.seat.Tenure.{Tenure}
-use Rattle.world_model.specs.Life.{event_after, actors_after, actors_after_all}
+use Rattle.world_model.proofs.Prelude.{ChannelActivation, RfChannelRelease, CellParameters, Parameters, Contains, ◌%◌, after_leave, Event}
+use Rattle.world_model.proofs.Prelude.{Upper, Connect, AirUp, AirAck, AirDown, AirDownLost, Move, Touch, Arrive, Return, BaseTakes}
+use Rattle.world_model.proofs.Prelude.{BasePush, Handle, SwitchTakes, SwitchDoes, Tick, BaseDown, Report, MAX_TENURE, AirMessage}
+use Rattle.world_model.proofs.Prelude.{OutboxEntry, Command, Seat, Asking, On, Moving, Tenure, actors_after, actors_after_all}
+use Rattle.world_model.proofs.Prelude.{after_base_push, after_handle, after_tick, after_break, target_in, accepts, activated}
+use Rattle.world_model.proofs.Prelude.{activated_unless, assigned, assigned_from, assigned_to, mobile_on, new_tenure, rsl_in, took}
+use Rattle.world_model.proofs.Prelude.{after_base_takes, after_switch_takes, after_switch_does, sccp_in, AllAreBy, AssignsBy, IsBy, LeadsBy}
+use Rattle.world_model.proofs.Prelude.{SitsBy, TakesBy, TakesFirstBy, on_seat, senders, Actors, Mobile, Spot, Station, base_of}
+use Rattle.world_model.proofs.Prelude.{is_active_at, is_reached, is_station_up, mobile_of, new_actors, new_spot, no_station, outbox_of}
+use Rattle.world_model.proofs.Prelude.{spot_at, station_of, stations_from, tenure_at, with_base, with_mobile, with_outbox, with_spot}
+use Rattle.world_model.specs.Life.{event_after}
 use Rattle.world_model.specs.Mobiles.{complete, failure, after_upper, after_connecting, after_air_up, after_air_ack, after_air_down, after_air_down_lost, after_move, after_touch, after_arriving, after_return, after_report, brought, connected, controlled, framed, hearing, left, remembering}
-use Rattle.world_model.specs.Relay.{after_base_push, after_handle, after_tick, after_break, target_in}
-use Rattle.world_model.specs.Stations.{accepts, activated, activated_unless, assigned, assigned_from, assigned_to, mobile_on, new_tenure, rsl_in, took, after_base_takes}
-use Rattle.world_model.specs.SwitchSide.{after_switch_takes, after_switch_does, sccp_in}
-use Rattle.world_model.specs.Tickets.{AllAreBy, AllSitBy, AssignsBy, IsBy, LeadsBy, OneMobileEach, Sender, SitsBy, TakesBy, TakesFirstBy, on_seat, sender_at, sender_of, senders}
-use Rattle.world_model.specs.World.{Actors, Mobile, Spot, Station, base_of, has_number, is_active_at, is_reached, is_station_up, mobile_of, new_actors, new_spot, no_station, outbox_of, spot_at, station_of, stations_from, tenure_at, with_base, with_mobile, with_outbox, with_spot}
-use Rattle.world_model.proofs.Honesty.{reached-up, set-elsewhere, set-or-not, up-right}
+use Rattle.world_model.specs.Tickets.{AllSitBy, OneMobileEach, Sender, sender_at, sender_of}
+use Rattle.world_model.proofs.Honesty.{reached-up, set-elsewhere, set-or-not, up-right, less_one}
 use Rattle.world_model.proofs.Leads.{OfTaken, FromAir, and-right, upper-leads, connect-leads, air_up-leads, air_ack-leads, air_down-leads, air_down_lost-leads, move-leads, touch-leads, arrive-leads, return-leads, report-leads, base_takes-leads, handle-leads, turn-leads, switch_takes-leads, switch_took-leads, push-leads, does-leads, broken-leads, after-taken, unless_last-leads}
 use Rattle.world_model.proofs.Mobility.{back-all, behind-all, found-all}
+use Rattle.world_model.proofs.Found.{found-number}
 
 -- ---- channels
 
 set-spots : (stations : List Station) (k j : ℕ) (station : Station) → station.spots ≡ (get_or stations k no_station).spots → (get_or (set stations k station) j no_station).spots ≡ (get_or stations j no_station).spots
-set-spots [] k j station same = refl
 set-spots (first ∷ stations) zero zero station same = same
-set-spots (first ∷ stations) zero (suc j) station same = refl
-set-spots (first ∷ stations) (suc k) zero station same = refl
 set-spots (first ∷ stations) (suc k) (suc j) station same = set-spots stations k j station same
+set-spots _ _ _ station same = refl
 
 pub spot-with_base : (n : ℕ) (base : BaseState) (w : Actors) (at : Place) → spot_at (with_base n base w) at ≡ spot_at w at
 spot-with_base n base w at = ap (λ (spots : List Spot). slice_index_or spots at.number new_spot) (set-spots w.stations (n - 1) (at.station - 1) _ refl)
@@ -48,11 +41,9 @@ spots_here (first ∷ spots) zero spot = inl refl
 spots_here (first ∷ spots) (suc k) spot = spots_here spots k spot
 
 spots-elsewhere : (spots : List Spot) (k j : ℕ) (spot : Spot) → j ≢ k → slice_index_or (set spots k spot) j new_spot ≡ slice_index_or spots j new_spot
-spots-elsewhere [] k j spot differ = refl
 spots-elsewhere (first ∷ spots) zero zero spot differ = absurd (differ refl)
-spots-elsewhere (first ∷ spots) zero (suc j) spot differ = refl
-spots-elsewhere (first ∷ spots) (suc k) zero spot differ = refl
 spots-elsewhere (first ∷ spots) (suc k) (suc j) spot differ = spots-elsewhere spots k j spot (λ same. differ (ap suc same))
+spots-elsewhere _ _ _ spot differ = refl
 
 -- one channel is set: of its station it is the one, and else as it was
 pub set_at : (w : Actors) (p : Place) (spot : Spot) → (spot_at (with_spot p spot w) p ≡ spot) ⊎ (spot_at (with_spot p spot w) p ≡ spot_at w p)
@@ -65,9 +56,6 @@ set_at w p spot =
       ]
       | inr nowhere ↦ inr (ap (λ (s : Station). slice_index_or s.spots p.number new_spot) (nowhere.0 ∙ sym nowhere.1))
     ]
-
-less_one : (n m : ℕ) → n ≢ 0 → m ≢ 0 → n ≢ m → n - 1 ≢ m - 1
-less_one n m n_is m_is differ same = differ (omega arith)
 
 number-else : (w : Actors) (p : Place) (spot : Spot) (number : ℕ) → number ≢ p.number → spot_at (with_spot p spot w) (record { station = p.station; number = number }) ≡ spot_at w (record { station = p.station; number = number })
 number-else w p spot number differ =
@@ -125,20 +113,9 @@ put {owner} {w} p here sits = record { mobiles = back-all (λ (q : Mobile). Sits
 sits_of : {owner : Tenure → ℕ} {w : Actors} {p : Mobile} (number : ℕ) → Sits owner w → mobile_of w number ≡ Some p → SitsBy owner p.number p.seat
 sits_of {owner} {w} {p} number sits found = found-all (λ (q : Mobile). SitsBy owner q.number q.seat) number w.mobiles p sits.mobiles found
 
-is_of_number : (number : ℕ) (xs : List Mobile) (p : Mobile) → find (has_number number) xs ≡ Some p → p.number ≡ number
-is_of_number number [] p found = absurd cc
-is_of_number number (x ∷ xs) p found =
-    elim (cases_Bool (has_number number x)) [
-      | inl hit ↦
-          let same : Some x ≡ Some p = sym (ap (λ (b : Bool). cond b (Some x) (find (has_number number) xs)) hit) ∙ found in
-          let one : x ≡ p = cc in
-          ap (λ (q : Mobile). q.number) (sym one) ∙ eqb-true x.number number hit
-      | inr miss ↦ is_of_number number xs p (sym (ap (λ (b : Bool). cond b (Some x) (find (has_number number) xs)) miss) ∙ found)
-    ]
-
 -- ---- mobiles
 
-on_own : (owner : Tenure → ℕ) (number : ℕ) (tenure : Tenure) (command : Option Command) → SitsBy owner number (On tenure command) → owner tenure ≡ number
+pub on_own : (owner : Tenure → ℕ) (number : ℕ) (tenure : Tenure) (command : Option Command) → SitsBy owner number (On tenure command) → owner tenure ≡ number
 on_own owner number tenure None sits = sits
 on_own owner number tenure (Some command) sits = sits.0
 
@@ -151,18 +128,13 @@ reached-station w tenure reached = (up-right tenure.at.station w (reached-up w t
 
 remembers : (owner : Tenure → ℕ) (p : Mobile) (change : Change) (target here : Tenure) (seat : Seat) → p.seat ≡ seat → owner target ≡ p.number → SitsBy owner p.number seat → SitsBy owner p.number (remembering p change target seat).seat
 remembers owner p change target here (On tenure command) is own sits = (on_own owner p.number tenure command sits, own)
-remembers owner p change target here Asking is own sits = subst (SitsBy owner p.number) (sym is) sits
-remembers owner p change target here (Moving from command) is own sits = subst (SitsBy owner p.number) (sym is) sits
-remembers owner p change target here Gone is own sits = subst (SitsBy owner p.number) (sym is) sits
+remembers owner p change target here _ is own sits = subst (SitsBy owner p.number) (sym is) sits
 
 controls : (owner : Tenure → ℕ) (p : Mobile) (here : Tenure) (target : Option Tenure) (r : Result RrMessage RrFault) → owner here ≡ p.number → LeadsBy owner here target → SitsBy owner p.number p.seat → SitsBy owner p.number (controlled p target r).seat
 controls owner p here target (Ok (ChannelRelease cause)) own leads sits = tt
 controls owner p here (Some target) (Ok (AssignmentCommand channel)) own leads sits = remembers owner p Assignment target here p.seat refl (leads ∙ own) sits
 controls owner p here (Some target) (Ok (HandoverCommand cell channel reference)) own leads sits = remembers owner p Handover target here p.seat refl (leads ∙ own) sits
-controls owner p here None (Ok (AssignmentCommand channel)) own leads sits = sits
-controls owner p here None (Ok (HandoverCommand cell channel reference)) own leads sits = sits
-controls owner p here target (Ok _) own leads sits = sits
-controls owner p here target (Err fault) own leads sits = sits
+controls owner p here _ _ own leads sits = sits
 
 pub same-number : (p : Mobile) (target : Option Tenure) (r : Result RrMessage RrFault) → (controlled p target r).number ≡ p.number
 same-number p target (Ok (ChannelRelease cause)) = refl
@@ -170,16 +142,12 @@ same-number p (Some target) (Ok (AssignmentCommand channel)) = by p.seat
   where
     by : (seat : Seat) → (remembering p Assignment target seat).number ≡ p.number
     by (On tenure command) = refl
-    by Asking = refl
-    by (Moving from command) = refl
-    by Gone = refl
+    by _ = refl
 same-number p (Some target) (Ok (HandoverCommand cell channel reference)) = by p.seat
   where
     by : (seat : Seat) → (remembering p Handover target seat).number ≡ p.number
     by (On tenure command) = refl
-    by Asking = refl
-    by (Moving from command) = refl
-    by Gone = refl
+    by _ = refl
 same-number p None (Ok (AssignmentCommand channel)) = refl
 same-number p None (Ok (HandoverCommand cell channel reference)) = refl
 same-number p target (Ok _) = refl
@@ -215,13 +183,11 @@ assigned_sits owner w station (Ok (ImmediateAssignment channel request advance))
 
     from : (p : Mobile) (seat : Seat) → owner tenure ≡ p.number → Sits owner (assigned_from seat tenure p w)
     from p Asking own = put (record p { seat = On tenure None }) own sits
-    from p (On other command) own = sits
-    from p (Moving other command) own = sits
-    from p Gone own = sits
+    from p _ own = sits
 
     by : (o : Option Mobile) → mobile_of w (slice_index_or request 0 0) ≡ o → Sits owner (assigned_to o tenure w)
     by None found = sits
-    by (Some p) found = from p p.seat (names ∙ sym (is_of_number (slice_index_or request 0 0) w.mobiles p found))
+    by (Some p) found = from p p.seat (names ∙ sym (found-number (slice_index_or request 0 0) w.mobiles p found))
 
     numbered : (b : Bool) → Sits owner (if b then assigned_to (mobile_of w (slice_index_or request 0 0)) tenure w else w)
     numbered true = by (mobile_of w (slice_index_or request 0 0)) refl
@@ -242,7 +208,6 @@ activated_sits owner w at None is sits = spotted at (new_tenure (spot_at w at)) 
 
 took_sits : (owner : Tenure → ℕ) (w : Actors) (station : ℕ) (target : Option Tenure) (o : Option Rsl) → station ≢ 0 → TakesBy owner w station target o → Sits owner w → OfTaken (Sits owner) (took station target o w)
 unfolding OfTaken
-took_sits owner w station target None is takes sits = sits
 took_sits owner w station target (Some (ChannelActivation a)) is takes sits =
     unless_last-leads (Sits owner) ((spot_at w (place_at station a.channel)).tenure == MAX_TENURE) (activated (place_at station a.channel) w) (activated_sits owner w (place_at station a.channel) (refusal_of_activate (base_of w station) a.channel) is sits)
 took_sits owner w station target (Some (ImmediateAssignCommand i)) is takes sits = assigned_sits owner w station (rr_reading i.information) takes sits
@@ -254,7 +219,7 @@ took_sits owner w station target (Some (EstablishRequest l)) is takes sits =
 took_sits owner w station target (Some (RfChannelRelease channel)) is takes sits =
     let at : Place = place_at station channel in
     spotted at (record (spot_at w at) { sapi_three_up = false; air = [] }) is tt (based station (after_release (base_of w station) channel) sits)
-took_sits owner w station target (Some _) is takes sits = sits
+took_sits owner w station target _ is takes sits = sits
 
 -- ---- each event
 
@@ -313,8 +278,7 @@ sits_step owner w (BaseTakes station) by sits =
       where
         by_reading : (r : Result RrMessage RrFault) → AssignsBy owner w station r → AssignsBy owner (with_outbox station others w) station r
         by_reading (Ok (ImmediateAssignment channel request advance)) names = names
-        by_reading (Ok _) names = tt
-        by_reading (Err fault) names = tt
+        by_reading _ names = tt
     same_takes target others (Some (DataRequest d)) takes = takes
     same_takes target others None takes = tt
     same_takes target others (Some _) takes = tt
@@ -368,9 +332,7 @@ IsOwn owner s = owner s.tenure ≡ s.mobile
 
 seat_own : (owner : Tenure → ℕ) (number : ℕ) (seat : Seat) → SitsBy owner number seat → AllByRecursion (IsOwn owner) (on_seat number seat)
 seat_own owner number (On tenure command) sits = (on_own owner number tenure command sits, tt)
-seat_own owner number Asking sits = tt
-seat_own owner number (Moving from command) sits = tt
-seat_own owner number Gone sits = tt
+seat_own owner number _ sits = tt
 
 mobile_own : (owner : Tenure → ℕ) (w : Actors) (number : ℕ) (o : Option Mobile) → mobile_of w number ≡ o → Sits owner w → AllByRecursion (IsOwn owner) (sender_of o)
 mobile_own owner w number None found sits = tt

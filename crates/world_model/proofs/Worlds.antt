@@ -1,11 +1,9 @@
 -- How rows of the world are told: events one after the other, and what is seen then.
-use Rattle.world_model.proofs.Prelude.{ℕ, Bool, List, map, fold, Option, option_map, rsl_text}
+use Rattle.world_model.proofs.Prelude.{ℕ, Bool, List, map, fold, Option, option_map, rsl_text, Event, Seat, World, mobile_of, base_of}
+use Rattle.world_model.proofs.Prelude.{outbox_of}
 use Rattle.std.specs.Option.{is_some}
 use Rattle.controller_model.proofs.OnLiterals.{on_literals as octets_on_literals}
-use Rattle.world_model.specs.declared.event.Event.{Event}
-use Rattle.world_model.specs.declared.seat.Seat.{Seat}
 use Rattle.world_model.specs.Life.{event_after, after}
-use Rattle.world_model.specs.World.{World, mobile_of, base_of, outbox_of}
 
 -- a life over literal events computes under one name
 unfoldable pub on_literals : Unit {0}

@@ -1,14 +1,12 @@
 -- What a step does to one connection, at literal values.
 use Rattle.controller_model.proofs.Prelude.{◌≡◌, true, false, [], ◌∷◌, Some, None, refl, sym, arith, true≢false, Message, access_activation, hex}
 use Rattle.controller_model.proofs.Prelude.{handing, rf_channel_release, Input, Complete, Active, Closed, Live, Removed, WaitActivation}
-use Rattle.controller_model.proofs.Prelude.{Connection, new_connection, Zero}
+use Rattle.controller_model.proofs.Prelude.{Connection, new_connection, Zero, Acts, FitsNone, IsAged, IsBrought, kept, passed, ages, goes}
+use Rattle.controller_model.proofs.Prelude.{opens, rests, breaks, comes, nothing, passes, reports}
 use Rattle.conn_rules.specs.declared.input.Input.TheVariants as inputs
 use Rattle.conn_rules.specs.Table.{row_of}
 use Rattle.controller_model.proofs.LifeLaws.OwnRows.{own}
 use Rattle.controller_model.proofs.LifeLaws.UsedRows.{channel, connection}
-use Rattle.controller_model.specs.LifeLaws.Acts.{Acts, FitsNone, IsAged, IsBrought, kept, passed}
-use Rattle.controller_model.specs.LifeLaws.Acts.Acts.{ages, goes, opens, rests}
-use Rattle.controller_model.specs.LifeLaws.Acts.Brought.{breaks, comes, nothing, passes, reports}
 
 -- ---- a connection that is removed goes
 

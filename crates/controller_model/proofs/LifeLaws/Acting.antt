@@ -1,27 +1,19 @@
 -- Each step does one thing to a connection, or in a break and as time passes one after the other.
 use Rattle.controller_model.proofs.Prelude.{◌≡◌, Bool, ◌≢◌, ℕ, ◌==◌, List, [], ◌∷◌, ◌++◌, find, Option, Some, option_map, refl, sym, subst}
 use Rattle.controller_model.proofs.Prelude.{ap, ◌∙◌, inl, inr, true≢false, cases_Bool, cond-true, cond-false, eqb-true, eq-eqb, ne_eqb}
-use Rattle.controller_model.proofs.Prelude.{Channel, Message, Station, Request, Data, ReleaseComplete, Out, outs_of, Input, State}
-use Rattle.controller_model.proofs.Prelude.{WaitActivation, WaitEstablish, WaitConfirm, Live, Closed, Removed, Connection, Row, OfRow}
+use Rattle.controller_model.proofs.Prelude.{Channel, Message, Station, Out, outs_of, Input, State, Removed, Connection, Row, OfRow, row_of}
+use Rattle.controller_model.proofs.Prelude.{Acts, Brought, IsBrought, FitsNone, kept, kept_in, rests, goes, is_for, outs_for, connection_of}
+use Rattle.controller_model.proofs.Prelude.{AreRising, Controller, Entry, Turn, has_number, entry_of, by_row, entry_after}
 use Rattle.conn_messages.specs.Out.{out_of}
-use Rattle.conn_rules.specs.Table.{row_of}
-use Rattle.controller_model.specs.LifeLaws.Acts.{Acts, Brought, IsBrought, FitsNone, kept, kept_in}
-use Rattle.controller_model.specs.LifeLaws.Acts.Acts.{rests, goes}
-use Rattle.controller_model.specs.LifeLaws.History.{is_for, outs_for, connection_of}
-use Rattle.controller_model.specs.LifeLaws.Numbers.{AreRising}
 use Rattle.controller_model.proofs.LifeLaws.Entries.{entry_kept, back_over, back_found}
 use Rattle.controller_model.proofs.Numbers.{keeps_number}
-use Rattle.controller_model.specs.Controller.{Controller, Entry, Turn, has_number, entry_of}
-use Rattle.controller_model.specs.Life.{by_row, entry_after}
 
 -- ---- frames of one connection
 
 pub conn_of : (number : ℕ) (m : Message) → (out_of number m).conn ≡ number
 unfolding out_of
 conn_of number (Station station message) = refl
-conn_of number (Request message) = refl
-conn_of number (Data destination message) = refl
-conn_of number (ReleaseComplete destination) = refl
+conn_of number _ = refl
 
 pub outs_own : (number : ℕ) (ms : List Message) → outs_for number (outs_of number ms) ≡ outs_of number ms
 outs_own number [] = refl
@@ -64,11 +56,7 @@ kept_entry e = by e.connection.state
   where
     by : (state : State) → option_map (λ (x : Entry). x.connection) (entry_kept state e) ≡ kept_in state e.connection
     by Removed = refl
-    by WaitActivation = refl
-    by WaitEstablish = refl
-    by WaitConfirm = refl
-    by (Live reference stage) = refl
-    by (Closed clearing) = refl
+    by _ = refl
 
 pub row_found : (c : Controller) (e x : Entry) (r : Row) → AreRising c.entries → r.next.number ≡ e.connection.number → entry_of c e.connection.number ≡ Some x → connection_of (by_row e r c).next e.connection.number ≡ kept r.next
 row_found c e x r rising same there =

@@ -1,18 +1,13 @@
 -- What stands beside the connections: settings, links, and that numbers go on.
 use Rattle.controller_model.proofs.Prelude.{◌≡◌, ◌≢◌, ℕ, ◌==◌, ◌≤◌, Bool, true, false, if◌then◌else◌, List, [], ◌∷◌, set, Option, Some}
 use Rattle.controller_model.proofs.Prelude.{None, refl, sym, ◌∙◌, arith, get_or-set_other, Channel, Place, SWITCH_LINK, Input, Row, Report}
-use Rattle.controller_model.proofs.Prelude.{Decision, Stay, Move, What, RequestReference}
-use Rattle.std.proofs.lemmas.Option.{unwrap_or-slice_get}
-use Rattle.controller_model.specs.LifeLaws.Owning.{is_link_up}
-use Rattle.controller_model.specs.declared.step.Step.{Step}
-use Rattle.controller_model.specs.declared.step.Step.TheVariants.{Take, Tick}
-use Rattle.controller_model.specs.declared.word.Word.{Word}
-use Rattle.controller_model.specs.declared.word.Word.TheVariants.{Nothing, Ping, Asks, OnChannel, Reports, OnConnection}
-use Rattle.controller_model.specs.Channels.{access_channel}
-use Rattle.controller_model.specs.Controller.{Controller, Entry, Turn, turn, each, ignoring, is_up, entry_of, with_entry, with_down, freed, freed_station, channel_state}
-use Rattle.controller_model.specs.Life.{by_row, by_fitting, row_in, concerning, concerning_too, given, may_open, frees, entry_at, on_freed, measures, with_report, measured, on_decision, on_report, on_word, told, break_of, on_what, take, all_aged, expiry, on_expiry, timed, tick, step}
-use Rattle.controller_model.specs.Reading.{word_of}
-use Rattle.controller_model.specs.Reports.{decision_over}
+use Rattle.controller_model.proofs.Prelude.{Decision, Stay, Move, What, RequestReference, unwrap_or-slice_get, is_link_up, Step, Take, Tick}
+use Rattle.controller_model.proofs.Prelude.{Word, Nothing, Ping, Asks, OnChannel, Reports, OnConnection, access_channel, Controller, Entry}
+use Rattle.controller_model.proofs.Prelude.{Turn, turn, each, ignoring, is_up, entry_of, with_entry, with_down, freed, freed_station}
+use Rattle.controller_model.proofs.Prelude.{channel_state, by_row, by_fitting, row_in, concerning, concerning_too, given, may_open, frees}
+use Rattle.controller_model.proofs.Prelude.{entry_at, on_freed, measures, with_report, measured, on_decision, on_report, on_word, told}
+use Rattle.controller_model.proofs.Prelude.{break_of, on_what, all_aged, expiry, timed, step, word_of, decision_over}
+use Rattle.controller_model.specs.Life.{take, on_expiry, tick}
 use Rattle.ruled_relay.specs.declared.item.What.TheVariants as whats
 
 -- the settings and the links are the same, and numbers go on

@@ -2,29 +2,19 @@
 use Rattle.controller_model.proofs.Prelude.{◌≡◌, ◌≢◌, ℕ, ◌≤◌, Bool, true, false, if◌then◌else◌, List, [], ◌∷◌, Contains, Option, Some, None}
 use Rattle.controller_model.proofs.Prelude.{option_map, refl, sym, subst, ap, ◌∙◌, arith, cond-false, ne_eqb, Channel, Place}
 use Rattle.controller_model.proofs.Prelude.{access_activation, Input, Row, Report, Decision, Stay, Move, Frame, RequestReference}
-use Rattle.controller_model.proofs.Prelude.{AreAllowed, Parameters}
-use Rattle.std.proofs.Common.{◌↔◌}
-use Rattle.controller_model.specs.LifeLaws.Concern.{FrameLeaves}
-use Rattle.controller_model.specs.LifeLaws.History.{connection_of, outs_for}
-use Rattle.controller_model.specs.LifeLaws.Using.{AreUsed, used_places}
+use Rattle.controller_model.proofs.Prelude.{AreAllowed, Parameters, ◌↔◌, FrameLeaves, connection_of, outs_for, AreUsed, used_places}
+use Rattle.controller_model.proofs.Prelude.{ChannelState, Free, InUse, Releasing, Step, Take, Word, Nothing, Ping, Asks, OnChannel, Reports}
+use Rattle.controller_model.proofs.Prelude.{OnConnection, access_channel, Controller, Entry, Turn, turn, ignoring, entry_of, freed}
+use Rattle.controller_model.proofs.Prelude.{with_entry, channel_state, holder, is_up, by_fitting, concerning, concerning_too, entry_at}
+use Rattle.controller_model.proofs.Prelude.{frees, given, life, may_open, measured, measures, on_decision, on_freed, on_report, on_state}
+use Rattle.controller_model.proofs.Prelude.{on_what, on_word, row_in, step, with_report, Leaves, concerned, word_of, decision_over}
 use Rattle.controller_model.proofs.LifeLaws.Acting.{outs_other}
 use Rattle.controller_model.proofs.LifeLaws.Entries.{found_number}
 use Rattle.controller_model.proofs.LifeLaws.Keeping.{Keeps, keeps_same, word_keeps}
 use Rattle.controller_model.proofs.LifeLaws.UsingLife.{life_after, ready_by, ready_uses, run_step}
 use Rattle.controller_model.proofs.LifeLaws.UsingWords.{Ready}
 use Rattle.controller_model.proofs.Others.{word_leaves}
-use Rattle.controller_model.specs.declared.channel_state.ChannelState.{ChannelState}
-use Rattle.controller_model.specs.declared.channel_state.ChannelState.TheVariants.{Free, InUse, Releasing}
-use Rattle.controller_model.specs.declared.step.Step.{Step}
-use Rattle.controller_model.specs.declared.step.Step.TheVariants.{Take}
-use Rattle.controller_model.specs.declared.word.Word.{Word}
-use Rattle.controller_model.specs.declared.word.Word.TheVariants.{Nothing, Ping, Asks, OnChannel, Reports, OnConnection}
-use Rattle.controller_model.specs.Channels.{access_channel}
-use Rattle.controller_model.specs.Controller.{Controller, Entry, Turn, turn, ignoring, entry_of, freed, with_entry, channel_state, holder, is_up}
-use Rattle.controller_model.specs.Life.{by_fitting, concerning, concerning_too, entry_at, frees, given, life, may_open, measured, measures, on_decision, on_freed, on_report, on_state, on_what, on_word, row_in, step, take, with_report}
-use Rattle.controller_model.specs.Ownership.{Leaves, concerned}
-use Rattle.controller_model.specs.Reading.{word_of}
-use Rattle.controller_model.specs.Reports.{decision_over}
+use Rattle.controller_model.specs.Life.{take}
 use Rattle.ruled_relay.specs.declared.item.What.TheVariants as whats
 
 -- ---- nothing is put for it

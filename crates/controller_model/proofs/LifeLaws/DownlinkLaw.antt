@@ -1,7 +1,6 @@
 -- The switch's messages of a connection over a whole life, and in the octets of its frames.
-use Rattle.controller_model.proofs.Prelude.{ℕ, ◌≤◌, List, ◌∙◌, Parameters, sym}
-use Rattle.controller_model.specs.LifeLaws.Downlink.{DownlinkIsConserved, nothing_switched}
-use Rattle.controller_model.specs.LifeLaws.History.{Moment, all_messages}
+use Rattle.controller_model.proofs.Prelude.{ℕ, ◌≤◌, List, ◌∙◌, Parameters, sym, DownlinkIsConserved, nothing_switched, Moment, all_messages}
+use Rattle.controller_model.proofs.Prelude.{Step, new_controller, life}
 use Rattle.controller_model.proofs.LifeLaws.DownlinkLife.{downlink_in_life, frames_in_life, history_of, moments_of}
 use Rattle.controller_model.proofs.LifeLaws.Fitting.{new_fits}
 use Rattle.controller_model.proofs.LifeLaws.Ordered.{handed_in_order}
@@ -9,9 +8,6 @@ use Rattle.controller_model.proofs.LifeLaws.OwningLife.{new_holds}
 use Rattle.controller_model.proofs.LifeLaws.SeenStations.{handed_seen, handed_so_far, right_run}
 use Rattle.controller_model.proofs.LifeLaws.SoundLife.{life_sends_all}
 use Rattle.controller_model.proofs.LifeLaws.UsingLife.{new_uses}
-use Rattle.controller_model.specs.declared.step.Step.{Step}
-use Rattle.controller_model.specs.Controller.{new_controller}
-use Rattle.controller_model.specs.Life.{life}
 
 pub life_conserves : (p : Parameters) (steps : List Step) (number : ℕ) → 1 ≤ number → DownlinkIsConserved number p steps (life p steps)
 life_conserves p steps number from_one =

@@ -1,19 +1,16 @@
 -- The switch's messages of a connection over a whole life.
 use Rattle.controller_model.proofs.Prelude.{◌≡◌, ℕ, ◌≤◌, ◌<◌, List, [], ◌∷◌, ◌++◌, find, fold, Option, Some, None, option_map, refl, sym}
 use Rattle.controller_model.proofs.Prelude.{subst, ap, ◌∙◌, inl, inr, cases_Bool, cond-true, cond-false, eqb-true, AllByRecursion, Out}
-use Rattle.controller_model.proofs.Prelude.{outs_of, SWITCH_LINK, Connection, Sapi, Parameters}
-use Rattle.controller_model.specs.LifeLaws.Acts.{brought_in}
-use Rattle.controller_model.specs.LifeLaws.Downlink.{ConservesDownlink, Switched, nothing_switched, switched, with_moment}
-use Rattle.controller_model.specs.LifeLaws.History.{IsHistory, Moment, all_messages, connection_of, outs_for}
-use Rattle.controller_model.specs.LifeLaws.Numbers.{IsBelow, IsNumbered}
+use Rattle.controller_model.proofs.Prelude.{outs_of, SWITCH_LINK, Connection, Sapi, Parameters, brought_in, ConservesDownlink, Switched}
+use Rattle.controller_model.proofs.Prelude.{nothing_switched, switched, with_moment, IsHistory, Moment, all_messages, connection_of}
+use Rattle.controller_model.proofs.Prelude.{outs_for, IsBelow, IsNumbered, Step, Controller, Entry, each, has_number, is_up, new_controller}
+use Rattle.controller_model.proofs.Prelude.{step}
 use Rattle.controller_model.proofs.LifeLaws.Acting.{outs_append, outs_of_append}
 use Rattle.controller_model.proofs.LifeLaws.Beside.{step_goes}
 use Rattle.controller_model.proofs.LifeLaws.Fitting.{Fits, in_break, new_fits, step_fits}
 use Rattle.controller_model.proofs.LifeLaws.Switched.{AgreesDown, IsBegun, acts_agree, step_says}
 use Rattle.controller_model.proofs.LifeLaws.Turns.{step_does}
-use Rattle.controller_model.specs.declared.step.Step.{Step}
-use Rattle.controller_model.specs.Controller.{Controller, Entry, each, has_number, is_up, new_controller}
-use Rattle.controller_model.specs.Life.{life, step}
+use Rattle.controller_model.specs.Life.{life}
 
 -- the messages that the steps put for a connection
 unfoldable pub moments_of : (number : ℕ) (c : Controller) → 1 ≤ number → Fits number c → List Step → List Moment

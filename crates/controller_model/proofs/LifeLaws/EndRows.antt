@@ -3,21 +3,15 @@ use Rattle.controller_model.proofs.Prelude.{◌≡◌, ℕ, ◌<◌, List, [], �
 use Rattle.controller_model.proofs.Prelude.{Handover, Message, outs_of, access_activation, channel_release, handing, rf_channel_release}
 use Rattle.controller_model.proofs.Prelude.{clear_complete, clear_request, complete_layer3, relaying, release_complete, Asked, Complete}
 use Rattle.controller_model.proofs.Prelude.{Due, Active, Changing, Draining, Preparing, State, Closed, Live, Removed, WaitActivation}
-use Rattle.controller_model.proofs.Prelude.{WaitConfirm, WaitEstablish, relayed, Sapi, Three, Zero}
-use Rattle.conn_rules.specs.Streams.{handed}
+use Rattle.controller_model.proofs.Prelude.{WaitConfirm, WaitEstablish, relayed, Sapi, Three, Zero, handed, AllAreRead, AllKeepSilence}
+use Rattle.controller_model.proofs.Prelude.{GoToServing, HasNoStream, IsAway, IsThere, KeepsSilence, OnlyReleasesAfter, SilenceIsKept}
+use Rattle.controller_model.proofs.Prelude.{StaysSilent, IsHistory, Moment, all_messages, messages_on, InUse, Step, Tick, Controller}
+use Rattle.controller_model.proofs.Prelude.{free_channels, new_controller, turn, step, forwarded, handed_in}
 use Rattle.controller_model.proofs.LifeLaws.OwnRows.{busy, channels, other, out_for, own, with_channels}
 use Rattle.controller_model.proofs.LifeLaws.UsedRows.{channel, connection}
-use Rattle.controller_model.specs.LifeLaws.End.{AllAreRead, AllKeepSilence, GoToServing, HasNoStream, IsAway, IsThere, KeepsSilence, OnlyReleasesAfter, SilenceIsKept, StaysSilent}
-use Rattle.controller_model.specs.LifeLaws.History.{IsHistory, Moment, all_messages}
-use Rattle.controller_model.specs.LifeLaws.Seen.{messages_on}
 use Rattle.controller_model.proofs.Lives.{from_station, from_switch, usual_settings}
 use Rattle.controller_model.proofs.OnLiterals.{on_literals}
-use Rattle.controller_model.specs.declared.channel_state.ChannelState.TheVariants.{InUse}
-use Rattle.controller_model.specs.declared.step.Step.{Step}
-use Rattle.controller_model.specs.declared.step.Step.TheVariants.{Tick}
-use Rattle.controller_model.specs.Controller.{Controller, free_channels, new_controller, turn}
-use Rattle.controller_model.specs.Life.{life, step}
-use Rattle.controller_model.specs.Views.{forwarded, handed as handed_in}
+use Rattle.controller_model.specs.Life.{life}
 
 -- ---- a connection that is open
 

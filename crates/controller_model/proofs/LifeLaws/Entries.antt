@@ -2,8 +2,8 @@
 use Rattle.controller_model.proofs.Prelude.{◌≡◌, ◌≢◌, ◌⊎◌, ℕ, ◌<◌, false, cond, List, [], ◌∷◌, ◌++◌, find, Option, Some, None, refl, sym}
 use Rattle.controller_model.proofs.Prelude.{subst, ap, ◌∙◌, inl, inr, arith, cases_Bool, cond-true, cond-false, eqb-true, eq-eqb, ne_eqb}
 use Rattle.controller_model.proofs.Prelude.{AllByRecursion, State, WaitActivation, WaitEstablish, WaitConfirm, Live, Closed, Removed}
-use Rattle.controller_model.specs.LifeLaws.Numbers.{IsAbove, IsBelow, AreRising}
-use Rattle.controller_model.specs.Controller.{Entry, has_number, remaining, put_back}
+use Rattle.controller_model.proofs.Prelude.{IsAbove, IsBelow, AreRising, Entry, has_number, remaining, put_back}
+use Rattle.controller_model.proofs.Entries.{remaining_all}
 
 -- ---- an entry that stays, or is removed
 
@@ -19,13 +19,6 @@ remaining_is WaitConfirm e = inr (refl, refl)
 remaining_is (Live reference stage) e = inr (refl, refl)
 remaining_is (Closed clearing) e = inr (refl, refl)
 
--- what holds of all that remain and of the others
-remaining_all : (P : Entry → Type 0) (state : State) (e : Entry) (xs : List Entry) → P e → AllByRecursion P xs → AllByRecursion P (remaining state e ++ xs)
-remaining_all P state e xs here all = elim (remaining_is state e) [
-  | inl gone ↦ subst (λ (ys : List Entry). AllByRecursion P (ys ++ xs)) (sym gone.0) all
-  | inr stays ↦ subst (λ (ys : List Entry). AllByRecursion P (ys ++ xs)) (sym stays.0) (here, all)
-]
-
 -- ---- an entry is put back
 
 back_cases : (P : List Entry → Type 0) (e x : Entry) (xs : List Entry) → (x.connection.number ≡ e.connection.number → P (remaining e.connection.state e ++ xs)) → (has_number e.connection.number x ≡ false → P (x ∷ put_back e xs)) → P (put_back e (x ∷ xs))
@@ -40,10 +33,6 @@ back_all Q e [] all = tt
 back_all Q e (x ∷ xs) all = back_cases (AllByRecursion (λ (x : Entry). Q x.connection.number)) e x xs
     (λ same. remaining_all (λ (x : Entry). Q x.connection.number) e.connection.state e xs (subst Q same all.0) all.1)
     (λ miss. (all.0, back_all Q e xs all.1))
-
-above_trans : (low high : ℕ) (xs : List Entry) → low < high → AllByRecursion (IsAbove high) xs → AllByRecursion (IsAbove low) xs
-above_trans low high [] less all = tt
-above_trans low high (x ∷ xs) less all = (omega arith, above_trans low high xs less all.1)
 
 remaining_rising : (state : State) (e : Entry) (xs : List Entry) → AllByRecursion (IsAbove e.connection.number) xs → AreRising xs → AreRising (remaining state e ++ xs)
 remaining_rising state e xs above rising = elim (remaining_is state e) [
@@ -83,7 +72,7 @@ found_number n (x ∷ xs) e is = elim (cases_Bool (has_number n x)) [
   | inr miss ↦ found_number n xs e (sym (cond-false _ _ _ miss) ∙ is)
 ]
 
-remaining_over : (n : ℕ) (state : State) (e : Entry) (xs : List Entry) → n ≢ e.connection.number → find (has_number n) (remaining state e ++ xs) ≡ find (has_number n) xs
+pub remaining_over : (n : ℕ) (state : State) (e : Entry) (xs : List Entry) → n ≢ e.connection.number → find (has_number n) (remaining state e ++ xs) ≡ find (has_number n) xs
 remaining_over n state e xs other = elim (remaining_is state e) [
   | inl gone ↦ ap (λ (ys : List Entry). find (has_number n) (ys ++ xs)) gone.0
   | inr stays ↦ ap (λ (ys : List Entry). find (has_number n) (ys ++ xs)) stays.0 ∙ find_behind n e xs other

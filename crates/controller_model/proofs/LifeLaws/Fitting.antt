@@ -1,31 +1,18 @@
 -- What holds of a connection that the controller has.
 use Rattle.controller_model.proofs.Prelude.{◌≡◌, ℕ, ◌==◌, ◌≤◌, Bool, true, false, if◌then◌else◌, List, [], ◌∷◌, fold, Option, Some, None}
 use Rattle.controller_model.proofs.Prelude.{refl, sym, subst, ap, ◌∙◌, inl, inr, arith, true≢false, cases_Bool, cond-true, cond-false}
-use Rattle.controller_model.proofs.Prelude.{eq-eqb, Message, SWITCH_LINK, Input, Drain, State, WaitActivation, WaitEstablish, WaitConfirm}
-use Rattle.controller_model.proofs.Prelude.{Live, Closed, Removed, Connection, IsCarried, Stands, Row, OfRow, on_switch_down, after_pass}
-use Rattle.controller_model.proofs.Prelude.{What, Parameters}
-use Rattle.conn_rules.proofs.StandingSteps.{Stands-new}
+use Rattle.controller_model.proofs.Prelude.{eq-eqb, Message, SWITCH_LINK, Input, Drain, State, Removed, Connection, IsCarried, Stands, Row}
+use Rattle.controller_model.proofs.Prelude.{OfRow, on_switch_down, after_pass, What, Parameters, Stands-new, DrainTime, drained_after, Acts}
+use Rattle.controller_model.proofs.Prelude.{IsAged, passed, Brought, IsBrought, IsTimer, if_held, brought_by, brought_with, brought_in}
+use Rattle.controller_model.proofs.Prelude.{kept_in, ages, rests, opens, goes, nothing, comes, reports, breaks, passes, connection_of}
+use Rattle.controller_model.proofs.Prelude.{IsNumbered, is_link_up, Step, Take, Tick, Word, OnChannel, OnConnection, Controller, is_up}
+use Rattle.controller_model.proofs.Prelude.{channel_state, holder, new_controller, break_of, step, word_of}
 use Rattle.conn_rules.proofs.StandingTable.{Stands-row}
 use Rattle.conn_rules.specs.declared.input.Input.TheVariants as inputs
-use Rattle.conn_rules.specs.Standing.{DrainTime}
 use Rattle.conn_rules.specs.Table.{row_of}
-use Rattle.conn_rules.specs.Timers.{drained_after}
-use Rattle.controller_model.specs.LifeLaws.Acts.{Acts, IsAged, passed, Brought, IsBrought, IsTimer, if_held, brought_by, brought_with, brought_in, kept_in}
-use Rattle.controller_model.specs.LifeLaws.Acts.Acts.{ages, rests, opens, goes}
-use Rattle.controller_model.specs.LifeLaws.Acts.Brought.{nothing, comes, reports, breaks, passes}
-use Rattle.controller_model.specs.LifeLaws.History.{connection_of}
-use Rattle.controller_model.specs.LifeLaws.Numbers.{IsNumbered}
 use Rattle.controller_model.proofs.LifeLaws.Beside.{step_goes, links_with, links_after, other_link}
-use Rattle.controller_model.specs.LifeLaws.Owning.{is_link_up}
 use Rattle.controller_model.proofs.LifeLaws.Readings.{IsCarriedBy, word_carried}
 use Rattle.controller_model.proofs.LifeLaws.Turns.{step_does, step_numbered}
-use Rattle.controller_model.specs.declared.step.Step.{Step}
-use Rattle.controller_model.specs.declared.step.Step.TheVariants.{Take, Tick}
-use Rattle.controller_model.specs.declared.word.Word.{Word}
-use Rattle.controller_model.specs.declared.word.Word.TheVariants.{Nothing, Ping, Asks, OnChannel, Reports, OnConnection}
-use Rattle.controller_model.specs.Controller.{Controller, is_up, channel_state, holder, new_controller}
-use Rattle.controller_model.specs.Life.{break_of, step}
-use Rattle.controller_model.specs.Reading.{word_of}
 use Rattle.ruled_relay.specs.declared.item.What.TheVariants as whats
 
 -- ---- time passes
@@ -73,10 +60,7 @@ by_carried : (c : Controller) (number : ℕ) (word : Word) → IsCarriedBy word 
 unfolding IsCarriedIn
 by_carried c number (OnChannel at input) carried = held_carried number (holder (channel_state c at)) input carried
 by_carried c number (OnConnection destination input) carried = held_carried number (Some destination) input carried
-by_carried c number (Reports at of report) carried = tt
-by_carried c number Nothing carried = tt
-by_carried c number Ping carried = tt
-by_carried c number (Asks request delay) carried = tt
+by_carried c number _ carried = tt
 
 with_carried : (up : Bool) (c : Controller) (number source : ℕ) (what : What) → IsCarriedIn (if up then brought_with c number source what else nothing)
 unfolding IsCarriedIn
@@ -129,10 +113,7 @@ with_break true c number source (whats.Frame frame) = by (word_of source frame)
     by : (word : Word) → IsBreak (brought_by c number word)
     by (OnChannel at input) = held (holder (channel_state c at)) input
     by (OnConnection destination input) = held (Some destination) input
-    by (Reports at of report) = tt
-    by Nothing = tt
-    by Ping = tt
-    by (Asks request delay) = tt
+    by _ = tt
 with_break true c number source whats.Down = own_carried source
 with_break false c number source what = tt
 
@@ -162,18 +143,10 @@ IsFine (Some s) = IsPresent s.state × Stands s
 kept_fine : (state : State) (s : Connection) → s.state ≡ state → Stands s → IsFine (kept_in state s)
 unfolding IsFine IsPresent
 kept_fine Removed s is stands = tt
-kept_fine WaitActivation s is stands = (subst IsPresent (sym is) tt, stands)
-kept_fine WaitEstablish s is stands = (subst IsPresent (sym is) tt, stands)
-kept_fine WaitConfirm s is stands = (subst IsPresent (sym is) tt, stands)
-kept_fine (Live reference stage) s is stands = (subst IsPresent (sym is) tt, stands)
-kept_fine (Closed clearing) s is stands = (subst IsPresent (sym is) tt, stands)
+kept_fine _ s is stands = (subst IsPresent (sym is) tt, stands)
 
 FinePart : Connection → Type 0
 FinePart s = IsPresent s.state × Stands s
-
-some_fine : (before : Option Connection) (s : Connection) → before ≡ Some s → IsFine before → FinePart s
-unfolding IsFine FinePart
-some_fine before s is fine = subst IsFine is fine
 
 pub fine_old : (before : Option Connection) (old s : Connection) → before ≡ Some old → IsAged old s → IsFine before → IsPresent s.state × Stands s
 unfolding IsFine FinePart
@@ -195,21 +168,13 @@ pub row_is : (q r : Row) → (let o : Option Row = Some q in o) ≡ Some r → q
 row_is q r is = cc
 
 removed_by : (state : State) (s : Connection) (r : Row) → on_switch_down state s ≡ Some r → r.next.state ≡ Removed
-removed_by WaitActivation s r is = ap (λ (q : Row). q.next.state) (sym (row_is _ r is))
-removed_by WaitEstablish s r is = ap (λ (q : Row). q.next.state) (sym (row_is _ r is))
-removed_by WaitConfirm s r is = ap (λ (q : Row). q.next.state) (sym (row_is _ r is))
-removed_by (Live reference stage) s r is = ap (λ (q : Row). q.next.state) (sym (row_is _ r is))
-removed_by (Closed clearing) s r is = ap (λ (q : Row). q.next.state) (sym (row_is _ r is))
 removed_by Removed s r is = absurd cc
+removed_by _ s r is = ap (λ (q : Row). q.next.state) (sym (row_is _ r is))
 
 pub never_none : (state : State) (s : Connection) → IsPresent state → on_switch_down state s ≡ None → ⊥
 unfolding IsPresent
-never_none WaitActivation s there is = absurd cc
-never_none WaitEstablish s there is = absurd cc
-never_none WaitConfirm s there is = absurd cc
-never_none (Live reference stage) s there is = absurd cc
-never_none (Closed clearing) s there is = absurd cc
 never_none Removed s there is = there
+never_none _ s there is = absurd cc
 
 pub gone_after : (number next : ℕ) (up : Bool) (before after : Option Connection) (put : List Message) → Acts number next up (breaks inputs.SwitchDown) before put after → IsFine before → after ≡ None
 unfolding row_of

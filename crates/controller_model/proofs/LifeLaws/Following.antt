@@ -1,21 +1,16 @@
 -- What was relayed follows the tenures, row by row.
 use Rattle.controller_model.proofs.Prelude.{◌≡◌, ℕ, ◌==◌, ◌&&◌, Bool, true, false, not, if◌then◌else◌, List, [], ◌∷◌, ◌++◌, Option, Some}
 use Rattle.controller_model.proofs.Prelude.{None, refl, sym, subst, ap, ◌∙◌, append_assoc, append-nil, cond-true, eq-eqb, flat_map-append}
-use Rattle.controller_model.proofs.Prelude.{Channel, Place, Message, AreAway, Input, Drain, Active, Preparing, Changing, Draining, State}
-use Rattle.controller_model.proofs.Prelude.{WaitActivation, WaitEstablish, WaitConfirm, Live, Closed, Removed, Target, Connection, is_at}
-use Rattle.controller_model.proofs.Prelude.{TargetRole, Roles, RoleStep, GoesOn, after_step, awaits_at, changes_by, roles_of, step_by}
-use Rattle.controller_model.proofs.Prelude.{target_channels, target_role, with_target, stays, commands, completes, goes_back, leaves}
-use Rattle.controller_model.proofs.Prelude.{Stands, Row, AreApart, Future, IsApart, IsOpen, OfRow, from_input, of_target, relayed, still_of}
-use Rattle.controller_model.proofs.Prelude.{undone, used_channels, Sapi, Zero, Three, HeldTenure}
-use Rattle.conn_rules.proofs.UplinkPlaces.{all_behind, away-of_other}
+use Rattle.controller_model.proofs.Prelude.{Channel, Place, Message, AreAway, Input, Drain, Preparing, Changing, State, Live, Target}
+use Rattle.controller_model.proofs.Prelude.{Connection, is_at, TargetRole, Roles, RoleStep, GoesOn, after_step, awaits_at, changes_by}
+use Rattle.controller_model.proofs.Prelude.{roles_of, step_by, target_channels, target_role, with_target, stays, commands, completes}
+use Rattle.controller_model.proofs.Prelude.{goes_back, leaves, Stands, Row, AreApart, Future, IsApart, IsOpen, OfRow, from_input, of_target}
+use Rattle.controller_model.proofs.Prelude.{relayed, still_of, undone, used_channels, Sapi, Zero, Three, HeldTenure, all_behind}
+use Rattle.controller_model.proofs.Prelude.{away-of_other, Ends, KeepsUplink, of_prepared, on_channel, relayed_by, row_of, used_in, Tenure}
+use Rattle.controller_model.proofs.Prelude.{is_on, is_same, place_of}
 use Rattle.conn_rules.proofs.UplinkTable.{row-keeps}
 use Rattle.conn_rules.specs.declared.input.Input.TheVariants as inputs
-use Rattle.conn_rules.specs.Streams.{Ends, KeepsUplink, of_prepared, on_channel, relayed_by}
-use Rattle.conn_rules.specs.Table.{row_of}
-use Rattle.controller_model.specs.LifeLaws.Owning.{used_in}
-use Rattle.controller_model.specs.LifeLaws.Uplink.{Tenure, after_input, is_on, is_same}
 use Rattle.controller_model.proofs.LifeLaws.Tenures.{NoneOn, clear, joined_clear, joined_with, same_false, still_clear}
-use Rattle.controller_model.specs.Controller.{place_of}
 
 -- ---- a connection that serves, and its tenures
 
@@ -51,14 +46,7 @@ role_target f (Some t) = if t.is_commanded then on_channel f t.target.channel el
 pub of_target_role : (f : Future) (state : State) → of_target f state ≡ role_target f (target_role state)
 unfolding role_target
 of_target_role f (Live reference (Changing target)) = refl
-of_target_role f (Live reference (Preparing target)) = refl
-of_target_role f (Live reference Active) = refl
-of_target_role f (Live reference Draining) = refl
-of_target_role f WaitActivation = refl
-of_target_role f WaitEstablish = refl
-of_target_role f WaitConfirm = refl
-of_target_role f (Closed clearing) = refl
-of_target_role f Removed = refl
+of_target_role f _ = refl
 
 -- nothing comes on the target
 unfoldable pub Killed : Future → Option TargetRole → Type 0
@@ -105,14 +93,7 @@ kill_kills (Some t) f = cond-true _ _ _ (same_true (place_of t.target.channel))
 prepared_killed : (f : Future) (state : State) → Killed f (target_role state) → of_prepared f state ≡ []
 unfolding Killed
 prepared_killed f (Live reference (Preparing target)) killed = killed
-prepared_killed f (Live reference (Changing target)) killed = refl
-prepared_killed f (Live reference Active) killed = refl
-prepared_killed f (Live reference Draining) killed = refl
-prepared_killed f WaitActivation killed = refl
-prepared_killed f WaitEstablish killed = refl
-prepared_killed f WaitConfirm killed = refl
-prepared_killed f (Closed clearing) killed = refl
-prepared_killed f Removed killed = refl
+prepared_killed f _ killed = refl
 
 -- ---- a row, where nothing comes on the target any more
 
@@ -149,14 +130,6 @@ plain_future Zero (inputs.EstablishIndication at Three message) f plain = refl
 plain_future Three (inputs.EstablishIndication at Three message) f plain = refl
 plain_future Zero _ f plain = refl
 plain_future Three _ f plain = refl
-
-plain_tenures : (input : Input) (put : List Message) (ts : List Tenure) → IsPlain input → after_input input put ts ≡ ts
-plain_tenures (inputs.Dtap at of message) put ts plain = absurd plain
-plain_tenures (inputs.Complete at change cause) put ts plain = absurd plain
-plain_tenures (inputs.ReleaseAck at) put ts plain = absurd plain
-plain_tenures (inputs.EstablishIndication at Zero message) put ts plain = absurd plain
-plain_tenures (inputs.EstablishIndication at Three message) put ts plain = refl
-plain_tenures _ put ts plain = refl
 
 plain_ends : (input : Input) (f : Future) (state : State) → IsPlain input → Killed f (target_role state) → Ends f state input
 plain_ends (inputs.ReleaseAck at) f state plain killed = absurd plain
@@ -195,9 +168,6 @@ target_away s (Some u) apart t is =
   where
     of : (let o : Option TargetRole = Some u in o) ≡ Some t → u ≡ t
     of is = cc
-
-    here : is_at (place_of u.target.channel) u.target.channel ≡ true
-    here = same_true (place_of u.target.channel)
 
     turned : (c : Channel) → IsApart c u.target.channel → is_at (place_of u.target.channel) c ≡ false
     turned c apart = away-of_other (place_of u.target.channel) c u.target.channel apart (same_true (place_of u.target.channel))

@@ -2,22 +2,17 @@
 use Rattle.controller_model.proofs.Prelude.{◌≡◌, ℕ, ◌&&◌, Bool, true, false, if◌then◌else◌, List, [], ◌∷◌, ◌++◌, Option, Some, None, refl}
 use Rattle.controller_model.proofs.Prelude.{sym, subst, ap, ◌∙◌, inl, inr, append_assoc, append-nil, cases_Bool, cond-true, cond-false}
 use Rattle.controller_model.proofs.Prelude.{and_parts, Change, Assignment, Handover, Channel, Place, Message, AreAway, drain_at-drains}
-use Rattle.controller_model.proofs.Prelude.{same_place, Input, Drain, Stage, Active, Preparing, Changing, Draining, State, WaitActivation}
-use Rattle.controller_model.proofs.Prelude.{WaitEstablish, WaitConfirm, Live, Closed, Removed, Connection, is_at, tenure_at, TargetRole}
-use Rattle.controller_model.proofs.Prelude.{Roles, RoleStep, GoesOn, after_step, changes_by, roles_of, step_by, target_channels}
-use Rattle.controller_model.proofs.Prelude.{target_role, stays, completes, Stands, Row, failing, AreApart, Future, IsApart, IsOpen}
-use Rattle.controller_model.proofs.Prelude.{from_input, of_target, relayed, still_of, undone, used_channels, complete, dtap_in, on_complete}
-use Rattle.controller_model.proofs.Prelude.{on_dtap, EQUIPMENT_FAILURE, Sapi, Zero, Three}
-use Rattle.conn_rules.proofs.UplinkPlaces.{away-of, drain-behind_away}
+use Rattle.controller_model.proofs.Prelude.{same_place, Input, Drain, Stage, Changing, State, WaitEstablish, WaitConfirm, Live, Connection}
+use Rattle.controller_model.proofs.Prelude.{is_at, tenure_at, TargetRole, Roles, RoleStep, GoesOn, after_step, changes_by, roles_of}
+use Rattle.controller_model.proofs.Prelude.{step_by, target_channels, target_role, stays, completes, Stands, Row, failing, AreApart, Future}
+use Rattle.controller_model.proofs.Prelude.{IsApart, IsOpen, from_input, of_target, relayed, still_of, undone, used_channels, complete}
+use Rattle.controller_model.proofs.Prelude.{dtap_in, on_complete, on_dtap, EQUIPMENT_FAILURE, Sapi, Zero, Three, away-of, drain-behind_away}
+use Rattle.controller_model.proofs.Prelude.{is_target_at, same_change, used_in, Tenure, begin_next, beginning, of_sapi, performs, place_of}
 use Rattle.conn_rules.specs.declared.input.Input.TheVariants as inputs
-use Rattle.conn_rules.specs.Roles.{is_target_at}
-use Rattle.conn_rules.specs.Table.{row_of, same_change}
-use Rattle.controller_model.specs.LifeLaws.Owning.{used_in}
-use Rattle.controller_model.specs.LifeLaws.Uplink.{Tenure, begin_next, beginning, of_sapi, performs}
+use Rattle.conn_rules.specs.Table.{row_of}
 use Rattle.controller_model.proofs.LifeLaws.Following.{Follows, Serves, begun_same, begun_killed, joins, keeps, none_on, of_target_role, role_target}
 use Rattle.controller_model.proofs.LifeLaws.OwningWords.{if_is}
 use Rattle.controller_model.proofs.LifeLaws.Tenures.{joined_with}
-use Rattle.controller_model.specs.Controller.{place_of}
 
 -- ---- COMPLETE
 
@@ -45,14 +40,7 @@ complete_by (Live reference (Changing target)) s same at change cause offer r is
       alike = parts.1;
       performed = ap (λ (q : Row). performs q.outs) (sym one.1) ∙ performs_complete reference change target.channel cause offer s;
     }
-complete_by (Live reference Active) s same at change cause offer r is = absurd cc
-complete_by (Live reference Draining) s same at change cause offer r is = absurd cc
-complete_by (Live reference (Preparing target)) s same at change cause offer r is = absurd cc
-complete_by WaitActivation s same at change cause offer r is = absurd cc
-complete_by WaitEstablish s same at change cause offer r is = absurd cc
-complete_by WaitConfirm s same at change cause offer r is = absurd cc
-complete_by (Closed clearing) s same at change cause offer r is = absurd cc
-complete_by Removed s same at change cause offer r is = absurd cc
+complete_by _ s same at change cause offer r is = absurd cc
 
 pub complete_is : (s : Connection) (at : Place) (change : Change) (cause : _) (offer : Option Channel) (r : Row) → row_of s (inputs.Complete at change cause) offer ≡ Some r → Completes s at change r
 unfolding row_of
@@ -126,10 +114,7 @@ dtap_by (Some place) reference stage s at of message r is there = (place, refl)
 dtap_by None reference (Changing target) s at Zero message r is there =
     let one = if_is (is_at at target.channel) (failing (Live reference (Changing target)) s EQUIPMENT_FAILURE) r is in
     absurd (subst (λ (q : Row). IsOpen q.next.state) (sym one.1) there)
-dtap_by None reference (Changing target) s at Three message r is there = absurd cc
-dtap_by None reference (Preparing target) s at of message r is there = absurd cc
-dtap_by None reference Active s at of message r is there = absurd cc
-dtap_by None reference Draining s at of message r is there = absurd cc
+dtap_by _ reference _ s at _ message r is there = absurd cc
 
 target_off : (s : Connection) (at : Place) (target : Option TargetRole) (place : ℕ) → AreApart (undone s.draining ++ s.serving ∷ target_channels target) → tenure_at at s.serving s.draining ≡ Some place → AreAway at (target_channels target)
 target_off s at None place apart is = tt
@@ -148,9 +133,7 @@ off_by (Live reference stage) s same at of message r apart is there =
     target_off s at (target_role s.state) found.0 apart found.1
 off_by WaitConfirm s same at of message r apart is there = subst (λ (state : State). AreAway at (target_channels (target_role state))) (sym same) tt
 off_by WaitEstablish s same at of message r apart is there = subst (λ (state : State). AreAway at (target_channels (target_role state))) (sym same) tt
-off_by WaitActivation s same at of message r apart is there = absurd cc
-off_by (Closed clearing) s same at of message r apart is there = absurd cc
-off_by Removed s same at of message r apart is there = absurd cc
+off_by _ s same at of message r apart is there = absurd cc
 
 pub dtap_off : (s : Connection) (at : Place) (of : Sapi) (message : List ℕ) (offer : Option Channel) (r : Row) → AreApart (used_in (roles_of s)) → row_of s (inputs.Dtap at of message) offer ≡ Some r → IsOpen r.next.state → AreAway at (target_channels (target_role s.state))
 unfolding row_of

@@ -1,17 +1,13 @@
 -- Where no row goes, no tenure changes.
-use Rattle.controller_model.proofs.Prelude.{◌≡◌, ◌≢◌, ℕ, Bool, true, false, List, [], ◌∷◌, ◌++◌, map, Some, None, refl, sym, subst, ap, ◌∙◌}
+use Rattle.controller_model.proofs.Prelude.{◌≡◌, ◌≢◌, ℕ, Bool, true, false, List, [], ◌∷◌, ◌++◌, map, Some, refl, sym, subst, ap, ◌∙◌}
 use Rattle.controller_model.proofs.Prelude.{inl, inr, true≢false, cases_Bool, AllByRecursion, Channel, Place, Message, AreAway, same_place}
-use Rattle.controller_model.proofs.Prelude.{Input, Connection, is_at, roles_of, target_channels, undone, Zero, Three}
-use Rattle.conn_rules.proofs.UplinkPlaces.{all_behind}
+use Rattle.controller_model.proofs.Prelude.{Input, Connection, is_at, roles_of, target_channels, undone, Zero, all_behind, AreIn, Owns}
+use Rattle.controller_model.proofs.Prelude.{is_link_up, used_in, Tenure, acknowledged, after_input, begin_next, heard, ChannelState, InUse}
+use Rattle.controller_model.proofs.Prelude.{Releasing, holder, state_in}
 use Rattle.conn_rules.specs.declared.input.Input.TheVariants as inputs
-use Rattle.controller_model.specs.LifeLaws.Owning.{AreIn, Owns, is_link_up, used_in}
-use Rattle.controller_model.specs.LifeLaws.Uplink.{Tenure, acknowledged, after_input, begin_next, heard}
 use Rattle.controller_model.proofs.LifeLaws.Following.{Follows, none_on, older}
 use Rattle.controller_model.proofs.LifeLaws.Sources.{IsAtPlace}
 use Rattle.controller_model.proofs.LifeLaws.Tenures.{NoneOn, ended_none, heard_none}
-use Rattle.controller_model.specs.declared.channel_state.ChannelState.{ChannelState}
-use Rattle.controller_model.specs.declared.channel_state.ChannelState.TheVariants.{InUse, Releasing}
-use Rattle.controller_model.specs.Controller.{holder, state_in}
 
 abbrev States : Type 0
 States = List (List ChannelState)
@@ -34,8 +30,6 @@ none_after at (inputs.Dtap place of message) ts is away = subst (λ (p : Place).
 none_after at (inputs.ReleaseAck place) ts is away = subst (λ (p : Place). acknowledged p ts ≡ ts) (sym is) (older_none at ts (older_of at ts away))
 none_after at (inputs.Complete place change cause) ts is away = not_begun ts place
 none_after at (inputs.EstablishIndication place Zero (Some initial)) ts is away = refl
-none_after at (inputs.EstablishIndication place Zero None) ts is away = refl
-none_after at (inputs.EstablishIndication place Three message) ts is away = refl
 none_after at _ ts is away = refl
 
 -- a channel that another connection has, or nobody

@@ -6,17 +6,12 @@ use Rattle.controller_model.proofs.Prelude.{cond-true, cond-false, eqb-true, and
 use Rattle.controller_model.proofs.Prelude.{same_place, Input, Drain, Connection, drain_at, is_at, TargetRole, Roles, RoleStep, GoesOn}
 use Rattle.controller_model.proofs.Prelude.{after_step, leaves_at, roles_of, step_by, target_channels, target_role, stays, leaves, Stands}
 use Rattle.controller_model.proofs.Prelude.{Row, done_at, AreApart, Future, IsOpen, from_input, of_target, relayed, still_of, undone}
-use Rattle.controller_model.proofs.Prelude.{used_channels, Sapi, Zero, Three}
-use Rattle.conn_rules.proofs.RolesAccount.{undone-still_draining}
-use Rattle.conn_rules.proofs.UplinkPlaces.{DrainsAt, drain-behind_away}
+use Rattle.controller_model.proofs.Prelude.{used_channels, Sapi, Zero, Three, undone-still_draining, DrainsAt, drain-behind_away, row_of}
+use Rattle.controller_model.proofs.Prelude.{used_in, Tenure, acknowledged, ended, heard, is_on, is_same, with_message, place_of}
 use Rattle.conn_rules.specs.declared.input.Input.TheVariants as inputs
-use Rattle.conn_rules.specs.Table.{row_of}
-use Rattle.controller_model.specs.LifeLaws.Owning.{used_in}
-use Rattle.controller_model.specs.LifeLaws.Uplink.{Tenure, acknowledged, ended, heard, is_on, is_same, with_message}
 use Rattle.controller_model.proofs.LifeLaws.Following.{Follows, Killed, Serves, begun_same, begun_killed, joined_kill, joins, keeps, kill, kill_kills, none_on, of_target_role, older, quiet_keeps, role_killed, role_target, same_true, serving_off, still_kill, target_away}
 use Rattle.controller_model.proofs.LifeLaws.Owning.{all_done_at, away_done}
 use Rattle.controller_model.proofs.LifeLaws.Tenures.{NoneOn, clear, joined_acknowledged, joined_clear, joined_heard, joined_with, same_false, still_clear}
-use Rattle.controller_model.specs.Controller.{place_of}
 
 -- ---- an old channel is released
 
@@ -120,8 +115,7 @@ heard_off at other of message t = by (is_on at t) of
   where
     by : (b : Bool) (of : Sapi) → is_on other (if b then with_message of message t else t) ≡ is_on other t
     by true Zero = refl
-    by true Three = refl
-    by false of = refl
+    by _ _ = refl
 
 none_heard : (at other : Place) (of : Sapi) (message : List ℕ) (ts : List Tenure) → NoneOn other ts → NoneOn other (map (heard at of message) ts)
 none_heard at other of message [] away = tt
@@ -133,8 +127,7 @@ serves_heard serving at of message (t ∷ old) serves = by (is_on at t) of
   where
     by : (b : Bool) (of : Sapi) → ((if b then with_message of message t else t).is_over ≡ false) × ((if b then with_message of message t else t).place ≡ place_of serving)
     by true Zero = serves
-    by true Three = serves
-    by false of = serves
+    by _ _ = serves
 
 older_heard : (at other : Place) (of : Sapi) (message : List ℕ) (ts : List Tenure) → NoneOn other (older ts) → NoneOn other (older (map (heard at of message) ts))
 older_heard at other of message [] away = tt

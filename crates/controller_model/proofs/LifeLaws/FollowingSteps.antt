@@ -4,15 +4,12 @@ use Rattle.controller_model.proofs.Prelude.{Some, None, refl, sym, subst, ap, �
 use Rattle.controller_model.proofs.Prelude.{eq-eqb, Channel, Place, Message, by_state, AreAway, Input, Drain, Stage, State, WaitActivation}
 use Rattle.controller_model.proofs.Prelude.{WaitEstablish, WaitConfirm, Live, Closed, Removed, Connection, drain_at, is_at, tenure_at}
 use Rattle.controller_model.proofs.Prelude.{roles_of, Stands, hold_up, undone, dtap_in, on_dtap, on_release_ack, release_in, Sapi, Zero}
-use Rattle.controller_model.proofs.Prelude.{Three, What}
+use Rattle.controller_model.proofs.Prelude.{What, Brought, FitsNone, IsBrought, IsTimer, brought_by, brought_in, brought_with, if_held}
+use Rattle.controller_model.proofs.Prelude.{nothing, comes, reports, breaks, passes, requests, word_by, word_in, Owns, Tenure, after_input}
+use Rattle.controller_model.proofs.Prelude.{after_word, Step, Take, Tick, Word, OnChannel, Reports, OnConnection, Controller, channel_state}
+use Rattle.controller_model.proofs.Prelude.{holder, is_up, word_of}
 use Rattle.conn_rules.specs.declared.input.Input.TheVariants as inputs
 use Rattle.conn_rules.specs.Table.{row_of}
-use Rattle.controller_model.specs.LifeLaws.Acts.{Brought, FitsNone, IsBrought, IsTimer, brought_by, brought_in, brought_with, if_held}
-use Rattle.controller_model.specs.LifeLaws.Acts.Brought.{nothing, comes, reports, breaks, passes}
-use Rattle.controller_model.specs.LifeLaws.Downlink.{requests}
-use Rattle.controller_model.specs.LifeLaws.History.{word_by, word_in}
-use Rattle.controller_model.specs.LifeLaws.Owning.{Owns}
-use Rattle.controller_model.specs.LifeLaws.Uplink.{Tenure, after_input, after_word}
 use Rattle.controller_model.proofs.LifeLaws.Fitting.{IsBreak, IsLinkBreak}
 use Rattle.controller_model.proofs.LifeLaws.Following.{Follows, none_on, older}
 use Rattle.controller_model.proofs.LifeLaws.FollowingRests.{down_none, none_after, not_begun, older_none, other_none}
@@ -22,12 +19,6 @@ use Rattle.controller_model.proofs.LifeLaws.OwningLife.{none_if}
 use Rattle.controller_model.proofs.LifeLaws.Progress.{IsLive}
 use Rattle.controller_model.proofs.LifeLaws.Sources.{IsAtPlace, IsFrom, IsOfSwitch, word_from}
 use Rattle.controller_model.proofs.LifeLaws.Tenures.{NoneOn, heard_none}
-use Rattle.controller_model.specs.declared.step.Step.{Step}
-use Rattle.controller_model.specs.declared.step.Step.TheVariants.{Take, Tick}
-use Rattle.controller_model.specs.declared.word.Word.{Word}
-use Rattle.controller_model.specs.declared.word.Word.TheVariants.{Nothing, Ping, Asks, OnChannel, Reports, OnConnection}
-use Rattle.controller_model.specs.Controller.{Controller, channel_state, holder, is_up}
-use Rattle.controller_model.specs.Reading.{word_of}
 use Rattle.ruled_relay.specs.declared.item.What.TheVariants as whats
 
 -- ---- no row fits
@@ -37,7 +28,7 @@ in_no_tenure None reference stage s at of message none = refl
 in_no_tenure (Some zero) reference stage s at of message none = absurd cc
 in_no_tenure (Some (suc place)) reference stage s at of message none = absurd cc
 
-no_tenure : (at : Place) (serving : Channel) (ds : List Drain) → tenure_at at serving ds ≡ None → (is_at at serving ≡ false) × (drain_at at ds ≡ None)
+pub no_tenure : (at : Place) (serving : Channel) (ds : List Drain) → tenure_at at serving ds ≡ None → (is_at at serving ≡ false) × (drain_at at ds ≡ None)
 no_tenure at serving ds none = elim (cases_Bool (is_at at serving)) [
   | inl hit ↦ absurd (let found : Some (length ds) ≡ None = sym (cond-true _ (Some (length ds)) (drain_at at ds) hit) ∙ none in cc)
   | inr miss ↦ (miss, sym (cond-false _ (Some (length ds)) (drain_at at ds) miss) ∙ none)
@@ -61,7 +52,7 @@ dtap_misses (Closed clearing) s same at of message before ts (inr live) stands n
 dtap_misses Removed s same at of message before ts (inl is) stands none follows = absurd cc
 dtap_misses Removed s same at of message before ts (inr live) stands none follows = absurd live
 
-drains_none : (o : Option ℕ) (reference : ℕ) (stage : Stage) (offer : Option Channel) (s : Connection) → release_in o reference stage offer s ≡ None → o ≡ None
+pub drains_none : (o : Option ℕ) (reference : ℕ) (stage : Stage) (offer : Option Channel) (s : Connection) → release_in o reference stage offer s ≡ None → o ≡ None
 drains_none None reference stage offer s none = refl
 drains_none (Some place) reference stage offer s none = absurd cc
 
@@ -83,8 +74,6 @@ missed s (inputs.Dtap at of message) offer before ts in_it stands none follows =
 missed s (inputs.ReleaseAck at) offer before ts in_it stands none follows = older_none at ts (ack_misses s.state s refl at offer before ts in_it stands none follows)
 missed s (inputs.Complete at change cause) offer before ts in_it stands none follows = not_begun ts at
 missed s (inputs.EstablishIndication at Zero (Some initial)) offer before ts in_it stands none follows = refl
-missed s (inputs.EstablishIndication at Zero None) offer before ts in_it stands none follows = refl
-missed s (inputs.EstablishIndication at Three message) offer before ts in_it stands none follows = refl
 missed s _ offer before ts in_it stands none follows = refl
 
 -- ---- what a word says of the tenures
@@ -131,17 +120,11 @@ word_says : (c : Controller) (number source : ℕ) (word : Word) (ts : List Tenu
 word_says c number source (OnChannel at input) ts from own = held_says number at (holder (channel_state c at)) input ts from.1 (own.others at)
 word_says c number source (OnConnection destination input) ts from own = connection_says number destination input ts from.1
 word_says c number source (Reports at of report) ts from own = λ put. refl
-word_says c number source Nothing ts from own = refl
-word_says c number source Ping ts from own = refl
-word_says c number source (Asks request delay) ts from own = refl
+word_says c number source _ ts from own = refl
 
 down_says : (source : ℕ) (word : Word) (ts : List Tenure) → IsFrom source word → ((at : Place) → at.station ≡ source → NoneOn at ts) → after_word word [] ts ≡ ts
 down_says source (OnChannel at input) ts from away = none_after at input ts from.1 (away at from.0)
-down_says source (OnConnection destination input) ts from away = refl
-down_says source (Reports at of report) ts from away = refl
-down_says source Nothing ts from away = refl
-down_says source Ping ts from away = refl
-down_says source (Asks request delay) ts from away = refl
+down_says source _ ts from away = refl
 
 what_says : (up : Bool) (c : Controller) (number source : ℕ) (what : What) (ts : List Tenure) → is_up c source ≡ up → AreOwn c number ts → SaysUp (word_by source what) ts (if up then brought_with c number source what else nothing)
 what_says true c number source (whats.Frame frame) ts is own = word_says c number source (word_of source frame) ts (word_from source frame) own
@@ -163,12 +146,11 @@ follows_own c number s before ts owns follows = record {
 }
 
 pub up_own : (state : State) (c : Controller) (number : ℕ) (s : Connection) (before : List Message) (ts : List Tenure) → Owns c.channels c.links number (roles_of s) → UpIn state s before ts → AreOwn c number ts
-up_own WaitActivation c number s before ts owns up = none_own c number ts up.0
-up_own WaitEstablish c number s before ts owns up = none_own c number ts up.0
 up_own WaitConfirm c number s before ts owns up = follows_own c number s before ts owns up
 up_own (Live reference stage) c number s before ts owns up = follows_own c number s before ts owns up
 up_own (Closed clearing) c number s before ts owns up = absurd up
 up_own Removed c number s before ts owns up = absurd up
+up_own _ c number s before ts owns up = none_own c number ts up.0
 
 -- ---- nothing goes, or a row by what is brought
 
@@ -178,19 +160,16 @@ word_none (OnChannel at input) put none = early_none input put none
 word_none _ put none = refl
 
 missed_in : (state : State) (s : Connection) → s.state ≡ state → (input : Input) (before : List Message) (ts : List Tenure) → Stands s → FitsNone (comes input) (Some s) → UpIn state s before ts → after_input input [] ts ≡ ts
-missed_in WaitActivation s same input before ts stands none up = subst (λ (us : List Tenure). after_input input [] us ≡ us) (sym up.0) (early_none input [] refl)
-missed_in WaitEstablish s same input before ts stands none up = subst (λ (us : List Tenure). after_input input [] us ≡ us) (sym up.0) (early_none input [] refl)
 missed_in WaitConfirm s same input before ts stands none up = missed s input none.0 before ts (inl same) stands none.1 up
 missed_in (Live reference stage) s same input before ts stands none up = missed s input none.0 before ts (inr (subst IsLive (sym same) tt)) stands none.1 up
 missed_in (Closed clearing) s same input before ts stands none up = absurd up
 missed_in Removed s same input before ts stands none up = absurd up
+missed_in _ s same input before ts stands none up = subst (λ (us : List Tenure). after_input input [] us ≡ us) (sym up.0) (early_none input [] refl)
 
 pub rest_tenures : (s : Connection) (word : Word) (brought : Brought) (before : List Message) (ts : List Tenure) → SaysUp word ts brought → Stands s → FitsNone brought (Some s) → UpIn s.state s before ts → after_word word [] ts ≡ ts
 rest_tenures s word nothing before ts says stands none up = says
 rest_tenures s word (comes input) before ts says stands none up = says [] ∙ missed_in s.state s refl input before ts stands none up
-rest_tenures s word reports before ts says stands none up = says []
-rest_tenures s word (breaks input) before ts says stands none up = says []
-rest_tenures s word passes before ts says stands none up = says []
+rest_tenures s word _ before ts says stands none up = says []
 
 pub row_tenures : (word : Word) (brought : Brought) (input : Input) (put : List Message) (ts : List Tenure) → IsBreak brought → IsBrought brought input → SaysUp word ts brought → after_word word put ts ≡ after_input input put ts
 unfolding IsBreak

@@ -1,7 +1,7 @@
 -- What was relayed follows the tenures, row by row, from access on.
 use Rattle.controller_model.proofs.Prelude.{◌≡◌, ◌⊎◌, ℕ, ◌==◌, nat_le, Bool, true, false, List, [], ◌∷◌, ◌++◌, length, Option, Some, None}
 use Rattle.controller_model.proofs.Prelude.{refl, sym, subst, ap, ◌∙◌, inl, inr, cases_Bool, cond-true, cond-false, Channel, Place, Message}
-use Rattle.controller_model.proofs.Prelude.{complete_layer3, by_state, same_place, Input, Drain, Active, Preparing, Changing, Draining}
+use Rattle.controller_model.proofs.Prelude.{complete_layer3, by_state, same_place, Input, Drain, Active}
 use Rattle.controller_model.proofs.Prelude.{State, WaitActivation, WaitEstablish, WaitConfirm, Live, Closed, Removed, Connection, drain_at}
 use Rattle.controller_model.proofs.Prelude.{emptied, enter, is_at, ChangesRoles, GoesOn, roles_of, step_by, goes_on, ends, had_ended}
 use Rattle.controller_model.proofs.Prelude.{Stands, Row, row, dropping, without_station, AreApart, Future, IsOpen, OfRow, relayed, still_of}
@@ -10,22 +10,16 @@ use Rattle.controller_model.proofs.Prelude.{on_assignment_request, on_cipher_mod
 use Rattle.controller_model.proofs.Prelude.{on_connection_failure, on_downlink, on_drain_expiry, on_dtap, on_error_indication}
 use Rattle.controller_model.proofs.Prelude.{on_establish_confirm, on_establish_indication, on_expiry, on_failure, on_move, on_refused}
 use Rattle.controller_model.proofs.Prelude.{on_release_ack, on_release_indication, on_released, on_station_down, on_switch_down, release_in}
-use Rattle.controller_model.proofs.Prelude.{row_if, Sapi, Zero, Three, HeldTenure, INITIAL_LIMIT}
-use Rattle.conn_rules.proofs.RolesTable.{ChangesRoles-row}
+use Rattle.controller_model.proofs.Prelude.{Sapi, Zero, Three, HeldTenure, INITIAL_LIMIT, ChangesRoles-row, ChangesRolesBy, requests}
+use Rattle.controller_model.proofs.Prelude.{used_in, Tenure, after_input, begin_first, beginning, of_sapi, place_of, empty_tenure}
 use Rattle.conn_rules.specs.declared.input.Input.TheVariants as inputs
-use Rattle.conn_rules.specs.Roles.{ChangesRolesBy}
 use Rattle.conn_rules.specs.Table.{row_of}
-use Rattle.controller_model.specs.LifeLaws.Downlink.{requests}
-use Rattle.controller_model.specs.LifeLaws.Owning.{used_in}
-use Rattle.controller_model.specs.LifeLaws.Uplink.{Tenure, after_input, begin_first, beginning, of_sapi}
-use Rattle.controller_model.proofs.LifeLaws.Following.{Follows, plain_follows}
+use Rattle.controller_model.proofs.LifeLaws.Following.{Follows, plain_follows, relayed_append}
 use Rattle.controller_model.proofs.LifeLaws.FollowingChanges.{complete_follows, dtap_off}
 use Rattle.controller_model.proofs.LifeLaws.FollowingRows.{dtap_follows, release_follows}
-use Rattle.controller_model.proofs.LifeLaws.Following.{relayed_append}
 use Rattle.controller_model.proofs.LifeLaws.OwningWords.{if_is}
 use Rattle.controller_model.proofs.LifeLaws.Progress.{Advances, IsLive, Next, advances}
-use Rattle.controller_model.specs.Controller.{place_of}
-use Rattle.hold_queue.specs.ChainState.{empty_tenure}
+use Rattle.controller_model.proofs.LifeLaws.OwningLife.{shut_if}
 
 -- the table, by a state of its own
 unfoldable pub row_by : State → Connection → Input → Option Channel → Option Row
@@ -59,9 +53,6 @@ row_is_by s _ offer = refl
 
 -- ---- before access
 
-shut : (b : Bool) (q r : Row) → (IsOpen q.next.state → ⊥) → row_if b q ≡ Some r → IsOpen r.next.state → ⊥
-shut b q r closed is there = closed (subst (λ (p : Row). IsOpen p.next.state) (sym (if_is b q r is).1) there)
-
 assign_relays : (sapi : Sapi) (s : Connection) → relayed sapi (assign_immediately s).outs ≡ []
 assign_relays Zero s = refl
 assign_relays Three s = refl
@@ -69,10 +60,10 @@ assign_relays Three s = refl
 activation_open : (s : Connection) (input : Input) (offer : Option Channel) (r : Row) → row_by WaitActivation s input offer ≡ Some r → IsOpen r.next.state → (sapi : Sapi) → relayed sapi r.outs ≡ []
 unfolding row_by
 activation_open s (inputs.ActivationAck at) offer r is there = λ sapi. ap (λ (q : Row). relayed sapi q.outs) (sym (if_is (is_at at s.serving) (assign_immediately s) r is).1) ∙ assign_relays sapi s
-activation_open s (inputs.ActivationNack at) offer r is there = absurd (shut (is_at at s.serving) (row [] (emptied Removed s)) r (λ o. o) is there)
-activation_open s inputs.Expiry offer r is there = absurd (shut true (dropping s) r (λ o. o) is there)
-activation_open s (inputs.StationDown station) offer r is there = absurd (shut (s.serving.station == station) (without_station station (dropping s)) r (λ o. o) is there)
-activation_open s inputs.SwitchDown offer r is there = absurd (shut true (dropping s) r (λ o. o) is there)
+activation_open s (inputs.ActivationNack at) offer r is there = absurd (shut_if (is_at at s.serving) (row [] (emptied Removed s)) r (λ o. o) is there)
+activation_open s inputs.Expiry offer r is there = absurd (shut_if true (dropping s) r (λ o. o) is there)
+activation_open s (inputs.StationDown station) offer r is there = absurd (shut_if (s.serving.station == station) (without_station station (dropping s)) r (λ o. o) is there)
+activation_open s inputs.SwitchDown offer r is there = absurd (shut_if true (dropping s) r (λ o. o) is there)
 activation_open s _ offer r is there = absurd cc
 
 pub record Accesses (s : Connection) (input : Input) (r : Row) : Type 0 where
@@ -92,12 +83,12 @@ access_by s at (Some initial) r here is there = elim (cases_Bool (nat_le (length
 pub access_open : (s : Connection) (input : Input) (offer : Option Channel) (r : Row) → row_by WaitEstablish s input offer ≡ Some r → IsOpen r.next.state → Accesses s input r
 unfolding row_by
 access_open s (inputs.EstablishIndication at Zero message) offer r is there = let one = if_is (is_at at s.serving) (access message s) r is in access_by s at message r one.0 one.1 there
-access_open s (inputs.ReleaseIndication at Zero) offer r is there = absurd (shut (is_at at s.serving) (dropping s) r (λ o. o) is there)
-access_open s (inputs.ConnectionFailure at) offer r is there = absurd (shut (is_at at s.serving) (dropping s) r (λ o. o) is there)
-access_open s (inputs.Dtap at Zero message) offer r is there = absurd (shut (is_at at s.serving) (dropping s) r (λ o. o) is there)
-access_open s inputs.Expiry offer r is there = absurd (shut true (dropping s) r (λ o. o) is there)
-access_open s (inputs.StationDown station) offer r is there = absurd (shut (s.serving.station == station) (without_station station (dropping s)) r (λ o. o) is there)
-access_open s inputs.SwitchDown offer r is there = absurd (shut true (dropping s) r (λ o. o) is there)
+access_open s (inputs.ReleaseIndication at Zero) offer r is there = absurd (shut_if (is_at at s.serving) (dropping s) r (λ o. o) is there)
+access_open s (inputs.ConnectionFailure at) offer r is there = absurd (shut_if (is_at at s.serving) (dropping s) r (λ o. o) is there)
+access_open s (inputs.Dtap at Zero message) offer r is there = absurd (shut_if (is_at at s.serving) (dropping s) r (λ o. o) is there)
+access_open s inputs.Expiry offer r is there = absurd (shut_if true (dropping s) r (λ o. o) is there)
+access_open s (inputs.StationDown station) offer r is there = absurd (shut_if (s.serving.station == station) (without_station station (dropping s)) r (λ o. o) is there)
+access_open s inputs.SwitchDown offer r is there = absurd (shut_if true (dropping s) r (λ o. o) is there)
 access_open s _ offer r is there = absurd cc
 
 -- ---- from access on
@@ -111,16 +102,12 @@ UpIn _ s put ts = ⊥
 
 live_up : (state : State) (s : Connection) (put : List Message) (ts : List Tenure) → IsLive state → Follows s put ts → UpIn state s put ts
 live_up (Live reference stage) s put ts live follows = follows
-live_up WaitActivation s put ts live follows = absurd live
-live_up WaitEstablish s put ts live follows = absurd live
-live_up WaitConfirm s put ts live follows = absurd live
 live_up (Closed clearing) s put ts live follows = live
 live_up Removed s put ts live follows = live
+live_up _ s put ts live follows = absurd live
 
 pub early_none : (input : Input) (put : List Message) → requests put ≡ false → after_input input put [] ≡ []
 early_none (inputs.EstablishIndication at Zero (Some initial)) put none = ap (λ (b : Bool). begin_first b at initial []) none
-early_none (inputs.EstablishIndication at Zero None) put none = refl
-early_none (inputs.EstablishIndication at Three message) put none = refl
 early_none _ put none = refl
 
 silent_more : (before put : List Message) → ((sapi : Sapi) → relayed sapi before ≡ []) → ((sapi : Sapi) → relayed sapi put ≡ []) → (sapi : Sapi) → relayed sapi (before ++ put) ≡ []
@@ -144,17 +131,12 @@ accessed s before at initial bare one here silent = record {
 -- ---- a row
 
 no_access : (state : State) (s : Connection) (at : Place) (message : Option (List ℕ)) (r : Row) → (state ≡ WaitConfirm) ⊎ IsLive state → on_establish_indication state s at Zero message ≡ Some r → ⊥
-no_access WaitConfirm s at message r in_it is = absurd cc
 no_access (Live reference Active) s at message r in_it is = absurd cc
-no_access (Live reference Draining) s at message r in_it is = absurd cc
-no_access (Live reference (Preparing target)) s at message r in_it is = absurd cc
-no_access (Live reference (Changing target)) s at message r in_it is = absurd cc
 no_access WaitActivation s at message r (inl same) is = absurd cc
 no_access WaitActivation s at message r (inr live) is = live
 no_access WaitEstablish s at message r (inl same) is = absurd cc
 no_access WaitEstablish s at message r (inr live) is = live
-no_access (Closed clearing) s at message r in_it is = absurd cc
-no_access Removed s at message r in_it is = absurd cc
+no_access _ s at message r in_it is = absurd cc
 
 release_found : (o : Option ℕ) (reference : ℕ) (stage : _) (offer : Option Channel) (s : Connection) (r : Row) → release_in o reference stage offer s ≡ Some r → (place : ℕ) × (o ≡ Some place)
 release_found (Some place) reference stage offer s r is = (place, refl)
@@ -162,11 +144,7 @@ release_found None reference stage offer s r is = absurd cc
 
 ack_found : (state : State) (s : Connection) (at : Place) (offer : Option Channel) (r : Row) → on_release_ack state s at offer ≡ Some r → (place : ℕ) × (drain_at at s.draining ≡ Some place)
 ack_found (Live reference stage) s at offer r is = release_found (drain_at at s.draining) reference stage offer s r is
-ack_found WaitActivation s at offer r is = absurd cc
-ack_found WaitEstablish s at offer r is = absurd cc
-ack_found WaitConfirm s at offer r is = absurd cc
-ack_found (Closed clearing) s at offer r is = absurd cc
-ack_found Removed s at offer r is = absurd cc
+ack_found _ s at offer r is = absurd cc
 
 pub going : (s : Connection) (input : Input) (offer : Option Channel) (r : Row) → Stands s → row_of s input offer ≡ Some r → IsOpen r.next.state → GoesOn (step_by input (roles_of s)) (roles_of s) s.down input offer r
 going s input offer r stands is there = by (subst (ChangesRolesBy s input offer) is (ChangesRoles-row s input offer stands))
@@ -214,5 +192,4 @@ row_up WaitConfirm s same input offer r before ts stands apart roles_apart is th
 row_up (Live reference stage) s same input offer r before ts stands apart roles_apart is there up =
     let next : Next (Live reference stage) input r.next.state r.outs = subst (λ (state : State). Next state input r.next.state r.outs) same (subst (OfRow (Advances s.state input)) is (advances s input offer) there) in
     live_up r.next.state r.next (before ++ r.outs) (after_input input r.outs ts) next (serving_row s input offer r before ts (inr (subst IsLive (sym same) tt)) stands apart roles_apart is there up)
-row_up (Closed clearing) s same input offer r before ts stands apart roles_apart is there up = absurd up
-row_up Removed s same input offer r before ts stands apart roles_apart is there up = absurd up
+row_up _ s same input offer r before ts stands apart roles_apart is there up = absurd up

@@ -4,42 +4,31 @@ use Rattle.controller_model.proofs.Prelude.{None, refl, sym, subst, ap, ◌∙�
 use Rattle.controller_model.proofs.Prelude.{flat_map-append, AllByRecursion, list_any, Channel, Place, Message, Station, SWITCH_LINK}
 use Rattle.controller_model.proofs.Prelude.{access_activation, Input, Complete, State, WaitActivation, WaitEstablish, WaitConfirm, Live}
 use Rattle.controller_model.proofs.Prelude.{Closed, Removed, Connection, new_connection, Row, GoesTo, IsChanging, IsOpen, OfRow, Stands}
-use Rattle.controller_model.proofs.Prelude.{after_pass, Sapi, Zero, Three, Parameters}
-use Rattle.std.proofs.lemmas.Bool.{or_cases}
-use Rattle.std.proofs.lemmas.Grind.{fold-append}
+use Rattle.controller_model.proofs.Prelude.{after_pass, Sapi, Zero, Three, Parameters, or_cases, fold-append, AllByRecursion-so, AreParting}
+use Rattle.controller_model.proofs.Prelude.{IsParting, Does, IsReleaseComplete, OnlyReleases, handed, row_of, Acts, Brought, IsAged}
+use Rattle.controller_model.proofs.Prelude.{IsBrought, brought_in, kept_in, ages, goes, opens, rests, GoToServing, HasNoStream, IsAway}
+use Rattle.controller_model.proofs.Prelude.{IsThere, OnlyReleasesAfter, Moment, all_messages, connection_of, word_in, Tenure, after_input}
+use Rattle.controller_model.proofs.Prelude.{after_moment, after_word, service, Step, Word, Controller, is_up, new_controller, place_of}
+use Rattle.controller_model.proofs.Prelude.{life, step, DataRequest}
 use Rattle.std.proofs.lemmas.List.Folds.{list_any-append}
-use Rattle.conn_rules.proofs.DownlinkMessages.{AllByRecursion-so, AreParting, IsParting}
-use Rattle.conn_rules.proofs.DownlinkSteps.{Does}
 use Rattle.conn_rules.proofs.DownlinkSteps.Does.{ends, passes, moves}
 use Rattle.conn_rules.proofs.DownlinkTable.{Does-row}
 use Rattle.conn_rules.specs.declared.input.Input.TheVariants as inputs
-use Rattle.conn_rules.specs.Streams.{IsReleaseComplete, OnlyReleases, handed}
-use Rattle.conn_rules.specs.Table.{row_of}
-use Rattle.controller_model.specs.LifeLaws.Acts.{Acts, Brought, IsAged, IsBrought, brought_in, kept_in}
-use Rattle.controller_model.specs.LifeLaws.Acts.Acts.{ages, goes, opens, rests}
-use Rattle.controller_model.specs.LifeLaws.End.{GoToServing, HasNoStream, IsAway, IsThere, OnlyReleasesAfter}
 use Rattle.controller_model.specs.LifeLaws.Handing.{AllInPlace, AreHandedOn, HandsInPlace, IsHandedOn, answers_by, begins_by, breaks_switch, changes_after, is_clear, is_clear_complete, is_cleared, on_channel, with_change}
-use Rattle.controller_model.specs.LifeLaws.History.{Moment, all_messages, connection_of, word_in}
-use Rattle.controller_model.specs.LifeLaws.Uplink.{Tenure, after_input, after_moment, after_word, service}
 use Rattle.controller_model.proofs.LifeLaws.Beside.{step_goes}
 use Rattle.controller_model.proofs.LifeLaws.DownlinkLife.{begun_in, frames_in_life, history_of, moments_of}
 use Rattle.controller_model.proofs.LifeLaws.Fitting.{Fits, IsFine, aged_holds, fine_old, new_fits, step_fits}
 use Rattle.controller_model.proofs.LifeLaws.FollowingSteps.{word_none}
 use Rattle.controller_model.proofs.LifeLaws.FollowingTable.{row_by, row_is_by}
 use Rattle.controller_model.proofs.LifeLaws.HandingPut.{Clears, clear_row}
-use Rattle.controller_model.proofs.LifeLaws.HandingServing.{HandsNone, ServesIn, early_row, first_place, quiet_serves, row_serves}
+use Rattle.controller_model.proofs.LifeLaws.HandingServing.{HandsNone, ServesIn, early_row, first_place, quiet_serves, row_serves, next_in}
 use Rattle.controller_model.proofs.LifeLaws.HandingSteps.{SaysInput, begins_is, begins_only, ends_is, step_says_input, tenures_are}
 use Rattle.controller_model.proofs.LifeLaws.HandingTable.{Commands, GoesOrEnds, changing_row, cleared_row, command_row}
-use Rattle.controller_model.proofs.LifeLaws.Progress.{Advances, IsLive, Next, advances}
+use Rattle.controller_model.proofs.LifeLaws.Progress.{IsLive}
 use Rattle.controller_model.proofs.LifeLaws.Silence.{kept_holds, same_state, step_silence, there_kept}
 use Rattle.controller_model.proofs.LifeLaws.SilenceLife.{life_reads}
 use Rattle.controller_model.proofs.LifeLaws.Switched.{IsBegun, some_begun, was}
 use Rattle.controller_model.proofs.LifeLaws.Turns.{step_does}
-use Rattle.controller_model.specs.declared.step.Step.{Step}
-use Rattle.controller_model.specs.declared.word.Word.{Word}
-use Rattle.controller_model.specs.Controller.{Controller, is_up, new_controller, place_of}
-use Rattle.controller_model.specs.Life.{life, step}
-use Rattle.rsl_codec.specs.declared.rsl.Rsl.TheVariants.{DataRequest}
 
 -- ---- what was put, and the connection
 
@@ -72,31 +61,18 @@ went_on word broken changes put none is = elim (or_cases (on_channel begins_by w
 
 changing_kept : (state : State) (s : Connection) → s.state ≡ state → IsChanging s.state → IsAway (kept_in state s)
 changing_kept Removed s is changing = subst IsChanging is changing
-changing_kept WaitActivation s is changing = changing
-changing_kept WaitEstablish s is changing = changing
-changing_kept WaitConfirm s is changing = changing
-changing_kept (Live reference stage) s is changing = changing
-changing_kept (Closed clearing) s is changing = changing
+changing_kept _ s is changing = changing
 
 aged_changing : (old s : Connection) → IsAged old s → IsChanging old.state → IsChanging s.state
 aged_changing old s aged changing = subst IsChanging (sym (same_state old s aged)) changing
 
 pass_serves : (state : State) (ms : ℕ) (s : Connection) (ts : List Tenure) → ServesIn state s ts → ServesIn state (after_pass ms s) ts
-pass_serves WaitActivation ms s ts serves = serves
-pass_serves WaitEstablish ms s ts serves = serves
-pass_serves WaitConfirm ms s ts serves = serves
-pass_serves (Live reference stage) ms s ts serves = serves
 pass_serves (Closed clearing) ms s ts serves = tt
 pass_serves Removed ms s ts serves = tt
+pass_serves _ ms s ts serves = serves
 
 aged_serves : (old s : Connection) (ts : List Tenure) → IsAged old s → ServesIn old.state old ts → ServesIn s.state s ts
 aged_serves old s ts aged serves = aged_holds (λ (c : Connection). ServesIn c.state c ts) (λ ms c holds. pass_serves c.state ms c ts holds) old s aged serves
-
-some_away : (before : Option Connection) (s : Connection) → before ≡ Some s → IsAway before → IsChanging s.state
-some_away before s is away = subst IsAway is away
-
-some_serves : (number next : ℕ) (ts : List Tenure) (before : Option Connection) (s : Connection) → before ≡ Some s → ServesOf number next ts before → ServesIn s.state s ts
-some_serves number next ts before s is serves = subst (ServesOf number next ts) is serves
 
 -- ---- each step
 
@@ -209,9 +185,6 @@ acts_parting number next up brought before after put (goes old s input offer r i
     of (passes was_open is_open quiet same_down nothing) = absurd (shut is_open)
     of (moves was_open is_open keeps silent) = absurd (shut is_open)
 
-next_of : (state : State) (s : Connection) → s.state ≡ state → (input : Input) (offer : Option Channel) (r : Row) → row_of s input offer ≡ Some r → IsOpen r.next.state → Next state input r.next.state r.outs
-next_of state s same input offer r fits there = subst (λ (state : State). Next state input r.next.state r.outs) same (subst (OfRow (Advances s.state input)) fits (advances s input offer) there)
-
 -- before access
 abbrev IsEarly : State → Type 0
 IsEarly WaitActivation = Unit {0}
@@ -237,14 +210,13 @@ early_kept state s = kept_holds (λ (o : Option Connection). IsEarlyIn o → IsE
 early_by : (state : State) (s : Connection) → s.state ≡ state → (input : Input) (offer : Option Channel) (r : Row) → row_of s input offer ≡ Some r → IsOpen state → IsEarly r.next.state → (sapi : Sapi) → handed sapi r.outs ≡ []
 early_by WaitActivation s same input offer r fits was_open early =
     subst (OfRow HandsNone) (ap (λ (state : State). row_by state s input offer) (sym same) ∙ sym (row_is_by s input offer) ∙ fits) (early_row s input offer) (early_open r.next.state early)
-early_by WaitEstablish s same input offer r fits was_open early = absurd (subst IsEarly (next_of WaitEstablish s same input offer r fits (early_open r.next.state early)).0 early)
-early_by WaitConfirm s same input offer r fits was_open early = elim (next_of WaitConfirm s same input offer r fits (early_open r.next.state early)).1 [
+early_by WaitEstablish s same input offer r fits was_open early = absurd (subst IsEarly (next_in WaitEstablish s same input offer r fits (early_open r.next.state early)).0 early)
+early_by WaitConfirm s same input offer r fits was_open early = elim (next_in WaitConfirm s same input offer r fits (early_open r.next.state early)).1 [
   | inl stays ↦ absurd (subst IsEarly stays.0 early)
   | inr lives ↦ absurd (not_early r.next.state lives.0 early)
 ]
-early_by (Live reference stage) s same input offer r fits was_open early = absurd (not_early r.next.state (next_of (Live reference stage) s same input offer r fits (early_open r.next.state early)) early)
-early_by (Closed clearing) s same input offer r fits was_open early = absurd was_open
-early_by Removed s same input offer r fits was_open early = absurd was_open
+early_by (Live reference stage) s same input offer r fits was_open early = absurd (not_early r.next.state (next_in (Live reference stage) s same input offer r fits (early_open r.next.state early)) early)
+early_by _ s same input offer r fits was_open early = absurd was_open
 
 acts_early : (number next : ℕ) (up : Bool) (brought : Brought) (before after : Option Connection) (put : List Message) → Acts number next up brought before put after → IsEarlyIn after → (sapi : Sapi) → handed sapi put ≡ []
 acts_early number next up brought before after put (rests silent same none) early sapi = ap (handed sapi) silent
@@ -285,12 +257,11 @@ serves_put number next ts None put serves all early over parting = after_end ts 
 serves_put number next ts (Some s) put serves all early over parting = by s.state serves early over parting
   where
     by : (state : State) → ServesIn state s ts → (IsEarly state → (sapi : Sapi) → handed sapi put ≡ []) → ((IsOpen state → ⊥) → HasNoStream put) → ((IsOpen state → ⊥) → AreParting put) → AreHandedOn ts put
-    by WaitActivation serves early over parting = on_none ts put serves (early tt)
-    by WaitEstablish serves early over parting = on_none ts put serves (early tt)
     by WaitConfirm serves early over parting = on_first s.serving ts put serves all
     by (Live reference stage) serves early over parting = on_first s.serving ts put serves all
     by (Closed clearing) serves early over parting = after_end ts put (over (λ there. there)).hands (parting (λ there. there))
     by Removed serves early over parting = after_end ts put (over (λ there. there)).hands (parting (λ there. there))
+    by _ serves early over parting = on_none ts put serves (early tt)
 
 cleared_put : (o : Option Connection) (put : List Message) → IsClearedIn o → OnlyReleasesAfter o put → AllByRecursion IsReleaseComplete put
 cleared_put None put is only = subst (AllByRecursion IsReleaseComplete) (sym only) tt

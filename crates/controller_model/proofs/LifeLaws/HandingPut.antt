@@ -1,9 +1,8 @@
 -- Which row puts CLEAR COMPLETE.
 use Rattle.controller_model.proofs.Prelude.{◌≡◌, ◌||◌, Bool, true, false, List, [], ◌∷◌, Option, Some, None, refl, sym, ap, subst, ◌∙◌}
 use Rattle.controller_model.proofs.Prelude.{true≢false, AllByRecursion, list_any, Management, Channel, Message, Data, Input, Complete}
-use Rattle.controller_model.proofs.Prelude.{WasAsked, State, Live, Closed, Connection, Row, OfRow, on_clear_command}
-use Rattle.bssmap_codec.specs.declared.bssmap.Bssmap.TheVariants.{ClearComplete}
-use Rattle.conn_rules.proofs.RowPuts.{Puts, free, row-messages}
+use Rattle.controller_model.proofs.Prelude.{WasAsked, State, Live, Closed, Connection, Row, OfRow, on_clear_command, ClearComplete, Puts}
+use Rattle.controller_model.proofs.Prelude.{free, row-messages}
 use Rattle.conn_rules.specs.declared.input.Input.TheVariants as inputs
 use Rattle.conn_rules.specs.Table.{row_of}
 use Rattle.controller_model.specs.LifeLaws.Handing.{is_clear_complete}

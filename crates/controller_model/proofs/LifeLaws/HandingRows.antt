@@ -2,17 +2,11 @@
 use Rattle.controller_model.proofs.Prelude.{◌≡◌, true, false, List, [], ◌∷◌, ◌++◌, None, refl, Management, CompleteLayer3Information, hex}
 use Rattle.controller_model.proofs.Prelude.{Change, Assignment, Handover, Channel, Message, Request, channel_release, handing}
 use Rattle.controller_model.proofs.Prelude.{rf_channel_release, assignment_failure, change_complete, clear_complete, clear_request}
-use Rattle.controller_model.proofs.Prelude.{release_complete, Sapi, Zero, Three}
-use Rattle.conn_messages.specs.StationMessage.{change_command}
-use Rattle.conn_rules.specs.Streams.{handed}
+use Rattle.controller_model.proofs.Prelude.{release_complete, Sapi, Zero, Three, change_command, handed, Moment, service, Step, Tick}
 use Rattle.controller_model.proofs.LifeLaws.UsedRows.{channel}
 use Rattle.controller_model.specs.LifeLaws.Handing.{AllInPlace, AreHandedOn, IsInPlace, changes_after, is_cleared, is_command}
-use Rattle.controller_model.specs.LifeLaws.History.{Moment}
-use Rattle.controller_model.specs.LifeLaws.Uplink.{service}
 use Rattle.controller_model.proofs.Lives.{down, from_station, from_switch}
 use Rattle.controller_model.proofs.OnLiterals.{on_literals}
-use Rattle.controller_model.specs.declared.step.Step.{Step}
-use Rattle.controller_model.specs.declared.step.Step.TheVariants.{Tick}
 
 -- ---- what comes: CHANNEL ACTIVATION ACK, the first message of the mobile, COMPLETE and FAILURE of a handover, DTAP of the switch
 

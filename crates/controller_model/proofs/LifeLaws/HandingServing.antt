@@ -4,21 +4,16 @@ use Rattle.controller_model.proofs.Prelude.{sym, subst, ap, ◌∙◌, inl, inr,
 use Rattle.controller_model.proofs.Prelude.{State, WaitActivation, WaitEstablish, WaitConfirm, Live, Closed, Removed, Connection, drain_at}
 use Rattle.controller_model.proofs.Prelude.{emptied, is_at, GoesOn, RoleStep, Roles, TargetRole, after_step, awaits_at, changes_by}
 use Rattle.controller_model.proofs.Prelude.{leaves_at, roles_of, step_by, stays, commands, completes, goes_back, Stands, Row, row, dropping}
-use Rattle.controller_model.proofs.Prelude.{without_station, IsOpen, OfRow, assign_immediately, where_fits, Sapi, Zero, Three}
+use Rattle.controller_model.proofs.Prelude.{without_station, IsOpen, OfRow, assign_immediately, where_fits, Sapi, Zero, Three, handed}
+use Rattle.controller_model.proofs.Prelude.{row_of, requests, Tenure, after_input, after_word, begin_first, begin_next, heard, is_on}
+use Rattle.controller_model.proofs.Prelude.{with_message, performs, Word, OnChannel, place_of}
 use Rattle.conn_rules.specs.declared.input.Input.TheVariants as inputs
-use Rattle.conn_rules.specs.Streams.{handed}
-use Rattle.conn_rules.specs.Table.{row_of}
-use Rattle.controller_model.specs.LifeLaws.Downlink.{requests}
-use Rattle.controller_model.specs.LifeLaws.Uplink.{Tenure, after_input, after_word, begin_first, begin_next, heard, is_on, with_message, performs}
 use Rattle.controller_model.proofs.LifeLaws.Following.{begun_same}
 use Rattle.controller_model.proofs.LifeLaws.FollowingChanges.{complete_is, completes_step}
 use Rattle.controller_model.proofs.LifeLaws.FollowingSteps.{word_none}
 use Rattle.controller_model.proofs.LifeLaws.FollowingTable.{access_open, early_none, going, row_by, row_is_by}
 use Rattle.controller_model.proofs.LifeLaws.Progress.{Advances, IsLive, Next, advances}
 use Rattle.controller_model.proofs.LifeLaws.Switched.{was}
-use Rattle.controller_model.specs.declared.word.Word.{Word}
-use Rattle.controller_model.specs.declared.word.Word.TheVariants.{OnChannel}
-use Rattle.controller_model.specs.Controller.{place_of}
 
 -- ---- the first tenure
 
@@ -56,10 +51,7 @@ begun_place false at initial t old = refl
 kept_place : (input : Input) (put : List Message) (t : Tenure) (old : List Tenure) → NotComplete input → first_place (after_input input put (t ∷ old)) ≡ Some t.place
 kept_place (inputs.Complete at change cause) put t old other = absurd other
 kept_place (inputs.EstablishIndication at Zero (Some initial)) put t old other = begun_place (requests put) at initial t old
-kept_place (inputs.EstablishIndication at Zero None) put t old other = refl
-kept_place (inputs.EstablishIndication at Three message) put t old other = refl
 kept_place (inputs.Dtap at sapi message) put t old other = ap (λ (p : Place). let o : Option Place = Some p in o) (heard_place at sapi message t)
-kept_place (inputs.ReleaseAck at) put t old other = refl
 kept_place _ put t old other = refl
 
 -- with nothing put
@@ -76,12 +68,11 @@ quiet_early : (word : Word) (ts : List Tenure) → ts ≡ [] → after_word word
 quiet_early word ts none = ap (after_word word []) none ∙ word_none word [] refl
 
 pub quiet_serves : (state : State) (s : Connection) (word : Word) (ts : List Tenure) → ServesIn state s ts → ServesIn state s (after_word word [] ts)
-quiet_serves WaitActivation s word ts serves = quiet_early word ts serves
-quiet_serves WaitEstablish s word ts serves = quiet_early word ts serves
 quiet_serves WaitConfirm s word ts serves = quiet_word word ts ∙ serves
 quiet_serves (Live reference stage) s word ts serves = quiet_word word ts ∙ serves
 quiet_serves (Closed clearing) s word ts serves = tt
 quiet_serves Removed s word ts serves = tt
+quiet_serves _ s word ts serves = quiet_early word ts serves
 
 -- ---- a row from access on
 
@@ -132,13 +123,11 @@ row_place s input offer r ts stands is there serves = other_place s input offer 
 
 live_serves : (state : State) (s : Connection) (ts : List Tenure) → IsLive state → first_place ts ≡ Some (place_of s.serving) → ServesIn state s ts
 live_serves (Live reference stage) s ts live serves = serves
-live_serves WaitActivation s ts live serves = absurd live
-live_serves WaitEstablish s ts live serves = absurd live
-live_serves WaitConfirm s ts live serves = absurd live
 live_serves (Closed clearing) s ts live serves = tt
 live_serves Removed s ts live serves = tt
+live_serves _ s ts live serves = absurd live
 
-next_in : (state : State) (s : Connection) → s.state ≡ state → (input : Input) (offer : Option Channel) (r : Row) → row_of s input offer ≡ Some r → IsOpen r.next.state → Next state input r.next.state r.outs
+pub next_in : (state : State) (s : Connection) → s.state ≡ state → (input : Input) (offer : Option Channel) (r : Row) → row_of s input offer ≡ Some r → IsOpen r.next.state → Next state input r.next.state r.outs
 next_in state s same input offer r is there = subst (λ (state : State). Next state input r.next.state r.outs) same (subst (OfRow (Advances s.state input)) is (advances s input offer) there)
 
 by_state : (state : State) (s : Connection) → s.state ≡ state → (input : Input) (offer : Option Channel) (r : Row) (ts : List Tenure) → Stands s → row_of s input offer ≡ Some r → IsOpen r.next.state → ServesIn state s ts → ServesIn r.next.state r.next (after_input input r.outs ts)
@@ -160,16 +149,12 @@ by_state WaitConfirm s same input offer r ts stands is there serves =
     ]
 by_state (Live reference stage) s same input offer r ts stands is there serves =
     live_serves r.next.state r.next (after_input input r.outs ts) (next_in (Live reference stage) s same input offer r is there) (row_place s input offer r ts stands is there serves)
-by_state (Closed clearing) s same input offer r ts stands is there serves = absurd (subst IsOpen same (was s input offer r is there))
-by_state Removed s same input offer r ts stands is there serves = absurd (subst IsOpen same (was s input offer r is there))
+by_state _ s same input offer r ts stands is there serves = absurd (subst IsOpen same (was s input offer r is there))
 
 while_open : (state : State) (s : Connection) (ts : List Tenure) → (IsOpen state → ServesIn state s ts) → ServesIn state s ts
-while_open WaitActivation s ts serves = serves tt
-while_open WaitEstablish s ts serves = serves tt
-while_open WaitConfirm s ts serves = serves tt
-while_open (Live reference stage) s ts serves = serves tt
 while_open (Closed clearing) s ts serves = tt
 while_open Removed s ts serves = tt
+while_open _ s ts serves = serves tt
 
 pub row_serves : (s : Connection) (input : Input) (offer : Option Channel) (r : Row) (ts : List Tenure) → Stands s → row_of s input offer ≡ Some r → ServesIn s.state s ts → ServesIn r.next.state r.next (after_input input r.outs ts)
 row_serves s input offer r ts stands is serves = while_open r.next.state r.next (after_input input r.outs ts) (λ there. by_state s.state s refl input offer r ts stands is there serves)

@@ -1,23 +1,14 @@
 -- What came, as the step says it, is the input of the row that it brings.
 use Rattle.controller_model.proofs.Prelude.{◌≡◌, ◌⊎◌, ℕ, ◌==◌, ◌&&◌, ◌||◌, Bool, true, false, if◌then◌else◌, List, Option, Some, None, refl}
 use Rattle.controller_model.proofs.Prelude.{sym, subst, ap, ◌∙◌, inl, inr, cases_Bool, cond-true, cond-false, list_any, Place, Message}
-use Rattle.controller_model.proofs.Prelude.{SWITCH_LINK, Input, What}
-use Rattle.std.proofs.lemmas.Bool.{or_left, or_right}
+use Rattle.controller_model.proofs.Prelude.{SWITCH_LINK, Input, What, or_left, or_right, Brought, IsBrought, IsTimer, brought_by}
+use Rattle.controller_model.proofs.Prelude.{brought_in, brought_with, if_held, nothing, comes, word_by, word_in, Tenure, after_input}
+use Rattle.controller_model.proofs.Prelude.{after_word, Step, Take, Tick, Word, Nothing, OnChannel, Reports, OnConnection, Controller}
+use Rattle.controller_model.proofs.Prelude.{channel_state, holder, is_up, break_of, word_of}
 use Rattle.conn_rules.specs.declared.input.Input.TheVariants as inputs
-use Rattle.controller_model.specs.LifeLaws.Acts.{Brought, IsBrought, IsTimer, brought_by, brought_in, brought_with, if_held}
-use Rattle.controller_model.specs.LifeLaws.Acts.Brought.{nothing, comes}
 use Rattle.controller_model.specs.LifeLaws.Handing.{answers_by, begins_by, breaks_switch, is_clear, is_command, is_down, on_channel}
-use Rattle.controller_model.specs.LifeLaws.History.{word_by, word_in}
-use Rattle.controller_model.specs.LifeLaws.Uplink.{Tenure, after_input, after_word}
 use Rattle.controller_model.proofs.LifeLaws.HandingTable.{EndsBy}
 use Rattle.controller_model.proofs.LifeLaws.Sources.{IsAtPlace, IsFrom, IsOfSwitch, word_from}
-use Rattle.controller_model.specs.declared.step.Step.{Step}
-use Rattle.controller_model.specs.declared.step.Step.TheVariants.{Take, Tick}
-use Rattle.controller_model.specs.declared.word.Word.{Word}
-use Rattle.controller_model.specs.declared.word.Word.TheVariants.{Nothing, Ping, Asks, OnChannel, Reports, OnConnection}
-use Rattle.controller_model.specs.Controller.{Controller, channel_state, holder, is_up}
-use Rattle.controller_model.specs.Life.{break_of}
-use Rattle.controller_model.specs.Reading.{word_of}
 use Rattle.ruled_relay.specs.declared.item.What.TheVariants as whats
 
 -- ---- where an input is from
@@ -82,9 +73,7 @@ word_says c number source (OnConnection destination came) broken from input brou
     inr (tt, subst IsElsewhere (sym is) other.0, λ down. absurd (other.1 (subst IsSwitchDown is down)))
 word_says c number source (Reports at of report) broken from input brought =
     inr (tt, subst IsElsewhere (sym brought) tt, λ down. absurd (subst IsSwitchDown brought down))
-word_says c number source Nothing broken from input brought = absurd brought
-word_says c number source Ping broken from input brought = absurd brought
-word_says c number source (Asks request delay) broken from input brought = absurd brought
+word_says c number source _ broken from input brought = absurd brought
 
 break_says : (source : ℕ) (input : Input) → input ≡ break_of source → SaysInput Nothing ((source == SWITCH_LINK) && true) input
 break_says source input is = elim (cases_Bool (source == SWITCH_LINK)) [
@@ -122,7 +111,6 @@ begins_is word broken input put (inr other) = off_channel begins_by word put oth
 -- no COMMAND, no change
 pub begins_only : (word : Word) (put : List Message) → list_any is_command put ≡ false → on_channel begins_by word put ≡ false
 begins_only (OnChannel at (inputs.ActivationAck place)) put none = none
-begins_only (OnChannel at _) put none = refl
 begins_only _ put none = refl
 
 answered : (word : Word) (broken : Bool) (input : Input) (put : List Message) → SaysInput word broken input → (IsElsewhere input → ⊥) → answers_by input put ≡ true → (on_channel answers_by word put || (list_any is_clear put || broken)) ≡ true

@@ -7,11 +7,10 @@ use Rattle.controller_model.proofs.Prelude.{Closed, Removed, Target, Connection,
 use Rattle.controller_model.proofs.Prelude.{after_waiting, done_at, failing, leave, relay_held, shifted, without_station, IsChanging, OfRow}
 use Rattle.controller_model.proofs.Prelude.{assign_immediately, command_to, complete, dtap_in, failure, on_activation_ack, release_in}
 use Rattle.controller_model.proofs.Prelude.{speech_request, either, where_fits, Sapi, Zero, Three, chain_count, put_in, count, messages}
-use Rattle.controller_model.proofs.Prelude.{with_messages}
+use Rattle.controller_model.proofs.Prelude.{with_messages, is_some_draining, same_change, performs}
 use Rattle.conn_rules.specs.declared.input.Input.TheVariants as inputs
-use Rattle.conn_rules.specs.Table.{is_some_draining, row_of, same_change}
+use Rattle.conn_rules.specs.Table.{row_of}
 use Rattle.controller_model.specs.LifeLaws.Handing.{is_clear, is_command, is_release}
-use Rattle.controller_model.specs.LifeLaws.Uplink.{performs}
 use Rattle.controller_model.proofs.LifeLaws.FollowingChanges.{performs_complete}
 use Rattle.controller_model.proofs.LifeLaws.FollowingTable.{row_by, row_is_by}
 

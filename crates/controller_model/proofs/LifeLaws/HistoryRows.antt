@@ -1,18 +1,14 @@
 -- The history of a connection, and what was handed and relayed in it, at literal values.
 use Rattle.controller_model.proofs.Prelude.{◌≡◌, ℕ, true, List, [], ◌∷◌, ◌++◌, Some, None, refl, ap, arith, Message, outs_of, hex}
 use Rattle.controller_model.proofs.Prelude.{channel_release, rf_channel_release, Asked, Closed, Connection, relayed, Three, Zero}
+use Rattle.controller_model.proofs.Prelude.{ConservesDownlink, DownlinkIsConserved, Switched, switched, IsHistory, Moment, all_messages}
+use Rattle.controller_model.proofs.Prelude.{connection_of, word_in, UplinkIsConserved, joined, service, Step, Take, Tick, Nothing}
+use Rattle.controller_model.proofs.Prelude.{OnChannel, Turn, new_controller, place_at, turn}
 use Rattle.conn_rules.specs.declared.input.Input.TheVariants as inputs
 use Rattle.controller_model.proofs.LifeLaws.OwnRows.{busy, entry, other, out_for, own}
 use Rattle.controller_model.proofs.LifeLaws.UsedRows.{channel, connection}
-use Rattle.controller_model.specs.LifeLaws.Downlink.{ConservesDownlink, DownlinkIsConserved, Switched, switched}
-use Rattle.controller_model.specs.LifeLaws.History.{IsHistory, Moment, all_messages, connection_of, word_in}
-use Rattle.controller_model.specs.LifeLaws.Uplink.{UplinkIsConserved, joined, service}
 use Rattle.controller_model.proofs.Lives.{down, from_station, usual_settings}
 use Rattle.controller_model.proofs.OnLiterals.{on_literals}
-use Rattle.controller_model.specs.declared.step.Step.{Step}
-use Rattle.controller_model.specs.declared.step.Step.TheVariants.{Take, Tick}
-use Rattle.controller_model.specs.declared.word.Word.TheVariants.{Nothing, OnChannel}
-use Rattle.controller_model.specs.Controller.{Turn, new_controller, place_at, turn}
 
 -- ---- what a step says
 

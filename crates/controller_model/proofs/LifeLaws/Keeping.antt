@@ -6,26 +6,20 @@ use Rattle.controller_model.proofs.Prelude.{AllByRecursion-append, AllByRecursio
 use Rattle.controller_model.proofs.Prelude.{RoleStep, RoleEnd, ChangesRoles, MayBegin, roles_of, after_step, step_by, step_orders}
 use Rattle.controller_model.proofs.Prelude.{begin_orders, end_messages, target_channels, those_that_go, to_stations, orders, goes_on, ends}
 use Rattle.controller_model.proofs.Prelude.{had_ended, refused, drops, dismisses, stays, commands, completes, goes_back, leaves, Stands}
-use Rattle.controller_model.proofs.Prelude.{Row, IsOpen, serving_after, Report, Decision, Stay, Move, RequestReference}
+use Rattle.controller_model.proofs.Prelude.{Row, IsOpen, serving_after, Report, Decision, Stay, Move, RequestReference, row_of, AreIn}
+use Rattle.controller_model.proofs.Prelude.{Sdcch, ChannelState, Free, InUse, Releasing, Word, Asks, OnChannel, Reports, OnConnection}
+use Rattle.controller_model.proofs.Prelude.{access_channel, handover_offer, kind_of, request_offer, Controller, Entry, Turn, turn, ignoring}
+use Rattle.controller_model.proofs.Prelude.{entry_of, freed, with_entry, channel_state, channels_after, holder, place_at, place_of}
+use Rattle.controller_model.proofs.Prelude.{state_in, by_fitting, concerning, concerning_too, entry_at, frees, given, may_open, measured}
+use Rattle.controller_model.proofs.Prelude.{measures, on_decision, on_freed, on_report, on_state, on_word, row_in, with_report, concerned}
+use Rattle.controller_model.proofs.Prelude.{decision_over}
 use Rattle.conn_rules.specs.declared.input.Input.TheVariants as inputs
-use Rattle.conn_rules.specs.Table.{row_of}
-use Rattle.controller_model.specs.LifeLaws.Owning.{AreIn}
 use Rattle.controller_model.proofs.LifeLaws.Entries.{found_number}
 use Rattle.controller_model.proofs.LifeLaws.OwningSteps.{offered_free}
 use Rattle.controller_model.proofs.LifeLaws.OwningWords.{Holds, assignment_offers, changes_of, freed_shaped, owns_entry}
 use Rattle.controller_model.proofs.LifeLaws.Places.{state_else, use≢release, free≢release}
 use Rattle.controller_model.proofs.LifeLaws.UsingRows.{fold_release, set_use}
 use Rattle.controller_model.proofs.LifeLaws.UsingWords.{Ready, free_use, here_of}
-use Rattle.controller_model.specs.declared.channel_kind.ChannelKind.TheVariants.{Sdcch}
-use Rattle.controller_model.specs.declared.channel_state.ChannelState.{ChannelState}
-use Rattle.controller_model.specs.declared.channel_state.ChannelState.TheVariants.{Free, InUse, Releasing}
-use Rattle.controller_model.specs.declared.word.Word.{Word}
-use Rattle.controller_model.specs.declared.word.Word.TheVariants.{Nothing, Ping, Asks, OnChannel, Reports, OnConnection}
-use Rattle.controller_model.specs.Channels.{access_channel, handover_offer, kind_of, request_offer}
-use Rattle.controller_model.specs.Controller.{Controller, Entry, Turn, turn, ignoring, entry_of, freed, with_entry, channel_state, channels_after, holder, place_at, place_of, state_in}
-use Rattle.controller_model.specs.Life.{by_fitting, concerning, concerning_too, entry_at, frees, given, may_open, measured, measures, on_decision, on_freed, on_report, on_state, on_word, row_in, with_report}
-use Rattle.controller_model.specs.Ownership.{concerned}
-use Rattle.controller_model.specs.Reports.{decision_over}
 use Rattle.rsl_codec.specs.declared.rsl.Rsl.TheVariants as rsl
 
 abbrev States : Type 0
@@ -45,10 +39,7 @@ fold_avoids m at channels (x ∷ xs) all = fold_avoids m at (channels_after m ch
     of : (x : Message) → Avoids at x → state_in (channels_after m channels x) at ≡ state_in channels at
     of (Station station (rsl.ChannelActivation a)) differ = state_else channels (place_at station a.channel) at (InUse m) (λ same. differ (sym same))
     of (Station station (rsl.RfChannelRelease channel)) differ = state_else channels (place_at station channel) at (Releasing m) (λ same. differ (sym same))
-    of (Station station _) differ = refl
-    of (Request message) differ = refl
-    of (Data destination message) differ = refl
-    of (ReleaseComplete destination) differ = refl
+    of _ differ = refl
 
 pub from_orders : (at : Place) (ms : List Message) → AllByRecursion (Avoids at) (orders ms) → AllByRecursion (Avoids at) ms
 from_orders at [] all = tt
@@ -218,9 +209,8 @@ report_on_keeps n at of report c (InUse m) differ ready = report_keeps n m at of
 report_on_keeps n at of report c (Releasing m) differ ready = report_keeps n m at of report c (entry_of c m) (λ same. differ (ap (λ (k : ℕ). Some k) (sym same))) refl ready
 
 pub word_keeps : (n source : ℕ) (word : Word) (c : Controller) → concerned c word ≢ Some n → Ready c → Keeps n c.channels (on_word source word c).next.channels
-word_keeps n source Nothing c differ ready = keeps_same n c.channels
-word_keeps n source Ping c differ ready = keeps_same n c.channels
 word_keeps n source (Asks request delay) c differ ready = if_keeps n (may_open c) c (given c request delay (access_channel c source)) (given_keeps n source c request delay (access_channel c source) refl ready)
 word_keeps n source (OnChannel at input) c differ ready = channel_keeps n at input c (channel_state c at) refl differ ready
 word_keeps n source (Reports at of report) c differ ready = report_on_keeps n at of report c (channel_state c at) differ ready
 word_keeps n source (OnConnection m input) c differ ready = concerning_keeps n m input c (entry_of c m) (λ same. differ (ap (λ (k : ℕ). Some k) (sym same))) refl ready
+word_keeps n source _ c differ ready = keeps_same n c.channels

@@ -1,11 +1,8 @@
 -- What holds after every list of steps.
-use Rattle.controller_model.proofs.Prelude.{ℕ, ◌≤◌, List, [], ◌∷◌, Parameters}
-use Rattle.controller_model.specs.LifeLaws.Acts.{ActsOn}
+use Rattle.controller_model.proofs.Prelude.{ℕ, ◌≤◌, List, [], ◌∷◌, Parameters, ActsOn, Step, Controller, each, new_controller, step}
 use Rattle.controller_model.proofs.LifeLaws.Fitting.{Fits, step_fits, new_fits}
 use Rattle.controller_model.proofs.LifeLaws.Turns.{step_does}
-use Rattle.controller_model.specs.declared.step.Step.{Step}
-use Rattle.controller_model.specs.Controller.{Controller, each, new_controller}
-use Rattle.controller_model.specs.Life.{step, life}
+use Rattle.controller_model.specs.Life.{life}
 
 all_fit : (number : ℕ) (c : Controller) (steps : List Step) → 1 ≤ number → Fits number c → Fits number (each step c steps).next
 all_fit number c [] from_one fits = fits

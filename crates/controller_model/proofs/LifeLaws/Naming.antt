@@ -1,9 +1,7 @@
 -- A row keeps the request of its connection, and an IMMEDIATE ASSIGNMENT names it.
 use Rattle.controller_model.proofs.Prelude.{◌≡◌, Option, ap, ◌∙◌, AllByRecursion, Channel, immediate_assign_command, Input, Connection}
-use Rattle.controller_model.proofs.Prelude.{Row, OfRow, RequestReference}
-use Rattle.conn_rules.specs.Table.{row_of}
-use Rattle.conn_rules.proofs.RowPuts.{Enters, Puts, free, free_brings, free_parts, row-puts}
-use Rattle.controller_model.specs.LifeLaws.Naming.{Names}
+use Rattle.controller_model.proofs.Prelude.{Row, OfRow, RequestReference, row_of, Enters, Puts, free, free_brings, free_parts, row-puts}
+use Rattle.controller_model.proofs.Prelude.{Names}
 
 module _ (c : Channel) (q : RequestReference) where
   abbrev pub IsNamed : Row → Type 0

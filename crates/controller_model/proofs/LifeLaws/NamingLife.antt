@@ -1,19 +1,12 @@
 -- What each step puts names the mobile that asked; so in every life.
 use Rattle.controller_model.proofs.Prelude.{◌≡◌, ℕ, ◌≤◌, List, [], Option, Some, None, refl, sym, subst, Channel, Message, SWITCH_LINK}
-use Rattle.controller_model.proofs.Prelude.{State, WaitActivation, WaitEstablish, WaitConfirm, Live, Closed, Removed, Connection, Row}
-use Rattle.controller_model.proofs.Prelude.{OfRow, Parameters}
-use Rattle.conn_rules.specs.Table.{row_of}
-use Rattle.controller_model.specs.LifeLaws.Acts.{Acts, Brought, IsAged, brought_in, kept_in}
-use Rattle.controller_model.specs.LifeLaws.Acts.Acts.{ages, goes, opens, rests}
-use Rattle.controller_model.specs.LifeLaws.History.{connection_of}
-use Rattle.controller_model.specs.LifeLaws.Naming.{NamesItsMobile, NamesOf, SameRequest}
+use Rattle.controller_model.proofs.Prelude.{State, Removed, Connection, Row, OfRow, Parameters, row_of, Acts, Brought, IsAged, brought_in}
+use Rattle.controller_model.proofs.Prelude.{kept_in, ages, goes, opens, rests, connection_of, NamesItsMobile, NamesOf, SameRequest, Step}
+use Rattle.controller_model.proofs.Prelude.{Controller, is_up, life, step}
 use Rattle.controller_model.proofs.LifeLaws.Fitting.{aged_holds}
 use Rattle.controller_model.proofs.LifeLaws.Lives.{life_fits}
 use Rattle.controller_model.proofs.LifeLaws.Naming.{IsNamed, row_named}
 use Rattle.controller_model.proofs.LifeLaws.Turns.{step_does}
-use Rattle.controller_model.specs.declared.step.Step.{Step}
-use Rattle.controller_model.specs.Controller.{Controller, is_up}
-use Rattle.controller_model.specs.Life.{life, step}
 
 none_named : (o : Option Connection) (put : List Message) → put ≡ [] → NamesOf o put
 none_named None put is = subst (NamesOf None) (sym is) tt
@@ -25,11 +18,7 @@ same_all (Some s) = refl
 
 kept_request : (state : State) (old s : Connection) → s.request ≡ old.request → SameRequest (Some old) (kept_in state s)
 kept_request Removed old s is = tt
-kept_request WaitActivation old s is = is
-kept_request WaitEstablish old s is = is
-kept_request WaitConfirm old s is = is
-kept_request (Live reference stage) old s is = is
-kept_request (Closed clearing) old s is = is
+kept_request _ old s is = is
 
 aged_serving : (old s : Connection) → IsAged old s → s.serving ≡ old.serving
 aged_serving old s aged = aged_holds (λ (c : Connection). c.serving ≡ old.serving) (λ ms c is. is) old s aged refl

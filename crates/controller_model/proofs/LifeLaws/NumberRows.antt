@@ -1,8 +1,6 @@
 -- The numbers of connections, at literal values.
-use Rattle.controller_model.proofs.Prelude.{ℕ, ◌<◌, ◌≤◌, List, [], ◌∷◌, map, arith}
+use Rattle.controller_model.proofs.Prelude.{ℕ, ◌<◌, ◌≤◌, List, [], ◌∷◌, map, arith, AreRising, IsNumbered, Controller, Entry}
 use Rattle.controller_model.proofs.LifeLaws.OwnRows.{busy, entry, own}
-use Rattle.controller_model.specs.LifeLaws.Numbers.{AreRising, IsNumbered}
-use Rattle.controller_model.specs.Controller.{Controller, Entry}
 
 abbrev numbered : List ℕ → List Entry
 numbered numbers = map (λ number. entry (record own { number = number })) numbers

@@ -1,24 +1,16 @@
 -- What was handed to the mobile of a connection is some of what the switch sent, in its order.
-use Rattle.controller_model.proofs.Prelude.{◌≡◌, ◌⊎◌, ℕ, ◌≤◌, ◌<◌, Bool, true, false, if◌then◌else◌, List, [], ◌∷◌, ◌++◌, filter, fold}
-use Rattle.controller_model.proofs.Prelude.{Option, Some, None, refl, sym, subst, ap, ◌∙◌, inl, inr, arith, append-nil, cases_Bool}
-use Rattle.controller_model.proofs.Prelude.{cond-true, cond-false, Message, SWITCH_LINK, Connection, IsOpen, is_dtap, Sapi, Zero, Three}
-use Rattle.controller_model.proofs.Prelude.{messages, Parameters}
-use Rattle.conn_rules.specs.Streams.{handed, rejects}
-use Rattle.controller_model.specs.LifeLaws.Acts.{Acts, Brought, brought_in}
-use Rattle.controller_model.specs.LifeLaws.Acts.Acts.{ages, rests, opens, goes}
-use Rattle.controller_model.specs.LifeLaws.Downlink.{ConservesDownlink, IsPart, Switched, counted, left_over, nothing_switched, switched, with_moment}
-use Rattle.controller_model.specs.LifeLaws.End.{IsThere}
-use Rattle.controller_model.specs.LifeLaws.History.{Moment, connection_of}
-use Rattle.controller_model.proofs.LifeLaws.Beside.{step_goes}
-use Rattle.controller_model.proofs.LifeLaws.DownlinkLife.{agree_step, begun_in, conserved, moments_of, new_agrees}
+use Rattle.controller_model.proofs.Prelude.{◌≡◌, ◌⊎◌, ℕ, ◌≤◌, ◌<◌, Bool, if◌then◌else◌, List, [], ◌∷◌, ◌++◌, filter, fold, Option, Some}
+use Rattle.controller_model.proofs.Prelude.{None, refl, sym, subst, ap, ◌∙◌, inl, inr, arith, append-nil, cases_Bool, cond-true, cond-false}
+use Rattle.controller_model.proofs.Prelude.{Message, Connection, IsOpen, is_dtap, Sapi, Zero, Three, messages, Parameters, handed, rejects}
+use Rattle.controller_model.proofs.Prelude.{Acts, Brought, brought_in, ages, rests, opens, goes, ConservesDownlink, IsPart, Switched}
+use Rattle.controller_model.proofs.Prelude.{counted, nothing_switched, switched, with_moment, IsThere, Moment, connection_of, Step}
+use Rattle.controller_model.proofs.Prelude.{Controller, each, new_controller, step}
+use Rattle.controller_model.proofs.LifeLaws.DownlinkLife.{agree_step, conserved, moments_of, new_agrees}
 use Rattle.controller_model.proofs.LifeLaws.Fitting.{Fits, new_fits, step_fits}
 use Rattle.controller_model.proofs.LifeLaws.SeenStations.{open_or}
 use Rattle.controller_model.proofs.LifeLaws.Silence.{kept_there, same_state, step_silence}
 use Rattle.controller_model.proofs.LifeLaws.Switched.{AgreesDown, was}
 use Rattle.controller_model.proofs.LifeLaws.Turns.{step_does}
-use Rattle.controller_model.specs.declared.step.Step.{Step}
-use Rattle.controller_model.specs.Controller.{Controller, each, new_controller}
-use Rattle.controller_model.specs.Life.{step}
 
 -- ---- parts of lists
 

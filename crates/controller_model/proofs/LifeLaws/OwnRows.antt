@@ -3,24 +3,15 @@
 use Rattle.controller_model.proofs.Prelude.{◌≡◌, ℕ, true, false, List, [], ◌∷◌, map, replicate, set, Option, Some, None, refl, sym, ap, hex}
 use Rattle.controller_model.proofs.Prelude.{arith, Handover, Place, Message, Station, Out, outs_of, channel_release}
 use Rattle.controller_model.proofs.Prelude.{immediate_assign_command, rf_channel_release, Asked, Active, Changing, Closed, Live}
-use Rattle.controller_model.proofs.Prelude.{WaitActivation, WaitEstablish, Connection, ArePutOn, Report, RequestReference}
-use Rattle.std.proofs.Common.{slice_index}
+use Rattle.controller_model.proofs.Prelude.{WaitActivation, WaitEstablish, Connection, ArePutOn, Report, RequestReference, slice_index}
+use Rattle.controller_model.proofs.Prelude.{uses_of, FrameLeaves, IsLeft, Names, NamesItsMobile, NamesOf, SameRequest, KeepsToChannels}
+use Rattle.controller_model.proofs.Prelude.{used_by, ChannelState, Free, InUse, Releasing, Step, Asks, Nothing, OnChannel, OnConnection}
+use Rattle.controller_model.proofs.Prelude.{Ping, Reports, Controller, Entry, free_channels, new_controller, place_at, turn, new_averages}
+use Rattle.controller_model.proofs.Prelude.{pong, step, concerned, ImmediateAssignCommand}
 use Rattle.conn_rules.specs.declared.input.Input.TheVariants as inputs
-use Rattle.conn_rules.specs.Putting.{uses_of}
 use Rattle.controller_model.proofs.LifeLaws.UsedRows.{channel, connection}
-use Rattle.controller_model.specs.LifeLaws.Concern.{FrameLeaves, IsLeft}
-use Rattle.controller_model.specs.LifeLaws.Naming.{Names, NamesItsMobile, NamesOf, SameRequest}
-use Rattle.controller_model.specs.LifeLaws.Placing.{KeepsToChannels, used_by}
 use Rattle.controller_model.proofs.Lives.{down, from_station, usual_settings}
 use Rattle.controller_model.proofs.OnLiterals.{on_literals}
-use Rattle.controller_model.specs.declared.channel_state.ChannelState.{ChannelState}
-use Rattle.controller_model.specs.declared.channel_state.ChannelState.TheVariants.{Free, InUse, Releasing}
-use Rattle.controller_model.specs.declared.step.Step.{Step}
-use Rattle.controller_model.specs.declared.word.Word.TheVariants.{Asks, Nothing, OnChannel, OnConnection, Ping, Reports}
-use Rattle.controller_model.specs.Controller.{Controller, Entry, free_channels, new_controller, place_at, turn}
-use Rattle.controller_model.specs.Life.{new_averages, pong, step}
-use Rattle.controller_model.specs.Ownership.{concerned}
-use Rattle.rsl_codec.specs.declared.rsl.Rsl.TheVariants.{ImmediateAssignCommand}
 
 abbrev pub entry : Connection → Entry
 entry s = record { connection = s; averages = new_averages usual_settings s.serving }

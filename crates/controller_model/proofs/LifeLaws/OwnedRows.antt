@@ -1,14 +1,10 @@
 -- Whose the channels are, at literal values.
 use Rattle.controller_model.proofs.Prelude.{◌≡◌, ℕ, ◌<◌, ◌≤◌, Bool, true, false, List, [], ◌∷◌, map, set, Some, None, refl, sym, ap, arith}
 use Rattle.controller_model.proofs.Prelude.{true≢false, Handover, Asked, Drain, Changing, Closed, Live, Removed, Connection, Roles}
-use Rattle.controller_model.proofs.Prelude.{roles_of}
+use Rattle.controller_model.proofs.Prelude.{roles_of, LinkedOf, Owns, OwnsOpen, is_link_up, used_in, AreUsed, ChannelState, Free, InUse}
+use Rattle.controller_model.proofs.Prelude.{Releasing, free_channels, place_at}
 use Rattle.controller_model.proofs.LifeLaws.OwnRows.{busy, other, own, with_channels}
 use Rattle.controller_model.proofs.LifeLaws.UsedRows.{channel, connection}
-use Rattle.controller_model.specs.LifeLaws.Owning.{LinkedOf, Owns, OwnsOpen, is_link_up, used_in}
-use Rattle.controller_model.specs.LifeLaws.Using.{AreUsed}
-use Rattle.controller_model.specs.declared.channel_state.ChannelState.{ChannelState}
-use Rattle.controller_model.specs.declared.channel_state.ChannelState.TheVariants.{Free, InUse, Releasing}
-use Rattle.controller_model.specs.Controller.{free_channels, place_at}
 
 -- ---- links
 

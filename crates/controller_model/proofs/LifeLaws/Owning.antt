@@ -5,18 +5,13 @@ use Rattle.controller_model.proofs.Prelude.{cases_Bool, cond-true, cond-false, e
 use Rattle.controller_model.proofs.Prelude.{rf_channel_release, AllByRecursion-append, AreAway, drain_at-drains, same_place, Input, Drain}
 use Rattle.controller_model.proofs.Prelude.{Target, is_at, drain_at, TargetRole, Roles, RoleStep, after_step, step_by, step_orders}
 use Rattle.controller_model.proofs.Prelude.{target_channels, with_target, leaves_at, MayBegin, stays, commands, completes, goes_back}
-use Rattle.controller_model.proofs.Prelude.{leaves, done_at, AreApart, IsApart, undone}
-use Rattle.conn_rules.proofs.RolesAccount.{undone-still_draining}
-use Rattle.conn_rules.proofs.RolesApart.{IsPart, IsPart-step, AreApart-begin}
+use Rattle.controller_model.proofs.Prelude.{leaves, done_at, AreApart, IsApart, undone, undone-still_draining, DrainsAt, all_away}
+use Rattle.controller_model.proofs.Prelude.{apart_first, apart_rest, drain-away, apart_behind, IsNew, AreIn, Owns, is_link_up, used_in}
+use Rattle.controller_model.proofs.Prelude.{ChannelState, Free, InUse, Releasing, channels_after, place_of, state_in, with_state}
+use Rattle.conn_rules.proofs.RolesApart.{IsPart, IsPart-step, AreApart-begin, undone-begins}
 use Rattle.conn_rules.proofs.Standing.{AllByRecursion-push}
-use Rattle.conn_rules.proofs.UplinkPlaces.{DrainsAt, all_away, apart_first, apart_rest, drain-away}
 use Rattle.conn_rules.specs.declared.input.Input.TheVariants as inputs
-use Rattle.conn_rules.specs.Roles.{IsNew}
-use Rattle.controller_model.specs.LifeLaws.Owning.{AreIn, Owns, is_link_up, used_in}
 use Rattle.controller_model.proofs.LifeLaws.Places.{IsIn, state_here, state_else, is_there, still_in, use≢release, free≢use, free≢release}
-use Rattle.controller_model.specs.declared.channel_state.ChannelState.{ChannelState}
-use Rattle.controller_model.specs.declared.channel_state.ChannelState.TheVariants.{Free, InUse, Releasing}
-use Rattle.controller_model.specs.Controller.{channels_after, place_of, state_in, with_state}
 
 abbrev States : Type 0
 States = List (List ChannelState)
@@ -24,7 +19,7 @@ States = List (List ChannelState)
 -- ---- states
 
 -- two channels at different places
-places_differ : (c d : Channel) → IsApart c d → place_of c ≢ place_of d
+pub places_differ : (c d : Channel) → IsApart c d → place_of c ≢ place_of d
 places_differ c d apart same =
     let station : c.station ≡ d.station = ap (λ (p : Place). p.station) same in
     let number : c.number ≡ d.number = ap (λ (p : Place). p.number) same in
@@ -114,19 +109,6 @@ away_in : (channels : States) (at : Place) (state was : ChannelState) (cs : List
 away_in channels at state was [] away all = tt
 away_in channels at state was (c ∷ cs) away all = (state_else channels at (place_of c) state (away_places at c away.0) ∙ all.0, away_in channels at state was cs away.1 all.1)
 
-undone_more : (ds : List Drain) (serving : Channel) → undone (ds ++ record { channel = serving; is_done = false } ∷ []) ≡ undone ds ++ serving ∷ []
-undone_more [] serving = refl
-undone_more (d ∷ ds) serving = by d.is_done (undone_more ds serving)
-  where
-    by : (b : Bool) → undone (ds ++ record { channel = serving; is_done = false } ∷ []) ≡ undone ds ++ serving ∷ [] →
-        (if b then undone (ds ++ record { channel = serving; is_done = false } ∷ []) else d.channel ∷ undone (ds ++ record { channel = serving; is_done = false } ∷ [])) ≡ (if b then undone ds else d.channel ∷ undone ds) ++ serving ∷ []
-    by true same = same
-    by false same = ap (λ (cs : List Channel). d.channel ∷ cs) same
-
-apart_in : (cs rest : List Channel) → AreApart (cs ++ rest) → AreApart rest
-apart_in [] rest apart = apart
-apart_in (c ∷ cs) rest apart = apart_in cs rest apart.1
-
 -- ---- its own step
 
 part : (step : RoleStep) (roles : Roles) → IsPart (used_in roles) (used_in (after_step step roles))
@@ -145,7 +127,7 @@ in_use channels at n is = is_there channels at (λ free. free≢use n (sym free 
 
 back_owns : (channels : States) (links : List Bool) (n : ℕ) (roles : Roles) (t : TargetRole) (b : Bool) → Owns channels links n (record roles { target = Some t }) → Owns (fold (channels_after n) channels (if b then rf_channel_release t.target.channel ∷ [] else [])) links n (record roles { target = None })
 back_owns channels links n roles t true owns =
-    let differ = places_differ roles.serving t.target.channel (apart_in (undone roles.draining) (roles.serving ∷ t.target.channel ∷ []) owns.apart).0.0 in
+    let differ = places_differ roles.serving t.target.channel (apart_behind (undone roles.draining) (roles.serving ∷ t.target.channel ∷ []) owns.apart).0.0 in
     with_states channels (with_state (place_of t.target.channel) (Releasing n) channels) links n goes_back (record roles { target = Some t }) owns
     (state_else channels (place_of t.target.channel) (place_of roles.serving) (Releasing n) differ ∙ owns.using.0, tt)
     (still_in channels (place_of t.target.channel) (Releasing n) (Releasing n) (undone roles.draining) (λ is. use≢release n n (sym owns.using.1.0 ∙ is)) owns.releasing)
@@ -166,10 +148,10 @@ own_step channels links n completes roles None has owns = absurd has
 own_step channels links n completes roles (Some t) has owns =
     let old : Roles = record roles { target = Some t } in
     let next : States = with_state (place_of roles.serving) (Releasing n) channels in
-    let differ = places_differ roles.serving t.target.channel (apart_in (undone roles.draining) (roles.serving ∷ t.target.channel ∷ []) owns.apart).0.0 in
+    let differ = places_differ roles.serving t.target.channel (apart_behind (undone roles.draining) (roles.serving ∷ t.target.channel ∷ []) owns.apart).0.0 in
     with_states channels next links n completes old owns
     (state_else channels (place_of roles.serving) (place_of t.target.channel) (Releasing n) (λ same. differ (sym same)) ∙ owns.using.1.0, tt)
-    (subst (AreIn next (Releasing n)) (sym (undone_more roles.draining roles.serving))
+    (subst (AreIn next (Releasing n)) (sym (undone-begins roles.draining roles.serving))
     (AllByRecursion-push (λ c. state_in next (place_of c) ≡ Releasing n) (undone roles.draining) roles.serving
     (still_in channels (place_of roles.serving) (Releasing n) (Releasing n) (undone roles.draining) (λ is. use≢release n n (sym owns.using.0 ∙ is)) owns.releasing)
     (state_here channels (place_of roles.serving) (Releasing n) (in_use channels (place_of roles.serving) n owns.using.0))))
@@ -248,7 +230,7 @@ pub refused_owns : (channels : States) (links : List Bool) (n : ℕ) (at : Place
 refused_owns channels links n at roles t here owns =
     let old : Roles = record roles { target = Some t } in
     let is : at ≡ place_of t.target.channel = same_place at t.target.channel here in
-    let differ = places_differ roles.serving t.target.channel (apart_in (undone roles.draining) (roles.serving ∷ t.target.channel ∷ []) owns.apart).0.0 in
+    let differ = places_differ roles.serving t.target.channel (apart_behind (undone roles.draining) (roles.serving ∷ t.target.channel ∷ []) owns.apart).0.0 in
     with_states channels (with_state at Free channels) links n goes_back old owns
     (state_else channels at (place_of roles.serving) Free (λ same. differ (same ∙ is)) ∙ owns.using.0, tt)
     (still_in channels at Free (Releasing n) (undone roles.draining) (λ same. use≢release n n (sym owns.using.1.0 ∙ ap (state_in channels) (sym is) ∙ same)) owns.releasing)

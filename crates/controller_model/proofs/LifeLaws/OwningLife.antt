@@ -3,19 +3,18 @@ use Rattle.controller_model.proofs.Prelude.{◌≡◌, ◌≢◌, ℕ, zero, suc
 use Rattle.controller_model.proofs.Prelude.{List, [], ◌∷◌, ◌++◌, length, map, replicate, set, slice_index_or, Option, Some, None}
 use Rattle.controller_model.proofs.Prelude.{option_map, refl, sym, subst, ap, ◌∙◌, inl, inr, arith, true≢false, cases_Bool, cond-true}
 use Rattle.controller_model.proofs.Prelude.{cond-false, eq-eqb, get_or-set_other, AllByRecursion, Channel, Message, SWITCH_LINK}
-use Rattle.controller_model.proofs.Prelude.{AllByRecursion-append, by_state, Input, Drain, Stage, Active, Preparing, Changing, Draining}
+use Rattle.controller_model.proofs.Prelude.{AllByRecursion-append, by_state, Input, Drain, Stage, Preparing, Changing}
 use Rattle.controller_model.proofs.Prelude.{State, WaitActivation, WaitEstablish, WaitConfirm, Live, Closed, Removed, Connection, Roles}
 use Rattle.controller_model.proofs.Prelude.{roles_of, target_channels, target_role, Stands, Row, IsOpen, undone, row_if, on_drain_expiry}
 use Rattle.controller_model.proofs.Prelude.{on_expiry, on_station_down, on_switch_down, What, AreAllowed, CellParameters, Parameters}
-use Rattle.std.proofs.lemmas.List.{length-replicate}
+use Rattle.controller_model.proofs.Prelude.{length-replicate, drains_at, targets, is_some_draining, Acts, IsTimer, ages, goes, opens, rests}
+use Rattle.controller_model.proofs.Prelude.{breaks, connection_of, IsNumbered, AreRising, IsAbove, AreIn, Owns, OwnsOpen, is_link_up}
+use Rattle.controller_model.proofs.Prelude.{used_in, LinkedOf, ChannelState, Free, InUse, Releasing, CHANNEL_NUMBERS, Step, Take, Tick}
+use Rattle.controller_model.proofs.Prelude.{request_offer, Controller, Entry, Turn, turn, each, entry_of, free_channels, freed_station}
+use Rattle.controller_model.proofs.Prelude.{is_up, new_controller, with_down, aged, all_aged, break_of, expiry, on_break, expires, on_what}
+use Rattle.controller_model.proofs.Prelude.{row_in, step, timed, told, word_of, IsCell, IsChannel, recursion_from_All, all_behind}
 use Rattle.conn_rules.specs.declared.input.Input.TheVariants as inputs
-use Rattle.conn_rules.specs.Table.{row_of, drains_at, targets, is_some_draining}
-use Rattle.controller_model.specs.LifeLaws.Acts.{Acts, IsTimer}
-use Rattle.controller_model.specs.LifeLaws.Acts.Acts.{ages, goes, opens, rests}
-use Rattle.controller_model.specs.LifeLaws.Acts.Brought.{breaks}
-use Rattle.controller_model.specs.LifeLaws.History.{connection_of}
-use Rattle.controller_model.specs.LifeLaws.Numbers.{IsNumbered, AreRising, IsAbove}
-use Rattle.controller_model.specs.LifeLaws.Owning.{AreIn, Owns, OwnsOpen, is_link_up, used_in}
+use Rattle.conn_rules.specs.Table.{row_of}
 use Rattle.controller_model.proofs.LifeLaws.Beside.{links_with, other_link, step_goes}
 use Rattle.controller_model.proofs.LifeLaws.Entries.{find_above}
 use Rattle.controller_model.proofs.LifeLaws.Fitting.{Fits, IsFine, IsLinkBreak, IsLinked, IsPresent, new_fits, step_fits, never_none, own_carried, pass_stands, row_is}
@@ -25,19 +24,8 @@ use Rattle.controller_model.proofs.LifeLaws.Places.{all_set, length_set}
 use Rattle.controller_model.proofs.LifeLaws.Sources.{word_from}
 use Rattle.controller_model.proofs.LifeLaws.Turns.{all_found, all_two, aged_rising, break_does, told_tame, timed_tame, expiry_own, IsDue}
 use Rattle.controller_model.proofs.Others.{all_age}
-use Rattle.controller_model.specs.declared.channel_state.ChannelState.{ChannelState}
-use Rattle.controller_model.specs.declared.channel_state.ChannelState.TheVariants.{Free, InUse, Releasing}
-use Rattle.controller_model.specs.declared.limits.TheConstants.{CHANNEL_NUMBERS}
-use Rattle.controller_model.specs.declared.step.Step.{Step}
-use Rattle.controller_model.specs.declared.step.Step.TheVariants.{Take, Tick}
-use Rattle.controller_model.specs.Channels.{request_offer}
-use Rattle.controller_model.specs.Controller.{Controller, Entry, Turn, turn, each, entry_of, free_channels, freed_station, is_up, new_controller, with_down}
-use Rattle.controller_model.specs.Life.{aged, all_aged, break_of, expiry, on_break, on_expiry as expires, on_what, row_in, step, take, tick, timed, told}
-use Rattle.controller_model.specs.Reading.{word_of}
+use Rattle.controller_model.specs.Life.{take, tick}
 use Rattle.ruled_relay.specs.declared.item.What.TheVariants as whats
-use Rattle.settings.specs.Parameters.{IsCell, IsChannel}
-use Rattle.std.proofs.lemmas.List.Elements.{recursion_from_All}
-use Rattle.controller_model.specs.LifeLaws.Owning.{LinkedOf}
 use Rattle.controller_model.proofs.LifeLaws.Lives.{life_fits}
 use Rattle.controller_model.specs.Life.{life}
 
@@ -46,7 +34,7 @@ States = List (List ChannelState)
 
 -- ---- rows that close a connection
 
-shut_if : (b : Bool) (q r : Row) → (IsOpen q.next.state → ⊥) → row_if b q ≡ Some r → IsOpen r.next.state → ⊥
+pub shut_if : (b : Bool) (q r : Row) → (IsOpen q.next.state → ⊥) → row_if b q ≡ Some r → IsOpen r.next.state → ⊥
 shut_if true q r shut is is_open = shut (subst (λ (p : Row). IsOpen p.next.state) (sym (row_is q r is)) is_open)
 shut_if false q r shut is is_open = absurd cc
 
@@ -58,35 +46,21 @@ expiry_shut WaitActivation s r is = shut_row _ r (λ there. there) is
 expiry_shut WaitEstablish s r is = shut_row _ r (λ there. there) is
 expiry_shut (Live reference (Preparing target)) s r is = shut_row _ r (λ there. there) is
 expiry_shut (Live reference (Changing target)) s r is = shut_row _ r (λ there. there) is
-expiry_shut (Live reference Active) s r is = absurd cc
-expiry_shut (Live reference Draining) s r is = absurd cc
-expiry_shut WaitConfirm s r is = absurd cc
-expiry_shut (Closed clearing) s r is = absurd cc
-expiry_shut Removed s r is = absurd cc
+expiry_shut _ s r is = absurd cc
 
 drain_shut : (state : State) (s : Connection) (r : Row) → on_drain_expiry state s ≡ Some r → IsOpen r.next.state → ⊥
 drain_shut (Live reference stage) s r is = shut_if (is_some_draining s.draining) _ r (λ there. there) is
-drain_shut WaitActivation s r is = absurd cc
-drain_shut WaitEstablish s r is = absurd cc
-drain_shut WaitConfirm s r is = absurd cc
-drain_shut (Closed clearing) s r is = absurd cc
-drain_shut Removed s r is = absurd cc
+drain_shut _ s r is = absurd cc
 
 station_shut : (state : State) (s : Connection) (station : ℕ) (r : Row) → on_station_down state s station ≡ Some r → IsOpen r.next.state → ⊥
-station_shut WaitActivation s station r is = shut_if (s.serving.station == station) _ r (λ there. there) is
-station_shut WaitEstablish s station r is = shut_if (s.serving.station == station) _ r (λ there. there) is
-station_shut WaitConfirm s station r is = shut_if (s.serving.station == station) _ r (λ there. there) is
 station_shut (Live reference stage) s station r is = shut_if (s.serving.station == station || targets station stage || drains_at station s.draining) _ r (λ there. there) is
 station_shut (Closed clearing) s station r is = absurd cc
 station_shut Removed s station r is = absurd cc
+station_shut _ s station r is = shut_if (s.serving.station == station) _ r (λ there. there) is
 
 switch_shut : (state : State) (s : Connection) (r : Row) → on_switch_down state s ≡ Some r → IsOpen r.next.state → ⊥
-switch_shut WaitActivation s r is = shut_row _ r (λ there. there) is
-switch_shut WaitEstablish s r is = shut_row _ r (λ there. there) is
-switch_shut WaitConfirm s r is = shut_row _ r (λ there. there) is
-switch_shut (Live reference stage) s r is = shut_row _ r (λ there. there) is
-switch_shut (Closed clearing) s r is = shut_row _ r (λ there. there) is
 switch_shut Removed s r is = absurd cc
+switch_shut _ s r is = shut_row _ r (λ there. there) is
 
 pub timer_shut : (input : Input) → IsTimer input → (s : Connection) (offer : Option Channel) (r : Row) → row_of s input offer ≡ Some r → IsOpen r.next.state → ⊥
 unfolding row_of
@@ -127,7 +101,7 @@ all_stand c (x ∷ xs) stand there = (stand x.connection.number x there.0, all_s
 abbrev pub IsAwayFrom : ℕ → Channel → Type 0
 IsAwayFrom station c = c.station ≢ station
 
-or_false : (a b : Bool) → (a || b) ≡ false → (a ≡ false) × (b ≡ false)
+pub or_false : (a b : Bool) → (a || b) ≡ false → (a ≡ false) × (b ≡ false)
 or_false true b is = absurd (true≢false is)
 or_false false b is = (refl, is)
 
@@ -155,8 +129,7 @@ drains_away station (d ∷ ds) is =
 target_away : (station reference : ℕ) (stage : Stage) → targets station stage ≡ false → AllByRecursion (IsAwayFrom station) (target_channels (target_role (Live reference stage)))
 target_away station reference (Preparing target) is = (away_from station target.channel is, tt)
 target_away station reference (Changing target) is = (away_from station target.channel is, tt)
-target_away station reference Active is = tt
-target_away station reference Draining is = tt
+target_away station reference _ is = tt
 
 -- where no row fits, no channel is of that station
 live_away : (s : Connection) (station reference : ℕ) (stage : Stage) → (s.serving.station == station || targets station stage || drains_at station s.draining) ≡ false → AllByRecursion (IsAwayFrom station) (undone s.draining ++ s.serving ∷ target_channels (target_role (Live reference stage)))
@@ -182,8 +155,7 @@ down_away WaitConfirm s station is stands is_open none =
 down_away (Live reference stage) s station is stands is_open none =
     subst (λ (state : State). AllByRecursion (IsAwayFrom station) (undone s.draining ++ s.serving ∷ target_channels (target_role state))) (sym is)
     (live_away s station reference stage (none_if (s.serving.station == station || targets station stage || drains_at station s.draining) _ none))
-down_away (Closed clearing) s station is stands is_open none = absurd is_open
-down_away Removed s station is stands is_open none = absurd is_open
+down_away _ s station is stands is_open none = absurd is_open
 
 -- the channels of another station stay
 down_in : (channels : States) (station : ℕ) (row : List ChannelState) (state : ChannelState) (cs : List Channel) → AllByRecursion (IsAwayFrom station) cs → AreIn channels state cs → AreIn (set channels station row) state cs
@@ -201,13 +173,9 @@ front : (P : Channel → Type 0) (xs ys : List Channel) → AllByRecursion P (xs
 front P [] ys all = tt
 front P (x ∷ xs) ys all = (all.0, front P xs ys all.1)
 
-behind : (P : Channel → Type 0) (xs ys : List Channel) → AllByRecursion P (xs ++ ys) → AllByRecursion P ys
-behind P [] ys all = all
-behind P (x ∷ xs) ys all = behind P xs ys all.1
-
 down_owns : (channels : States) (links : List Bool) (n station : ℕ) (row : List ChannelState) (roles : Roles) → AllByRecursion (IsAwayFrom station) (used_in roles) → Owns channels links n roles → Owns (set channels station row) (set links station false) n roles
 down_owns channels links n station row roles away owns = record {
-  using = down_in channels station row (InUse n) (roles.serving ∷ target_channels roles.target) (behind (IsAwayFrom station) (undone roles.draining) (roles.serving ∷ target_channels roles.target) away) owns.using;
+  using = down_in channels station row (InUse n) (roles.serving ∷ target_channels roles.target) (all_behind (IsAwayFrom station) (undone roles.draining) (roles.serving ∷ target_channels roles.target) away) owns.using;
   releasing = down_in channels station row (Releasing n) (undone roles.draining) (front (IsAwayFrom station) (undone roles.draining) (roles.serving ∷ target_channels roles.target) away) owns.releasing;
   apart = owns.apart;
   linked = down_linked links station (used_in roles) away owns.linked;
@@ -215,12 +183,9 @@ down_owns channels links n station row roles away owns = record {
 
 open_present : (state : State) → IsOpen state → IsPresent state
 unfolding IsPresent
-open_present WaitActivation is_open = tt
-open_present WaitEstablish is_open = tt
-open_present WaitConfirm is_open = tt
-open_present (Live reference stage) is_open = tt
 open_present (Closed clearing) is_open = absurd is_open
 open_present Removed is_open = absurd is_open
+open_present _ is_open = tt
 
 -- no row fits a break: it is that of a station, and none of its channels are there
 break_away : (source : ℕ) (s : Connection) (offer : Option Channel) → Stands s → IsOpen s.state → row_of s (break_of source) offer ≡ None → ((source == SWITCH_LINK) ≡ false) × AllByRecursion (IsAwayFrom source) (used_in (roles_of s))
@@ -269,9 +234,6 @@ shaped_down p channels station shaped = record {
   rows = all_set IsRow (λ row. free_channels) channels station [] (λ row is. row_free) shaped.rows;
   numbers = shaped.numbers;
 }
-
-broken : (b : Bool) (source : ℕ) (c : Controller) → Controller
-broken b source c = if b then c else freed_station source c
 
 broken_holds : (b : Bool) (source : ℕ) (links : List Bool) (c : Controller) → Holds links c → ((n : ℕ) → OwnsOpen (if b then c.channels else set c.channels source free_channels) (set links source false) n (connection_of c n)) → Holds (set links source false) (if b then c else freed_station source c)
 broken_holds true source links c holds owns = record { shaped = holds.shaped; each = owns }

@@ -7,15 +7,12 @@ use Rattle.controller_model.proofs.Prelude.{AllByRecursion-filter, Input, Target
 use Rattle.controller_model.proofs.Prelude.{GoesOn, RoleEnd, roles_of, after_step, step_by, step_orders, begin_orders, with_target}
 use Rattle.controller_model.proofs.Prelude.{end_messages, those_that_go, to_stations, is_order, orders, MayBegin, goes_on, ends, had_ended}
 use Rattle.controller_model.proofs.Prelude.{refused, drops, dismisses, stays, commands, completes, goes_back, leaves, Row, goes_to, IsOpen}
-use Rattle.std.proofs.lemmas.Grind.{fold-append}
+use Rattle.controller_model.proofs.Prelude.{fold-append, is_to_station, Owns, ChannelState, Free, InUse, Releasing, channels_after}
+use Rattle.controller_model.proofs.Prelude.{place_at, place_of, state_in, with_state}
 use Rattle.conn_rules.specs.declared.input.Input.TheVariants as inputs
-use Rattle.conn_rules.specs.Roles.{Ends, is_to_station}
-use Rattle.controller_model.specs.LifeLaws.Owning.{Owns}
+use Rattle.conn_rules.specs.Roles.{Ends}
 use Rattle.controller_model.proofs.LifeLaws.Owning.{HasTarget, IsOffered, begin_owns, other_set, own_step}
 use Rattle.controller_model.proofs.LifeLaws.Places.{fold_orders, state_else, set_or_not, still_there}
-use Rattle.controller_model.specs.declared.channel_state.ChannelState.{ChannelState}
-use Rattle.controller_model.specs.declared.channel_state.ChannelState.TheVariants.{Free, InUse, Releasing}
-use Rattle.controller_model.specs.Controller.{channels_after, place_at, place_of, state_in, with_state}
 use Rattle.rsl_codec.specs.declared.rsl.Rsl.TheVariants as rsl
 
 abbrev States : Type 0
@@ -61,10 +58,7 @@ order_after : (m : ℕ) (channels : States) (at : Place) (state : ChannelState) 
 unfolding IsMineOrder
 order_after m channels at state (Station station (rsl.ChannelActivation a)) now was = mine_set m channels at (place_at station a.channel) state now was
 order_after m channels at state (Station station (rsl.RfChannelRelease channel)) now was = mine_set m channels at (place_at station channel) state now was
-order_after m channels at state (Station station _) now was = tt
-order_after m channels at state (Request message) now was = tt
-order_after m channels at state (Data destination message) now was = tt
-order_after m channels at state (ReleaseComplete destination) now was = tt
+order_after m channels at state _ now was = tt
 
 pub orders_after : (m : ℕ) (channels : States) (at : Place) (state : ChannelState) (ms : List Message) → IsMine m state → AllByRecursion (IsMineOrder m channels) ms → AllByRecursion (IsMineOrder m (with_state at state channels)) ms
 orders_after m channels at state [] now all = tt
@@ -96,9 +90,7 @@ all_that_go P _ ms all = all
 -- all orders go to stations
 order_station : (m : Message) → is_order m ≡ true → is_to_station m ≡ true
 order_station (Station station message) is = refl
-order_station (Request message) is = absurd (true≢false (sym is))
-order_station (Data destination message) is = absurd (true≢false (sym is))
-order_station (ReleaseComplete destination) is = absurd (true≢false (sym is))
+order_station _ is = absurd (true≢false (sym is))
 
 orders_to_stations : (ms : List Message) → orders (to_stations ms) ≡ orders ms
 orders_to_stations [] = refl

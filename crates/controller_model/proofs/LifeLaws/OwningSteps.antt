@@ -2,19 +2,15 @@
 use Rattle.controller_model.proofs.Prelude.{◌≡◌, ◌≢◌, ℕ, zero, suc, ◌+◌, ◌-◌, ◌<◌, ◌&&◌, Bool, true, false, if◌then◌else◌, List, [], ◌∷◌}
 use Rattle.controller_model.proofs.Prelude.{length, find, fold, set, slice_get, slice_index_or, Option, Some, None, option_map, refl, sym}
 use Rattle.controller_model.proofs.Prelude.{subst, ap, ◌∙◌, inl, inr, arith, true≢false, cases_Bool, cond-true, cond-false, and_parts}
-use Rattle.controller_model.proofs.Prelude.{option_and_then_some, AllByRecursion, Channel, Place, Message, Station, Request, Data}
-use Rattle.controller_model.proofs.Prelude.{ReleaseComplete, Input, State, WaitActivation, WaitEstablish, WaitConfirm, Live, Closed}
-use Rattle.controller_model.proofs.Prelude.{Removed, Connection, drain_at, is_at, TargetRole, Roles, RoleEnd, ChangesRoles, end_messages}
-use Rattle.controller_model.proofs.Prelude.{roles_of, awaits_at, changes_by, step_by, leaves_at, goes_on, ends, had_ended, stays, commands}
-use Rattle.controller_model.proofs.Prelude.{completes, goes_back, Row, IsOpen, OfRow, CellParameters, Parameters}
-use Rattle.std.proofs.lemmas.Option.{slice_get_within}
+use Rattle.controller_model.proofs.Prelude.{option_and_then_some, AllByRecursion, Channel, Place, Message, Station, Input, State, Removed}
+use Rattle.controller_model.proofs.Prelude.{Connection, drain_at, is_at, TargetRole, Roles, RoleEnd, ChangesRoles, end_messages, roles_of}
+use Rattle.controller_model.proofs.Prelude.{awaits_at, changes_by, step_by, leaves_at, goes_on, ends, had_ended, stays, commands, completes}
+use Rattle.controller_model.proofs.Prelude.{goes_back, Row, IsOpen, OfRow, CellParameters, Parameters, slice_get_within, is_target_at}
+use Rattle.controller_model.proofs.Prelude.{row_of, kept_in, connection_of, AreRising, Owns, OwnsOpen, is_link_up, ChannelKind}
+use Rattle.controller_model.proofs.Prelude.{ChannelState, Free, InUse, Releasing, CHANNEL_NUMBERS, channel_in, channel_of_kind, first_free}
+use Rattle.controller_model.proofs.Prelude.{free_channel, free_in, is_alike, is_free, is_unused, kind_of, Controller, Entry, channels_after}
+use Rattle.controller_model.proofs.Prelude.{entry_of, place_at, place_of, state_in, with_state, by_row, entry_after}
 use Rattle.conn_rules.specs.declared.input.Input.TheVariants as inputs
-use Rattle.conn_rules.specs.Roles.{is_target_at}
-use Rattle.conn_rules.specs.Table.{row_of}
-use Rattle.controller_model.specs.LifeLaws.Acts.{kept_in}
-use Rattle.controller_model.specs.LifeLaws.History.{connection_of}
-use Rattle.controller_model.specs.LifeLaws.Numbers.{AreRising}
-use Rattle.controller_model.specs.LifeLaws.Owning.{Owns, OwnsOpen, is_link_up}
 use Rattle.controller_model.proofs.LifeLaws.Acting.{row_found}
 use Rattle.controller_model.proofs.LifeLaws.Entries.{back_over}
 use Rattle.controller_model.proofs.LifeLaws.Owning.{HasTarget, IsOffered}
@@ -22,13 +18,6 @@ use Rattle.controller_model.proofs.LifeLaws.OwningRows.{IsMineOrder, StepOwns, r
 use Rattle.controller_model.proofs.LifeLaws.Places.{IsIn, all_at, all_set, length_set}
 use Rattle.controller_model.proofs.LifeLaws.Words.{decide_same}
 use Rattle.controller_model.proofs.Numbers.{keeps_number}
-use Rattle.controller_model.specs.declared.channel_kind.ChannelKind.{ChannelKind}
-use Rattle.controller_model.specs.declared.channel_state.ChannelState.{ChannelState}
-use Rattle.controller_model.specs.declared.channel_state.ChannelState.TheVariants.{Free, InUse, Releasing}
-use Rattle.controller_model.specs.declared.limits.TheConstants.{CHANNEL_NUMBERS}
-use Rattle.controller_model.specs.Channels.{channel_in, channel_of_kind, first_free, free_channel, free_in, is_alike, is_free, is_unused, kind_of}
-use Rattle.controller_model.specs.Controller.{Controller, Entry, channels_after, entry_of, place_at, place_of, state_in, with_state}
-use Rattle.controller_model.specs.Life.{by_row, entry_after}
 use Rattle.rsl_codec.specs.declared.rsl.Rsl.TheVariants as rsl
 
 abbrev States : Type 0
@@ -57,10 +46,7 @@ shaped_set p channels at state shaped = record {
 shaped_message : (p : Parameters) (m : ℕ) (channels : States) (message : Message) → IsShaped p channels → IsShaped p (channels_after m channels message)
 shaped_message p m channels (Station station (rsl.ChannelActivation a)) shaped = shaped_set p channels (place_at station a.channel) (InUse m) shaped
 shaped_message p m channels (Station station (rsl.RfChannelRelease channel)) shaped = shaped_set p channels (place_at station channel) (Releasing m) shaped
-shaped_message p m channels (Station station _) shaped = shaped
-shaped_message p m channels (Request message) shaped = shaped
-shaped_message p m channels (Data destination message) shaped = shaped
-shaped_message p m channels (ReleaseComplete destination) shaped = shaped
+shaped_message p m channels _ shaped = shaped
 
 pub shaped_fold : (p : Parameters) (m : ℕ) (channels : States) (ms : List Message) → IsShaped p channels → IsShaped p (fold (channels_after m) channels ms)
 shaped_fold p m channels [] shaped = shaped
@@ -70,8 +56,7 @@ shaped_fold p m channels (message ∷ ms) shaped = shaped_fold p m (channels_aft
 
 unused_free : (state : ChannelState) → is_unused state ≡ true → state ≡ Free
 unused_free Free is = refl
-unused_free (InUse n) is = absurd (true≢false (sym is))
-unused_free (Releasing n) is = absurd (true≢false (sym is))
+unused_free _ is = absurd (true≢false (sym is))
 
 pub found_one : (test : ℕ → Bool) (P : ℕ → Type 0) (xs : List ℕ) (n : ℕ) → AllByRecursion P xs → find test xs ≡ Some n → (test n ≡ true) × P n
 found_one test P [] n all is = absurd cc
@@ -121,16 +106,12 @@ has_target (inputs.ActivationAck at) roles = by (awaits_at at roles.target) role
   where
     by : (b : Bool) (target : Option TargetRole) → HasTarget (if b then commands else stays) target
     by true None = tt
-    by true (Some t) = tt
-    by false None = tt
-    by false (Some t) = tt
+    by _ _ = tt
 has_target (inputs.ActivationNack at) roles = by (awaits_at at roles.target) roles.target
   where
     by : (b : Bool) (target : Option TargetRole) → HasTarget (if b then goes_back else stays) target
     by true None = tt
-    by true (Some t) = tt
-    by false None = tt
-    by false (Some t) = tt
+    by _ _ = tt
 has_target (inputs.Complete at change cause) roles = by roles.target
   where
     by : (target : Option TargetRole) → HasTarget (if (is_target_at at target && changes_by change target) then completes else stays) target
@@ -144,16 +125,12 @@ has_target (inputs.Failure at change cause) roles = by (is_at at roles.serving &
   where
     by : (b : Bool) (target : Option TargetRole) → HasTarget (if b then goes_back else stays) target
     by true None = tt
-    by true (Some t) = tt
-    by false None = tt
-    by false (Some t) = tt
+    by _ _ = tt
 has_target (inputs.ReleaseAck at) roles = by (drain_at at roles.draining) roles.target
   where
     by : (o : Option ℕ) (target : Option TargetRole) → HasTarget (leaves_at o) target
     by None None = tt
-    by None (Some t) = tt
-    by (Some place) None = tt
-    by (Some place) (Some t) = tt
+    by _ _ = tt
 has_target _ roles = by roles.target
   where
     by : (target : Option TargetRole) → HasTarget stays target
@@ -164,11 +141,7 @@ has_target _ roles = by roles.target
 
 pub owns_kept : (channels : States) (links : List Bool) (n : ℕ) (state : State) (s : Connection) → (IsOpen s.state → Owns channels links n (roles_of s)) → OwnsOpen channels links n (kept_in state s)
 owns_kept channels links n Removed s owns = tt
-owns_kept channels links n WaitActivation s owns = owns
-owns_kept channels links n WaitEstablish s owns = owns
-owns_kept channels links n WaitConfirm s owns = owns
-owns_kept channels links n (Live reference stage) s owns = owns
-owns_kept channels links n (Closed clearing) s owns = owns
+owns_kept channels links n _ s owns = owns
 
 own_row : (m : ℕ) (channels : States) (links : List Bool) (s : Connection) (input : Input) (offer : Option Channel) (r : Row) → ChangesRoles s input offer r → (IsOpen s.state → IsOpen r.next.state → StepOwns m channels links (step_by input (roles_of s)) (roles_of s)) → (IsOpen r.next.state → (c : Channel) → offer ≡ Some c → IsOffered channels links c) → IsOpen r.next.state →
     Owns (fold (channels_after m) channels r.outs) links m (roles_of r.next)

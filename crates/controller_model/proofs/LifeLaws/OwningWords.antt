@@ -1,19 +1,20 @@
 -- Whose channels are after a frame.
 use Rattle.controller_model.proofs.Prelude.{◌≡◌, ◌≢◌, ℕ, Bool, true, false, if◌then◌else◌, List, [], Option, Some, None, option_map, refl}
 use Rattle.controller_model.proofs.Prelude.{sym, subst, ap, ◌∙◌, true≢false, cond-true, cond-false, and_parts, Channel, Place, Input}
-use Rattle.controller_model.proofs.Prelude.{Active, Preparing, Changing, Draining, State, WaitActivation, WaitEstablish, WaitConfirm, Live}
-use Rattle.controller_model.proofs.Prelude.{Closed, Removed, Connection, drain_at, emptied, is_at, TargetRole, Roles, RoleStep}
+use Rattle.controller_model.proofs.Prelude.{Preparing, State, WaitActivation, Live}
+use Rattle.controller_model.proofs.Prelude.{Removed, Connection, drain_at, emptied, is_at, TargetRole, Roles, RoleStep}
 use Rattle.controller_model.proofs.Prelude.{ChangesRoles, roles_of, target_role, after_step, awaits_at, end_messages, step_by, step_orders}
 use Rattle.controller_model.proofs.Prelude.{leaves_at, stays, goes_back, Stands, Row, row, IsOpen, row_if, refuse, on_activation_nack}
-use Rattle.controller_model.proofs.Prelude.{serving_after, Report, Decision, Stay, Move, RequestReference}
-use Rattle.std.specs.Option.{is_some}
-use Rattle.conn_rules.proofs.RolesTable.{ChangesRoles-row}
+use Rattle.controller_model.proofs.Prelude.{serving_after, Report, Decision, Stay, Move, RequestReference, is_some, ChangesRoles-row}
+use Rattle.controller_model.proofs.Prelude.{ChangesRolesBy, target_orders, connection_of, IsNumbered, AreRising, Owns, OwnsOpen, Sdcch, Tch}
+use Rattle.controller_model.proofs.Prelude.{ChannelState, Free, InUse, Releasing, Word, Nothing, Ping, Asks, OnChannel, Reports}
+use Rattle.controller_model.proofs.Prelude.{OnConnection, access_channel, assignment_offer, handover_offer, request_offer, kind_of}
+use Rattle.controller_model.proofs.Prelude.{Controller, Entry, Turn, turn, ignoring, entry_of, with_entry, channel_state, freed, holder}
+use Rattle.controller_model.proofs.Prelude.{place_of, with_state, by_fitting, concerning, concerning_too, entry_at, fits, frees, given}
+use Rattle.controller_model.proofs.Prelude.{may_open, measured, measures, new_entry, on_decision, on_freed, on_report, on_state, on_word}
+use Rattle.controller_model.proofs.Prelude.{row_in, with_connection, with_report, is_measured, decision_over}
 use Rattle.conn_rules.specs.declared.input.Input.TheVariants as inputs
-use Rattle.conn_rules.specs.Roles.{ChangesRolesBy, target_orders}
 use Rattle.conn_rules.specs.Table.{row_of}
-use Rattle.controller_model.specs.LifeLaws.History.{connection_of}
-use Rattle.controller_model.specs.LifeLaws.Numbers.{IsNumbered, AreRising}
-use Rattle.controller_model.specs.LifeLaws.Owning.{Owns, OwnsOpen}
 use Rattle.controller_model.proofs.LifeLaws.Entries.{back_over, back_found, back_rising, behind_found, behind_over, find_below, found_number}
 use Rattle.controller_model.proofs.LifeLaws.Owning.{IsOffered, acknowledged_owns, other_set, refused_owns}
 use Rattle.controller_model.proofs.LifeLaws.OwningRows.{StepOwns, ends_mine, orders_after, silent_owns, step_owns}
@@ -22,15 +23,6 @@ use Rattle.controller_model.proofs.LifeLaws.OwningSteps.{IsShaped, RowOwns, by_r
 use Rattle.controller_model.proofs.LifeLaws.Places.{state_here}
 use Rattle.controller_model.proofs.LifeLaws.Sources.{IsAtPlace, IsFrom}
 use Rattle.controller_model.proofs.LifeLaws.Words.{decide_same, measured_stays}
-use Rattle.controller_model.specs.declared.channel_kind.ChannelKind.TheVariants.{Sdcch, Tch}
-use Rattle.controller_model.specs.declared.channel_state.ChannelState.{ChannelState}
-use Rattle.controller_model.specs.declared.channel_state.ChannelState.TheVariants.{Free, InUse, Releasing}
-use Rattle.controller_model.specs.declared.word.Word.{Word}
-use Rattle.controller_model.specs.declared.word.Word.TheVariants.{Nothing, Ping, Asks, OnChannel, Reports, OnConnection}
-use Rattle.controller_model.specs.Channels.{access_channel, assignment_offer, handover_offer, request_offer, kind_of}
-use Rattle.controller_model.specs.Controller.{Controller, Entry, Turn, turn, ignoring, entry_of, with_entry, channel_state, freed, holder, place_of, with_state}
-use Rattle.controller_model.specs.Life.{by_fitting, concerning, concerning_too, entry_at, fits, frees, given, may_open, measured, measures, new_entry, on_decision, on_freed, on_report, on_state, on_word, row_in, with_connection, with_report, is_measured}
-use Rattle.controller_model.specs.Reports.{decision_over}
 
 -- the channels of all connections, as far as these links are up
 pub record Holds (links : List Bool) (c : Controller) : Type 0 where
@@ -88,14 +80,12 @@ freed_other c links at n k (Some s) differ held owns = λ is_open.
     other_set c.channels links n (roles_of s) at Free (not_use (channel_state c at) held) (not_release (channel_state c at) held) (owns is_open)
   where
     not_use : (state : ChannelState) → holder state ≡ Some k → state ≢ InUse n
-    not_use Free held same = absurd cc
     not_use (InUse m) held same = differ cc
-    not_use (Releasing m) held same = absurd cc
+    not_use _ held same = absurd cc
 
     not_release : (state : ChannelState) → holder state ≡ Some k → state ≢ Releasing n
-    not_release Free held same = absurd cc
-    not_release (InUse m) held same = absurd cc
     not_release (Releasing m) held same = differ cc
+    not_release _ held same = absurd cc
 
 -- what a row needs in the controller whose channel was freed
 freed_row : (c : Controller) (e : Entry) (at : Place) (input : Input) (offer : Option Channel) (r : Row) → entry_of c e.connection.number ≡ Some e → Stands e.connection → Holds c.links c → row_of e.connection input offer ≡ Some r →
@@ -168,13 +158,7 @@ nack_awaits WaitActivation s at offer r is is_open =
 nack_awaits (Live reference (Preparing target)) s at offer r is is_open =
     let one = if_is (is_at at target.channel) (refuse reference target.change offer s) r is in
     (record { target = target; is_commanded = false }, refl, refl, one.0, one.0)
-nack_awaits (Live reference Active) s at offer r is is_open = absurd cc
-nack_awaits (Live reference Draining) s at offer r is is_open = absurd cc
-nack_awaits (Live reference (Changing target)) s at offer r is is_open = absurd cc
-nack_awaits WaitEstablish s at offer r is is_open = absurd cc
-nack_awaits WaitConfirm s at offer r is is_open = absurd cc
-nack_awaits (Closed clearing) s at offer r is is_open = absurd cc
-nack_awaits Removed s at offer r is is_open = absurd cc
+nack_awaits _ s at offer r is is_open = absurd cc
 
 -- it fits whatever is offered
 if_none : (b : Bool) (q r : Row) → is_some (row_if b q) ≡ true → row_if b r ≡ None → ⊥
@@ -184,13 +168,7 @@ if_none false q r fits none = true≢false (sym fits)
 nack_fits : (state : State) (s : Connection) (at : Place) (offer : Option Channel) → is_some (on_activation_nack state s at None) ≡ true → on_activation_nack state s at offer ≡ None → ⊥
 nack_fits WaitActivation s at offer fits none = if_none (is_at at s.serving) (row [] (emptied Removed s)) (row [] (emptied Removed s)) fits none
 nack_fits (Live reference (Preparing target)) s at offer fits none = if_none (is_at at target.channel) (refuse reference target.change None s) (refuse reference target.change offer s) fits none
-nack_fits (Live reference Active) s at offer fits none = true≢false (sym fits)
-nack_fits (Live reference Draining) s at offer fits none = true≢false (sym fits)
-nack_fits (Live reference (Changing target)) s at offer fits none = true≢false (sym fits)
-nack_fits WaitEstablish s at offer fits none = true≢false (sym fits)
-nack_fits WaitConfirm s at offer fits none = true≢false (sym fits)
-nack_fits (Closed clearing) s at offer fits none = true≢false (sym fits)
-nack_fits Removed s at offer fits none = true≢false (sym fits)
+nack_fits _ s at offer fits none = true≢false (sym fits)
 
 refused_steps : (c : Controller) (e : Entry) (at : Place) → Owns c.channels c.links e.connection.number (roles_of e.connection) → Awaits e.connection.state at →
     StepOwns e.connection.number (with_state at Free c.channels) c.links (step_by (inputs.ActivationNack at) (roles_of e.connection)) (roles_of e.connection)

@@ -2,21 +2,17 @@
 use Rattle.controller_model.proofs.Prelude.{◌≡◌, ◌≢◌, ℕ, ◌==◌, ◌≤◌, ◌&&◌, ◌||◌, not, Bool, true, false, if◌then◌else◌, List, [], ◌∷◌}
 use Rattle.controller_model.proofs.Prelude.{Option, Some, None, Result, Ok, refl, sym, subst, ap, ◌∙◌, inl, inr, true≢false, cases_Bool}
 use Rattle.controller_model.proofs.Prelude.{cond-true, eqb-true, and_parts, AllByRecursion, list_any, Change, Assignment, Handover, Channel}
-use Rattle.controller_model.proofs.Prelude.{Place, Message, Station, Request, Data, ReleaseComplete, Out, IsReadOf, outs_of}
-use Rattle.controller_model.proofs.Prelude.{change_activation, AllByRecursion-append, Input, State, WaitActivation, WaitEstablish}
-use Rattle.controller_model.proofs.Prelude.{WaitConfirm, Live, Closed, Removed, Target, Connection, is_at, ArePutOn, ChangesRoles, Roles}
+use Rattle.controller_model.proofs.Prelude.{Place, Message, Station, Out, IsReadOf, outs_of, change_activation, AllByRecursion-append}
+use Rattle.controller_model.proofs.Prelude.{Input, State, Closed, Removed, Target, Connection, is_at, ArePutOn, ChangesRoles, Roles}
 use Rattle.controller_model.proofs.Prelude.{RoleStep, after_step, begin_orders, channels_in, end_messages, roles_of, step_by, step_orders}
 use Rattle.controller_model.proofs.Prelude.{target_channels, with_target, goes_on, ends, had_ended, Row, IsOpen, SWITCH_LINK, Frame}
-use Rattle.controller_model.proofs.Prelude.{RslFault, Rsl, rsl_text, AreAllowed, Parameters}
+use Rattle.controller_model.proofs.Prelude.{RslFault, Rsl, rsl_text, AreAllowed, Parameters, eqb-false, IsPutOn, Using, used_after, Acts}
+use Rattle.controller_model.proofs.Prelude.{Brought, brought_in, kept_in, ages, goes, opens, rests, connection_of, is_for, outs_for}
+use Rattle.controller_model.proofs.Prelude.{OwnsOpen, used_by, ChannelState, InUse, Step, Take, Ping, Controller, channel_state, is_up}
+use Rattle.controller_model.proofs.Prelude.{place_at, place_of, state_in, life, step, concerned, word_of, DataMessage, rsl_reading}
 use Rattle.std.proofs.Common.{eq-eqb}
-use Rattle.std.proofs.lemmas.Bool.{eqb-false}
 use Rattle.conn_messages.specs.Out.{out_of}
-use Rattle.conn_rules.specs.Putting.{IsPutOn, Using, same_place, used_after}
-use Rattle.controller_model.specs.LifeLaws.Acts.{Acts, Brought, brought_in, kept_in}
-use Rattle.controller_model.specs.LifeLaws.Acts.Acts.{ages, goes, opens, rests}
-use Rattle.controller_model.specs.LifeLaws.History.{connection_of, is_for, outs_for}
-use Rattle.controller_model.specs.LifeLaws.Owning.{OwnsOpen}
-use Rattle.controller_model.specs.LifeLaws.Placing.{used_by}
+use Rattle.conn_rules.specs.Putting.{same_place}
 use Rattle.controller_model.proofs.LifeLaws.Concerning.{frame_leaves, frame_silent}
 use Rattle.controller_model.proofs.LifeLaws.Fitting.{IsFine, aged_holds, fine_old}
 use Rattle.controller_model.proofs.LifeLaws.Keeping.{Avoids, AreElsewhere, elsewhere, end_avoids, from_orders, from_stations, step_avoids, that_go_avoid}
@@ -26,19 +22,9 @@ use Rattle.controller_model.proofs.LifeLaws.SeenFrames.{apart}
 use Rattle.controller_model.proofs.LifeLaws.SeenStations.{is_request, request_is, request_known, same_channel, same_kind}
 use Rattle.controller_model.proofs.LifeLaws.Turns.{step_does}
 use Rattle.controller_model.proofs.LifeLaws.UsingLife.{life_after, run_step}
-use Rattle.controller_model.specs.declared.channel_state.ChannelState.{ChannelState}
-use Rattle.controller_model.specs.declared.channel_state.ChannelState.TheVariants.{InUse}
-use Rattle.controller_model.specs.declared.step.Step.{Step}
-use Rattle.controller_model.specs.declared.step.Step.TheVariants.{Take}
-use Rattle.controller_model.specs.declared.word.Word.TheVariants.{Ping}
-use Rattle.controller_model.specs.Controller.{Controller, channel_state, is_up, place_at, place_of, state_in}
-use Rattle.controller_model.specs.Life.{life, step, take}
-use Rattle.controller_model.specs.Ownership.{concerned}
-use Rattle.controller_model.specs.Reading.{word_of}
+use Rattle.controller_model.specs.Life.{take}
 use Rattle.ruled_relay.specs.declared.item.What.TheVariants as whats
-use Rattle.rsl_codec.specs.declared.radio_link.Data.{Data as DataMessage}
 use Rattle.rsl_codec.specs.declared.rsl.Rsl.TheVariants as rsl
-use Rattle.rsl_codec.specs.RslReading.{rsl_reading}
 
 -- ---- the channels that are activated and released
 
@@ -65,13 +51,10 @@ row_passes at s input offer r (ends was_open shut over) before after =
     from_stations at r.outs (subst (AllByRecursion (Avoids at)) (sym over.ordered) (that_go_avoid at input (end_messages over.end (roles_of s)) (end_avoids at over.end (roles_of s) (roles_of s).target (before was_open))))
 row_passes at s input offer r (had_ended was_shut shut nothing) before after = from_stations at r.outs (subst (AllByRecursion (Avoids at)) (sym nothing) tt)
 
-stays_there : (state : State) (s : Connection) → IsOpen state → kept_in state s ≡ Some s
-stays_there WaitActivation s is_open = refl
-stays_there WaitEstablish s is_open = refl
-stays_there WaitConfirm s is_open = refl
-stays_there (Live reference stage) s is_open = refl
+pub stays_there : (state : State) (s : Connection) → IsOpen state → kept_in state s ≡ Some s
 stays_there (Closed clearing) s is_open = absurd is_open
 stays_there Removed s is_open = absurd is_open
+stays_there _ s is_open = refl
 
 pub acts_pass : (number next : ℕ) (up : Bool) (brought : Brought) (before after : Option Connection) (put : List Message) (at : Place) → Acts number next up brought before put after → IsFine before → UsesElsewhere at before → UsesElsewhere at after → AllByRecursion (Avoids at) put
 acts_pass number next up brought before after put at (rests silent same none) fine was now = subst (AllByRecursion (Avoids at)) (sym silent) tt
@@ -103,17 +86,11 @@ not_same at other differ = elim (cases_Bool (same_place at other)) [
 still_unused : (at : Place) (uses : Using) (m : Message) → uses at ≡ false → Avoids at m → used_after uses m at ≡ false
 still_unused at uses (Station station (rsl.ChannelActivation a)) none differ = ap (λ (b : Bool). b || uses at) (not_same at (place_at station a.channel) differ) ∙ none
 still_unused at uses (Station station (rsl.RfChannelRelease channel)) none differ = ap (λ (b : Bool). not b && uses at) (not_same at (place_at station channel) differ) ∙ none
-still_unused at uses (Station station _) none differ = none
-still_unused at uses (Request message) none differ = none
-still_unused at uses (Data destination message) none differ = none
-still_unused at uses (ReleaseComplete destination) none differ = none
+still_unused at uses _ none differ = none
 
 unused_handed : (at : Place) (uses : Using) (m : Message) → uses at ≡ false → IsPutOn uses m → IsNotOn at m
 unused_handed at uses (Station station (rsl.DataRequest d)) none used = λ same. true≢false (sym used ∙ ap uses same ∙ none)
-unused_handed at uses (Station station _) none used = tt
-unused_handed at uses (Request message) none used = tt
-unused_handed at uses (Data destination message) none used = tt
-unused_handed at uses (ReleaseComplete destination) none used = tt
+unused_handed at uses _ none used = tt
 
 pub unused_put : (at : Place) (uses : Using) (ms : List Message) → uses at ≡ false → ArePutOn uses ms → AllByRecursion (Avoids at) ms → AllByRecursion (IsNotOn at) ms
 unused_put at uses [] none put avoids = tt
@@ -130,10 +107,7 @@ unused_by at (Some s) away = by s.state away
     by : (state : State) → (IsOpen state → AreElsewhere at (roles_of s)) → list_any (λ c. is_at at c) (channels_in state (roles_of s)) ≡ false
     by (Closed clearing) away = refl
     by Removed away = refl
-    by WaitActivation away = none_there at (s.serving ∷ target_channels (roles_of s).target) (away tt)
-    by WaitEstablish away = none_there at (s.serving ∷ target_channels (roles_of s).target) (away tt)
-    by WaitConfirm away = none_there at (s.serving ∷ target_channels (roles_of s).target) (away tt)
-    by (Live reference stage) away = none_there at (s.serving ∷ target_channels (roles_of s).target) (away tt)
+    by _ away = none_there at (s.serving ∷ target_channels (roles_of s).target) (away tt)
 
 -- a frame that is read as a DATA REQUEST carries one on that channel
 pub read_request : (number station : ℕ) (x : Rsl) (m : Message) → out_of number (Station station x) ≡ out_of number m → IsReadOf number m (rsl_text x) → (d : DataMessage) → rsl_reading (rsl_text x) ≡ Ok (rsl.DataRequest d) → (r : DataMessage) × (x ≡ rsl.DataRequest r) × (r.channel ≡ d.channel)
@@ -146,9 +120,7 @@ read_request number station x (Station other y) same read d is =
   where
     one_message : {a b : Rsl} → (let r : Result Rsl RslFault = Ok a in r) ≡ Ok b → a ≡ b
     one_message ok = cc
-read_request number station x (Request message) same read d is = absurd (apart 0 0xfd refl (ap (λ (o : Out). o.frame.stream) same))
-read_request number station x (Data destination message) same read d is = absurd (apart 0 0xfd refl (ap (λ (o : Out). o.frame.stream) same))
-read_request number station x (ReleaseComplete destination) same read d is = absurd (apart 0 0xfd refl (ap (λ (o : Out). o.frame.stream) same))
+read_request number station x _ same read d is = absurd (apart 0 0xfd refl (ap (λ (o : Out). o.frame.stream) same))
 
 -- ---- a frame
 

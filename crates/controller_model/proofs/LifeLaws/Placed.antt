@@ -1,22 +1,14 @@
 -- A step puts the messages of a connection on its own channels.
 use Rattle.controller_model.proofs.Prelude.{◌≡◌, ℕ, ◌≤◌, List, [], Option, Some, None, refl, sym, subst, Channel, Message, SWITCH_LINK}
 use Rattle.controller_model.proofs.Prelude.{Connection, ArePutOn, channels_in_use, Row, AreApart, IsOpen, OfRow, used_channels, AreAllowed}
-use Rattle.controller_model.proofs.Prelude.{Parameters}
+use Rattle.controller_model.proofs.Prelude.{Parameters, PutsOnOwn, Using, uses_of, Acts, Brought, IsAged, brought_in, ages, goes, opens}
+use Rattle.controller_model.proofs.Prelude.{rests, connection_of, OwnsOpen, KeepsToChannels, used_by, Step, Controller, is_up, life}
 use Rattle.conn_rules.proofs.PutRows.{puts_on_own}
-use Rattle.conn_rules.specs.Putting.{PutsOnOwn, Using, uses_of}
-use Rattle.controller_model.specs.LifeLaws.Acts.{Acts, Brought, IsAged, brought_in}
-use Rattle.controller_model.specs.LifeLaws.Acts.Acts.{ages, goes, opens, rests}
-use Rattle.controller_model.specs.LifeLaws.History.{connection_of}
-use Rattle.controller_model.specs.LifeLaws.Owning.{OwnsOpen}
-use Rattle.controller_model.specs.LifeLaws.Placing.{KeepsToChannels, used_by}
 use Rattle.controller_model.proofs.LifeLaws.Fitting.{IsFine, aged_holds, fine_old}
 use Rattle.controller_model.proofs.LifeLaws.Lives.{life_fits}
 use Rattle.controller_model.proofs.LifeLaws.OwningLife.{life_owns}
 use Rattle.controller_model.proofs.LifeLaws.Turns.{step_does}
 use Rattle.controller_model.proofs.LifeLaws.UplinkLife.{used_apart}
-use Rattle.controller_model.specs.declared.step.Step.{Step}
-use Rattle.controller_model.specs.Controller.{Controller, is_up}
-use Rattle.controller_model.specs.Life.{life}
 
 -- the channels of an open connection are apart
 ApartOf : Connection → Type 0

@@ -2,12 +2,8 @@
 use Rattle.controller_model.proofs.Prelude.{◌≡◌, ◌≢◌, ◌⊎◌, ℕ, zero, suc, ◌==◌, ◌<◌, ◌&&◌, Bool, false, List, [], ◌∷◌, length, fold, set}
 use Rattle.controller_model.proofs.Prelude.{slice_index_or, refl, sym, subst, ap, ◌∙◌, inl, inr, arith, true≢false, cases_Bool, cond-true}
 use Rattle.controller_model.proofs.Prelude.{cond-false, eqb-true, eq-eqb, and_parts, get_or-set_other, AllByRecursion, Channel, Place}
-use Rattle.controller_model.proofs.Prelude.{Message, Station, Request, Data, ReleaseComplete, is_order, orders}
-use Rattle.std.proofs.lemmas.List.{get_or-set_same}
-use Rattle.controller_model.specs.LifeLaws.Owning.{AreIn}
-use Rattle.controller_model.specs.declared.channel_state.ChannelState.{ChannelState}
-use Rattle.controller_model.specs.declared.channel_state.ChannelState.TheVariants.{Free, InUse, Releasing}
-use Rattle.controller_model.specs.Controller.{channels_after, place_of, state_in, with_state}
+use Rattle.controller_model.proofs.Prelude.{Message, Station, is_order, orders, get_or-set_same, AreIn, ChannelState, Free, InUse}
+use Rattle.controller_model.proofs.Prelude.{Releasing, channels_after, place_of, state_in, with_state}
 use Rattle.rsl_codec.specs.declared.rsl.Rsl.TheVariants as rsl
 
 -- ---- states
@@ -146,10 +142,7 @@ still_in channels at state was (c ∷ cs) other all = (
 other_message : (number : ℕ) (channels : List (List ChannelState)) (m : Message) → is_order m ≡ false → channels_after number channels m ≡ channels
 other_message number channels (Station station (rsl.ChannelActivation a)) none = absurd (true≢false none)
 other_message number channels (Station station (rsl.RfChannelRelease channel)) none = absurd (true≢false none)
-other_message number channels (Station station _) none = refl
-other_message number channels (Request message) none = refl
-other_message number channels (Data destination message) none = refl
-other_message number channels (ReleaseComplete destination) none = refl
+other_message number channels _ none = refl
 
 pub fold_orders : (number : ℕ) (channels : List (List ChannelState)) (ms : List Message) → fold (channels_after number) channels ms ≡ fold (channels_after number) channels (orders ms)
 fold_orders number channels [] = refl

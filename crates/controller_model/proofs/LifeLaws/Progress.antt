@@ -2,7 +2,7 @@
 -- confirms it, and so it stays.
 use Rattle.controller_model.proofs.Prelude.{◌≡◌, ◌⊎◌, ℕ, zero, suc, ◌==◌, ◌&&◌, nat_le, Bool, true, false, List, [], ◌∷◌, length, Option}
 use Rattle.controller_model.proofs.Prelude.{Some, None, refl, sym, subst, inl, inr, EQUIPMENT_FAILURE, Change, Assignment, Handover}
-use Rattle.controller_model.proofs.Prelude.{Channel, Place, Message, Input, Due, WasAsked, Drain, ShortMessageLink, Down, Up, Stage, Active}
+use Rattle.controller_model.proofs.Prelude.{Channel, Place, Message, Input, Due, WasAsked, Drain, ShortMessageLink, Up, Stage, Active}
 use Rattle.controller_model.proofs.Prelude.{Preparing, Changing, Draining, State, WaitActivation, WaitEstablish, WaitConfirm, Live, Closed}
 use Rattle.controller_model.proofs.Prelude.{Removed, Connection, enter, tenure_at, drain_at, Row, row, dropping, failing, begin}
 use Rattle.controller_model.proofs.Prelude.{begin_waiting, after_waiting, hold_down, short_message, link_down, hold_up, relay_held, leave}
@@ -13,12 +13,10 @@ use Rattle.controller_model.proofs.Prelude.{on_establish_indication, on_establis
 use Rattle.controller_model.proofs.Prelude.{on_connection_failure, on_dtap, on_complete, on_failure, on_release_ack, on_move, on_confirm}
 use Rattle.controller_model.proofs.Prelude.{on_refused, on_released, on_downlink, on_assignment_request, on_cipher_mode_command}
 use Rattle.controller_model.proofs.Prelude.{on_clear_command, on_expiry, on_drain_expiry, on_station_down, on_switch_down, either}
-use Rattle.controller_model.proofs.Prelude.{where_fits, Sapi, Zero, Three, complete_layer3, chain_count, put_in, INITIAL_LIMIT}
+use Rattle.controller_model.proofs.Prelude.{where_fits, Sapi, Zero, Three, complete_layer3, chain_count, put_in, INITIAL_LIMIT, received_by}
+use Rattle.controller_model.proofs.Prelude.{requests, is_confirm, failing_shut}
 use Rattle.conn_rules.specs.declared.input.Input.TheVariants as inputs
-use Rattle.conn_rules.specs.declared.state.ShortMessageLink.TheVariants.{Asked}
-use Rattle.conn_rules.specs.Streams.{received_by}
 use Rattle.conn_rules.specs.Table.{row_of}
-use Rattle.controller_model.specs.LifeLaws.Downlink.{requests, is_confirm}
 
 -- ---- words
 
@@ -33,8 +31,7 @@ NotDown _ = Unit {0}
 pub received_none : (sapi : Sapi) (input : Input) → NotDown input → received_by sapi input ≡ []
 received_none Zero (inputs.Downlink sapi message) up = absurd up
 received_none Three (inputs.Downlink sapi message) up = absurd up
-received_none Zero _ up = refl
-received_none Three _ up = refl
+received_none _ _ up = refl
 
 abbrev pub Next : State → Input → State → List Message → Type 0
 Next WaitActivation input next put = (next ≡ WaitEstablish) × (requests put ≡ false) × NotDown input
@@ -51,14 +48,6 @@ live_from : (s : Connection) (reference : ℕ) (stage : Stage) → s.state ≡ L
 live_from s reference stage is = subst IsLive (sym is) tt
 
 -- ---- steps
-
-pub failing_shut : (state : State) (s : Connection) (cause : ℕ) → IsOpen (failing state s cause).next.state → ⊥
-failing_shut WaitActivation s cause = λ there. there
-failing_shut WaitEstablish s cause = λ there. there
-failing_shut WaitConfirm s cause = λ there. there
-failing_shut (Live reference stage) s cause = λ there. there
-failing_shut (Closed clearing) s cause = λ there. there
-failing_shut Removed s cause = λ there. there
 
 -- the next is live
 GoesLive : Row → Type 0
@@ -83,13 +72,11 @@ live_hold_down state sapi message s live = either GoesLive _ _ _ (λ there. absu
 live_short : (state : State) (link : ShortMessageLink) (message : List ℕ) (s : Connection) → IsLive s.state → GoesLive (short_message state link message s)
 unfolding GoesLive
 live_short state Up message s live = λ there. live
-live_short state Asked message s live = either GoesLive _ _ _ (λ there. absurd (failing_shut state s EQUIPMENT_FAILURE there)) (λ there. live)
-live_short state Down message s live = either GoesLive _ _ _ (λ there. absurd (failing_shut state s EQUIPMENT_FAILURE there)) (λ there. live)
+live_short state _ message s live = either GoesLive _ _ _ (λ there. absurd (failing_shut state s EQUIPMENT_FAILURE there)) (λ there. live)
 
 live_link_down : (link : ShortMessageLink) (reference : ℕ) (s : Connection) → IsLive s.state → IsLive (link_down link reference s).next.state
 live_link_down Up reference s live = live
-live_link_down Asked reference s live = live
-live_link_down Down reference s live = live
+live_link_down _ reference s live = live
 
 live_hold_up : (state : State) (tenure : ℕ) (sapi : Sapi) (message : List ℕ) (s : Connection) → IsLive s.state → GoesLive (hold_up state tenure sapi message s)
 unfolding GoesLive
@@ -100,11 +87,8 @@ live_leave reference [] s live = live
 live_leave reference (d ∷ ds) s live = either (λ r. IsLive r.next.state) d.is_done _ _ (live_leave reference ds (relay_held reference (shifted ds s)).next live) live
 
 live_settled : (reference : ℕ) (stage : Stage) (draining : List Drain) (s : Connection) → IsLive s.state → IsLive (settled reference stage draining s).state
-live_settled reference Active draining s live = live
-live_settled reference (Preparing target) draining s live = live
-live_settled reference (Changing target) draining s live = live
 live_settled reference Draining [] s live = tt
-live_settled reference Draining (d ∷ ds) s live = live
+live_settled reference _ _ s live = live
 
 -- ---- rows
 
@@ -255,12 +239,8 @@ of_station_down (Live reference stage) s station = where_fits (Advances (Live re
 of_station_down _ s station = tt
 
 of_switch_down : (state : State) (s : Connection) → OfRow (Advances state inputs.SwitchDown) (on_switch_down state s)
-of_switch_down WaitActivation s = λ there. absurd there
-of_switch_down WaitEstablish s = λ there. absurd there
-of_switch_down WaitConfirm s = λ there. absurd there
-of_switch_down (Live reference stage) s = λ there. absurd there
-of_switch_down (Closed clearing) s = λ there. absurd there
 of_switch_down Removed s = tt
+of_switch_down _ s = λ there. absurd there
 
 pub advances : (s : Connection) (input : Input) (offer : Option Channel) → OfRow (Advances s.state input) (row_of s input offer)
 unfolding row_of
@@ -296,11 +276,7 @@ confirm_fits s source offer is none = by s.state is none
   where
     by : (state : State) → state ≡ WaitConfirm → on_confirm state s source ≡ None → ⊥
     by WaitConfirm same none = absurd cc
-    by WaitActivation same none = absurd cc
-    by WaitEstablish same none = absurd cc
-    by (Live reference stage) same none = absurd cc
-    by (Closed clearing) same none = absurd cc
-    by Removed same none = absurd cc
+    by _ same none = absurd cc
 
 pub downlink_fits : (s : Connection) (sapi : Sapi) (message : List ℕ) (offer : Option Channel) → IsLive s.state → row_of s (inputs.Downlink sapi message) offer ≡ None → ⊥
 unfolding row_of
@@ -315,8 +291,4 @@ downlink_fits s sapi message offer live none = by s.state sapi live none
     by (Live reference (Preparing target)) Three live none = absurd cc
     by (Live reference (Changing target)) Zero live none = absurd cc
     by (Live reference (Changing target)) Three live none = absurd cc
-    by WaitActivation sapi live none = live
-    by WaitEstablish sapi live none = live
-    by WaitConfirm sapi live none = live
-    by (Closed clearing) sapi live none = live
-    by Removed sapi live none = live
+    by _ sapi live none = live

@@ -17,10 +17,9 @@ use Rattle.controller_model.proofs.Prelude.{on_release_indication, on_error_indi
 use Rattle.controller_model.proofs.Prelude.{on_failure, on_release_ack, on_move, on_confirm, on_refused, on_released, on_downlink}
 use Rattle.controller_model.proofs.Prelude.{on_assignment_request, on_cipher_mode_command, on_clear_command, on_expiry, on_drain_expiry}
 use Rattle.controller_model.proofs.Prelude.{on_station_down, on_switch_down, either, where_fits, Sapi, Zero, Three, chain_count, put_in}
-use Rattle.controller_model.proofs.Prelude.{count, messages, with_messages, INITIAL_LIMIT}
+use Rattle.controller_model.proofs.Prelude.{count, messages, with_messages, INITIAL_LIMIT, begin_outs, tenure_outs}
 use Rattle.conn_rules.specs.declared.input.Input.TheVariants as inputs
 use Rattle.conn_rules.specs.declared.state.ShortMessageLink.TheVariants.{Asked}
-use Rattle.conn_rules.specs.Steps.{begin_outs, tenure_outs}
 use Rattle.conn_rules.specs.Table.{row_of}
 use Rattle.hold_queue.specs.ChainState.{Tenure}
 
@@ -63,8 +62,7 @@ module _ (P : ℕ → Type 0) where
 
   requests : (link : ShortMessageLink) (c : Channel) → P c.station → AllReach (request_where link c)
   requests Down c here = (here, tt)
-  requests Asked c here = tt
-  requests Up c here = tt
+  requests _ c here = tt
 
   requests_for : (ms : List (List ℕ)) (c : Channel) → P c.station → AllReach (request_for ms c)
   requests_for [] c here = tt
@@ -74,11 +72,7 @@ module _ (P : ℕ → Type 0) where
 
   of_failing : (state : State) (s : Connection) (cause : ℕ) → Reaching (failing state s cause)
   of_failing WaitActivation s cause there = absurd there
-  of_failing WaitEstablish s cause there = absurd there
-  of_failing WaitConfirm s cause there = absurd there
-  of_failing (Live reference stage) s cause there = absurd there
-  of_failing (Closed clearing) s cause there = absurd there
-  of_failing Removed s cause there = absurd there
+  of_failing _ s cause there = absurd there
 
   of_hold_down : (state : State) (sapi : Sapi) (message : List ℕ) (s : Connection) → Reaching (hold_down state sapi message s)
   of_hold_down state sapi message s = either Reaching (count s.down == s.down.limit) (failing state s EQUIPMENT_FAILURE) (row [] (record s { down = with_messages s.down sapi (messages s.down sapi ++ message ∷ []) })) (of_failing state s EQUIPMENT_FAILURE) (λ _. tt)
@@ -90,13 +84,11 @@ module _ (P : ℕ → Type 0) where
 
   of_short_message : (state : State) (link : ShortMessageLink) (message : List ℕ) (s : Connection) → P s.serving.station → Reaching (short_message state link message s)
   of_short_message state Up message s here = λ _. (here, tt)
-  of_short_message state Asked message s here = of_hold_short_message state message s here
-  of_short_message state Down message s here = of_hold_short_message state message s here
+  of_short_message state _ message s here = of_hold_short_message state message s here
 
   of_link_down : (link : ShortMessageLink) (reference : ℕ) (s : Connection) → Reaching (link_down link reference s)
-  of_link_down Up reference s there = tt
   of_link_down Asked reference s there = (tt, tt)
-  of_link_down Down reference s there = tt
+  of_link_down _ reference s there = tt
 
   of_hold_up : (state : State) (tenure : ℕ) (sapi : Sapi) (message : List ℕ) (s : Connection) → Reaching (hold_up state tenure sapi message s)
   of_hold_up state tenure sapi message s = either Reaching (chain_count s.up == s.up.limit) (failing state s EQUIPMENT_FAILURE) (row [] (record s { up = record s.up { tenures = put_in tenure sapi message s.up.tenures } })) (of_failing state s EQUIPMENT_FAILURE) (λ _. tt)
@@ -294,12 +286,8 @@ module _ (P : ℕ → Type 0) where
   of_station_down _ s station = tt
 
   of_switch_down : (state : State) (s : Connection) → OfRow Reaching (on_switch_down state s)
-  of_switch_down WaitActivation s = λ is_open. absurd is_open
-  of_switch_down WaitEstablish s = λ is_open. absurd is_open
-  of_switch_down WaitConfirm s = λ is_open. absurd is_open
-  of_switch_down (Live reference stage) s = λ is_open. absurd is_open
-  of_switch_down (Closed clearing) s = λ is_open. absurd is_open
   of_switch_down Removed s = tt
+  of_switch_down _ s = λ is_open. absurd is_open
 
   pub open_reaches : (s : Connection) (input : Input) (offer : Option Channel) → P s.serving.station → AllByRecursion (λ (c : Channel). P c.station) (target_in s.state) → AllByRecursion (λ (c : Channel). P c.station) (option_to_list offer) → OfRow Reaching (row_of s input offer)
   unfolding row_of

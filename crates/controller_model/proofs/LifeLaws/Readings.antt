@@ -1,44 +1,31 @@
 -- The layer 3 messages that frames bring have 1 to 251 octets.
 use Rattle.controller_model.proofs.Prelude.{◌≡◌, ℕ, ◌==◌, Bool, true, false, if◌then◌else◌, List, [], ◌∷◌, Option, Some, None, Result, Ok}
 use Rattle.controller_model.proofs.Prelude.{Err, refl, subst, Bssap, Management, Transfer, Bssmap, InterfaceFault, Sccp, IsLayer3, Place}
-use Rattle.controller_model.proofs.Prelude.{Input, IsCarried, is_dtap, Report, Sapi, Zero, Three, Frame, PING, RslFault, Rsl}
-use Rattle.std.proofs.Common.{take}
-use Rattle.std.specs.Option.{ok_or}
+use Rattle.controller_model.proofs.Prelude.{Input, IsCarried, is_dtap, Report, Sapi, Zero, Frame, PING, RslFault, Rsl, take, ok_or, Short}
+use Rattle.controller_model.proofs.Prelude.{UnknownType, layer3_at, message_at, bssmap_type, dlci_of, sccp_reading, Word, Nothing, Ping}
+use Rattle.controller_model.proofs.Prelude.{OnChannel, Reports, OnConnection, place_at, sapi_of, change_word, rr_word, data_word}
+use Rattle.controller_model.proofs.Prelude.{report_word, result_word, rsl_word, station_word, management_word, bssap_word, switch_word}
+use Rattle.controller_model.proofs.Prelude.{management_of_link, Carried, carried, body_word, radio_signalling, connection_control}
+use Rattle.controller_model.proofs.Prelude.{link_management, other, report_reading, RrMessage, RrFault, rr_reading, Element, bind_ok, guard}
+use Rattle.controller_model.proofs.Prelude.{ok_is, result_map_ok, RslType, IsL3, rsl_type}
 use Rattle.bssmap_codec.proofs.Contents.{layer3_ok}
 use Rattle.bssmap_codec.specs.declared.bssap.TheConstants.{MANAGEMENT, TRANSFER}
 use Rattle.bssmap_codec.specs.declared.bssmap.Bssmap.TheVariants as bssmap
-use Rattle.bssmap_codec.specs.declared.fault.InterfaceFault.TheVariants.{Short, UnknownType}
 use Rattle.bssmap_codec.specs.declared.sccp.Sccp.TheVariants as sccp
-use Rattle.bssmap_codec.specs.BssapReading.{layer3_at, management_at, message_at, transfer_at, bssap_reading}
-use Rattle.bssmap_codec.specs.BssmapType.{bssmap_type}
-use Rattle.bssmap_codec.specs.Values.{dlci_of}
-use Rattle.bssmap_codec.specs.SccpReading.{sccp_reading}
+use Rattle.bssmap_codec.specs.BssapReading.{management_at, transfer_at, bssap_reading}
 use Rattle.conn_rules.specs.declared.input.Input.TheVariants as inputs
-use Rattle.controller_model.specs.declared.word.Word.{Word}
-use Rattle.controller_model.specs.declared.word.Word.TheVariants.{Nothing, Ping, OnChannel, Reports, OnConnection}
-use Rattle.controller_model.specs.Controller.{place_at}
-use Rattle.controller_model.specs.Reading.{sapi_of, of_sapi, change_word, rr_word, data_word, report_word, result_word, rsl_word, station_word, management_word, bssap_word, switch_word, management_of_link, Carried, carried, body_word, word_of}
-use Rattle.controller_model.specs.Reading.Carried.{radio_signalling, connection_control, link_management, other}
-use Rattle.controller_model.specs.Reports.{report_reading}
-use Rattle.dtap_codec.specs.declared.rr.RrMessage.{RrMessage}
+use Rattle.controller_model.specs.Reading.{of_sapi, word_of}
 use Rattle.dtap_codec.specs.declared.rr.RrMessage.TheVariants as rr
-use Rattle.dtap_codec.specs.declared.rr_fault.RrFault.{RrFault}
-use Rattle.dtap_codec.specs.RrReading.{rr_reading}
-use Rattle.octets.specs.Element.{Element}
 use Rattle.octets.specs.Front.{octet_at, split_at}
 use Rattle.octets.specs.Walk.{first_of}
-use Rattle.octets.proofs.Steps.{bind_ok, guard, ok_is, result_map_ok}
 use Rattle.rsl_codec.proofs.Steps.{l3_ok, optional_l3_ok}
 use Rattle.rsl_codec.specs.declared.fault.RslFault.TheVariants as faults
 use Rattle.rsl_codec.specs.declared.identifiers.TheConstants.{CHANNEL_NUMBER, LINK_IDENTIFIER, L3_INFORMATION}
 use Rattle.rsl_codec.specs.declared.radio_link.Data.{Data}
 use Rattle.rsl_codec.specs.declared.radio_link.Establishment.{Establishment}
 use Rattle.rsl_codec.specs.declared.rsl.Rsl.TheVariants as rsl
-use Rattle.rsl_codec.specs.declared.rsl_type.RslType.{RslType}
 use Rattle.rsl_codec.specs.declared.rsl_type.RslType.TheVariants as types
-use Rattle.rsl_codec.specs.Rsl.{IsL3}
 use Rattle.rsl_codec.specs.RslReading.{breaks_off, channel_at, channel_only_at, link_at, data_at, error_at, establishment_at, release_at, channel_required_at, assignment_at, activation_at, activation_ack_at, failure_at, detection_at, measurement_result_at, elements_of, l3_at, message_at as rsl_message_at, needed_value, optional_l3_at, rsl_reading, rsl_reading_by}
-use Rattle.rsl_codec.specs.RslType.{rsl_type}
 
 -- ---- a station's messages
 
@@ -95,9 +82,8 @@ reading_by_full (Some kind) body v h = message_full kind (elements_of body) v (g
 
 pub rsl_full : (octets : List ℕ) (v : Rsl) → rsl_reading octets ≡ Ok v → IsFull v
 unfolding rsl_reading
-rsl_full [] v h = absurd cc
-rsl_full (a ∷ []) v h = absurd cc
 rsl_full (a ∷ (b ∷ body)) v h = reading_by_full (rsl_type a b) body v h
+rsl_full _ v h = absurd cc
 
 -- ---- the switch's
 
@@ -149,15 +135,11 @@ sapi_carried at (Some s) input carried = carried s
 
 change_carried : (at : Place) (r : Result RrMessage RrFault) → IsCarriedBy (change_word at r)
 change_carried at (Ok (rr.AssignmentComplete cause)) = tt
-change_carried at (Ok (rr.HandoverComplete cause)) = tt
-change_carried at (Ok (rr.AssignmentFailure cause)) = tt
-change_carried at (Ok (rr.HandoverFailure cause)) = tt
 change_carried at _ = tt
 
 rr_carried : (at : Place) (o : Option Sapi) (l3 : List ℕ) → IsCarriedBy (rr_word at o l3)
 rr_carried at (Some Zero) l3 = change_carried at (rr_reading l3)
-rr_carried at (Some Three) l3 = tt
-rr_carried at None l3 = tt
+rr_carried at _ l3 = tt
 
 data_carried : (b : Bool) (at : Place) (o : Option Sapi) (l3 : List ℕ) → IsL3 (Some l3) → IsCarriedBy (data_word b at o l3)
 data_carried true at o l3 full = sapi_carried at o (λ s. inputs.Dtap at s l3) (λ s. full)
@@ -186,11 +168,6 @@ rsl_carried station (rsl.EstablishConfirm l) full = sapi_carried (place_at stati
 rsl_carried station (rsl.ReleaseIndication l) full = sapi_carried (place_at station l.channel) (sapi_of l.link) (λ s. inputs.ReleaseIndication (place_at station l.channel) s) (λ s. tt)
 rsl_carried station (rsl.ErrorIndication e) full = sapi_carried (place_at station e.channel) (sapi_of e.link) (λ s. inputs.ErrorIndication (place_at station e.channel) s) (λ s. tt)
 rsl_carried station (rsl.MeasurementResult m) full = result_carried (place_at station m.channel) m.number.0 m.l3
-rsl_carried station (rsl.ChannelRequired r) full = tt
-rsl_carried station (rsl.ChannelActivationAck a) full = tt
-rsl_carried station (rsl.ChannelActivationNack f) full = tt
-rsl_carried station (rsl.ConnectionFailure f) full = tt
-rsl_carried station (rsl.RfChannelReleaseAck channel) full = tt
 rsl_carried station _ full = tt
 
 station_carried : (station : ℕ) (r : Result Rsl RslFault) → ((v : Rsl) → r ≡ Ok v → IsFull v) → IsCarriedBy (station_word station r)
@@ -199,8 +176,6 @@ station_carried station (Err fault) full = tt
 
 management_carried : (number : ℕ) (m : Bssmap) → IsCarriedBy (management_word number m)
 management_carried number (bssmap.AssignmentRequest channel_type) = tt
-management_carried number (bssmap.ClearCommand cause) = tt
-management_carried number bssmap.CipherModeCommand = tt
 management_carried number _ = tt
 
 bssap_carried : (number : ℕ) (r : Result Bssap InterfaceFault) → ((v : Bssap) → r ≡ Ok v → IsFullBssap v) → IsCarriedBy (bssap_word number r)
@@ -209,9 +184,6 @@ bssap_carried number (Ok (Transfer dlci message)) full = full (Transfer dlci mes
 bssap_carried number (Err fault) full = tt
 
 switch_carried : (r : Result Sccp InterfaceFault) → IsCarriedBy (switch_word r)
-switch_carried (Ok (sccp.ConnectionConfirm destination source)) = tt
-switch_carried (Ok (sccp.ConnectionRefused destination)) = tt
-switch_carried (Ok (sccp.Released destination source)) = tt
 switch_carried (Ok (sccp.DataForm1 destination user)) = bssap_carried destination (bssap_reading user) (bssap_full user)
 switch_carried _ = tt
 

@@ -1,18 +1,10 @@
 -- The definitions at literal values.
 use Rattle.controller_model.proofs.Prelude.{inl, inr, ◌≡◌, ℕ, true, false, List, [], ◌∷◌, set, codes, refl, Management, hex}
 use Rattle.controller_model.proofs.Prelude.{CompleteLayer3Information, Channel, Message, Request, Data, channel_release, handing, Zero}
-use Rattle.controller_model.proofs.Prelude.{Three, Parameters}
-use Rattle.bssmap_codec.specs.declared.bssmap.Bssmap.TheVariants.{SapiNReject}
+use Rattle.controller_model.proofs.Prelude.{Three, Parameters, SapiNReject, brought_in, nothing, comes, breaks, passes, IsPart, switched}
+use Rattle.controller_model.proofs.Prelude.{Moment, outs_for, InUse, Releasing, Step, Take, Tick, Controller, free_channels, new_controller}
 use Rattle.conn_rules.specs.declared.input.Input.TheVariants as inputs
-use Rattle.controller_model.specs.LifeLaws.Acts.{brought_in}
-use Rattle.controller_model.specs.LifeLaws.Acts.Brought.{nothing, comes, breaks, passes}
-use Rattle.controller_model.specs.LifeLaws.Downlink.{IsPart, switched}
-use Rattle.controller_model.specs.LifeLaws.History.{Moment, outs_for}
 use Rattle.controller_model.proofs.LifeLaws.OnLiterals.{on_literals}
-use Rattle.controller_model.specs.declared.channel_state.ChannelState.TheVariants.{InUse, Releasing}
-use Rattle.controller_model.specs.declared.step.Step.{Step}
-use Rattle.controller_model.specs.declared.step.Step.TheVariants.{Take, Tick}
-use Rattle.controller_model.specs.Controller.{Controller, free_channels, new_controller}
 use Rattle.ruled_relay.specs.declared.item.What.TheVariants as whats
 
 -- ---- what comes

@@ -6,37 +6,25 @@ use Rattle.controller_model.proofs.Prelude.{sym, ap, ◌∙◌, inl, inr, append
 use Rattle.controller_model.proofs.Prelude.{eqb-true, flat_map-append, AllByRecursion, flat_map, Bssap, Management, Transfer, Bssmap}
 use Rattle.controller_model.proofs.Prelude.{CompleteLayer3Information, InterfaceFault, Sccp, rsl_text, is_dlci, Message, Station, Request}
 use Rattle.controller_model.proofs.Prelude.{Data, ReleaseComplete, Out, SWITCH_LINK, IsReadOf, outs_of, relayed, Sapi, Zero, Three, Rsl}
-use Rattle.std.proofs.Common.{◌%◌, ok_or}
-use Rattle.std.proofs.lemmas.List.{append_cancel_right}
+use Rattle.controller_model.proofs.Prelude.{◌%◌, append_cancel_right, Short, UnknownType, reference_at, references_at, bind_ok, ok_is}
+use Rattle.controller_model.proofs.Prelude.{IsSent, RslType, rsl_fields, rsl_fields_text, rsl_discriminator, rsl_octet, rsl_type_of}
+use Rattle.controller_model.proofs.Prelude.{sccp_text, bssmap_octet, type_of, bssap_text, bssmap_text, content_at, fixed_references_at}
+use Rattle.controller_model.proofs.Prelude.{station_out, is_of, relayed_by, is_for, outs_for, messages_on, passed_by, forwarded_by}
+use Rattle.controller_model.proofs.Prelude.{forwarded_in}
+use Rattle.std.proofs.Common.{ok_or}
 use Rattle.std.proofs.Math.Seq.{drop-append_seam}
-use Rattle.bssmap_codec.specs.declared.bssmap.Bssmap.TheVariants as bssmap
 use Rattle.bssmap_codec.specs.declared.sccp.Sccp.TheVariants.{ConnectionConfirm, ConnectionRefused, ConnectionRequest, DataForm1, Released, ReleaseComplete as ReleaseCompleted}
-use Rattle.bssmap_codec.specs.declared.fault.InterfaceFault.TheVariants.{Short, UnknownType}
 use Rattle.bssmap_codec.specs.declared.sccp_type.SccpType.{SccpType}
 use Rattle.bssmap_codec.specs.declared.sccp_type.SccpType.TheVariants as kinds
-use Rattle.bssmap_codec.specs.Reference.{reference_at, references_at}
 use Rattle.bssmap_codec.specs.SccpType.{sccp_type}
-use Rattle.octets.proofs.Steps.{bind_ok, ok_is}
 use Rattle.octets.specs.Answer.{◌>>=◌, result_map}
 use Rattle.octets.specs.Front.{octet_at}
-use Rattle.controller_model.specs.LifeLaws.Sending.{IsSent}
-use Rattle.rsl_codec.specs.declared.rsl_type.RslType.{RslType}
-use Rattle.rsl_codec.specs.Rsl.{fields as rsl_fields}
 use Rattle.rsl_codec.specs.declared.rsl_type.RslType.TheVariants as rsl_kinds
-use Rattle.rsl_codec.specs.RslText.{rsl_fields_text}
-use Rattle.rsl_codec.specs.RslType.{rsl_discriminator, rsl_octet, type_of as rsl_type_of}
-use Rattle.bssmap_codec.specs.SccpText.{sccp_text}
-use Rattle.bssmap_codec.specs.BssmapType.{bssmap_octet, type_of}
-use Rattle.bssmap_codec.specs.BssapReading.{bssap_reading}
-use Rattle.bssmap_codec.specs.BssapText.{bssap_text, bssmap_text}
-use Rattle.bssmap_codec.specs.SccpReading.{content_at, fixed_references_at, refused_at, sccp_reading}
-use Rattle.conn_messages.specs.Out.{out_of, station_out}
-use Rattle.conn_rules.specs.Streams.{is_of, relayed_by}
-use Rattle.controller_model.specs.LifeLaws.History.{is_for, outs_for}
-use Rattle.controller_model.specs.LifeLaws.Seen.{messages_on, passed_by}
+use Rattle.bssmap_codec.specs.SccpReading.{refused_at, sccp_reading}
+use Rattle.conn_messages.specs.Out.{out_of}
 use Rattle.controller_model.proofs.LifeLaws.UsualRows.{AreUsual, IsUsual}
 use Rattle.controller_model.specs.declared.forwarded.Forwarded.{Forwarded}
-use Rattle.controller_model.specs.Views.{forwarded, forwarded_by, forwarded_in}
+use Rattle.controller_model.specs.Views.{forwarded}
 
 -- ---- the frames of one connection
 
@@ -68,14 +56,6 @@ filter_first test o os = by (test o)
 
 in_frame : Out → List Forwarded
 in_frame out = forwarded_by (sccp_reading out.frame.body)
-
--- of one frame to the switch
-by_user : (user : List ℕ) (message : Bssap) → bssap_reading user ≡ Ok message → forwarded_in (bssap_reading user) ≡ forwarded_in (Ok message)
-by_user user message is = ap forwarded_in is
-
-forwards_nothing : (reference : ℕ) (message : Bssmap) → IsUsual (Data reference (Management message)) → (sapi : Sapi) → messages_on sapi (forwarded_in (Ok (Management message))) ≡ []
-forwards_nothing reference (CompleteLayer3Information cell initial) usual sapi = absurd usual
-forwards_nothing reference _ usual sapi = refl
 
 initial_on : (sapi : Sapi) (cell : _) (initial : List ℕ) → messages_on sapi (forwarded_in (Ok (Management (CompleteLayer3Information cell initial)))) ≡ relayed_by sapi (Request (Management (CompleteLayer3Information cell initial)))
 initial_on Zero cell initial = refl
@@ -121,16 +101,7 @@ apart a b differ same = true≢false (sym (eq-eqb a b same) ∙ differ)
 -- of the messages of BSSMAP one alone has the octet of its type
 other_octet : (d : ℕ) (message : Bssmap) → IsUsual (Data d (Management message)) → bssmap_octet (type_of message) ≡ 0x57 → ⊥
 other_octet d (CompleteLayer3Information cell initial) usual is = usual
-other_octet d (bssmap.AssignmentRequest channel_type) usual is = apart _ 0x57 refl is
-other_octet d (bssmap.AssignmentComplete rr_cause) usual is = apart _ 0x57 refl is
-other_octet d (bssmap.AssignmentFailure cause rr_cause) usual is = apart _ 0x57 refl is
-other_octet d (bssmap.HandoverPerformed cause cell) usual is = apart _ 0x57 refl is
-other_octet d (bssmap.ClearCommand cause) usual is = apart _ 0x57 refl is
-other_octet d bssmap.ClearComplete usual is = apart _ 0x57 refl is
-other_octet d (bssmap.ClearRequest cause) usual is = apart _ 0x57 refl is
-other_octet d (bssmap.SapiNReject dlci cause) usual is = apart _ 0x57 refl is
-other_octet d bssmap.CipherModeCommand usual is = apart _ 0x57 refl is
-other_octet d (bssmap.CipherModeReject cause) usual is = apart _ 0x57 refl is
+other_octet d _ usual is = apart _ 0x57 refl is
 
 data_user : (d d' : ℕ) (b b' : Bssap) → sccp_text (DataForm1 d (bssap_text b)) ≡ sccp_text (DataForm1 d' (bssap_text b')) → bssap_text b ≡ bssap_text b'
 data_user d d' b b' same = ap (drop 7) same
@@ -218,8 +189,6 @@ none_refused octets (Ok v) is =
     ap (λ (s : Sccp). forwarded_by (Ok s)) (sym (ok_is {A = Sccp} {F = InterfaceFault} (ConnectionRefused a.0.0) v c.2))
 
 none_of_kind : (kind : SccpType) (octets : List ℕ) → ForwardsNone (Some kind) → forwarded_by (content_at kind octets) ≡ []
-none_of_kind kinds.ConnectionRequest octets none = absurd none
-none_of_kind kinds.DataForm1 octets none = absurd none
 none_of_kind kinds.ConnectionRefused octets none = none_refused octets (refused_at octets) refl
 none_of_kind kinds.ConnectionConfirm octets none = by (fixed_references_at octets)
   where
@@ -236,6 +205,7 @@ none_of_kind kinds.ReleaseComplete octets none = by (references_at octets)
     by : (r : Result (ℕ × ℕ × List ℕ) InterfaceFault) → forwarded_by (result_map (λ p. ReleaseCompleted p.0 p.1) r) ≡ []
     by (Ok p) = refl
     by (Err fault) = refl
+none_of_kind _ octets none = absurd none
 
 none_of_octet : (k : Option SccpType) (octets : List ℕ) → ForwardsNone k → forwarded_by (ok_or k UnknownType >>= (λ kind. content_at kind octets)) ≡ []
 none_of_octet None octets none = refl
@@ -244,24 +214,7 @@ none_of_octet (Some kind) octets none = none_of_kind kind octets none
 rsl_octets : (kind : RslType) → ForwardsNone (sccp_type (rsl_discriminator kind))
 unfolding sccp_type
 rsl_octets rsl_kinds.DataRequest = tt
-rsl_octets rsl_kinds.DataIndication = tt
-rsl_octets rsl_kinds.ErrorIndication = tt
-rsl_octets rsl_kinds.EstablishRequest = tt
-rsl_octets rsl_kinds.EstablishConfirm = tt
-rsl_octets rsl_kinds.EstablishIndication = tt
-rsl_octets rsl_kinds.ReleaseRequest = tt
-rsl_octets rsl_kinds.ReleaseConfirm = tt
-rsl_octets rsl_kinds.ReleaseIndication = tt
-rsl_octets rsl_kinds.ChannelRequired = tt
-rsl_octets rsl_kinds.ImmediateAssignCommand = tt
-rsl_octets rsl_kinds.ChannelActivation = tt
-rsl_octets rsl_kinds.ChannelActivationAck = tt
-rsl_octets rsl_kinds.ChannelActivationNack = tt
-rsl_octets rsl_kinds.ConnectionFailure = tt
-rsl_octets rsl_kinds.HandoverDetection = tt
-rsl_octets rsl_kinds.MeasurementResult = tt
-rsl_octets rsl_kinds.RfChannelRelease = tt
-rsl_octets rsl_kinds.RfChannelReleaseAck = tt
+rsl_octets _ = tt
 
 station_none : (x : Rsl) → forwarded_by (sccp_reading (rsl_text x)) ≡ []
 unfolding sccp_reading octet_at

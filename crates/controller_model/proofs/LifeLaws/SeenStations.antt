@@ -2,17 +2,13 @@
 use Rattle.controller_model.proofs.Prelude.{◌≡◌, ◌≢◌, ◌⊎◌, ℕ, ◌==◌, ◌≤◌, ◌&&◌, Bool, true, false, not, if◌then◌else◌, List, [], ◌∷◌, ◌++◌}
 use Rattle.controller_model.proofs.Prelude.{drop, filter, fold, slice_index_or, Option, Some, None, Result, Ok, refl, sym, subst, ap, ◌∙◌}
 use Rattle.controller_model.proofs.Prelude.{inl, inr, append_assoc, append-nil, true≢false, cases_Bool, cond-true, cond-false, eqb-true}
-use Rattle.controller_model.proofs.Prelude.{and_parts, flat_map-append, AllByRecursion, flat_map, Channel, Message, Station, Request, Data}
-use Rattle.controller_model.proofs.Prelude.{ReleaseComplete, Out, SWITCH_LINK, IsReadOf, outs_of, AllByRecursion-append, State}
-use Rattle.controller_model.proofs.Prelude.{WaitActivation, WaitEstablish, WaitConfirm, Live, Closed, Removed, Connection, Roles, roles_of}
-use Rattle.controller_model.proofs.Prelude.{GoesTo, IsOpen, is_dtap, Sapi, RslFault, Rsl, rsl_text}
-use Rattle.conn_messages.specs.Out.{out_of, station_out}
-use Rattle.conn_rules.specs.Streams.{handed as handed_of, handed_by as handed_by_message, is_of}
-use Rattle.controller_model.specs.LifeLaws.Downlink.{Switched, with_moment}
-use Rattle.controller_model.specs.LifeLaws.End.{GoToServing, HasNoStream, IsThere}
-use Rattle.controller_model.specs.LifeLaws.History.{Moment, all_messages, connection_of, outs_for}
-use Rattle.controller_model.specs.LifeLaws.Owning.{Owns, OwnsOpen}
-use Rattle.controller_model.specs.LifeLaws.Sending.{IsSent}
+use Rattle.controller_model.proofs.Prelude.{and_parts, flat_map-append, AllByRecursion, flat_map, Channel, Message, Station, Out}
+use Rattle.controller_model.proofs.Prelude.{SWITCH_LINK, IsReadOf, outs_of, AllByRecursion-append, State, Closed, Removed, Connection}
+use Rattle.controller_model.proofs.Prelude.{Roles, roles_of, GoesTo, IsOpen, is_dtap, Sapi, RslFault, Rsl, rsl_text, station_out, handed_of}
+use Rattle.controller_model.proofs.Prelude.{handed_by_message, is_of, Switched, with_moment, GoToServing, HasNoStream, IsThere, Moment}
+use Rattle.controller_model.proofs.Prelude.{all_messages, connection_of, outs_for, Owns, OwnsOpen, IsSent, Step, Controller, place_of, step}
+use Rattle.controller_model.proofs.Prelude.{handed_by, DataMessage, rsl_reading, rsl_discriminator, rsl_octet}
+use Rattle.conn_messages.specs.Out.{out_of}
 use Rattle.controller_model.proofs.LifeLaws.DownlinkLife.{moments_of}
 use Rattle.controller_model.proofs.LifeLaws.Fitting.{Fits, step_fits}
 use Rattle.controller_model.proofs.LifeLaws.OwningWords.{Holds}
@@ -23,15 +19,10 @@ use Rattle.controller_model.proofs.LifeLaws.Turns.{step_does}
 use Rattle.controller_model.proofs.LifeLaws.UsingLife.{run_step}
 use Rattle.controller_model.proofs.LifeLaws.UsingRows.{Uses}
 use Rattle.controller_model.proofs.LifeLaws.Places.{free≢use}
-use Rattle.controller_model.specs.declared.step.Step.{Step}
-use Rattle.controller_model.specs.Controller.{Controller, place_of}
-use Rattle.controller_model.specs.Life.{step}
-use Rattle.controller_model.specs.Views.{handed, handed_by}
-use Rattle.rsl_codec.specs.declared.radio_link.Data.{Data as DataMessage}
+use Rattle.controller_model.specs.Views.{handed}
 use Rattle.rsl_codec.specs.declared.rsl.Rsl.TheVariants as rsl
-use Rattle.rsl_codec.specs.RslReading.{rsl_reading}
 use Rattle.rsl_codec.specs.RslText.{rsl_element_text}
-use Rattle.rsl_codec.specs.RslType.{rsl_discriminator, rsl_octet, type_of}
+use Rattle.rsl_codec.specs.RslType.{type_of}
 
 -- ---- two messages in one frame
 
@@ -97,9 +88,7 @@ read_on : (number station : ℕ) (x : Rsl) (m' : Message) → out_of number (Sta
 unfolding out_of
 read_on number station x (Station station' x') same read sapi =
     ap (λ (r : Result Rsl RslFault). handed_by sapi r) read ∙ hands_same sapi x x' (ap (λ (o : Out). o.frame.body) same) ∙ handed_on sapi station x
-read_on number station x (Request message) same read sapi = absurd (apart 0 0xfd refl (ap (λ (o : Out). o.frame.stream) same))
-read_on number station x (Data d message) same read sapi = absurd (apart 0 0xfd refl (ap (λ (o : Out). o.frame.stream) same))
-read_on number station x (ReleaseComplete d) same read sapi = absurd (apart 0 0xfd refl (ap (λ (o : Out). o.frame.stream) same))
+read_on number station x _ same read sapi = absurd (apart 0 0xfd refl (ap (λ (o : Out). o.frame.stream) same))
 
 station_frame : (number : ℕ) (m : Message) → IsText number (out_of number m) → (sapi : Sapi) → RightFor sapi m → flat_map (in_station sapi) (filter goes_to_station (out_of number m ∷ [])) ≡ handed_by_message sapi m
 unfolding out_of in_station goes_to_station
@@ -109,9 +98,7 @@ station_frame number (Station station x) text sapi right = elim (cases_Bool (sta
       ap (flat_map (in_station sapi)) (cond-true _ (station_out number station x ∷ []) [] (ap not miss))
       ∙ append-nil (handed_by sapi (rsl_reading (rsl_text x))) ∙ read_on number station x text.message text.put text.read sapi
 ]
-station_frame number (Request message) text sapi right = refl
-station_frame number (Data destination message) text sapi right = refl
-station_frame number (ReleaseComplete destination) text sapi right = refl
+station_frame number _ text sapi right = refl
 
 station_frames : (number : ℕ) (ms : List Message) → AllByRecursion (λ m. IsText number (out_of number m)) ms → (sapi : Sapi) → AllByRecursion (RightFor sapi) ms → flat_map (in_station sapi) (filter goes_to_station (outs_of number ms)) ≡ handed_of sapi ms
 station_frames number [] texts sapi right = refl
@@ -137,9 +124,7 @@ right_none sapi (m ∷ ms) none =
   where
     of : (m : Message) → handed_by_message sapi m ≡ [] → RightFor sapi m
     of (Station station x) is = λ same. is
-    of (Request message) is = tt
-    of (Data destination message) is = tt
-    of (ReleaseComplete destination) is = tt
+    of _ is = tt
 
 right_one : (sapi : Sapi) (c : Channel) (m : Message) → c.station ≢ SWITCH_LINK → GoesTo c m → RightFor sapi m
 right_one sapi c (Station station (rsl.DataRequest r)) other goes = λ same. elim (cases_Bool (is_of sapi r.link && is_dtap r.l3)) [
@@ -147,21 +132,16 @@ right_one sapi c (Station station (rsl.DataRequest r)) other goes = λ same. eli
   | inr miss ↦ cond-false _ (r.l3 ∷ []) [] miss
 ]
 right_one sapi c (Station station _) other goes = λ same. refl
-right_one sapi c (Request message) other goes = tt
-right_one sapi c (Data destination message) other goes = tt
-right_one sapi c (ReleaseComplete destination) other goes = tt
+right_one sapi c _ other goes = tt
 
 right_all : (sapi : Sapi) (c : Channel) (ms : List Message) → c.station ≢ SWITCH_LINK → AllByRecursion (GoesTo c) ms → AllByRecursion (RightFor sapi) ms
 right_all sapi c [] other all = tt
 right_all sapi c (m ∷ ms) other all = (right_one sapi c m other all.0, right_all sapi c ms other all.1)
 
 pub open_or : (state : State) → IsOpen state ⊎ (IsOpen state → ⊥)
-open_or WaitActivation = inl tt
-open_or WaitEstablish = inl tt
-open_or WaitConfirm = inl tt
-open_or (Live reference stage) = inl tt
 open_or (Closed clearing) = inr (λ there. there)
 open_or Removed = inr (λ there. there)
+open_or _ = inl tt
 
 -- the switch's link has no channel that is in use
 serving_other : (c : Controller) (n : ℕ) (roles : Roles) → Uses c.links c.links c → Owns c.channels c.links n roles → roles.serving.station ≢ SWITCH_LINK

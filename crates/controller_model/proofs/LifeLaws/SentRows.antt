@@ -1,27 +1,20 @@
 -- What a step sends, and to which links, at literal values.
 use Rattle.controller_model.proofs.Prelude.{◌≡◌, ℕ, ◌<◌, zero, suc, true, false, List, [], ◌∷◌, length, Result, Ok, refl, sym, ap, inl, inr, hex}
-use Rattle.controller_model.proofs.Prelude.{arith, true≢false, InterfaceFault, Sccp, Message, Station, Request, Data, ReleaseComplete, Out}
+use Rattle.controller_model.proofs.Prelude.{arith, true≢false, InterfaceFault, Sccp, Message, Station, ReleaseComplete, Out}
 use Rattle.controller_model.proofs.Prelude.{IsReadOf, handing, rf_channel_release, complete_layer3, relaying, release_complete, Active}
-use Rattle.controller_model.proofs.Prelude.{Live, Zero, Three}
-use Rattle.std.proofs.Common.{slice_index}
+use Rattle.controller_model.proofs.Prelude.{Live, Zero, Three, slice_index, out_of, GoesToUp, ComesInOctets, IsMessage, IsSent}
+use Rattle.controller_model.proofs.Prelude.{SendsMessages, Tick, Controller, new_controller, new_averages}
 use Rattle.bssmap_codec.specs.declared.sccp.Sccp.TheVariants as sccp
-use Rattle.conn_messages.specs.Out.{out_of}
 use Rattle.conn_messages.specs.OutputsState.{IsSendable}
 use Rattle.controller_model.proofs.LifeLaws.UsedRows.{channel, connection}
-use Rattle.controller_model.specs.LifeLaws.Reach.{GoesToUp}
-use Rattle.controller_model.specs.LifeLaws.Sending.{ComesInOctets, IsMessage, IsSent, SendsMessages}
 use Rattle.controller_model.proofs.Lives.{down, on_stream, usual_settings}
 use Rattle.controller_model.proofs.OnLiterals.{on_literals}
-use Rattle.controller_model.specs.declared.step.Step.TheVariants.{Tick}
-use Rattle.controller_model.specs.Controller.{Controller, new_controller}
-use Rattle.controller_model.specs.Life.{new_averages}
 
 -- ---- what comes is of octets
 
 of_octets : ComesInOctets (on_stream 1 0x00 (0 ∷ 255 ∷ []))
-of_octets zero = omega arith
 of_octets (suc zero) = omega arith
-of_octets (suc (suc i)) = omega arith
+of_octets _ = omega arith
 
 no_octet : ComesInOctets (on_stream 1 0x00 (0 ∷ 256 ∷ [])) → ⊥
 no_octet octets = let high : 256 < 256 = octets 1 in omega (arith, high)
@@ -72,9 +65,8 @@ unfolding on_literals
 names_no_other is = of_message is.message is.put is.read where
   of_message : (m : Message) → out 0 8 0xfd released ≡ out_of 8 m → IsReadOf 8 m released → ⊥
   of_message (Station station m) put read = absurd (omega (arith, ap (λ (o : Out). o.frame.stream) put))
-  of_message (Request m) put read = absurd (omega (arith, ap source_of read.1))
-  of_message (Data destination m) put read = absurd (omega (arith, ap source_of read.1))
   of_message (ReleaseComplete destination) put read = absurd (omega (arith, ap source_of read))
+  of_message _ put read = absurd (omega (arith, ap source_of read.1))
 
 -- on another link, or another stream, it is no message
 on_no_other_link : IsMessage (out 1 7 0xfd released) → ⊥
@@ -82,18 +74,14 @@ unfolding on_literals
 on_no_other_link is = of_message is.message is.put where
   of_message : (m : Message) → out 1 7 0xfd released ≡ out_of 7 m → ⊥
   of_message (Station station m) put = absurd (omega (arith, ap (λ (o : Out). o.frame.stream) put))
-  of_message (Request m) put = absurd (omega (arith, ap (λ (o : Out). o.to) put))
-  of_message (Data destination m) put = absurd (omega (arith, ap (λ (o : Out). o.to) put))
-  of_message (ReleaseComplete destination) put = absurd (omega (arith, ap (λ (o : Out). o.to) put))
+  of_message _ put = absurd (omega (arith, ap (λ (o : Out). o.to) put))
 
 on_no_other_stream : IsMessage (out 0 7 0x00 released) → ⊥
 unfolding on_literals
 on_no_other_stream is = of_message is.message is.put is.read where
   of_message : (m : Message) → out 0 7 0x00 released ≡ out_of 7 m → IsReadOf 7 m released → ⊥
   of_message (Station station m) put read = absurd cc
-  of_message (Request m) put read = absurd (omega (arith, ap (λ (o : Out). o.frame.stream) put))
-  of_message (Data destination m) put read = absurd (omega (arith, ap (λ (o : Out). o.frame.stream) put))
-  of_message (ReleaseComplete destination) put read = absurd (omega (arith, ap (λ (o : Out). o.frame.stream) put))
+  of_message _ put read = absurd (omega (arith, ap (λ (o : Out). o.frame.stream) put))
 
 -- ---- what is sent
 
@@ -103,9 +91,7 @@ a_pong = record { fits = omega arith; is = inr refl }
 a_ping_is_no_message : (m : Message) → out 2 0 0xfe (hex "00") ≡ out_of 0 m → ⊥
 unfolding on_literals
 a_ping_is_no_message (Station station m) put = absurd (omega (arith, ap (λ (o : Out). o.frame.stream) put))
-a_ping_is_no_message (Request m) put = absurd (omega (arith, ap (λ (o : Out). o.to) put))
-a_ping_is_no_message (Data destination m) put = absurd (omega (arith, ap (λ (o : Out). o.to) put))
-a_ping_is_no_message (ReleaseComplete destination) put = absurd (omega (arith, ap (λ (o : Out). o.to) put))
+a_ping_is_no_message _ put = absurd (omega (arith, ap (λ (o : Out). o.to) put))
 
 no_ping : IsSent (out 2 0 0xfe (hex "00")) → ⊥
 no_ping sent = elim sent.is [

@@ -1,45 +1,28 @@
 -- Nothing is handed while a channel changes, and nothing after the end.
 use Rattle.controller_model.proofs.Prelude.{◌≡◌, Bool, ℕ, ◌≤◌, ◌<◌, List, [], ◌∷◌, Option, Some, None, refl, sym, subst, ap, ◌∙◌, arith}
-use Rattle.controller_model.proofs.Prelude.{AllByRecursion, Message, SWITCH_LINK, Input, State, WaitActivation, WaitEstablish, WaitConfirm}
-use Rattle.controller_model.proofs.Prelude.{Live, Closed, Removed, Due, WasAsked, Complete, Connection, Row, OfRow, IsOpen, IsChanging}
-use Rattle.controller_model.proofs.Prelude.{GoesTo, Sapi, Zero, Three}
-use Rattle.conn_rules.proofs.Closing.{IsFinal-row}
-use Rattle.conn_rules.proofs.Downlink.{IsSilent-row, KeepsDownlink-row}
-use Rattle.conn_rules.specs.Streams.{IsSilent, IsFinal, OnlyReleases, KeepsDownlink, handed}
-use Rattle.conn_rules.specs.Table.{row_of}
-use Rattle.controller_model.specs.LifeLaws.Acts.{Acts, Brought, IsAged, kept, kept_in}
-use Rattle.controller_model.specs.LifeLaws.Acts.Acts.{ages, rests, opens, goes}
-use Rattle.controller_model.specs.LifeLaws.Acts.{brought_in}
-use Rattle.controller_model.specs.LifeLaws.End.{IsThere, HasNoStream, IsAway, GoToServing, OnlyReleasesAfter, KeepsSilence, StaysSilent}
-use Rattle.controller_model.specs.LifeLaws.History.{connection_of}
+use Rattle.controller_model.proofs.Prelude.{AllByRecursion, Message, SWITCH_LINK, Input, State, Closed, Removed, Complete, Connection, Row}
+use Rattle.controller_model.proofs.Prelude.{OfRow, IsOpen, IsChanging, GoesTo, Sapi, Zero, Three, IsFinal-row, IsSilent-row}
+use Rattle.controller_model.proofs.Prelude.{KeepsDownlink-row, IsSilent, IsFinal, OnlyReleases, KeepsDownlink, handed, row_of, Acts}
+use Rattle.controller_model.proofs.Prelude.{Brought, IsAged, kept, kept_in, brought_in, ages, rests, opens, goes, IsThere, HasNoStream}
+use Rattle.controller_model.proofs.Prelude.{IsAway, GoToServing, OnlyReleasesAfter, KeepsSilence, StaysSilent, connection_of, Step}
+use Rattle.controller_model.proofs.Prelude.{Controller, is_up, step}
 use Rattle.controller_model.proofs.LifeLaws.Beside.{step_goes}
 use Rattle.controller_model.proofs.LifeLaws.Fitting.{IsFine, Fits, aged_holds, fine_old, step_fits}
 use Rattle.controller_model.proofs.LifeLaws.Turns.{step_does}
-use Rattle.controller_model.specs.declared.step.Step.{Step}
-use Rattle.controller_model.specs.Controller.{Controller, is_up}
-use Rattle.controller_model.specs.Life.{step}
 
 -- ---- a connection after a row
 
 -- what holds of it, and where it is removed of none
 pub kept_holds : (P : Option Connection → Type 0) (state : State) (s : Connection) → P None → P (Some s) → P (kept_in state s)
 kept_holds P Removed s none some = none
-kept_holds P WaitActivation s none some = some
-kept_holds P WaitEstablish s none some = some
-kept_holds P WaitConfirm s none some = some
-kept_holds P (Live reference stage) s none some = some
-kept_holds P (Closed clearing) s none some = some
+kept_holds P _ s none some = some
 
 pub kept_there : (state : State) (s : Connection) → IsThere (kept_in state s) → IsOpen s.state
 kept_there state s = kept_holds (λ (o : Option Connection). IsThere o → IsOpen s.state) state s (λ there. absurd there) (λ there. there)
 
 pub there_kept : (state : State) (s : Connection) → s.state ≡ state → IsOpen s.state → IsThere (kept_in state s)
 there_kept Removed s is there = absurd (subst IsOpen is there)
-there_kept WaitActivation s is there = there
-there_kept WaitEstablish s is there = there
-there_kept WaitConfirm s is there = there
-there_kept (Live reference stage) s is there = there
-there_kept (Closed clearing) s is there = there
+there_kept _ s is there = there
 
 kept_away : (state : State) (s : Connection) → IsAway (kept_in state s) → IsChanging s.state
 kept_away state s = kept_holds (λ (o : Option Connection). IsAway o → IsChanging s.state) state s (λ away. absurd away) (λ away. away)
@@ -66,11 +49,7 @@ final_row s input offer r fits = subst (OfRow (IsFinal s)) fits (IsFinal-row s i
 
 serving_kept : (state : State) (s : Connection) (put : List Message) → s.state ≡ state → ((IsOpen s.state → ⊥) → (sapi : Sapi) → handed sapi put ≡ []) → AllByRecursion (GoesTo s.serving) put → GoToServing (kept_in state s) put
 serving_kept Removed s put is none all = none (λ there. subst IsOpen is there)
-serving_kept WaitActivation s put is none all = all
-serving_kept WaitEstablish s put is none all = all
-serving_kept WaitConfirm s put is none all = all
-serving_kept (Live reference stage) s put is none all = all
-serving_kept (Closed clearing) s put is none all = all
+serving_kept _ s put is none all = all
 
 -- ---- what a step does
 
@@ -114,13 +93,7 @@ acts_stays number next up brought before after put (goes old s input offer r is 
 
 releases_nothing : (state : State) → OnlyReleases state []
 releases_nothing (Closed Complete) = tt
-releases_nothing (Closed (Due cause)) = tt
-releases_nothing (Closed (WasAsked reference)) = tt
-releases_nothing WaitActivation = tt
-releases_nothing WaitEstablish = tt
-releases_nothing WaitConfirm = tt
-releases_nothing (Live reference stage) = tt
-releases_nothing Removed = tt
+releases_nothing _ = tt
 
 none_releases : (o : Option Connection) → OnlyReleasesAfter o []
 none_releases None = refl

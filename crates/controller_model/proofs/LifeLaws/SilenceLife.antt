@@ -1,8 +1,7 @@
 -- Silence over a whole life.
-use Rattle.controller_model.proofs.Prelude.{ℕ, ◌≤◌, List, [], ◌∷◌, AllByRecursion, SWITCH_LINK, Sapi, AreAllowed, Parameters}
-use Rattle.controller_model.specs.LifeLaws.Acts.{brought_in}
-use Rattle.controller_model.specs.LifeLaws.History.{connection_of}
-use Rattle.controller_model.specs.LifeLaws.Sending.{ComesInOctets}
+use Rattle.controller_model.proofs.Prelude.{ℕ, ◌≤◌, List, [], ◌∷◌, AllByRecursion, SWITCH_LINK, Sapi, AreAllowed, Parameters, brought_in}
+use Rattle.controller_model.proofs.Prelude.{connection_of, ComesInOctets, AllAreRead, AllKeepSilence, SilenceIsKept, Step, Controller}
+use Rattle.controller_model.proofs.Prelude.{is_up, new_controller, step}
 use Rattle.controller_model.proofs.LifeLaws.OwningLife.{new_holds}
 use Rattle.controller_model.proofs.LifeLaws.OwningWords.{Holds}
 use Rattle.controller_model.proofs.LifeLaws.SeenFrames.{forwarded_seen}
@@ -12,13 +11,10 @@ use Rattle.controller_model.proofs.LifeLaws.Turns.{step_does}
 use Rattle.controller_model.proofs.LifeLaws.UplinkLife.{acts_usual}
 use Rattle.controller_model.proofs.LifeLaws.UsingLife.{new_uses, ready_by, run_step}
 use Rattle.controller_model.proofs.LifeLaws.UsingRows.{Uses}
-use Rattle.controller_model.specs.LifeLaws.End.{AllAreRead, AllKeepSilence, SilenceIsKept}
 use Rattle.controller_model.proofs.LifeLaws.DownlinkLife.{frames_of, history_of, moments_of}
 use Rattle.controller_model.proofs.LifeLaws.Fitting.{Fits, new_fits, step_fits}
 use Rattle.controller_model.proofs.LifeLaws.Silence.{step_silence}
-use Rattle.controller_model.specs.declared.step.Step.{Step}
-use Rattle.controller_model.specs.Controller.{Controller, is_up, new_controller}
-use Rattle.controller_model.specs.Life.{life, step}
+use Rattle.controller_model.specs.Life.{life}
 
 silent_run : (number : ℕ) (c : Controller) (from_one : 1 ≤ number) (fits : Fits number c) (steps : List Step) → AllKeepSilence number c (moments_of number c from_one fits steps)
 unfolding moments_of

@@ -1,30 +1,32 @@
 -- What each step puts can be written, and is read as it was put; so in every life.
 use Rattle.controller_model.proofs.Prelude.{◌≡◌, ◌≢◌, ℕ, ◌-◌, ◌==◌, ◌≤◌, ◌<◌, ◌&&◌, ◌||◌, nat_le, Bool, true, false, if◌then◌else◌, List}
-use Rattle.controller_model.proofs.Prelude.{[], ◌∷◌, slice_get, Option, Some, None, option_map, Result, Ok, Err, refl, sym, subst, ap, ◌∙◌}
-use Rattle.controller_model.proofs.Prelude.{inl, inr, arith, true≢false, cases_Bool, cond-true, cond-false, eq-eqb, and_parts, leb-true}
-use Rattle.controller_model.proofs.Prelude.{option_and_then_some, AllByRecursion, option_to_list, Bssap, Management, Transfer, Bssmap}
-use Rattle.controller_model.proofs.Prelude.{InterfaceFault, Sccp, Channel, Place, Message, SWITCH_LINK, IsReadOf, IsSound, outs_of}
-use Rattle.controller_model.proofs.Prelude.{access_activation, AllByRecursion-append, Input, State, WaitActivation, WaitEstablish}
-use Rattle.controller_model.proofs.Prelude.{WaitConfirm, Live, Closed, Removed, Connection, is_at, IsCarried, Row, OfRow, target_in}
-use Rattle.controller_model.proofs.Prelude.{serving_after, Report, Decision, Stay, Move, Frame, CCM_STREAM, PING, RSL_STREAM, SCCP_STREAM}
-use Rattle.controller_model.proofs.Prelude.{What, RequestReference, AreAllowed, CellParameters, Parameters}
-use Rattle.std.proofs.Common.{◌^◌}
-use Rattle.std.proofs.lemmas.Bool.{le-leb}
+use Rattle.controller_model.proofs.Prelude.{[], ◌∷◌, slice_get, Option, Some, None, option_map, Result, Ok, refl, sym, subst, ap, ◌∙◌, inl}
+use Rattle.controller_model.proofs.Prelude.{inr, arith, true≢false, cases_Bool, cond-true, cond-false, eq-eqb, and_parts, leb-true}
+use Rattle.controller_model.proofs.Prelude.{option_and_then_some, AllByRecursion, option_to_list, Bssap, Management, Bssmap, InterfaceFault}
+use Rattle.controller_model.proofs.Prelude.{Sccp, Channel, Place, Message, SWITCH_LINK, IsReadOf, IsSound, outs_of, access_activation}
+use Rattle.controller_model.proofs.Prelude.{AllByRecursion-append, Input, State, Removed, Connection, is_at, IsCarried, Row, OfRow}
+use Rattle.controller_model.proofs.Prelude.{target_in, serving_after, Report, Decision, Stay, Move, Frame, CCM_STREAM, PING, RSL_STREAM}
+use Rattle.controller_model.proofs.Prelude.{SCCP_STREAM, What, RequestReference, AreAllowed, CellParameters, Parameters, ◌^◌, le-leb}
+use Rattle.controller_model.proofs.Prelude.{bssap_reading, sccp_reading, out_of, all_within, row_of, IsTimer, kept_in, connection_of}
+use Rattle.controller_model.proofs.Prelude.{AreRising, ComesInOctets, IsOfOctets, IsSent, SendsMessages, ChannelKind, Sdcch, Tch}
+use Rattle.controller_model.proofs.Prelude.{ChannelState, Free, InUse, Releasing, MAX_CONNECTION_NUMBER, Step, Take, Tick, Word, Nothing}
+use Rattle.controller_model.proofs.Prelude.{Ping, Asks, OnChannel, Reports, OnConnection, access_channel, channel_in, channel_of_kind}
+use Rattle.controller_model.proofs.Prelude.{first_free, free_channel, free_in, handover_offer, is_alike, is_free, kind_of, request_offer}
+use Rattle.controller_model.proofs.Prelude.{Controller, Entry, Turn, turn, each, ignoring, is_up, entry_of, with_down, with_entry}
+use Rattle.controller_model.proofs.Prelude.{channel_state, freed, freed_station, new_controller, aged, all_aged, break_of, by_fitting}
+use Rattle.controller_model.proofs.Prelude.{by_row, concerning, concerning_too, entry_after, entry_at, expiry, frees, given, is_measured}
+use Rattle.controller_model.proofs.Prelude.{measured, measures, new_entry, on_break, on_decision, expires, on_freed, on_report, on_state}
+use Rattle.controller_model.proofs.Prelude.{on_what, on_word, pong, row_in, step, timed, told, with_connection, with_report, Carried}
+use Rattle.controller_model.proofs.Prelude.{body_word, bssap_word, management_of_link, management_word, station_word, switch_word}
+use Rattle.controller_model.proofs.Prelude.{radio_signalling, connection_control, link_management, other, carried, decision_over, AreOctets}
+use Rattle.controller_model.proofs.Prelude.{FIRST_TCH, LAST_SDCCH, PCH_AND_AGCH, RACH, is_channel, rsl_reading, IsCell, IsChannel}
+use Rattle.controller_model.proofs.Prelude.{recursion_from_All}
 use Rattle.bssmap_codec.specs.declared.bssmap.Bssmap.TheVariants as bssmap
 use Rattle.bssmap_codec.specs.declared.sccp.Sccp.TheVariants as sccp
-use Rattle.bssmap_codec.specs.BssapReading.{bssap_reading}
-use Rattle.bssmap_codec.specs.SccpReading.{sccp_reading}
 use Rattle.bssmap_codec.proofs.Sccps.{sccp_ok}
 use Rattle.conn_messages.proofs.Readings.{message_again}
 use Rattle.conn_messages.proofs.Sizes.{out_fits}
-use Rattle.conn_messages.specs.Out.{out_of}
-use Rattle.conn_rules.proofs.Channels.{all_within}
 use Rattle.conn_rules.specs.declared.input.Input.TheVariants as inputs
-use Rattle.conn_rules.specs.Table.{row_of}
-use Rattle.controller_model.specs.LifeLaws.Acts.{IsTimer, kept_in}
-use Rattle.controller_model.specs.LifeLaws.History.{connection_of}
-use Rattle.controller_model.specs.LifeLaws.Numbers.{AreRising}
-use Rattle.controller_model.specs.LifeLaws.Sending.{ComesInOctets, IsOfOctets, IsSent, SendsMessages}
 use Rattle.controller_model.proofs.LifeLaws.Acting.{conn_of, row_found}
 use Rattle.controller_model.proofs.LifeLaws.Entries.{back_found, back_over, back_rising, behind_found, behind_over, find_below}
 use Rattle.controller_model.proofs.LifeLaws.Fitting.{Fits, IsLinkBreak, new_fits, break_carried, own_carried, timer_carried}
@@ -42,29 +44,9 @@ use Rattle.controller_model.proofs.LifeLaws.UsingWords.{IsHere, Ready, here_of}
 use Rattle.controller_model.proofs.LifeLaws.Words.{decide_same, measured_stays}
 use Rattle.controller_model.proofs.Numbers.{keeps_number}
 use Rattle.controller_model.proofs.Others.{all_age}
-use Rattle.controller_model.specs.declared.channel_kind.ChannelKind.{ChannelKind}
-use Rattle.controller_model.specs.declared.channel_kind.ChannelKind.TheVariants.{Sdcch, Tch}
-use Rattle.controller_model.specs.declared.channel_state.ChannelState.{ChannelState}
-use Rattle.controller_model.specs.declared.channel_state.ChannelState.TheVariants.{Free, InUse, Releasing}
-use Rattle.controller_model.specs.declared.limits.TheConstants.{MAX_CONNECTION_NUMBER}
-use Rattle.controller_model.specs.declared.step.Step.{Step}
-use Rattle.controller_model.specs.declared.step.Step.TheVariants.{Take, Tick}
-use Rattle.controller_model.specs.declared.word.Word.{Word}
-use Rattle.controller_model.specs.declared.word.Word.TheVariants.{Nothing, Ping, Asks, OnChannel, Reports, OnConnection}
-use Rattle.controller_model.specs.Channels.{access_channel, channel_in, channel_of_kind, first_free, free_channel, free_in, handover_offer, is_alike, is_free, kind_of, request_offer}
-use Rattle.controller_model.specs.Controller.{Controller, Entry, Turn, turn, each, ignoring, is_up, entry_of, with_down, with_entry, channel_state, freed, freed_station, new_controller}
-use Rattle.controller_model.specs.Life.{aged, all_aged, break_of, by_fitting, by_row, concerning, concerning_too, entry_after, entry_at, expiry, frees, given, is_measured, life, measured, measures, new_entry, on_break, on_decision, on_expiry as expires, on_freed, on_report, on_state, on_what, on_word, pong, row_in, step, take, tick, timed, told, with_connection, with_report}
-use Rattle.controller_model.specs.Reading.{Carried, body_word, bssap_word, management_of_link, management_word, station_word, switch_word, word_of}
-use Rattle.controller_model.specs.Reading.Carried.{radio_signalling, connection_control, link_management, other}
-use Rattle.controller_model.specs.Reading.{carried}
-use Rattle.controller_model.specs.Reports.{decision_over}
-use Rattle.octets.specs.Element.{AreOctets}
+use Rattle.controller_model.specs.Life.{life, take, tick}
+use Rattle.controller_model.specs.Reading.{word_of}
 use Rattle.ruled_relay.specs.declared.item.What.TheVariants as whats
-use Rattle.rsl_codec.specs.declared.channel_number.TheConstants.{FIRST_TCH, LAST_SDCCH, PCH_AND_AGCH, RACH}
-use Rattle.rsl_codec.specs.ChannelNumber.{is_channel}
-use Rattle.rsl_codec.specs.RslReading.{rsl_reading}
-use Rattle.settings.specs.Parameters.{IsCell, IsChannel}
-use Rattle.std.proofs.lemmas.List.Elements.{recursion_from_All}
 
 -- ---- frames
 
@@ -81,7 +63,7 @@ sent_message n message three sound = record {
   });
 }
 
-all_sent : (n : ℕ) (ms : List Message) → n < 2 ^ 24 → AllByRecursion IsSound ms → AllByRecursion IsSent (outs_of n ms)
+pub all_sent : (n : ℕ) (ms : List Message) → n < 2 ^ 24 → AllByRecursion IsSound ms → AllByRecursion IsSent (outs_of n ms)
 all_sent n [] three all = tt
 all_sent n (m ∷ ms) three all = (sent_message n m three all.0, all_sent n ms three all.1)
 
@@ -112,18 +94,14 @@ pub record SoundTurn (t : Turn) : Type 0 where
   pub sound : IsSoundAll t.next
   pub sent : AllByRecursion IsSent t.outs
 
-some_sound : (o : Option Connection) (s : Connection) → o ≡ Some s → SoundOf o → SoundParts s
+pub some_sound : (o : Option Connection) (s : Connection) → o ≡ Some s → SoundOf o → SoundParts s
 unfolding SoundOf
 some_sound o s is sound = subst SoundOf is sound
 
 kept_sound : (state : State) (s : Connection) → SoundParts s → SoundOf (kept_in state s)
 unfolding SoundOf
 kept_sound Removed s sound = tt
-kept_sound WaitActivation s sound = sound
-kept_sound WaitEstablish s sound = sound
-kept_sound WaitConfirm s sound = sound
-kept_sound (Live reference stage) s sound = sound
-kept_sound (Closed clearing) s sound = sound
+kept_sound _ s sound = sound
 
 -- ---- offers
 
@@ -287,25 +265,18 @@ at_refers at _ is = tt
 station_refers : (source : ℕ) (word : Word) → IsFrom source word → ((m : ℕ) (input : Input) → word ≡ OnConnection m input → RefersBy input) → RefersIn word
 station_refers source (OnChannel at input) from none = at_refers at input from.1
 station_refers source (OnConnection m input) from none = none m input refl
-station_refers source Nothing from none = tt
-station_refers source Ping from none = tt
-station_refers source (Asks request delay) from none = tt
-station_refers source (Reports at of report) from none = tt
+station_refers source _ from none = tt
 
 management_refers : (m : ℕ) (message : Bssmap) → RefersIn (management_word m message)
 management_refers m (bssmap.AssignmentRequest channel_type) = tt
-management_refers m (bssmap.ClearCommand cause) = tt
-management_refers m bssmap.CipherModeCommand = tt
 management_refers m _ = tt
 
 bssap_refers : (m : ℕ) (r : Result Bssap InterfaceFault) → RefersIn (bssap_word m r)
 bssap_refers m (Ok (Management message)) = management_refers m message
-bssap_refers m (Ok (Transfer dlci message)) = tt
-bssap_refers m (Err fault) = tt
+bssap_refers m _ = tt
 
 switch_refers : (body : List ℕ) (r : Result Sccp InterfaceFault) → AreOctets body → sccp_reading body ≡ r → RefersIn (switch_word r)
 switch_refers body (Ok (sccp.ConnectionConfirm destination source)) octets is = (sccp_ok body (sccp.ConnectionConfirm destination source) octets is).content.are.from
-switch_refers body (Ok (sccp.ConnectionRefused destination)) octets is = tt
 switch_refers body (Ok (sccp.Released destination source)) octets is = (sccp_ok body (sccp.Released destination source) octets is).content.are.from
 switch_refers body (Ok (sccp.DataForm1 destination user)) octets is = bssap_refers destination (bssap_reading user)
 switch_refers body _ octets is = tt
@@ -367,12 +338,12 @@ each_sound links f order leaves numbers keeps c (x ∷ xs) sorted here sound =
     let rest = each_sound links f order leaves numbers keeps (f c x).next xs sorted.1 later one.sound in
     record { sound = rest.sound; sent = AllByRecursion-append IsSent (f c x).outs (each f (f c x).next xs).outs one.sent rest.sent }
 
-break_refers : (input : Input) → IsLinkBreak input → RefersBy input
+pub break_refers : (input : Input) → IsLinkBreak input → RefersBy input
 break_refers inputs.SwitchDown break = tt
 break_refers (inputs.StationDown station) break = tt
 break_refers _ break = absurd break
 
-timer_refers : (input : Input) → IsTimer input → RefersBy input
+pub timer_refers : (input : Input) → IsTimer input → RefersBy input
 timer_refers inputs.Expiry timer = tt
 timer_refers inputs.DrainExpiry timer = tt
 timer_refers _ timer = absurd timer

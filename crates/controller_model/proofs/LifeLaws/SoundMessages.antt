@@ -4,29 +4,22 @@ use Rattle.controller_model.proofs.Prelude.{Some, None, refl, ap, ◌∙◌, ari
 use Rattle.controller_model.proofs.Prelude.{Assignment, Handover, Channel, BSS_NOT_EQUIPPED, IsSound, access_activation}
 use Rattle.controller_model.proofs.Prelude.{channel_release, handing, immediate_assign_command, rf_channel_release, assignment_failure}
 use Rattle.controller_model.proofs.Prelude.{change_complete, clear_complete, clear_request, complete_layer3, relaying, Sapi, Zero, Three}
-use Rattle.controller_model.proofs.Prelude.{INITIAL_LIMIT, RequestReference}
-use Rattle.std.proofs.Common.{nat_lt, nat_eq}
+use Rattle.controller_model.proofs.Prelude.{INITIAL_LIMIT, RequestReference, nat_lt, nat_eq, bssmap_size, content_fault, layer3_fault}
+use Rattle.controller_model.proofs.Prelude.{IsReference, size_fault, BETTER_CELL, CIPHERING_NOT_SUPPORTED, activation, change_command}
+use Rattle.controller_model.proofs.Prelude.{command, establish_request, dlci_on, LENGTH_LIMIT, MESSAGE_LIMIT, FIRST_SDCCH, FIRST_TCH_H}
+use Rattle.controller_model.proofs.Prelude.{is_channel}
 use Rattle.bssmap_codec.specs.declared.bssmap.Bssmap.TheVariants as bssmap
 use Rattle.bssmap_codec.specs.declared.fault.InterfaceFault.TheVariants as interface
 use Rattle.bssmap_codec.specs.declared.values.RrCause.{RrCause}
-use Rattle.bssmap_codec.specs.BssapText.{bssmap_size, content_fault}
-use Rattle.bssmap_codec.specs.Layer3.{layer3_fault}
-use Rattle.bssmap_codec.specs.Reference.{IsReference}
-use Rattle.bssmap_codec.specs.SccpText.{size_fault}
 use Rattle.bssmap_codec.proofs.BssapTexts.{size_is}
-use Rattle.conn_messages.specs.declared.causes.TheConstants.{BETTER_CELL, CIPHERING_NOT_SUPPORTED}
 use Rattle.conn_messages.specs.declared.parameters.TheConstants.{FULL_RATE_MODE, HALF_RATE_MODE, SACCH_SAPI_3_DLCI, SDCCH_MODE, SDCCH_SAPI_3_DLCI}
 use Rattle.conn_messages.specs.Out.{IsCarried}
-use Rattle.conn_messages.specs.StationMessage.{activation, change_command, command, establish_request}
-use Rattle.conn_messages.specs.SwitchMessage.{cause_of, cipher_mode_reject, dlci_on, management, sapi_3_reject}
+use Rattle.conn_messages.specs.SwitchMessage.{cause_of, cipher_mode_reject, management, sapi_3_reject}
 use Rattle.dtap_codec.specs.RrText.{rr_text}
-use Rattle.octets.specs.declared.limits.TheConstants.{LENGTH_LIMIT, MESSAGE_LIMIT}
 use Rattle.octets.specs.Refusal.{first_refusal}
-use Rattle.rsl_codec.specs.declared.channel_number.TheConstants.{FIRST_SDCCH, FIRST_TCH_H}
 use Rattle.rsl_codec.specs.declared.fault.RslFault.TheVariants.{Short, TooLong}
 use Rattle.rsl_codec.specs.declared.values.ActivationType.{ActivationType}
 use Rattle.rsl_codec.specs.declared.values.HandoverReference.{HandoverReference}
-use Rattle.rsl_codec.specs.ChannelNumber.{is_channel}
 use Rattle.rsl_codec.specs.RslText.{rsl_write_fault}
 
 -- a channel by whose values messages can be written
@@ -70,9 +63,8 @@ unfolding rsl_write_fault
 sound_activation c kind reference sound = (by (nat_le FIRST_SDCCH c.number) (nat_le FIRST_TCH_H c.number), (sound.0, tt))
   where
     by : (a b : Bool) → cond (nat_lt LENGTH_LIMIT (length (if a then SDCCH_MODE else (if b then HALF_RATE_MODE else FULL_RATE_MODE)))) (Some TooLong) None ≡ None
-    by true b = refl
     by false true = refl
-    by false false = refl
+    by _ _ = refl
 
 pub sound_access : (c : Channel) → IsSoundChannel c → IsSound (access_activation c)
 sound_access c sound = sound_activation c _ None sound

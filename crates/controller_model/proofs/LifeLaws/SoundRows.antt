@@ -1,11 +1,8 @@
 -- What every row puts can be written, and is read as it was put.
-use Rattle.controller_model.proofs.Prelude.{Option, Some, None, AllByRecursion, IsLayer3, option_to_list, Channel, IsSound, Input}
-use Rattle.controller_model.proofs.Prelude.{WasAsked, State, Live, Closed, Connection, IsCarried, Row, OfRow, target_in}
-use Rattle.bssmap_codec.specs.Reference.{IsReference}
-use Rattle.conn_rules.proofs.RowPuts.{Brings, Enters, HasReference, Kinds, Parts, Puts, any_cause, row-puts}
+use Rattle.controller_model.proofs.Prelude.{Option, Some, AllByRecursion, IsLayer3, option_to_list, Channel, IsSound, Input}
+use Rattle.controller_model.proofs.Prelude.{WasAsked, State, Live, Closed, Connection, IsCarried, Row, OfRow, target_in, IsReference}
+use Rattle.controller_model.proofs.Prelude.{Brings, Enters, HasReference, Kinds, Parts, Puts, any_cause, row-puts, IsHeldTenure, row_of}
 use Rattle.conn_rules.specs.declared.input.Input.TheVariants as inputs
-use Rattle.conn_rules.specs.Standing.{IsHeldTenure}
-use Rattle.conn_rules.specs.Table.{row_of}
 use Rattle.controller_model.proofs.LifeLaws.SoundMessages.{IsSoundChannel, sound_activation, sound_assignment_failure, sound_cipher_reject, sound_clear_complete, sound_clear_request, sound_assigned, sound_command, sound_establish, sound_handing, sound_immediate, sound_initial, sound_performed, sound_reject, sound_relaying, sound_release_command, sound_rf_release}
 
 -- the switch's reference, where it is known
@@ -77,7 +74,6 @@ has_reference _ is = tt
 
 brings : (input : Input) → IsCarried input → RefersBy input → Brings sound_kinds input
 brings (inputs.EstablishIndication at sapi (Some initial)) carried by = (carried, tt)
-brings (inputs.EstablishIndication at sapi None) carried by = tt
 brings (inputs.Dtap at sapi message) carried by = carried
 brings (inputs.Downlink sapi message) carried by = carried
 brings (inputs.ConnectionConfirm source) carried by = by

@@ -1,25 +1,18 @@
 -- What a frame says is of the link that it came on.
 use Rattle.controller_model.proofs.Prelude.{◌≡◌, ℕ, ◌==◌, ◌&&◌, Bool, true, false, not, if◌then◌else◌, List, [], ◌∷◌, Option, Some, None}
 use Rattle.controller_model.proofs.Prelude.{Result, Ok, Err, refl, eqb-true, and_parts, Bssap, Management, Transfer, Bssmap, InterfaceFault}
-use Rattle.controller_model.proofs.Prelude.{Sccp, Place, SWITCH_LINK, Input, is_dtap, Report, Sapi, Zero, Three, Frame, CCM_STREAM, PING}
-use Rattle.controller_model.proofs.Prelude.{RSL_STREAM, SCCP_STREAM, RslFault, Rsl}
+use Rattle.controller_model.proofs.Prelude.{Sccp, Place, SWITCH_LINK, Input, is_dtap, Report, Sapi, Zero, Frame, CCM_STREAM, PING}
+use Rattle.controller_model.proofs.Prelude.{RSL_STREAM, SCCP_STREAM, RslFault, Rsl, bssap_reading, sccp_reading, Word, Nothing, Ping}
+use Rattle.controller_model.proofs.Prelude.{OnChannel, Reports, OnConnection, place_at, sapi_of, change_word, rr_word, data_word}
+use Rattle.controller_model.proofs.Prelude.{report_word, result_word, rsl_word, station_word, management_word, bssap_word, switch_word}
+use Rattle.controller_model.proofs.Prelude.{management_of_link, Carried, carried, body_word, radio_signalling, connection_control}
+use Rattle.controller_model.proofs.Prelude.{link_management, other, report_reading, RrMessage, RrFault, rr_reading, rsl_reading}
 use Rattle.bssmap_codec.specs.declared.bssmap.Bssmap.TheVariants as bssmap
 use Rattle.bssmap_codec.specs.declared.sccp.Sccp.TheVariants as sccp
-use Rattle.bssmap_codec.specs.BssapReading.{bssap_reading}
-use Rattle.bssmap_codec.specs.SccpReading.{sccp_reading}
 use Rattle.conn_rules.specs.declared.input.Input.TheVariants as inputs
-use Rattle.controller_model.specs.declared.word.Word.{Word}
-use Rattle.controller_model.specs.declared.word.Word.TheVariants.{Nothing, Ping, OnChannel, Reports, OnConnection}
-use Rattle.controller_model.specs.Controller.{place_at}
-use Rattle.controller_model.specs.Reading.{sapi_of, of_sapi, change_word, rr_word, data_word, report_word, result_word, rsl_word, station_word, management_word, bssap_word, switch_word, management_of_link, Carried, carried, body_word, word_of}
-use Rattle.controller_model.specs.Reading.Carried.{radio_signalling, connection_control, link_management, other}
-use Rattle.controller_model.specs.Reports.{report_reading}
-use Rattle.dtap_codec.specs.declared.rr.RrMessage.{RrMessage}
+use Rattle.controller_model.specs.Reading.{of_sapi, word_of}
 use Rattle.dtap_codec.specs.declared.rr.RrMessage.TheVariants as rr
-use Rattle.dtap_codec.specs.declared.rr_fault.RrFault.{RrFault}
-use Rattle.dtap_codec.specs.RrReading.{rr_reading}
 use Rattle.rsl_codec.specs.declared.rsl.Rsl.TheVariants as rsl
-use Rattle.rsl_codec.specs.RslReading.{rsl_reading}
 
 -- an input of a station names the place that it comes from
 abbrev pub IsAtPlace : Place → Input → Type 0
@@ -65,8 +58,7 @@ change_from source at _ is = tt
 
 rr_from : (source : ℕ) (at : Place) (o : Option Sapi) (l3 : List ℕ) → at.station ≡ source → IsFrom source (rr_word at o l3)
 rr_from source at (Some Zero) l3 is = change_from source at (rr_reading l3) is
-rr_from source at (Some Three) l3 is = tt
-rr_from source at None l3 is = tt
+rr_from source at _ l3 is = tt
 
 data_from : (source : ℕ) (b : Bool) (at : Place) (o : Option Sapi) (l3 : List ℕ) → at.station ≡ source → IsFrom source (data_word b at o l3)
 data_from source true at o l3 is = sapi_from source at o (λ s. inputs.Dtap at s l3) is (λ s. refl)
@@ -91,7 +83,6 @@ rsl_from station (rsl.EstablishConfirm l) = sapi_from station (place_at station 
 rsl_from station (rsl.ReleaseIndication l) = sapi_from station (place_at station l.channel) (sapi_of l.link) (λ s. inputs.ReleaseIndication (place_at station l.channel) s) refl (λ s. refl)
 rsl_from station (rsl.ErrorIndication e) = sapi_from station (place_at station e.channel) (sapi_of e.link) (λ s. inputs.ErrorIndication (place_at station e.channel) s) refl (λ s. refl)
 rsl_from station (rsl.MeasurementResult m) = result_from station (place_at station m.channel) m.number.0 m.l3
-rsl_from station (rsl.ChannelRequired r) = tt
 rsl_from station (rsl.ChannelActivationAck a) = (refl, refl)
 rsl_from station (rsl.ChannelActivationNack f) = (refl, refl)
 rsl_from station (rsl.ConnectionFailure f) = (refl, refl)
@@ -135,10 +126,9 @@ body_from link_management source body is = link_from source body
 body_from other source body is = tt
 
 control_by : (a b c : Bool) → (if a then link_management else if b then connection_control else if c then radio_signalling else other) ≡ connection_control → b ≡ true
-control_by true b c is = absurd cc
 control_by false true c is = refl
 control_by false false true is = absurd cc
-control_by false false false is = absurd cc
+control_by _ _ _ is = absurd cc
 
 pub word_from : (source : ℕ) (frame : Frame) → IsFrom source (word_of source frame)
 unfolding word_of

@@ -4,27 +4,18 @@ use Rattle.controller_model.proofs.Prelude.{filter, Option, Some, None, refl, sy
 use Rattle.controller_model.proofs.Prelude.{append-nil, true≢false, cases_Bool, cond-true, cond-false, Channel, Message, SWITCH_LINK}
 use Rattle.controller_model.proofs.Prelude.{access_activation, Input, State, WaitActivation, WaitEstablish, WaitConfirm, Live, Closed}
 use Rattle.controller_model.proofs.Prelude.{Removed, Connection, new_connection, Stands, Row, OfRow, IsOpen, is_dtap, Sapi, Zero, Three}
-use Rattle.controller_model.proofs.Prelude.{messages, What}
-use Rattle.conn_rules.proofs.Closing.{IsFinal-row}
-use Rattle.conn_rules.proofs.Downlink.{KeepsDownlink-row}
+use Rattle.controller_model.proofs.Prelude.{messages, What, IsFinal-row, KeepsDownlink-row, IsFinal, KeepsDownlink, handed, received_by}
+use Rattle.controller_model.proofs.Prelude.{rejects, without_rejected, row_of, Acts, Brought, IsAged, IsBrought, IsTimer, FitsNone}
+use Rattle.controller_model.proofs.Prelude.{brought_by, brought_with, brought_in, if_held, kept_in, ages, rests, opens, goes, nothing}
+use Rattle.controller_model.proofs.Prelude.{comes_with, reports, breaks, passes, Switched, confirms, is_confirm, left_over}
+use Rattle.controller_model.proofs.Prelude.{nothing_switched, requests, with_moment, word_by, word_in, Step, Take, Tick, Word, OnChannel}
+use Rattle.controller_model.proofs.Prelude.{OnConnection, Controller, is_up, channel_state, holder, word_of}
 use Rattle.conn_rules.specs.declared.input.Input.TheVariants as inputs
-use Rattle.conn_rules.specs.Streams.{IsFinal, KeepsDownlink, handed, received_by, rejects, without_rejected}
-use Rattle.conn_rules.specs.Table.{row_of}
-use Rattle.controller_model.specs.LifeLaws.Acts.{Acts, Brought, IsAged, IsBrought, IsTimer, FitsNone, brought_by, brought_with, brought_in, if_held, kept_in}
-use Rattle.controller_model.specs.LifeLaws.Acts.Acts.{ages, rests, opens, goes}
-use Rattle.controller_model.specs.LifeLaws.Acts.Brought.{nothing, comes as comes_with, reports, breaks, passes}
-use Rattle.controller_model.specs.LifeLaws.Downlink.{Switched, comes, confirms, is_confirm, left_over, nothing_switched, requests, with_moment}
-use Rattle.controller_model.specs.LifeLaws.History.{word_by, word_in}
+use Rattle.controller_model.specs.LifeLaws.Downlink.{comes}
 use Rattle.controller_model.proofs.LifeLaws.Fitting.{IsFine, IsLinked, IsBreak, IsLinkBreak, aged_holds, fine_old}
 use Rattle.controller_model.proofs.LifeLaws.Progress.{Advances, IsLive, Next, NotDown, advances, confirm_fits, downlink_fits, received_none}
 use Rattle.controller_model.proofs.LifeLaws.Silence.{kept_holds, same_state}
 use Rattle.controller_model.proofs.LifeLaws.Sources.{IsAtPlace, IsFrom, word_from}
-use Rattle.controller_model.specs.declared.step.Step.{Step}
-use Rattle.controller_model.specs.declared.step.Step.TheVariants.{Take, Tick}
-use Rattle.controller_model.specs.declared.word.Word.{Word}
-use Rattle.controller_model.specs.declared.word.Word.TheVariants.{Nothing, Ping, Asks, OnChannel, Reports, OnConnection}
-use Rattle.controller_model.specs.Controller.{Controller, is_up, channel_state, holder}
-use Rattle.controller_model.specs.Reading.{word_of}
 use Rattle.ruled_relay.specs.declared.item.What.TheVariants as whats
 
 -- ---- what the word of a step says is what the step brings
@@ -76,19 +67,12 @@ connection_says number destination input = elim (cases_Bool (destination == numb
 word_says : (c : Controller) (number source : ℕ) (word : Word) → IsFrom source word → SaysSo number word (brought_by c number word)
 word_says c number source (OnChannel at input) from = held_says number at (holder (channel_state c at)) input from.1
 word_says c number source (OnConnection destination input) from = connection_says number destination input
-word_says c number source (Reports at of report) from = record { came_is = λ sapi. refl; confirms_is = refl }
-word_says c number source Nothing from = record { came_is = λ sapi. refl; confirms_is = refl }
-word_says c number source Ping from = record { came_is = λ sapi. refl; confirms_is = refl }
-word_says c number source (Asks request delay) from = record { came_is = λ sapi. refl; confirms_is = refl }
+word_says c number source _ from = record { came_is = λ sapi. refl; confirms_is = refl }
 
 -- a link that is down says nothing to a connection that is there
 down_says : (number source : ℕ) (word : Word) → IsFrom source word → (source ≡ SWITCH_LINK → ⊥) → SaysSo number word nothing
 down_says number source (OnConnection destination input) from other = absurd (other from.0)
-down_says number source (OnChannel at input) from other = record { came_is = λ sapi. refl; confirms_is = refl }
-down_says number source (Reports at of report) from other = record { came_is = λ sapi. refl; confirms_is = refl }
-down_says number source Nothing from other = record { came_is = λ sapi. refl; confirms_is = refl }
-down_says number source Ping from other = record { came_is = λ sapi. refl; confirms_is = refl }
-down_says number source (Asks request delay) from other = record { came_is = λ sapi. refl; confirms_is = refl }
+down_says number source _ from other = record { came_is = λ sapi. refl; confirms_is = refl }
 
 what_says : (up : Bool) (c : Controller) (number source : ℕ) (what : What) → (source ≡ SWITCH_LINK → up ≡ true) → SaysSo number (word_by source what) (if up then brought_with c number source what else nothing)
 what_says true c number source (whats.Frame frame) linked = word_says c number source (word_of source frame) (word_from source frame)
@@ -147,10 +131,7 @@ live_came s sapi (comes_with input) live none = ap (filter is_dtap) (received_no
     up : (input : Input) → FitsNone (comes_with input) (Some s) → NotDown input
     up (inputs.Downlink of message) none = absurd (downlink_fits s of message none.0 live none.1)
     up _ none = tt
-live_came s sapi nothing live none = refl
-live_came s sapi reports live none = refl
-live_came s sapi (breaks input) live none = refl
-live_came s sapi passes live none = refl
+live_came s sapi _ live none = refl
 
 waiting_confirming : (s : Connection) (brought : Brought) → s.state ≡ WaitConfirm → FitsNone brought (Some s) → is_confirming brought ≡ false
 waiting_confirming s (comes_with input) is none = by input none
@@ -158,10 +139,7 @@ waiting_confirming s (comes_with input) is none = by input none
     by : (input : Input) → FitsNone (comes_with input) (Some s) → is_confirm input ≡ false
     by (inputs.ConnectionConfirm source) none = absurd (confirm_fits s source none.0 is none.1)
     by _ none = refl
-waiting_confirming s nothing is none = refl
-waiting_confirming s reports is none = refl
-waiting_confirming s (breaks input) is none = refl
-waiting_confirming s passes is none = refl
+waiting_confirming s _ is none = refl
 
 or_so : (a b c d : Bool) → a ≡ b → c ≡ d → (a || c) ≡ (b || d)
 or_so a b c d first rest = ap (λ (x : Bool). x || c) first ∙ ap (λ (x : Bool). b || x) rest
@@ -171,21 +149,18 @@ and_so a b c d first rest = ap (λ (x : Bool). x && c) first ∙ ap (λ (x : Boo
 
 rest_flags : (state : State) (sapi : Sapi) (brought : Brought) (a : Switched) → (state ≡ WaitConfirm → is_confirming brought ≡ false) → Flags state a → Flags state (with_brought sapi brought [] a)
 unfolding with_brought
-rest_flags WaitActivation sapi brought a none flags = (ap (λ (x : Bool). x || false) flags.0, ap (λ (x : Bool). x || (a.requested && is_confirming brought)) flags.1 ∙ ap (λ (x : Bool). x && is_confirming brought) flags.0)
-rest_flags WaitEstablish sapi brought a none flags = (ap (λ (x : Bool). x || false) flags.0, ap (λ (x : Bool). x || (a.requested && is_confirming brought)) flags.1 ∙ ap (λ (x : Bool). x && is_confirming brought) flags.0)
 rest_flags WaitConfirm sapi brought a none flags = (ap (λ (x : Bool). x || false) flags.0, ap (λ (x : Bool). x || (a.requested && is_confirming brought)) flags.1 ∙ and_so a.requested true (is_confirming brought) false flags.0 (none refl))
 rest_flags (Live reference stage) sapi brought a none flags = (ap (λ (x : Bool). x || false) flags.0, ap (λ (x : Bool). x || (a.requested && is_confirming brought)) flags.1)
 rest_flags (Closed clearing) sapi brought a none flags = absurd flags
 rest_flags Removed sapi brought a none flags = absurd flags
+rest_flags _ sapi brought a none flags = (ap (λ (x : Bool). x || false) flags.0, ap (λ (x : Bool). x || (a.requested && is_confirming brought)) flags.1 ∙ ap (λ (x : Bool). x && is_confirming brought) flags.0)
 
 -- what came counts from CC on
 none_counts : (state : State) (s : Connection) → s.state ≡ state → (sapi : Sapi) (brought : Brought) (a : Switched) → FitsNone brought (Some s) → Flags state a → (if a.confirmed then came sapi brought else []) ≡ []
-none_counts WaitActivation s is sapi brought a none flags = cond-false _ _ _ flags.1
-none_counts WaitEstablish s is sapi brought a none flags = cond-false _ _ _ flags.1
-none_counts WaitConfirm s is sapi brought a none flags = cond-false _ _ _ flags.1
 none_counts (Live reference stage) s is sapi brought a none flags = cond-true _ _ _ flags.1 ∙ live_came s sapi brought (subst IsLive (sym is) tt) none
 none_counts (Closed clearing) s is sapi brought a none flags = absurd flags
 none_counts Removed s is sapi brought a none flags = absurd flags
+none_counts _ s is sapi brought a none flags = cond-false _ _ _ flags.1
 
 rest_held : (s : Connection) (sapi : Sapi) (brought : Brought) (a : Switched) → FitsNone brought (Some s) → Flags s.state a → IsHeld sapi a s → IsHeld sapi (with_brought sapi brought [] a) s
 unfolding with_brought
@@ -238,11 +213,9 @@ came_is_received sapi passes input break is = none_received sapi input (of input
 
 live_flags : (state : State) (a : Switched) → IsLive state → (a.requested ≡ true) × (a.confirmed ≡ true) → Flags state a
 live_flags (Live reference stage) a live flags = flags
-live_flags WaitActivation a live flags = absurd live
-live_flags WaitEstablish a live flags = absurd live
-live_flags WaitConfirm a live flags = absurd live
 live_flags (Closed clearing) a live flags = live
 live_flags Removed a live flags = live
+live_flags _ a live flags = absurd live
 
 row_flags : (state next : State) (sapi : Sapi) (brought : Brought) (input : Input) (put : List Message) (a : Switched) → is_confirming brought ≡ is_confirm input → Next state input next put → Flags state a → Flags next (with_brought sapi brought put a)
 unfolding with_brought
@@ -260,16 +233,14 @@ row_flags WaitConfirm next sapi brought input put a conf goes_on flags = elim go
 ]
 row_flags (Live reference stage) next sapi brought input put a conf goes_on flags =
     live_flags next (with_brought sapi brought put a) goes_on (ap (λ (x : Bool). x || requests put) flags.0, ap (λ (x : Bool). x || (a.requested && is_confirming brought)) flags.1)
-row_flags (Closed clearing) next sapi brought input put a conf goes_on flags = absurd flags
-row_flags Removed next sapi brought input put a conf goes_on flags = absurd flags
+row_flags _ next sapi brought input put a conf goes_on flags = absurd flags
 
 row_counts : (state next : State) (sapi : Sapi) (brought : Brought) (input : Input) (put : List Message) (a : Switched) → came sapi brought ≡ filter is_dtap (received_by sapi input) → Next state input next put → Flags state a → (if a.confirmed then came sapi brought else []) ≡ filter is_dtap (received_by sapi input)
-row_counts WaitActivation next sapi brought input put a is goes_on flags = cond-false _ _ _ flags.1 ∙ none_received sapi input goes_on.2
-row_counts WaitEstablish next sapi brought input put a is goes_on flags = cond-false _ _ _ flags.1 ∙ none_received sapi input goes_on.2
 row_counts WaitConfirm next sapi brought input put a is goes_on flags = cond-false _ _ _ flags.1 ∙ none_received sapi input goes_on.0
 row_counts (Live reference stage) next sapi brought input put a is goes_on flags = cond-true _ _ _ flags.1 ∙ is
 row_counts (Closed clearing) next sapi brought input put a is goes_on flags = absurd flags
 row_counts Removed next sapi brought input put a is goes_on flags = absurd flags
+row_counts _ next sapi brought input put a is goes_on flags = cond-false _ _ _ flags.1 ∙ none_received sapi input goes_on.2
 
 filter_append : (xs ys : List (List ℕ)) → filter is_dtap (xs ++ ys) ≡ filter is_dtap xs ++ filter is_dtap ys
 filter_append [] ys = refl
@@ -350,17 +321,14 @@ rest_agrees sapi number next later up a (Some c) s brought more begins linked sa
     subst (λ (b : Switched). Flags c.state b × IsHeld sapi b c) (sym (by_brought number sapi a s [] brought (says linked)))
     (rest_flags c.state sapi brought a (λ is. waiting_confirming c brought is none) holds.0, rest_held c sapi brought a none holds.0 holds.1)
 
-linked_true : (up : Bool) (o : Option Connection) (s : Connection) → o ≡ Some s → IsLinked up o → up ≡ true
+pub linked_true : (up : Bool) (o : Option Connection) (s : Connection) → o ≡ Some s → IsLinked up o → up ≡ true
 unfolding IsLinked
 linked_true up o s is linked = subst (IsLinked up) is linked
 
 open_by : (s : Connection) (state : State) → s.state ≡ state → (input : Input) (offer : Option Channel) (r : Row) → IsFinal s r → IsOpen r.next.state → IsOpen state
-open_by s WaitActivation is input offer r final there = tt
-open_by s WaitEstablish is input offer r final there = tt
-open_by s WaitConfirm is input offer r final there = tt
-open_by s (Live reference stage) is input offer r final there = tt
 open_by s (Closed clearing) is input offer r final there = final.stays (subst IsOpen is) there
 open_by s Removed is input offer r final there = final.stays (subst IsOpen is) there
+open_by s _ is input offer r final there = tt
 
 pub was : (s : Connection) (input : Input) (offer : Option Channel) (r : Row) → row_of s input offer ≡ Some r → IsOpen r.next.state → IsOpen s.state
 was s input offer r fits there = open_by s s.state refl input offer r (subst (OfRow (IsFinal s)) fits (IsFinal-row s input offer)) there

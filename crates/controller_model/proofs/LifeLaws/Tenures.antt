@@ -2,20 +2,14 @@
 use Rattle.controller_model.proofs.Prelude.{◌≡◌, ℕ, ◌==◌, ◌&&◌, Bool, true, false, not, if◌then◌else◌, List, [], ◌∷◌, ◌++◌, map, refl, sym}
 use Rattle.controller_model.proofs.Prelude.{ap, ◌∙◌, inl, inr, append_assoc, append-nil, true≢false, cases_Bool, cond-true, cond-false}
 use Rattle.controller_model.proofs.Prelude.{eqb-true, eq-eqb, and_parts, AllByRecursion, Channel, Place, Drain, is_at, Future, from_input}
-use Rattle.controller_model.proofs.Prelude.{still_of, undone, AreAway, Sapi, Zero, Three, HeldTenure}
+use Rattle.controller_model.proofs.Prelude.{still_of, undone, AreAway, Sapi, Zero, Three, HeldTenure, on_channel, Tenure, acknowledged}
+use Rattle.controller_model.proofs.Prelude.{ended, heard, is_on, is_same, joined, of_sapi, with_message, place_of, tenure_messages}
 use Rattle.conn_rules.specs.declared.input.Input.TheVariants as inputs
-use Rattle.conn_rules.specs.Streams.{on_channel}
-use Rattle.controller_model.specs.LifeLaws.Uplink.{Tenure, acknowledged, ended, heard, is_on, is_same, joined, of_sapi, with_message}
-use Rattle.controller_model.specs.Controller.{place_of}
-use Rattle.hold_queue.specs.ChainState.{tenure_messages}
 
 -- what came on each, then what may still come, in the order in which they served
 abbrev pub joined_with : Sapi → Future → List Tenure → List (List ℕ)
 joined_with sapi f [] = []
 joined_with sapi f (t ∷ old) = joined_with sapi f old ++ (of_sapi sapi t ++ (if t.is_over then [] else f t.place))
-
-abbrev none : Future
-none place = []
 
 pub joined_none : (sapi : Sapi) (ts : List Tenure) → joined_with sapi (λ place. []) ts ≡ joined sapi ts
 joined_none sapi [] = refl
@@ -31,9 +25,6 @@ clear at f place = if is_same place at then [] else f place
 
 abbrev pub NoneOn : Place → List Tenure → Type 0
 NoneOn at ts = AllByRecursion (λ t. is_on at t ≡ false) ts
-
-rest_of : Future → Tenure → List (List ℕ)
-rest_of f t = if t.is_over then [] else f t.place
 
 -- a tenure by whether it is over, and on that channel
 tenure_cases : (at : Place) (t : Tenure) (P : Type 0) → (t.is_over ≡ true → P) → (t.is_over ≡ false → is_same t.place at ≡ true → P) → (t.is_over ≡ false → is_same t.place at ≡ false → P) → P
@@ -86,9 +77,6 @@ joined_acknowledged sapi at f t old away =
     ∙ ap (λ (xs : List (List ℕ)). joined_with sapi (clear at f) old ++ (of_sapi sapi t ++ xs)) (sym (clear_one at f t away))
 
 -- ---- a message comes
-
-from_dtap : Sapi → Place → Sapi → List ℕ → Future → Future
-from_dtap sapi at of message f = from_input sapi (inputs.Dtap at of message) f
 
 heard_one : (sapi of : Sapi) (at : Place) (message : List ℕ) (f : Future) (t : Tenure) → of_sapi sapi (heard at of message t) ++ (if (heard at of message t).is_over then [] else f (heard at of message t).place) ≡ of_sapi sapi t ++ (if t.is_over then [] else from_input sapi (inputs.Dtap at of message) f t.place)
 heard_one sapi of at message f t = tenure_cases at t _

@@ -2,27 +2,21 @@
 use Rattle.controller_model.proofs.Prelude.{◌≡◌, ◌≢◌, ℕ, ◌+◌, ◌==◌, ◌≤◌, ◌<◌, Bool, true, false, if◌then◌else◌, List, [], ◌∷◌, ◌++◌, find}
 use Rattle.controller_model.proofs.Prelude.{fold, map, Option, Some, None, option_map, refl, sym, subst, ap, ◌∙◌, arith, append-nil}
 use Rattle.controller_model.proofs.Prelude.{AllByRecursion, Message, Out, SWITCH_LINK, Input, Connection, Row, after_pass, Channel, Place}
-use Rattle.controller_model.proofs.Prelude.{Report, Decision, Stay, Move, What, RequestReference}
+use Rattle.controller_model.proofs.Prelude.{Report, Decision, Stay, Move, What, RequestReference, row_of, Acts, IsAged, passed, Brought}
+use Rattle.controller_model.proofs.Prelude.{IsBrought, IsTimer, FitsNone, brought_with, brought_in, nothing, breaks, passes, ages, rests}
+use Rattle.controller_model.proofs.Prelude.{opens, goes, outs_for, connection_of, IsNumbered, AreRising, IsAbove, IsBelow, Step, Take, Tick}
+use Rattle.controller_model.proofs.Prelude.{Word, Nothing, Ping, Asks, OnChannel, Reports, OnConnection, access_channel, request_offer}
+use Rattle.controller_model.proofs.Prelude.{Controller, Entry, Turn, turn, each, ignoring, has_number, entry_of, put_back, with_entry}
+use Rattle.controller_model.proofs.Prelude.{with_down, freed, freed_station, channel_state, is_up, by_row, by_fitting, row_in, concerning}
+use Rattle.controller_model.proofs.Prelude.{concerning_too, given, may_open, frees, entry_at, on_freed, measures, with_report, measured}
+use Rattle.controller_model.proofs.Prelude.{on_decision, on_report, on_word, told, break_of, on_break, on_what, aged, all_aged, expiry}
+use Rattle.controller_model.proofs.Prelude.{timed, step, entry_after, new_entry, word_of, decision_over}
 use Rattle.conn_rules.specs.declared.input.Input.TheVariants as inputs
-use Rattle.conn_rules.specs.Table.{row_of}
-use Rattle.controller_model.specs.LifeLaws.Acts.{Acts, IsAged, passed, Brought, IsBrought, IsTimer, FitsNone, brought_with, brought_in}
-use Rattle.controller_model.specs.LifeLaws.Acts.Brought.{nothing, breaks, passes}
-use Rattle.controller_model.specs.LifeLaws.Acts.Acts.{ages, rests, opens, goes}
-use Rattle.controller_model.specs.LifeLaws.History.{outs_for, connection_of}
-use Rattle.controller_model.specs.LifeLaws.Numbers.{IsNumbered, AreRising, IsAbove, IsBelow}
 use Rattle.controller_model.proofs.LifeLaws.Acting.{Does, does_nothing, outs_append, outs_other}
 use Rattle.controller_model.proofs.LifeLaws.Entries.{back_all, back_rising, all_push, all_weaker, rising_push, find_here, find_behind}
 use Rattle.controller_model.proofs.LifeLaws.Words.{fitting_does, word_does, decide_same, none_fits_none}
 use Rattle.controller_model.proofs.Others.{told_leaves, timed_leaves, all_age}
-use Rattle.controller_model.specs.declared.step.Step.{Step}
-use Rattle.controller_model.specs.declared.step.Step.TheVariants.{Take, Tick}
-use Rattle.controller_model.specs.declared.word.Word.{Word}
-use Rattle.controller_model.specs.declared.word.Word.TheVariants.{Nothing, Ping, Asks, OnChannel, Reports, OnConnection}
-use Rattle.controller_model.specs.Channels.{access_channel, request_offer}
-use Rattle.controller_model.specs.Controller.{Controller, Entry, Turn, turn, each, ignoring, has_number, entry_of, put_back, with_entry, with_down, freed, freed_station, channel_state, is_up}
-use Rattle.controller_model.specs.Life.{by_row, by_fitting, row_in, concerning, concerning_too, given, may_open, frees, entry_at, on_freed, measures, with_report, measured, on_decision, on_report, on_word, told, break_of, on_break, on_what, take, aged, all_aged, expiry, on_expiry, timed, tick, step, entry_after, new_entry}
-use Rattle.controller_model.specs.Reading.{word_of}
-use Rattle.controller_model.specs.Reports.{decision_over}
+use Rattle.controller_model.specs.Life.{take, on_expiry, tick}
 use Rattle.ruled_relay.specs.declared.item.What.TheVariants as whats
 
 -- ---- an input of the controller's own
@@ -42,9 +36,8 @@ IsDue None = Unit {0}
 IsDue (Some input) = IsTimer input
 
 pub expiry_own : (b d : Bool) → IsDue (if b then Some inputs.Expiry else if d then Some inputs.DrainExpiry else None)
-expiry_own true d = tt
 expiry_own false true = tt
-expiry_own false false = tt
+expiry_own _ _ = tt
 
 expiry_does : (number next : ℕ) (up : Bool) (o : Option Input) (c : Controller) (e : Entry) → IsDue o → AreRising c.entries → entry_of c e.connection.number ≡ Some e → Does number next up passes (connection_of c number) (on_expiry o c e)
 expiry_does number next up None c e own rising there = does_nothing number next up passes (connection_of c number) (turn [] c) refl refl tt

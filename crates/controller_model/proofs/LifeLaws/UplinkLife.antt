@@ -4,14 +4,12 @@ use Rattle.controller_model.proofs.Prelude.{Option, Some, None, option_map, refl
 use Rattle.controller_model.proofs.Prelude.{flat_map, Channel, Message, SWITCH_LINK, access_activation, AllByRecursion-append, by_state}
 use Rattle.controller_model.proofs.Prelude.{Drain, State, WaitActivation, WaitEstablish, WaitConfirm, Live, Closed, Removed, Connection}
 use Rattle.controller_model.proofs.Prelude.{new_connection, roles_of, Stands, AreApart, IsOpen, OfRow, relayed, still_of, undone}
-use Rattle.controller_model.proofs.Prelude.{used_channels, after_pass, Sapi, Zero, Three, HeldTenure, AreAllowed, Parameters}
+use Rattle.controller_model.proofs.Prelude.{used_channels, after_pass, Sapi, Zero, Three, HeldTenure, AreAllowed, Parameters, Acts, Brought}
+use Rattle.controller_model.proofs.Prelude.{FitsNone, IsAged, brought_in, kept_in, ages, goes, opens, rests, IsThere, Moment, all_messages}
+use Rattle.controller_model.proofs.Prelude.{connection_of, word_in, Owns, OwnsOpen, used_in, Tenure, UplinkIsConserved, after_moment}
+use Rattle.controller_model.proofs.Prelude.{after_word, joined, service, Step, Word, Controller, Entry, Turn, each, entry_of, is_up}
+use Rattle.controller_model.proofs.Prelude.{new_controller, step, held_up, held_up_for, empty_tenure, tenure_messages}
 use Rattle.conn_rules.proofs.RolesApart.{target_in-role}
-use Rattle.controller_model.specs.LifeLaws.Acts.{Acts, Brought, FitsNone, IsAged, brought_in, kept_in}
-use Rattle.controller_model.specs.LifeLaws.Acts.Acts.{ages, goes, opens, rests}
-use Rattle.controller_model.specs.LifeLaws.End.{IsThere}
-use Rattle.controller_model.specs.LifeLaws.History.{Moment, all_messages, connection_of, word_in}
-use Rattle.controller_model.specs.LifeLaws.Owning.{Owns, OwnsOpen, used_in}
-use Rattle.controller_model.specs.LifeLaws.Uplink.{Tenure, UplinkIsConserved, after_moment, after_word, joined, service}
 use Rattle.controller_model.proofs.LifeLaws.Beside.{step_goes}
 use Rattle.controller_model.proofs.LifeLaws.DownlinkLife.{begun_in, frames_in_life, history_of, moments_of}
 use Rattle.controller_model.proofs.LifeLaws.Fitting.{Fits, IsBreak, IsFine, aged_holds, fine_old, in_break, new_fits, step_fits}
@@ -28,12 +26,7 @@ use Rattle.controller_model.proofs.LifeLaws.Switched.{IsBegun, some_begun, was}
 use Rattle.controller_model.proofs.LifeLaws.Tenures.{joined_none}
 use Rattle.controller_model.proofs.LifeLaws.Turns.{step_does}
 use Rattle.controller_model.proofs.LifeLaws.UsualRows.{AreUsual, IsUsual, PutsUsual, usual_row}
-use Rattle.controller_model.specs.declared.step.Step.{Step}
-use Rattle.controller_model.specs.declared.word.Word.{Word}
-use Rattle.controller_model.specs.Controller.{Controller, Entry, Turn, each, entry_of, is_up, new_controller}
-use Rattle.controller_model.specs.Life.{life, step}
-use Rattle.controller_model.specs.Views.{held_up, held_up_for}
-use Rattle.hold_queue.specs.ChainState.{empty_tenure, tenure_messages}
+use Rattle.controller_model.specs.Life.{life}
 
 -- what was put so far, and the tenures, follow one another while the connection is open
 unfoldable pub AgreesUp : ℕ → ℕ → List Message → List Tenure → Option Connection → Type 0
@@ -43,12 +36,11 @@ AgreesUp number next put ts (Some s) = IsOpen s.state → UpIn s.state s put ts
 -- ---- time passes
 
 pass_up : (state : State) (ms : ℕ) (s : Connection) (put : List Message) (ts : List Tenure) → UpIn state s put ts → UpIn state (after_pass ms s) put ts
-pass_up WaitActivation ms s put ts up = up
-pass_up WaitEstablish ms s put ts up = up
 pass_up WaitConfirm ms s put ts up = record { serves = up.serves; old = up.old; up = up.up }
 pass_up (Live reference stage) ms s put ts up = record { serves = up.serves; old = up.old; up = up.up }
 pass_up (Closed clearing) ms s put ts up = absurd up
 pass_up Removed ms s put ts up = absurd up
+pass_up _ ms s put ts up = up
 
 aged_up : (old s : Connection) (put : List Message) (ts : List Tenure) → IsAged old s → UpIn old.state old put ts → UpIn s.state s put ts
 aged_up old s put ts aged up = aged_holds (λ (c : Connection). UpIn c.state c put ts) (λ ms c holds. pass_up c.state ms c put ts holds) old s aged up
@@ -176,8 +168,7 @@ up_held WaitConfirm s is put ts sapi stands up =
     let awaits = by_state WaitConfirm s is stands in
     follows_held s put ts sapi (awaits.one_tenure ∙ ap (λ (ds : List Drain). length ds + 1) (sym awaits.none_drains)) up
 up_held (Live reference stage) s is put ts sapi stands up = follows_held s put ts sapi (by_state (Live reference stage) s is stands).a_tenure_each up
-up_held (Closed clearing) s is put ts sapi stands up = absurd up
-up_held Removed s is put ts sapi stands up = absurd up
+up_held _ s is put ts sapi stands up = absurd up
 
 conserved : (number next : ℕ) (moments : List Moment) (o : Option Entry) (sapi : Sapi) → IsFine (option_map (λ e. e.connection) o) → AgreesUp number next (all_messages moments) (service moments) (option_map (λ e. e.connection) o) → IsThere (option_map (λ e. e.connection) o) → relayed sapi (all_messages moments) ++ held_up_for sapi o ≡ joined sapi (service moments)
 unfolding AgreesUp IsFine

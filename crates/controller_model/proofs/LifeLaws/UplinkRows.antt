@@ -1,16 +1,10 @@
 -- The tenures of literal lives, and what the controller makes of the same.
 use Rattle.controller_model.proofs.Prelude.{◌≡◌, ℕ, true, false, List, [], ◌∷◌, ◌++◌, None, refl, Management, CompleteLayer3Information, hex}
-use Rattle.controller_model.proofs.Prelude.{Message, Request, Data, Zero, Three}
-use Rattle.bssmap_codec.specs.declared.bssmap.Bssmap.TheVariants.{AssignmentComplete, ClearRequest, HandoverPerformed}
-use Rattle.controller_model.specs.LifeLaws.History.{Moment, all_messages}
-use Rattle.controller_model.specs.LifeLaws.Uplink.{Tenure, joined, service}
-use Rattle.controller_model.specs.LifeLaws.Seen.{messages_on}
+use Rattle.controller_model.proofs.Prelude.{Message, Request, Data, Zero, Three, AssignmentComplete, ClearRequest, HandoverPerformed}
+use Rattle.controller_model.proofs.Prelude.{Moment, all_messages, Tenure, joined, service, messages_on, Step, Tick, life, forwarded}
+use Rattle.controller_model.proofs.Prelude.{held_up}
 use Rattle.controller_model.proofs.Lives.{down, eager_settings, from_station, from_switch}
 use Rattle.controller_model.proofs.OnLiterals.{on_literals}
-use Rattle.controller_model.specs.declared.step.Step.{Step}
-use Rattle.controller_model.specs.declared.step.Step.TheVariants.{Tick}
-use Rattle.controller_model.specs.Life.{life}
-use Rattle.controller_model.specs.Views.{forwarded, held_up}
 
 -- ---- what comes
 

@@ -1,9 +1,7 @@
 -- The channels that a connection uses, at literal values.
 use Rattle.controller_model.proofs.Prelude.{◌≡◌, ℕ, false, [], ◌∷◌, Some, None, refl, Assignment, Handover, Channel, Due, Asked, Complete}
 use Rattle.controller_model.proofs.Prelude.{Active, Preparing, Changing, Draining, State, WaitActivation, WaitEstablish, WaitConfirm, Live}
-use Rattle.controller_model.proofs.Prelude.{Closed, Removed, Connection, new_connection}
-use Rattle.controller_model.specs.LifeLaws.Using.{used_places}
-use Rattle.controller_model.specs.Controller.{place_at}
+use Rattle.controller_model.proofs.Prelude.{Closed, Removed, Connection, new_connection, used_places, place_at}
 
 abbrev pub channel : ℕ → ℕ → Channel
 channel station number = record { station = station; number = number; cell = []; description = record { arfcn = 20; ncc = 1; bcc = 1 }; reference = record { 0 = 0 } }

@@ -2,21 +2,19 @@
 use Rattle.controller_model.proofs.Prelude.{◌≡◌, ◌≢◌, ℕ, ◌==◌, Bool, true, false, not, if◌then◌else◌, List, [], ◌∷◌, filter, set, Option}
 use Rattle.controller_model.proofs.Prelude.{Some, None, refl, sym, subst, ◌∙◌, inl, inr, true≢false, cases_Bool, cond-true, cond-false}
 use Rattle.controller_model.proofs.Prelude.{eqb-true, eq-eqb, AllByRecursion, option_to_list, Channel, Message, Station, Request, Data}
-use Rattle.controller_model.proofs.Prelude.{ReleaseComplete, Out, SWITCH_LINK, outs_of, AllByRecursion-filter, Input, Active, Preparing}
-use Rattle.controller_model.proofs.Prelude.{Changing, Draining, State, WaitActivation, WaitEstablish, WaitConfirm, Live, Closed, Removed}
+use Rattle.controller_model.proofs.Prelude.{ReleaseComplete, Out, SWITCH_LINK, outs_of, AllByRecursion-filter, Input, Preparing}
+use Rattle.controller_model.proofs.Prelude.{Changing, State, WaitActivation, WaitEstablish, Live, Closed, Removed}
 use Rattle.controller_model.proofs.Prelude.{Connection, TargetRole, Roles, RoleEnd, ChangesRoles, roles_of, target_role, end_messages}
 use Rattle.controller_model.proofs.Prelude.{target_channels, those_that_go, to_stations, goes_on, ends, had_ended, refused, drops}
-use Rattle.controller_model.proofs.Prelude.{dismisses, Row, goes_to, IsOpen, OfRow, target_in, on_switch_down}
+use Rattle.controller_model.proofs.Prelude.{dismisses, Row, goes_to, IsOpen, OfRow, target_in, on_switch_down, is_link_up, break_of}
 use Rattle.conn_messages.specs.Out.{out_of}
 use Rattle.conn_rules.specs.declared.input.Input.TheVariants as inputs
 use Rattle.conn_rules.specs.Table.{row_of}
-use Rattle.controller_model.specs.LifeLaws.Owning.{is_link_up}
 use Rattle.controller_model.proofs.LifeLaws.Beside.{other_link}
 use Rattle.controller_model.proofs.LifeLaws.Fitting.{own_carried, row_is}
 use Rattle.controller_model.proofs.LifeLaws.OwningLife.{break_shut}
 use Rattle.controller_model.proofs.LifeLaws.Reaching.{Reaches, Reaching, open_reaches}
 use Rattle.controller_model.proofs.LifeLaws.UsingRows.{GoesUp, IsAlive}
-use Rattle.controller_model.specs.Life.{break_of}
 
 -- ---- the channels of a connection that is open
 
@@ -26,13 +24,7 @@ OwnAlive P roles = AllByRecursion (λ (c : Channel). P c.station) (roles.serving
 pub targets_in : (P : Channel → Type 0) (state : State) → AllByRecursion P (target_channels (target_role state)) → AllByRecursion P (target_in state)
 targets_in P (Live reference (Preparing target)) all = all
 targets_in P (Live reference (Changing target)) all = all
-targets_in P (Live reference Active) all = tt
-targets_in P (Live reference Draining) all = tt
-targets_in P WaitActivation all = tt
-targets_in P WaitEstablish all = tt
-targets_in P WaitConfirm all = tt
-targets_in P (Closed clearing) all = tt
-targets_in P Removed all = tt
+targets_in P _ all = tt
 
 offer_in : (P : Channel → Type 0) (offer : Option Channel) → ((c : Channel) → offer ≡ Some c → P c) → AllByRecursion P (option_to_list offer)
 offer_in P None each = tt
@@ -88,13 +80,11 @@ IsToStation _ = ⊥
 release_station : (state : State) (s : Connection) (r : Row) → on_switch_down state s ≡ Some r → AllByRecursion IsToStation r.outs
 release_station WaitActivation s r is = subst (λ (q : Row). AllByRecursion IsToStation q.outs) (row_is _ r is) (tt, tt)
 release_station WaitEstablish s r is = subst (λ (q : Row). AllByRecursion IsToStation q.outs) (row_is _ r is) (tt, tt)
-release_station WaitConfirm s r is = subst (λ (q : Row). AllByRecursion IsToStation q.outs) (row_is _ r is) (tt, (tt, tt))
-release_station (Live reference Active) s r is = subst (λ (q : Row). AllByRecursion IsToStation q.outs) (row_is _ r is) (tt, (tt, tt))
 release_station (Live reference (Preparing target)) s r is = subst (λ (q : Row). AllByRecursion IsToStation q.outs) (row_is _ r is) (tt, (tt, (tt, tt)))
 release_station (Live reference (Changing target)) s r is = subst (λ (q : Row). AllByRecursion IsToStation q.outs) (row_is _ r is) (tt, (tt, (tt, tt)))
-release_station (Live reference Draining) s r is = subst (λ (q : Row). AllByRecursion IsToStation q.outs) (row_is _ r is) (tt, (tt, tt))
 release_station (Closed clearing) s r is = subst (λ (q : Row). AllByRecursion IsToStation q.outs) (row_is _ r is) tt
 release_station Removed s r is = absurd cc
+release_station _ s r is = subst (λ (q : Row). AllByRecursion IsToStation q.outs) (row_is _ r is) (tt, (tt, tt))
 
 pub still_alive : (links : List Bool) (source station : ℕ) → station ≢ source → IsAlive links station → IsAlive (set links source false) station
 still_alive links source station differ alive = (other_link links source station differ ∙ alive.0, alive.1)
@@ -103,9 +93,7 @@ still_alive links source station differ alive = (other_link links source station
 all_alive : (links : List Bool) (ms : List Message) → AllByRecursion IsToStation ms → AllByRecursion (Reaches (IsAlive links)) ms → AllByRecursion (GoesUp (set links SWITCH_LINK false)) ms
 all_alive links [] stations all = tt
 all_alive links (Station station message ∷ ms) stations all = (still_alive links SWITCH_LINK station all.0.1 all.0, all_alive links ms stations.1 all.1)
-all_alive links (Request message ∷ ms) stations all = absurd stations.0
-all_alive links (Data destination message ∷ ms) stations all = absurd stations.0
-all_alive links (ReleaseComplete destination ∷ ms) stations all = absurd stations.0
+all_alive links _ stations all = absurd stations.0
 
 -- a station's
 kept_alive : (links : List Bool) (source : ℕ) (ms : List Message) → AllByRecursion (Reaches (IsAlive links)) ms → AllByRecursion (Reaches (IsAlive (set links source false))) (filter (λ message. not (goes_to source message)) ms)

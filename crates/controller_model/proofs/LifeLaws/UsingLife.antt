@@ -1,26 +1,24 @@
 -- Which channels are in use after each step, and where what it puts goes; so in every life.
 use Rattle.controller_model.proofs.Prelude.{◌≡◌, ◌≢◌, ◌⊎◌, ℕ, zero, suc, ◌+◌, ◌==◌, ◌≤◌, ◌<◌, ◌&&◌, Bool, true, false, not, if◌then◌else◌}
 use Rattle.controller_model.proofs.Prelude.{List, [], ◌∷◌, length, replicate, set, slice_index_or, Contains, Option, Some, None, option_map}
-use Rattle.controller_model.proofs.Prelude.{Result, Ok, Err, refl, sym, subst, ap, ◌∙◌, inl, inr, arith, true≢false, cases_Bool, eqb-true}
-use Rattle.controller_model.proofs.Prelude.{eq-eqb, get_or-set_other, AllByRecursion, Bssap, Management, Transfer, Bssmap, InterfaceFault}
+use Rattle.controller_model.proofs.Prelude.{Result, Ok, refl, sym, subst, ap, ◌∙◌, inl, inr, arith, true≢false, cases_Bool, eqb-true}
+use Rattle.controller_model.proofs.Prelude.{eq-eqb, get_or-set_other, AllByRecursion, Bssap, Management, Bssmap, InterfaceFault}
 use Rattle.controller_model.proofs.Prelude.{Sccp, Channel, Place, Out, SWITCH_LINK, AllByRecursion-append, Input, State, Closed, Removed}
 use Rattle.controller_model.proofs.Prelude.{Connection, Roles, channels_in, channels_in_use, roles_of, target_channels, Stands, Row, IsOpen}
 use Rattle.controller_model.proofs.Prelude.{Frame, CCM_STREAM, PING, RSL_STREAM, SCCP_STREAM, What, AreAllowed, Parameters}
-use Rattle.std.proofs.lemmas.Option.{unwrap_or-slice_get}
+use Rattle.controller_model.proofs.Prelude.{unwrap_or-slice_get, bssap_reading, sccp_reading, IsTimer, connection_of, AreRising, IsAbove}
+use Rattle.controller_model.proofs.Prelude.{OwnsOpen, is_link_up, GoesToUp, AreUsed, used_places, ChannelState, Free, InUse, Releasing}
+use Rattle.controller_model.proofs.Prelude.{CHANNEL_NUMBERS, Step, Take, Tick, Word, Nothing, Ping, Asks, request_offer, Controller, Entry}
+use Rattle.controller_model.proofs.Prelude.{Turn, turn, each, entry_of, free_channels, freed_station, is_up, new_controller, place_of}
+use Rattle.controller_model.proofs.Prelude.{state_in, with_down, aged, all_aged, break_of, by_fitting, expiry, on_break, expires, on_what}
+use Rattle.controller_model.proofs.Prelude.{row_in, step, timed, told, Carried, body_word, bssap_word, carried, management_of_link}
+use Rattle.controller_model.proofs.Prelude.{management_word, switch_word, radio_signalling, connection_control, link_management, other}
 use Rattle.bssmap_codec.specs.declared.bssmap.Bssmap.TheVariants as bssmap
 use Rattle.bssmap_codec.specs.declared.sccp.Sccp.TheVariants as sccp
-use Rattle.bssmap_codec.specs.BssapReading.{bssap_reading}
-use Rattle.bssmap_codec.specs.SccpReading.{sccp_reading}
 use Rattle.conn_rules.specs.declared.input.Input.TheVariants as inputs
-use Rattle.controller_model.specs.LifeLaws.Acts.{IsTimer}
-use Rattle.controller_model.specs.LifeLaws.History.{connection_of}
-use Rattle.controller_model.specs.LifeLaws.Numbers.{AreRising, IsAbove}
-use Rattle.controller_model.specs.LifeLaws.Owning.{OwnsOpen, is_link_up}
-use Rattle.controller_model.specs.LifeLaws.Reach.{GoesToUp}
-use Rattle.controller_model.specs.LifeLaws.Using.{AreUsed, used_places}
 use Rattle.controller_model.proofs.LifeLaws.Beside.{links_with, other_link, step_goes}
 use Rattle.controller_model.proofs.LifeLaws.Entries.{find_above}
-use Rattle.controller_model.proofs.LifeLaws.Fitting.{Fits, IsLinkBreak, IsLinked, new_fits, own_carried, pass_stands, step_fits}
+use Rattle.controller_model.proofs.LifeLaws.Fitting.{Fits, IsLinkBreak, new_fits, own_carried, pass_stands, step_fits}
 use Rattle.controller_model.proofs.LifeLaws.OwningLife.{AllFine, aged_owns, break_shut, fine_at, fine_stand, new_holds, step_holds, timer_shut, told_holds}
 use Rattle.controller_model.proofs.LifeLaws.OwningWords.{AllStand, Holds, changes_of}
 use Rattle.controller_model.proofs.LifeLaws.Sources.{word_from}
@@ -28,21 +26,12 @@ use Rattle.controller_model.proofs.LifeLaws.Turns.{IsDue, aged_numbered, all_fou
 use Rattle.controller_model.proofs.LifeLaws.UsingGoes.{break_goes, row_goes, still_alive}
 use Rattle.controller_model.proofs.LifeLaws.UsingRows.{IsAlive, Uses, all_contained, alive_or, contains_none, mapped}
 use Rattle.controller_model.proofs.LifeLaws.UsingWords.{IsAskedOf, IsHere, IsNoBreak, IsNoNack, Ready, Sends, fitting_sends, here_of, ignoring_sends, no_break_of, no_nack_of, own_alive, word_sends}
-use Rattle.controller_model.proofs.LifeLaws.Places.{free≢use}
+use Rattle.controller_model.proofs.LifeLaws.Places.{free≢use, use_other}
 use Rattle.controller_model.proofs.Others.{all_age}
-use Rattle.controller_model.specs.declared.channel_state.ChannelState.{ChannelState}
-use Rattle.controller_model.specs.declared.channel_state.ChannelState.TheVariants.{Free, InUse, Releasing}
-use Rattle.controller_model.specs.declared.limits.TheConstants.{CHANNEL_NUMBERS}
-use Rattle.controller_model.specs.declared.step.Step.{Step}
-use Rattle.controller_model.specs.declared.step.Step.TheVariants.{Take, Tick}
-use Rattle.controller_model.specs.declared.word.Word.{Word}
-use Rattle.controller_model.specs.declared.word.Word.TheVariants.{Nothing, Ping, Asks, OnChannel, Reports, OnConnection}
-use Rattle.controller_model.specs.Channels.{request_offer}
-use Rattle.controller_model.specs.Controller.{Controller, Entry, Turn, turn, each, entry_of, free_channels, freed_station, is_up, new_controller, place_of, state_in, with_down}
-use Rattle.controller_model.specs.Life.{aged, all_aged, break_of, by_fitting, expiry, life, on_break, on_expiry as expires, on_what, row_in, step, take, tick, timed, told}
-use Rattle.controller_model.specs.Reading.{Carried, body_word, bssap_word, carried, management_of_link, management_word, switch_word, word_of}
-use Rattle.controller_model.specs.Reading.Carried.{radio_signalling, connection_control, link_management, other}
+use Rattle.controller_model.specs.Life.{life, take, tick}
+use Rattle.controller_model.specs.Reading.{word_of}
 use Rattle.ruled_relay.specs.declared.item.What.TheVariants as whats
+use Rattle.controller_model.proofs.LifeLaws.Switched.{linked_true}
 
 abbrev States : Type 0
 States = List (List ChannelState)
@@ -51,27 +40,17 @@ States = List (List ChannelState)
 
 all_asked : (source : ℕ) (word : Word) → source ≢ SWITCH_LINK → IsAskedOf source word
 all_asked source (Asks request delay) station = station
-all_asked source Nothing station = tt
-all_asked source Ping station = tt
-all_asked source (OnChannel at input) station = tt
-all_asked source (Reports at of report) station = tt
-all_asked source (OnConnection m input) station = tt
+all_asked source _ station = tt
 
 management_asks : (source number : ℕ) (m : Bssmap) → IsAskedOf source (management_word number m)
 management_asks source number (bssmap.AssignmentRequest channel_type) = tt
-management_asks source number (bssmap.ClearCommand cause) = tt
-management_asks source number bssmap.CipherModeCommand = tt
 management_asks source number _ = tt
 
 bssap_asks : (source number : ℕ) (r : Result Bssap InterfaceFault) → IsAskedOf source (bssap_word number r)
 bssap_asks source number (Ok (Management m)) = management_asks source number m
-bssap_asks source number (Ok (Transfer dlci message)) = tt
-bssap_asks source number (Err fault) = tt
+bssap_asks source number _ = tt
 
 switch_asks : (source : ℕ) (r : Result Sccp InterfaceFault) → IsAskedOf source (switch_word r)
-switch_asks source (Ok (sccp.ConnectionConfirm destination reference)) = tt
-switch_asks source (Ok (sccp.ConnectionRefused destination)) = tt
-switch_asks source (Ok (sccp.Released destination reference)) = tt
 switch_asks source (Ok (sccp.DataForm1 destination user)) = bssap_asks source destination (bssap_reading user)
 switch_asks source _ = tt
 
@@ -90,10 +69,8 @@ body_asks link_management source body is = link_asks source body
 body_asks other source body is = tt
 
 pub radio_of : (a b c d : Bool) → (if a then link_management else if b then connection_control else if not c && d then radio_signalling else other) ≡ radio_signalling → c ≡ false
-radio_of true b c d is = absurd cc
-radio_of false true c d is = absurd cc
-radio_of false false true d is = absurd cc
 radio_of false false false d is = refl
+radio_of _ _ _ d is = absurd cc
 
 pub word_asked : (source : ℕ) (frame : Frame) → IsAskedOf source (word_of source frame)
 unfolding word_of
@@ -145,12 +122,12 @@ all_here c (x ∷ xs) ready there = (here_of c x.connection.number x ready there
 
 -- ---- a break
 
-down_at : (links : List Bool) (source : ℕ) → slice_index_or (set links source false) source false ≡ false
+pub down_at : (links : List Bool) (source : ℕ) → slice_index_or (set links source false) source false ≡ false
 down_at [] source = refl
 down_at (up ∷ links) zero = refl
 down_at (up ∷ links) (suc source) = down_at links source
 
-down_link : (links : List Bool) (source : ℕ) → is_link_up (set links source false) source ≡ false
+pub down_link : (links : List Bool) (source : ℕ) → is_link_up (set links source false) source ≡ false
 down_link links source = unwrap_or-slice_get (set links source false) source false ∙ down_at links source
 
 was_up : (links : List Bool) (source link : ℕ) → is_link_up (set links source false) link ≡ true → is_link_up links link ≡ true
@@ -189,7 +166,7 @@ told_sends links source c e here holds uses =
           uses (record { uses = uses; outs = tt }),
     )
 
-free_at : (n k : ℕ) → slice_index_or (replicate n Free) k Free ≡ Free
+pub free_at : (n k : ℕ) → slice_index_or (replicate n Free) k Free ≡ Free
 free_at zero k = refl
 free_at (suc n) zero = refl
 free_at (suc n) (suc k) = free_at n k
@@ -199,7 +176,7 @@ station_free [] station number = refl
 station_free (row ∷ channels) zero number = free_at CHANNEL_NUMBERS number
 station_free (row ∷ channels) (suc station) number = station_free channels station number
 
-station_else : (channels : States) (source : ℕ) (at : Place) → at.station ≢ source → state_in (set channels source free_channels) at ≡ state_in channels at
+pub station_else : (channels : States) (source : ℕ) (at : Place) → at.station ≢ source → state_in (set channels source free_channels) at ≡ state_in channels at
 station_else channels source at differ = ap (λ (row : List ChannelState). slice_index_or row at.number Free) (get_or-set_other channels source at.station free_channels [] differ)
 
 station_here : (channels : States) (source : ℕ) (at : Place) → at.station ≡ source → state_in (set channels source free_channels) at ≡ Free
@@ -337,10 +314,6 @@ step_sends c (Take item) ready =
     subst (λ (links : List Bool). Sends links links (take item c)) (sym (step_goes c (Take item)).links_are) (what_sends (is_up c item.source) item.source item.what c refl ready)
 step_sends c (Tick ms) ready = subst (λ (links : List Bool). Sends links links (tick ms c)) (sym (step_goes c (Tick ms)).links_are) (tick_sends ms c ready)
 
-linked_of : (up : Bool) (o : Option Connection) (s : Connection) → o ≡ Some s → IsLinked up o → up ≡ true
-unfolding IsLinked
-linked_of up o s is linked = subst (IsLinked up) is linked
-
 pub ready_by : (c : Controller) → ((n : ℕ) → 1 ≤ n → Fits n c) → Holds c.links c → Uses c.links c.links c → Ready c
 unfolding AllFine
 ready_by c fits holds uses =
@@ -357,7 +330,7 @@ ready_by c fits holds uses =
     linked_at zero e there =
         let none : entry_of c 0 ≡ None = find_above 0 c.entries (fits 1 (omega arith)).numbered.above in
         absurd (let both : None ≡ Some e = sym none ∙ there in cc)
-    linked_at (suc m) e there = linked_of (is_up c SWITCH_LINK) (connection_of c (suc m)) e.connection (ap (option_map (λ (x : Entry). x.connection)) there) (fits (suc m) (omega arith)).linked
+    linked_at (suc m) e there = linked_true (is_up c SWITCH_LINK) (connection_of c (suc m)) e.connection (ap (option_map (λ (x : Entry). x.connection)) there) (fits (suc m) (omega arith)).linked
 
 -- ---- a life
 
@@ -421,9 +394,6 @@ in_use_by c links n at (Some s) owns there =
     subst (λ (p : Place). state_in c.channels p ≡ InUse n) found.2
     (all_contained (λ (d : Channel). state_in c.channels (place_of d) ≡ InUse n) (s.serving ∷ target_channels (roles_of s).target) found.0 (owns open_one.0).using open_one.1)
 
-use_one : (m n : ℕ) → InUse m ≡ InUse n → m ≡ n
-use_one m n is = cc
-
 pub ready_uses : (c : Controller) → Ready c → AreUsed c
 ready_uses c ready =
     let by : (n : ℕ) (at : Place) → Contains (used_places (connection_of c n)) at → state_in c.channels at ≡ InUse n = λ n at there. in_use_by c c.links n at (connection_of c n) (ready.holds.each n) there in
@@ -435,7 +405,7 @@ ready_uses c ready =
         ],
         λ there. by n at there,
       );
-      one = λ at n m first second. use_one n m (sym (by n at first) ∙ by m at second);
+      one = λ at n m first second. use_other n m (sym (by n at first) ∙ by m at second);
       releasing = λ at n is. ready.uses.given at n is;
       down = λ at down. ready.uses.blank at (λ alive. true≢false (sym alive.0 ∙ down));
       switch = λ number. ready.uses.blank (record { station = SWITCH_LINK; number = number }) (λ alive. alive.1 refl);

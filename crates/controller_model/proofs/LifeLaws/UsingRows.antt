@@ -2,34 +2,24 @@
 use Rattle.controller_model.proofs.Prelude.{◌≡◌, ◌≢◌, ◌⊎◌, ℕ, zero, suc, ◌==◌, ◌<◌, ◌≤◌, ◌&&◌, Bool, true, false, if◌then◌else◌, List, []}
 use Rattle.controller_model.proofs.Prelude.{◌∷◌, ◌++◌, fold, filter, map, Contains, Option, Some, None, option_map, refl, sym, subst, ap}
 use Rattle.controller_model.proofs.Prelude.{◌∙◌, inl, inr, arith, true≢false, cases_Bool, eqb-true, eq-eqb, and_parts, AllByRecursion}
-use Rattle.controller_model.proofs.Prelude.{Change, Assignment, Handover, Channel, Place, Message, Station, Request, Data, ReleaseComplete}
-use Rattle.controller_model.proofs.Prelude.{SWITCH_LINK, change_activation, rf_channel_release, Input, State, WaitActivation, WaitEstablish}
-use Rattle.controller_model.proofs.Prelude.{WaitConfirm, Live, Closed, Removed, Target, Connection, TargetRole, Roles, RoleStep, RoleEnd}
-use Rattle.controller_model.proofs.Prelude.{ChangesRoles, roles_of, after_step, step_by, step_orders, begin_orders, with_target}
-use Rattle.controller_model.proofs.Prelude.{end_messages, target_channels, those_that_go, is_order, channels_in, channels_in_use, goes_on}
-use Rattle.controller_model.proofs.Prelude.{ends, had_ended, refused, drops, dismisses, stays, commands, completes, goes_back, leaves, Row}
-use Rattle.controller_model.proofs.Prelude.{IsOpen, OfRow}
+use Rattle.controller_model.proofs.Prelude.{Change, Assignment, Handover, Channel, Place, Message, Station, SWITCH_LINK, change_activation}
+use Rattle.controller_model.proofs.Prelude.{rf_channel_release, Input, State, Closed, Removed, Target, Connection, TargetRole, Roles}
+use Rattle.controller_model.proofs.Prelude.{RoleStep, RoleEnd, ChangesRoles, roles_of, after_step, step_by, step_orders, begin_orders}
+use Rattle.controller_model.proofs.Prelude.{with_target, end_messages, target_channels, those_that_go, is_order, channels_in}
+use Rattle.controller_model.proofs.Prelude.{channels_in_use, goes_on, ends, had_ended, refused, drops, dismisses, stays, commands}
+use Rattle.controller_model.proofs.Prelude.{completes, goes_back, leaves, Row, IsOpen, OfRow, KeepsAccount-by, IsGivenUp, is_to_station}
+use Rattle.controller_model.proofs.Prelude.{row_of, kept, kept_in, connection_of, AreRising, is_link_up, used_places, ChannelState, Free}
+use Rattle.controller_model.proofs.Prelude.{InUse, Releasing, Controller, Entry, channels_after, entry_of, place_at, place_of, state_in}
+use Rattle.controller_model.proofs.Prelude.{with_state, by_row, entry_after}
 use Rattle.std.proofs.lemmas.List.Elements.{Contains-push, Contains-append_left, Contains-append_right, Contains-append_cases}
-use Rattle.conn_rules.proofs.RolesAccount.{KeepsAccount-by}
 use Rattle.conn_rules.specs.declared.input.Input.TheVariants as inputs
-use Rattle.conn_rules.specs.Roles.{IsGivenUp, is_to_station}
 use Rattle.conn_rules.specs.Roles.IsGivenUp.{released, broke, not_activated}
-use Rattle.conn_rules.specs.Table.{row_of}
-use Rattle.controller_model.specs.LifeLaws.Acts.{kept, kept_in}
-use Rattle.controller_model.specs.LifeLaws.History.{connection_of}
-use Rattle.controller_model.specs.LifeLaws.Numbers.{AreRising}
-use Rattle.controller_model.specs.LifeLaws.Owning.{is_link_up}
-use Rattle.controller_model.specs.LifeLaws.Using.{used_places}
 use Rattle.controller_model.proofs.LifeLaws.Acting.{row_found}
 use Rattle.controller_model.proofs.LifeLaws.Entries.{back_over}
 use Rattle.controller_model.proofs.LifeLaws.Places.{all_at, is_there, set_or_not, state_else, state_here, use_other, release_other, use≢release, release≢use, free≢use}
 use Rattle.controller_model.proofs.LifeLaws.Reaching.{Reaches}
 use Rattle.controller_model.proofs.LifeLaws.Words.{decide_same}
 use Rattle.controller_model.proofs.Numbers.{keeps_number}
-use Rattle.controller_model.specs.declared.channel_state.ChannelState.{ChannelState}
-use Rattle.controller_model.specs.declared.channel_state.ChannelState.TheVariants.{Free, InUse, Releasing}
-use Rattle.controller_model.specs.Controller.{Controller, Entry, channels_after, entry_of, place_at, place_of, state_in, with_state}
-use Rattle.controller_model.specs.Life.{by_row, entry_after}
 use Rattle.rsl_codec.specs.declared.rsl.Rsl.TheVariants as rsl
 
 abbrev States : Type 0
@@ -136,10 +126,7 @@ give_use m n p at channels is = elim (set_or_not channels p at (Releasing m)) [
 message_use : (m n : ℕ) (at : Place) (channels : States) (message : Message) → state_in (channels_after m channels message) at ≡ InUse n → ((n ≡ m) × TakesAt at message) ⊎ ((state_in channels at ≡ InUse n) × Spares at message)
 message_use m n at channels (Station station (rsl.ChannelActivation a)) is = take_use m n (place_at station a.channel) at channels is
 message_use m n at channels (Station station (rsl.RfChannelRelease channel)) is = give_use m n (place_at station channel) at channels is
-message_use m n at channels (Station station _) is = inr (is, tt)
-message_use m n at channels (Request message) is = inr (is, tt)
-message_use m n at channels (Data destination message) is = inr (is, tt)
-message_use m n at channels (ReleaseComplete destination) is = inr (is, tt)
+message_use m n at channels _ is = inr (is, tt)
 
 pub fold_use : (m n : ℕ) (at : Place) (channels : States) (ms : List Message) → state_in (fold (channels_after m) channels ms) at ≡ InUse n → ((n ≡ m) × AnyTakes at ms) ⊎ ((state_in channels at ≡ InUse n) × AllByRecursion (Spares at) ms)
 fold_use m n at channels [] is = inr (is, tt)
@@ -173,10 +160,7 @@ fold_release m n at channels (x ∷ xs) is = elim (fold_release m n at (channels
     of : (x : Message) → state_in (channels_after m channels x) at ≡ Releasing n → (n ≡ m) ⊎ (state_in channels at ≡ Releasing n)
     of (Station station (rsl.ChannelActivation a)) was = inr (set_use m n (place_at station a.channel) at channels was)
     of (Station station (rsl.RfChannelRelease channel)) was = set_release m n (place_at station channel) at channels was
-    of (Station station _) was = inr was
-    of (Request message) was = inr was
-    of (Data destination message) was = inr was
-    of (ReleaseComplete destination) was = inr was
+    of _ was = inr was
 
 -- no order goes to its station
 fold_else : (P : ℕ → Type 0) (m : ℕ) (at : Place) (channels : States) (ms : List Message) → (P at.station → ⊥) → AllByRecursion (Reaches P) ms → state_in (fold (channels_after m) channels ms) at ≡ state_in channels at
@@ -186,10 +170,7 @@ fold_else P m at channels (x ∷ xs) never all = fold_else P m at (channels_afte
     of : (x : Message) → Reaches P x → state_in (channels_after m channels x) at ≡ state_in channels at
     of (Station station (rsl.ChannelActivation a)) here = state_else channels (place_at station a.channel) at (InUse m) (λ same. never (subst P (ap (λ (p : Place). p.station) (sym same)) here))
     of (Station station (rsl.RfChannelRelease channel)) here = state_else channels (place_at station channel) at (Releasing m) (λ same. never (subst P (ap (λ (p : Place). p.station) (sym same)) here))
-    of (Station station _) here = refl
-    of (Request message) here = refl
-    of (Data destination message) here = refl
-    of (ReleaseComplete destination) here = refl
+    of _ here = refl
 
 -- ---- what a row takes
 
@@ -222,16 +203,11 @@ any_parts at (x ∷ xs) ys (inr behind) = elim (any_parts at xs ys behind) [
 
 takes_order : (at : Place) (m : Message) → TakesAt at m → is_order m ≡ true
 takes_order at (Station station (rsl.ChannelActivation a)) takes = refl
-takes_order at (Station station _) takes = absurd takes
-takes_order at (Request message) takes = absurd takes
-takes_order at (Data destination message) takes = absurd takes
-takes_order at (ReleaseComplete destination) takes = absurd takes
+takes_order at _ takes = absurd takes
 
 takes_station : (at : Place) (m : Message) → TakesAt at m → is_to_station m ≡ true
 takes_station at (Station station message) takes = refl
-takes_station at (Request message) takes = absurd takes
-takes_station at (Data destination message) takes = absurd takes
-takes_station at (ReleaseComplete destination) takes = absurd takes
+takes_station at _ takes = absurd takes
 
 none_alone : (at : Place) → ⊥ ⊎ ⊥ → ⊥
 none_alone at (inl here) = here
@@ -279,12 +255,9 @@ that_go_takes at (inputs.StationDown station) ms takes = any_filtered _ at ms ta
 that_go_takes at _ ms takes = takes
 
 open_channels : (state : State) (roles : Roles) → IsOpen state → channels_in state roles ≡ roles.serving ∷ target_channels roles.target
-open_channels WaitActivation roles is_open = refl
-open_channels WaitEstablish roles is_open = refl
-open_channels WaitConfirm roles is_open = refl
-open_channels (Live reference stage) roles is_open = refl
 open_channels (Closed clearing) roles is_open = absurd is_open
 open_channels Removed roles is_open = absurd is_open
+open_channels _ roles is_open = refl
 
 -- a channel that is to be activated is the target
 row_takes : (at : Place) (s : Connection) (input : Input) (offer : Option Channel) (r : Row) → ChangesRoles s input offer r → AnyTakes at r.outs → Contains (map place_of (channels_in_use r.next)) at
@@ -329,11 +302,7 @@ pub record RowUses (new : List Bool) (channels : List (List ChannelState)) (s : 
 
 kept_places : (state : State) (s : Connection) → s.state ≡ state → used_places (kept_in state s) ≡ map place_of (channels_in_use s)
 kept_places Removed s is = ap (λ (state : State). map place_of (channels_in state (roles_of s))) (sym is)
-kept_places WaitActivation s is = refl
-kept_places WaitEstablish s is = refl
-kept_places WaitConfirm s is = refl
-kept_places (Live reference stage) s is = refl
-kept_places (Closed clearing) s is = refl
+kept_places _ s is = refl
 
 reaching : (old new : List Bool) (ms : List Message) → ((link : ℕ) → is_link_up new link ≡ true → is_link_up old link ≡ true) → AllByRecursion (GoesUp new) ms → AllByRecursion (Reaches (IsAlive old)) ms
 reaching old new [] more all = tt
@@ -341,9 +310,7 @@ reaching old new (m ∷ ms) more all = (of m all.0, reaching old new ms more all
   where
     of : (m : Message) → GoesUp new m → Reaches (IsAlive old) m
     of (Station station message) up = (more station up.0, up.1)
-    of (Request message) up = tt
-    of (Data destination message) up = tt
-    of (ReleaseComplete destination) up = tt
+    of _ up = tt
 
 -- what is still in use wasn't given up
 not_given_up : (new : List Bool) (channels : States) (s : Connection) (input : Input) (offer : Option Channel) (r : Row) (n : ℕ) (c : Channel) → RowUses new channels s input offer r → is_link_up new c.station ≡ true → state_in channels (place_of c) ≡ InUse n → AllByRecursion (Spares (place_of c)) r.outs → IsGivenUp c input r.outs → ⊥

@@ -2,21 +2,21 @@
 use Rattle.controller_model.proofs.Prelude.{◌≡◌, ◌≢◌, ℕ, ◌+◌, ◌-◌, ◌≤◌, ◌<◌, Bool, true, false, if◌then◌else◌, List, [], ◌∷◌, find}
 use Rattle.controller_model.proofs.Prelude.{slice_get, Contains, Option, Some, None, option_map, refl, sym, subst, ap, ◌∙◌, inl, inr, arith}
 use Rattle.controller_model.proofs.Prelude.{true≢false, cases_Bool, cond-true, cond-false, and_parts, option_and_then_some, AllByRecursion}
-use Rattle.controller_model.proofs.Prelude.{Channel, Place, Out, SWITCH_LINK, Input, Active, Preparing, Changing, Draining, State}
-use Rattle.controller_model.proofs.Prelude.{WaitActivation, WaitEstablish, WaitConfirm, Live, Closed, Removed, Connection, is_at, roles_of}
-use Rattle.controller_model.proofs.Prelude.{target_channels, target_role, Stands, Row, IsOpen, OfRow, target_in, row_if, refuse}
-use Rattle.controller_model.proofs.Prelude.{serving_after, on_activation_nack, Report, Decision, Stay, Move, Settings, RequestReference}
-use Rattle.controller_model.proofs.Prelude.{CellParameters, Parameters}
-use Rattle.std.specs.Option.{is_some}
+use Rattle.controller_model.proofs.Prelude.{Channel, Place, Out, SWITCH_LINK, Input, Preparing, State, WaitActivation, Live, Connection}
+use Rattle.controller_model.proofs.Prelude.{is_at, roles_of, target_channels, target_role, Stands, Row, IsOpen, OfRow, target_in, row_if}
+use Rattle.controller_model.proofs.Prelude.{refuse, serving_after, on_activation_nack, Report, Decision, Stay, Move, Settings}
+use Rattle.controller_model.proofs.Prelude.{RequestReference, CellParameters, Parameters, is_some, keeps_channels, KeepsChannels}
+use Rattle.controller_model.proofs.Prelude.{connection_of, IsNumbered, AreRising, IsAbove, IsBelow, AreIn, OwnsOpen, is_link_up}
+use Rattle.controller_model.proofs.Prelude.{used_places, ChannelKind, Sdcch, Tch, ChannelState, Free, InUse, Releasing, Word, Nothing, Ping}
+use Rattle.controller_model.proofs.Prelude.{Asks, OnChannel, Reports, OnConnection, access_channel, channel_in, channel_of_kind, first_free}
+use Rattle.controller_model.proofs.Prelude.{free_channel, free_in, handover_offer, kind_of, request_offer, Controller, Entry, Turn, turn}
+use Rattle.controller_model.proofs.Prelude.{ignoring, entry_of, with_entry, channel_state, freed, has_number, place_of, state_in}
+use Rattle.controller_model.proofs.Prelude.{with_state, by_fitting, concerning, concerning_too, entry_at, fits, frees, given, is_measured}
+use Rattle.controller_model.proofs.Prelude.{may_open, measured, measures, new_entry, on_decision, on_freed, on_report, on_state, on_word}
+use Rattle.controller_model.proofs.Prelude.{row_in, with_connection, with_report, best, decision_over, decision_where, moving_to, is_due}
 use Rattle.conn_messages.specs.Out.{out_of}
-use Rattle.conn_rules.proofs.Channels.{keeps_channels}
 use Rattle.conn_rules.specs.declared.input.Input.TheVariants as inputs
-use Rattle.conn_rules.specs.Roles.{KeepsChannels}
 use Rattle.conn_rules.specs.Table.{row_of}
-use Rattle.controller_model.specs.LifeLaws.History.{connection_of}
-use Rattle.controller_model.specs.LifeLaws.Numbers.{IsNumbered, AreRising, IsAbove, IsBelow}
-use Rattle.controller_model.specs.LifeLaws.Owning.{AreIn, OwnsOpen, is_link_up}
-use Rattle.controller_model.specs.LifeLaws.Using.{used_places}
 use Rattle.controller_model.proofs.LifeLaws.Entries.{back_over, back_found, back_rising, behind_found, behind_over, find_below}
 use Rattle.controller_model.proofs.LifeLaws.OwningSteps.{IsShaped}
 use Rattle.controller_model.proofs.LifeLaws.OwningWords.{AllStand, Holds, at_number, changes_of, owns_entry}
@@ -25,17 +25,6 @@ use Rattle.controller_model.proofs.LifeLaws.Sources.{IsAtPlace, IsFrom, IsOfSwit
 use Rattle.controller_model.proofs.LifeLaws.UsingGoes.{OwnAlive, outs_up, row_goes, targets_in}
 use Rattle.controller_model.proofs.LifeLaws.UsingRows.{IsAlive, RowUses, Uses, all_contained, alive_or, by_row_uses, contains_first, set_use, take_use}
 use Rattle.controller_model.proofs.LifeLaws.Words.{decide_same, measured_stays}
-use Rattle.controller_model.specs.declared.channel_kind.ChannelKind.{ChannelKind}
-use Rattle.controller_model.specs.declared.channel_kind.ChannelKind.TheVariants.{Sdcch, Tch}
-use Rattle.controller_model.specs.declared.channel_state.ChannelState.{ChannelState}
-use Rattle.controller_model.specs.declared.channel_state.ChannelState.TheVariants.{Free, InUse, Releasing}
-use Rattle.controller_model.specs.declared.word.Word.{Word}
-use Rattle.controller_model.specs.declared.word.Word.TheVariants.{Nothing, Ping, Asks, OnChannel, Reports, OnConnection}
-use Rattle.controller_model.specs.Channels.{access_channel, channel_in, channel_of_kind, first_free, free_channel, free_in, handover_offer, kind_of, request_offer}
-use Rattle.controller_model.specs.Controller.{Controller, Entry, Turn, turn, ignoring, entry_of, with_entry, channel_state, freed, has_number, place_of, state_in, with_state}
-use Rattle.controller_model.specs.Life.{by_fitting, concerning, concerning_too, entry_at, fits, frees, given, is_measured, may_open, measured, measures, new_entry, on_decision, on_freed, on_report, on_state, on_word, row_in, with_connection, with_report}
-use Rattle.controller_model.specs.Reports.{best, decision_over, decision_where, moving_to}
-use Rattle.ho_decision.specs.Decision.{is_due}
 
 abbrev States : Type 0
 States = List (List ChannelState)
@@ -234,13 +223,7 @@ unfit_if false q r none = refl
 nack_unfit : (state : State) (s : Connection) (at : Place) (offer : Option Channel) → is_some (on_activation_nack state s at None) ≡ false → on_activation_nack state s at offer ≡ None
 nack_unfit WaitActivation s at offer none = unfit_if (is_at at s.serving) _ _ none
 nack_unfit (Live reference (Preparing target)) s at offer none = unfit_if (is_at at target.channel) (refuse reference target.change None s) (refuse reference target.change offer s) none
-nack_unfit (Live reference Active) s at offer none = refl
-nack_unfit (Live reference Draining) s at offer none = refl
-nack_unfit (Live reference (Changing target)) s at offer none = refl
-nack_unfit WaitEstablish s at offer none = refl
-nack_unfit WaitConfirm s at offer none = refl
-nack_unfit (Closed clearing) s at offer none = refl
-nack_unfit Removed s at offer none = refl
+nack_unfit _ s at offer none = refl
 
 unfit_sends : (at : Place) (c : Controller) (o : Option Entry) → fits o (inputs.ActivationNack at) ≡ false → Uses c.links c.links c → Sends c.links c.links (concerning (inputs.ActivationNack at) c o)
 unfolding row_of

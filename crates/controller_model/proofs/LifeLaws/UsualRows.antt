@@ -1,13 +1,9 @@
 -- What rows put: in CR the initial message alone, and in DT1 no initial message.
 use Rattle.controller_model.proofs.Prelude.{◌≡◌, ℕ, refl, nat_le, Bool, true, false, if◌then◌else◌, List, Option, AllByRecursion}
-use Rattle.controller_model.proofs.Prelude.{Management, Transfer, CompleteLayer3Information, is_dlci, Channel}
-use Rattle.controller_model.proofs.Prelude.{Message, Data, Request, Input, Connection, Row, OfRow}
-use Rattle.controller_model.proofs.Prelude.{Sapi, Zero, Three}
+use Rattle.controller_model.proofs.Prelude.{Management, Transfer, CompleteLayer3Information, is_dlci, Channel, Message, Data, Request}
+use Rattle.controller_model.proofs.Prelude.{Input, Connection, Row, OfRow, Sapi, Zero, Three, dlci_on, row_of, Puts, free, row-messages}
+use Rattle.controller_model.proofs.Prelude.{FIRST_SDCCH}
 use Rattle.conn_messages.specs.declared.parameters.TheConstants.{SACCH_SAPI_3_DLCI, SDCCH_SAPI_3_DLCI}
-use Rattle.conn_messages.specs.SwitchMessage.{dlci_on}
-use Rattle.conn_rules.specs.Table.{row_of}
-use Rattle.conn_rules.proofs.RowPuts.{Puts, free, row-messages}
-use Rattle.rsl_codec.specs.declared.channel_number.TheConstants.{FIRST_SDCCH}
 
 abbrev pub IsUsual : Message → Type 0
 IsUsual (Request (Management (CompleteLayer3Information cell initial))) = Unit {0}

@@ -2,26 +2,18 @@
 use Rattle.controller_model.proofs.Prelude.{◌≡◌, ◌≢◌, ℕ, ◌==◌, ◌≤◌, nat_le, Bool, true, false, if◌then◌else◌, [], ◌∷◌, Option, Some, None}
 use Rattle.controller_model.proofs.Prelude.{option_map, refl, sym, subst, ap, ◌∙◌, inl, inr, arith, true≢false, cases_Bool, cond-true}
 use Rattle.controller_model.proofs.Prelude.{cond-false, eqb-true, eq-eqb, ne_eqb, and_parts, Channel, Place, SWITCH_LINK, access_activation}
-use Rattle.controller_model.proofs.Prelude.{Input, State, WaitActivation, WaitEstablish, WaitConfirm, Live, Closed, Removed, Connection}
-use Rattle.controller_model.proofs.Prelude.{is_at, Row, Report, Decision, Stay, Move, RequestReference}
-use Rattle.controller_model.specs.declared.limits.TheConstants.{MAX_CONNECTION_NUMBER}
+use Rattle.controller_model.proofs.Prelude.{Input, State, WaitConfirm, Live, Connection}
+use Rattle.controller_model.proofs.Prelude.{is_at, Row, Report, Decision, Stay, Move, RequestReference, MAX_CONNECTION_NUMBER, row_of}
+use Rattle.controller_model.proofs.Prelude.{Brought, IsBrought, FitsNone, if_held, brought_by, opens, nothing, comes, reports, outs_for}
+use Rattle.controller_model.proofs.Prelude.{connection_of, IsNumbered, AreRising, ChannelState, Free, InUse, Releasing, Word, Nothing, Ping}
+use Rattle.controller_model.proofs.Prelude.{Asks, OnChannel, Reports, OnConnection, access_channel, handover_offer, request_offer}
+use Rattle.controller_model.proofs.Prelude.{Controller, Entry, Turn, turn, ignoring, is_up, entry_of, with_entry, channel_state, holder}
+use Rattle.controller_model.proofs.Prelude.{freed, by_fitting, concerning, concerning_too, given, with_connection, new_entry, may_open}
+use Rattle.controller_model.proofs.Prelude.{frees, entry_at, on_freed, on_state, is_measured, measures, on_decision, with_report, measured}
+use Rattle.controller_model.proofs.Prelude.{on_report, pong, on_word, decision_over}
 use Rattle.conn_rules.specs.declared.input.Input.TheVariants as inputs
-use Rattle.conn_rules.specs.Table.{row_of}
-use Rattle.controller_model.specs.LifeLaws.Acts.{Brought, IsBrought, FitsNone, if_held, brought_by}
-use Rattle.controller_model.specs.LifeLaws.Acts.Acts.{opens}
-use Rattle.controller_model.specs.LifeLaws.Acts.Brought.{nothing, comes, reports, breaks, passes}
-use Rattle.controller_model.specs.LifeLaws.History.{outs_for, connection_of}
-use Rattle.controller_model.specs.LifeLaws.Numbers.{IsNumbered, AreRising}
 use Rattle.controller_model.proofs.LifeLaws.Acting.{Does, does_nothing, row_does, outs_own, outs_other}
 use Rattle.controller_model.proofs.LifeLaws.Entries.{entry_kept, back_rising, back_over, back_found, found_number, find_below, behind_over, behind_found}
-use Rattle.controller_model.specs.declared.channel_state.ChannelState.{ChannelState}
-use Rattle.controller_model.specs.declared.channel_state.ChannelState.TheVariants.{Free, InUse, Releasing}
-use Rattle.controller_model.specs.declared.word.Word.{Word}
-use Rattle.controller_model.specs.declared.word.Word.TheVariants.{Nothing, Ping, Asks, OnChannel, Reports, OnConnection}
-use Rattle.controller_model.specs.Channels.{access_channel, handover_offer, request_offer}
-use Rattle.controller_model.specs.Controller.{Controller, Entry, Turn, turn, ignoring, is_up, entry_of, with_entry, channel_state, holder, freed}
-use Rattle.controller_model.specs.Life.{by_fitting, concerning, concerning_too, given, with_connection, new_entry, may_open, frees, entry_at, on_freed, on_state, is_measured, measures, on_decision, with_report, measured, on_report, pong, on_word}
-use Rattle.controller_model.specs.Reports.{decision_over}
 
 connection_at : (c : Controller) (number : ℕ) (o : Option Entry) → entry_of c number ≡ o → connection_of c number ≡ option_map (λ (e : Entry). e.connection) o
 connection_at c number o is = ap (option_map (λ (e : Entry). e.connection)) is
@@ -35,11 +27,8 @@ held_other : (number m : ℕ) (input : Input) → number ≢ m → if_held numbe
 held_other number m input differ = cond-false _ _ _ (ne_eqb m number (λ same. differ (sym same)))
 
 pub none_fits_none : (brought : Brought) → FitsNone brought None
-none_fits_none nothing = tt
 none_fits_none (comes input) = tt
-none_fits_none reports = tt
-none_fits_none (breaks input) = tt
-none_fits_none passes = tt
+none_fits_none _ = tt
 
 none_for_other : (number m : ℕ) (input : Input) (o : Option Connection) → number ≢ m → FitsNone (if_held number (Some m) input) o
 none_for_other number m input o differ = subst (λ (b : Brought). FitsNone b o) (sym (held_other number m input differ)) tt
@@ -135,10 +124,7 @@ asked_does number false c t does = does_nothing number c.next_number (is_up c SW
 pub measured_stays : (state : State) (e : Entry) → is_measured state ≡ true → entry_kept state e ≡ Some e
 measured_stays WaitConfirm e is = refl
 measured_stays (Live reference stage) e is = refl
-measured_stays WaitActivation e is = absurd (true≢false (sym is))
-measured_stays WaitEstablish e is = absurd (true≢false (sym is))
-measured_stays (Closed clearing) e is = absurd (true≢false (sym is))
-measured_stays Removed e is = absurd (true≢false (sym is))
+measured_stays _ e is = absurd (true≢false (sym is))
 
 decision_does : (number next : ℕ) (up : Bool) (d : Decision) (c : Controller) (e : Entry) → AreRising c.entries → entry_of c e.connection.number ≡ Some e → Does number next up reports (connection_of c number) (on_decision d c e)
 decision_does number next up Stay c e rising there = does_nothing number next up reports (connection_of c number) (turn [] c) refl refl tt
