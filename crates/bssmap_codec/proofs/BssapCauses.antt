@@ -44,7 +44,8 @@ pub then_ok : {A B : Type 0} (f : A → B) (r : Result A InterfaceFault) → res
 then_ok f (Ok x) = refl
 then_ok f (Err fault) = refl
 
-pub bind_again : {A B C : Type 0} (r : Result A InterfaceFault) (f : A → Result B InterfaceFault) (g : B → Result C InterfaceFault) → (r >>= f >>= g) ≡ (r >>= (λ x. f x >>= g))
+pub bind_again : {A B C : Type 0} (r : Result A InterfaceFault) (f : A → Result B InterfaceFault)
+    (g : B → Result C InterfaceFault) → (r >>= f >>= g) ≡ (r >>= (λ x. f x >>= g))
 bind_again (Ok x) f g = refl
 bind_again (Err fault) f g = refl
 
@@ -66,28 +67,35 @@ need id es next causes then = need_by id (first_of id es) next causes then
 abbrev HasOne : List Element → ℕ → Type 0
 HasOne es id = (value : List ℕ) → first_of id es ≡ Some value → length value ≡ 1
 
-one_then : {B : Type 0} (value : List ℕ) (next : ℕ × List ℕ → Result B InterfaceFault) (causes : Causes) → length value ≡ 1 → ((p : ℕ × List ℕ) → result_err (next p) ≡ first_that_holds causes)
+one_then : {B : Type 0} (value : List ℕ) (next : ℕ × List ℕ → Result B InterfaceFault) (causes : Causes) →
+    length value ≡ 1 → ((p : ℕ × List ℕ) → result_err (next p) ≡ first_that_holds causes)
     → result_err (octet_at Short value >>= next) ≡ first_that_holds causes
 unfolding octet_at
 one_then [] next causes one then = absurd (omega (arith, one))
 one_then (x ∷ xs) next causes one then = then (x, xs)
 
-rr_then_by : {B : Type 0} (o : Option (List ℕ)) (next : Option RrCause → Result B InterfaceFault) → ((value : List ℕ) → o ≡ Some value → length value ≡ 1) → ((r : Option RrCause) → result_err (next r) ≡ None)
+rr_then_by : {B : Type 0} (o : Option (List ℕ)) (next : Option RrCause → Result B InterfaceFault) →
+    ((value : List ℕ) → o ≡ Some value → length value ≡ 1) → ((r : Option RrCause) → result_err (next r) ≡ None)
     → result_err (rr_cause_by o >>= next) ≡ None
 rr_then_by None next one then = then None
 rr_then_by (Some value) next one then =
     ap result_err (bind_again (octet_at Short value) (λ first. Ok (Some (rr_cause_of first.0))) next)
     ∙ one_then value (λ first. next (Some (rr_cause_of first.0))) [] (one value refl) (λ p. then (Some (rr_cause_of p.0)))
 
-rr_then : {B : Type 0} (es : List Element) (next : Option RrCause → Result B InterfaceFault) → HasOne es RR_CAUSE → ((r : Option RrCause) → result_err (next r) ≡ None) → result_err (rr_cause_in es >>= next) ≡ None
+rr_then : {B : Type 0} (es : List Element) (next : Option RrCause → Result B InterfaceFault) → HasOne es RR_CAUSE →
+    ((r : Option RrCause) → result_err (next r) ≡ None) → result_err (rr_cause_in es >>= next) ≡ None
 unfolding rr_cause_in
 rr_then es next one then = rr_then_by (first_of RR_CAUSE es) next one then
 
-layer3_then_by : {B : Type 0} (value : List ℕ) (fault : Option InterfaceFault) (next : List ℕ → Result B InterfaceFault) → ((message : List ℕ) → result_err (next message) ≡ None) → result_err (layer3_by fault value >>= next) ≡ fault
+layer3_then_by : {B : Type 0} (value : List ℕ) (fault : Option InterfaceFault)
+    (next : List ℕ → Result B InterfaceFault) → ((message : List ℕ) → result_err (next message) ≡ None) →
+    result_err (layer3_by fault value >>= next) ≡ fault
 layer3_then_by value None next then = then value
 layer3_then_by value (Some fault) next then = refl
 
-layer3_then : {B : Type 0} (value : List ℕ) (next : List ℕ → Result B InterfaceFault) → ((message : List ℕ) → result_err (next message) ≡ None) → result_err (layer3_at value >>= next) ≡ first_that_holds (layer3_causes (Some value))
+layer3_then : {B : Type 0} (value : List ℕ) (next : List ℕ → Result B InterfaceFault) →
+    ((message : List ℕ) → result_err (next message) ≡ None) →
+    result_err (layer3_at value >>= next) ≡ first_that_holds (layer3_causes (Some value))
 unfolding layer3_at
 layer3_then value next then = layer3_then_by value (layer3_fault value) next then
 
@@ -103,14 +111,16 @@ reject_err es one =
     ap result_err (bind_again (needed_value DLCI es) _ _)
     ∙ need DLCI es _ (missing es CAUSE ∷ []) (λ value found. ap result_err (bind_again (octet_at Short value) _ _) ∙ one_then value _ (missing es CAUSE ∷ []) (one value found) (λ p. need CAUSE es _ [] (λ cause there. refl)))
 
-complete_err : (es : List Element) → result_err (complete_layer3_at es) ≡ first_that_holds (element_causes kinds.CompleteLayer3Information es)
+complete_err : (es : List Element) →
+    result_err (complete_layer3_at es) ≡ first_that_holds (element_causes kinds.CompleteLayer3Information es)
 unfolding complete_layer3_at
 complete_err es =
     need CELL_IDENTIFIER es _ (missing es LAYER_3_INFORMATION ∷ layer3_causes (first_of LAYER_3_INFORMATION es))
     (λ cell there. need LAYER_3_INFORMATION es _ (layer3_causes (first_of LAYER_3_INFORMATION es))
     (λ value found. layer3_then value _ (λ message. refl) ∙ ap (λ (o : Option (List ℕ)). first_that_holds (layer3_causes o)) (sym found)))
 
-content_err : (kind : BssmapType) (es : List Element) → HasOne es DLCI → HasOne es RR_CAUSE → result_err (content_at kind es) ≡ first_that_holds (element_causes kind es)
+content_err : (kind : BssmapType) (es : List Element) → HasOne es DLCI → HasOne es RR_CAUSE →
+    result_err (content_at kind es) ≡ first_that_holds (element_causes kind es)
 unfolding assignment_request_at assignment_complete_at assignment_failure_at handover_performed_at
 content_err kinds.AssignmentRequest es dlci rr = need CHANNEL_TYPE es _ [] (λ value found. refl)
 content_err kinds.AssignmentComplete es dlci rr = rr_then es _ rr (λ r. refl)
@@ -135,7 +145,8 @@ has_one elements id fits listed value found =
     let sized = found_sized ELEMENTS elements (elements_of elements) (breaks_off elements) id value fits (found_elements elements fits) found in
     one_octet sized.fits.format (length value) (sym listed ∙ sized.fits.known) sized.fits.size
 
-whole_err : (kind : BssmapType) (elements : List ℕ) → AreOctets elements → result_err (content_at kind (elements_of elements)) ≡ first_that_holds (element_causes kind (elements_of elements))
+whole_err : (kind : BssmapType) (elements : List ℕ) → AreOctets elements →
+    result_err (content_at kind (elements_of elements)) ≡ first_that_holds (element_causes kind (elements_of elements))
 whole_err kind elements fits = content_err kind (elements_of elements) (has_one elements DLCI fits refl) (has_one elements RR_CAUSE fits refl)
 
 -- ---- BSSMAP
@@ -146,13 +157,15 @@ behind_type size rest found elements = ok_or found UnknownType >>= (λ kind. spl
 abbrev management_by : ℕ → List ℕ → List ℕ → Result Bssap InterfaceFault
 management_by size rest front = octet_at Short front >>= (λ first. behind_type size rest (bssmap_type first.0) first.1)
 
-known_by : {P : Type 0} (short is_cut : Bool) (p : P) (r : Result Bssmap InterfaceFault) (causes : Causes) → result_err r ≡ first_that_holds causes
+known_by : {P : Type 0} (short is_cut : Bool) (p : P) (r : Result Bssmap InterfaceFault) (causes : Causes) →
+    result_err r ≡ first_that_holds causes
     → first_that_holds ((short, Short) ∷ (is_cut, Short) ∷ causes) ≡ result_err (cond short (Err Short) (Ok p) >>= (λ body. cond is_cut (Err Short) r >>= (λ message. Ok (Management message))))
 known_by true is_cut p r causes e = refl
 known_by false true p r causes e = refl
 known_by false false p r causes e = sym e ∙ sym (then_ok (λ message. Management message) r)
 
-type_first : (size octet : ℕ) (rest elements : List ℕ) (found : Option BssmapType) → AreOctets elements → take size rest ≡ octet ∷ elements → bssmap_type octet ≡ found
+type_first : (size octet : ℕ) (rest elements : List ℕ) (found : Option BssmapType) → AreOctets elements →
+    take size rest ≡ octet ∷ elements → bssmap_type octet ≡ found
     → FirstFault (MANAGEMENT ∷ size ∷ rest) (result_err (behind_type size rest found elements))
 unfolding message_at
 type_first size octet rest elements None fits front names = unknown size octet rest elements front names
@@ -161,7 +174,8 @@ type_first size octet rest elements (Some kind) fits front names =
     (known_by (ltb (length rest) size) (breaks_off elements) (take size rest, drop size rest) (content_at kind (elements_of elements)) (element_causes kind (elements_of elements)) (whole_err kind elements fits))
     (known size octet rest elements kind (elements_of elements) (breaks_off elements) front names (found_elements elements fits))
 
-front_first : (size : ℕ) (rest front : List ℕ) → AreOctets front → take size rest ≡ front → FirstFault (MANAGEMENT ∷ size ∷ rest) (result_err (management_by size rest front))
+front_first : (size : ℕ) (rest front : List ℕ) → AreOctets front → take size rest ≡ front →
+    FirstFault (MANAGEMENT ∷ size ∷ rest) (result_err (management_by size rest front))
 unfolding octet_at
 front_first size rest [] fits is = no_type size rest is
 front_first size rest (octet ∷ elements) fits is = type_first size octet rest elements (bssmap_type octet) (λ i. fits (suc i)) is refl
@@ -200,5 +214,6 @@ first_fault (first ∷ rest) fits = elim (cases_eq first MANAGEMENT) [
   ]
 ]
 
-pub refuses_bssap : (octets : List ℕ) (r : Result Bssap InterfaceFault) → AreOctets octets → Gives Memory (λ v. v) r (bssap_reading octets) → RefusesBssap octets r
+pub refuses_bssap : (octets : List ℕ) (r : Result Bssap InterfaceFault) → AreOctets octets →
+    Gives Memory (λ v. v) r (bssap_reading octets) → RefusesBssap octets r
 refuses_bssap octets r fits g = record { first = result_err (bssap_reading octets); is_first = first_fault octets fits; refuses = refused_by Memory r (bssap_reading octets) g }

@@ -94,7 +94,8 @@ content_is (CipherModeReject cause) e = tt
 
 -- ---- the text
 
-bssmap_written : (message : Bssmap) → content_fault message ≡ None → bssmap_size message ≤ LENGTH_LIMIT → IsBssmap (bssmap_text message) message
+bssmap_written : (message : Bssmap) → content_fault message ≡ None → bssmap_size message ≤ LENGTH_LIMIT →
+    IsBssmap (bssmap_text message) message
 bssmap_written message e h =
     let are : AreElements ELEMENTS (fields_text ELEMENTS (fields message) ++ []) (elements_of (fields message)) false = fields_are ELEMENTS (fields message) [] (all_fit message h) tt in
     record {
@@ -106,7 +107,8 @@ bssmap_written message e h =
       layer3 = content_is message e;
     }
 
-pub bssap_written : (message : Bssap) (more : List ℕ) → HasDlci message → bssap_write_fault message ≡ None → IsBssap (bssap_text message ++ more) message
+pub bssap_written : (message : Bssap) (more : List ℕ) → HasDlci message → bssap_write_fault message ≡ None →
+    IsBssap (bssap_text message ++ more) message
 bssap_written (Management message) more has e =
     let parts = first_is (content_fault message) (size_fault (bssmap_size message)) e in
     let size : bssmap_size message ≤ LENGTH_LIMIT = counts (bssmap_size message) parts.1 in

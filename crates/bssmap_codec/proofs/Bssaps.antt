@@ -46,12 +46,14 @@ split_again : (body more : List ℕ) → split_at Short (length body) (body ++ m
 split_again body more =
     rw (le-ltb (length (body ++ more)) (length body) (omega (arith, length-append body more)), take_at body more (length body) refl, drop_at body more (length body) refl) refl
 
-whole_again : (kind : BssmapType) (elements : List ℕ) (es : List Element) (message : Bssmap) → AreElements ELEMENTS elements es false → content_at kind es ≡ Ok message → message_at kind elements ≡ Ok message
+whole_again : (kind : BssmapType) (elements : List ℕ) (es : List Element) (message : Bssmap) →
+    AreElements ELEMENTS elements es false → content_at kind es ≡ Ok message → message_at kind elements ≡ Ok message
 unfolding message_at elements_of breaks_off
 whole_again kind elements es message are e =
     ap (λ (w : Finding). cond w.is_cut (Err Short) (content_at kind w.elements)) (walk_only ELEMENTS elements es false are) ∙ e
 
-management_with : (size : ℕ) (rest : List ℕ) (octet : ℕ) (elements : List ℕ) (kind : BssmapType) (message : Bssmap) → take size rest ≡ octet ∷ elements → bssmap_type octet ≡ Some kind
+management_with : (size : ℕ) (rest : List ℕ) (octet : ℕ) (elements : List ℕ) (kind : BssmapType) (message : Bssmap) →
+    take size rest ≡ octet ∷ elements → bssmap_type octet ≡ Some kind
     → ltb (length rest) size ≡ false → message_at kind elements ≡ Ok message → management_at (size ∷ rest) ≡ Ok (Management message)
 unfolding management_at octet_at
 management_with size rest octet elements kind message front type long whole = rw (front, type, long, whole) refl
@@ -65,11 +67,13 @@ management_again octets message m =
     ∙ management_with (length m.body) (m.body ++ m.more) (bssmap_octet kind) t.elements kind message (take_at m.body m.more (length m.body) refl ∙ t.is) (type_again kind) (le-ltb (length (m.body ++ m.more)) (length m.body) (omega (arith, length-append m.body m.more)))
     (whole_again kind t.elements t.found message t.are (content_again message t.found t.carries t.layer3))
 
-transfer_with : (dlci : ℕ) (message more : List ℕ) → is_dlci dlci ≡ true → layer3_at message ≡ Ok message → transfer_at (dlci ∷ (counted_text message ++ more)) ≡ Ok (Transfer dlci message)
+transfer_with : (dlci : ℕ) (message more : List ℕ) → is_dlci dlci ≡ true → layer3_at message ≡ Ok message →
+    transfer_at (dlci ∷ (counted_text message ++ more)) ≡ Ok (Transfer dlci message)
 unfolding transfer_at octet_at
 transfer_with dlci message more link layer3 = rw (link, split_again message more, layer3) refl
 
-transfer_again : (octets : List ℕ) (dlci : ℕ) (message : List ℕ) → IsTransfer octets dlci message → bssap_reading octets ≡ Ok (Transfer dlci message)
+transfer_again : (octets : List ℕ) (dlci : ℕ) (message : List ℕ) → IsTransfer octets dlci message →
+    bssap_reading octets ≡ Ok (Transfer dlci message)
 unfolding bssap_reading octet_at
 transfer_again octets dlci message t = ap bssap_reading t.is ∙ transfer_with dlci message t.more t.link (layer3_again message t.layer3)
 
@@ -83,7 +87,9 @@ octet_is : (octet : ℕ) (kind : BssmapType) → bssmap_type octet ≡ Some kind
 unfolding bssmap_type
 octet_is octet kind e = sym (eqb-true (bssmap_octet kind) octet (found_is (λ k. eqb (bssmap_octet k) octet) BSSMAP_TYPES kind e))
 
-whole_ok : (kind : BssmapType) (elements : List ℕ) (message : Bssmap) → AreOctets elements → message_at kind elements ≡ Ok message → (w : AreWhole elements (elements_of elements)) × IsContent kind (elements_of elements) message
+whole_ok : (kind : BssmapType) (elements : List ℕ) (message : Bssmap) → AreOctets elements →
+    message_at kind elements ≡ Ok message →
+    (w : AreWhole elements (elements_of elements)) × IsContent kind (elements_of elements) message
 unfolding message_at elements_of breaks_off
 whole_ok kind elements message fits e =
     let finding = walk ELEMENTS elements in
@@ -92,7 +98,8 @@ whole_ok kind elements message fits e =
     let w : AreWhole elements finding.elements = record { fits = fits; are = are } in
     (w, content_ok kind elements finding.elements message w g.1)
 
-text_of : (kind : BssmapType) (body elements : List ℕ) (octet : ℕ) (message : Bssmap) → body ≡ octet ∷ elements → octet ≡ bssmap_octet kind → AreOctets elements → message_at kind elements ≡ Ok message → IsBssmap body message
+text_of : (kind : BssmapType) (body elements : List ℕ) (octet : ℕ) (message : Bssmap) → body ≡ octet ∷ elements →
+    octet ≡ bssmap_octet kind → AreOctets elements → message_at kind elements ≡ Ok message → IsBssmap body message
 text_of kind body elements octet message is octet-is fits e =
     let c = whole_ok kind elements message fits e in
     record {
@@ -105,7 +112,8 @@ text_of kind body elements octet message is octet-is fits e =
     }
 
 -- a length octet, and what it counts, split off
-counted_is : (size : ℕ) (rest : List ℕ) (p : List ℕ × List ℕ) → split_at Short size rest ≡ Ok p → (length p.0 ≡ size) × (size ∷ rest ≡ counted_text p.0 ++ p.1)
+counted_is : (size : ℕ) (rest : List ℕ) (p : List ℕ × List ℕ) → split_at Short size rest ≡ Ok p →
+    (length p.0 ≡ size) × (size ∷ rest ≡ counted_text p.0 ++ p.1)
 counted_is size rest p e =
     let s = split_ok Short size rest p e in
     let long : length p.0 ≡ size = omega (arith, length-take size rest, ap length s.front, s.long) in
@@ -113,7 +121,8 @@ counted_is size rest p e =
     sym (take-append-drop size rest) ∙ ap (λ (xs : List ℕ). xs ++ drop size rest) s.front ∙ ap (λ (xs : List ℕ). p.0 ++ xs) s.back in
     (long, ap (λ (n : ℕ). n ∷ rest) (sym long) ∙ ap (λ (xs : List ℕ). length p.0 ∷ xs) parts)
 
-management_ok : (octets rest : List ℕ) (message : Bssap) → octets ≡ MANAGEMENT ∷ rest → AreOctets rest → management_at rest ≡ Ok message → IsBssap octets message
+management_ok : (octets rest : List ℕ) (message : Bssap) → octets ≡ MANAGEMENT ∷ rest → AreOctets rest →
+    management_at rest ≡ Ok message → IsBssap octets message
 unfolding management_at
 management_ok octets rest message is fits e =
     let a = bind_ok (octet_at Short rest) _ message e in
@@ -145,7 +154,8 @@ dlci_by false octet dlci e = absurd cc
 dlci_ok : (octet dlci : ℕ) → ok_or (dlci_of octet) UnknownType ≡ Ok dlci → (is_dlci octet ≡ true) × (octet ≡ dlci)
 dlci_ok octet dlci e = dlci_by (is_dlci octet) octet dlci (ok_or_ok (dlci_of octet) UnknownType dlci e)
 
-transfer_ok : (octets rest : List ℕ) (message : Bssap) → octets ≡ TRANSFER ∷ rest → AreOctets rest → transfer_at rest ≡ Ok message → IsBssap octets message
+transfer_ok : (octets rest : List ℕ) (message : Bssap) → octets ≡ TRANSFER ∷ rest → AreOctets rest →
+    transfer_at rest ≡ Ok message → IsBssap octets message
 unfolding transfer_at
 transfer_ok octets rest message is fits e =
     let a = bind_ok (octet_at Short rest) _ message e in

@@ -36,7 +36,8 @@ octet_again : (id : ℕ) (es : List Element) (octet : ℕ) → first_of id es �
 unfolding needed_octet octet_at
 octet_again id es octet h = rw (needed_again id es (octet ∷ []) h) refl
 
-rr_again : (es : List Element) (rr_cause : Option RrCause) → first_of RR_CAUSE es ≡ option_map (λ c. c.0 ∷ []) rr_cause → rr_cause_in es ≡ Ok rr_cause
+rr_again : (es : List Element) (rr_cause : Option RrCause) →
+    first_of RR_CAUSE es ≡ option_map (λ c. c.0 ∷ []) rr_cause → rr_cause_in es ≡ Ok rr_cause
 unfolding rr_cause_in octet_at
 rr_again es None h = ap rr_cause_by h
 rr_again es (Some cause) h = ap rr_cause_by h
@@ -49,7 +50,8 @@ cause_again : (es : List Element) (cause : Cause) → first_of CAUSE es ≡ Some
 unfolding cause_at
 cause_again es cause h = rw (needed_again CAUSE es cause.0 h) refl
 
-pub content_again : (message : Bssmap) (es : List Element) → Carries es (fields message) → HasLayer3 message → content_at (type_of message) es ≡ Ok message
+pub content_again : (message : Bssmap) (es : List Element) → Carries es (fields message) → HasLayer3 message →
+    content_at (type_of message) es ≡ Ok message
 unfolding assignment_request_at assignment_complete_at assignment_failure_at handover_performed_at reject_at complete_layer3_at
 content_again (AssignmentRequest channel) es has layer3 = rw (needed_again CHANNEL_TYPE es channel.0 has.0) refl
 content_again (AssignmentComplete rr_cause) es has layer3 = rw (rr_again es rr_cause has.0) refl
@@ -90,7 +92,8 @@ alone : (octets rest : List ℕ) (octet : ℕ) → octets ≡ octet ∷ rest →
 alone octets [] octet is one = is
 alone octets (x ∷ rest) octet is one = absurd (omega (arith, ap length is))
 
-dlci_ok : (octets : List ℕ) (es : List Element) (octet : ℕ) → AreWhole octets es → needed_octet DLCI es ≡ Ok octet → first_of DLCI es ≡ Some (octet ∷ [])
+dlci_ok : (octets : List ℕ) (es : List Element) (octet : ℕ) → AreWhole octets es → needed_octet DLCI es ≡ Ok octet →
+    first_of DLCI es ≡ Some (octet ∷ [])
 unfolding needed_octet
 dlci_ok octets es octet w e =
     let a = bind_ok (needed_value DLCI es) _ octet e in
@@ -100,7 +103,9 @@ dlci_ok octets es octet w e =
     let one : length a.0 ≡ 1 = one_octet sized.fits.format (length a.0) sized.fits.known sized.fits.size in
     found ∙ ap (λ (xs : List ℕ). Some xs) (alone a.0 b.0.1 b.0.0 (octet_ok Short a.0 b.0 b.1) one) ∙ ap (λ (n : ℕ). Some (n ∷ [])) (ok_is {A = ℕ} {F = InterfaceFault} b.0.0 octet b.2)
 
-rr_by_ok : (octets : List ℕ) (es : List Element) (found : Option (List ℕ)) (rr_cause : Option RrCause) → AreWhole octets es → first_of RR_CAUSE es ≡ found → rr_cause_by found ≡ Ok rr_cause → found ≡ option_map (λ c. c.0 ∷ []) rr_cause
+rr_by_ok : (octets : List ℕ) (es : List Element) (found : Option (List ℕ)) (rr_cause : Option RrCause) →
+    AreWhole octets es → first_of RR_CAUSE es ≡ found → rr_cause_by found ≡ Ok rr_cause →
+    found ≡ option_map (λ c. c.0 ∷ []) rr_cause
 rr_by_ok octets es None rr_cause w is e = ap (λ (r : Option RrCause). option_map (λ c. c.0 ∷ []) r) (ok_is {A = Option RrCause} {F = InterfaceFault} None rr_cause e)
 rr_by_ok octets es (Some value) rr_cause w is e =
     let b = bind_ok (octet_at Short value) _ rr_cause e in
@@ -109,7 +114,8 @@ rr_by_ok octets es (Some value) rr_cause w is e =
     ap (λ (xs : List ℕ). Some xs) (alone value b.0.1 b.0.0 (octet_ok Short value b.0 b.1) one)
     ∙ ap (λ (r : Option RrCause). option_map (λ c. c.0 ∷ []) r) (ok_is {A = Option RrCause} {F = InterfaceFault} (Some (rr_cause_of b.0.0)) rr_cause b.2)
 
-rr_ok : (octets : List ℕ) (es : List Element) (rr_cause : Option RrCause) → AreWhole octets es → rr_cause_in es ≡ Ok rr_cause → first_of RR_CAUSE es ≡ option_map (λ c. c.0 ∷ []) rr_cause
+rr_ok : (octets : List ℕ) (es : List Element) (rr_cause : Option RrCause) → AreWhole octets es →
+    rr_cause_in es ≡ Ok rr_cause → first_of RR_CAUSE es ≡ option_map (λ c. c.0 ∷ []) rr_cause
 unfolding rr_cause_in
 rr_ok octets es rr_cause w e = rr_by_ok octets es (first_of RR_CAUSE es) rr_cause w refl e
 
@@ -117,7 +123,8 @@ pub record IsLayer3Of (value message : List ℕ) : Type 0 where
   pub is : value ≡ message
   pub layer3 : IsLayer3 message
 
-layer3_by_ok : (fault : Option InterfaceFault) (value message : List ℕ) → layer3_by fault value ≡ Ok message → (fault ≡ None) × (value ≡ message)
+layer3_by_ok : (fault : Option InterfaceFault) (value message : List ℕ) → layer3_by fault value ≡ Ok message →
+    (fault ≡ None) × (value ≡ message)
 layer3_by_ok None value message e = (refl, ok_is {A = List ℕ} {F = InterfaceFault} value message e)
 layer3_by_ok (Some fault) value message e = absurd cc
 
@@ -133,10 +140,12 @@ pub record IsContent (kind : BssmapType) (es : List Element) (message : Bssmap) 
   pub carries : Carries es (fields message)
   pub layer3 : HasLayer3 message
 
-along : (kind : BssmapType) (es : List Element) (m message : Bssmap) → (let r : Result Bssmap InterfaceFault = Ok m in r) ≡ Ok message → IsContent kind es m → IsContent kind es message
+along : (kind : BssmapType) (es : List Element) (m message : Bssmap) →
+    (let r : Result Bssmap InterfaceFault = Ok m in r) ≡ Ok message → IsContent kind es m → IsContent kind es message
 along kind es m message e is = subst (λ (x : Bssmap). IsContent kind es x) (ok_is {A = Bssmap} {F = InterfaceFault} m message e) is
 
-pub content_ok : (kind : BssmapType) (octets : List ℕ) (es : List Element) (message : Bssmap) → AreWhole octets es → content_at kind es ≡ Ok message → IsContent kind es message
+pub content_ok : (kind : BssmapType) (octets : List ℕ) (es : List Element) (message : Bssmap) → AreWhole octets es →
+    content_at kind es ≡ Ok message → IsContent kind es message
 unfolding assignment_request_at assignment_complete_at assignment_failure_at handover_performed_at reject_at complete_layer3_at
 content_ok kinds.AssignmentRequest octets es message w e =
     let a = bind_ok (needed_value CHANNEL_TYPE es) _ message e in

@@ -33,7 +33,8 @@ pub record IsReferred (octets : List ℕ) (p : ℕ × List ℕ) : Type 0 where
   pub fits : IsReference p.0
   pub octets_rest : AreOctets p.1
 
-three : (a b c : ℕ) (octets rest : List ℕ) → a < 256 → b < 256 → c < 256 → octets ≡ a ∷ b ∷ c ∷ rest → AreOctets rest → IsReferred octets (a * 65536 + b * 256 + c, rest)
+three : (a b c : ℕ) (octets rest : List ℕ) → a < 256 → b < 256 → c < 256 → octets ≡ a ∷ b ∷ c ∷ rest → AreOctets rest →
+    IsReferred octets (a * 65536 + b * 256 + c, rest)
 three a b c octets rest ha hb hc is fits =
     let first : (a * 65536 + b * 256 + c) / 65536 ≡ a = omega arith in
     let second : ((a * 65536 + b * 256 + c) / 256) % 256 ≡ b = omega arith in
@@ -57,7 +58,8 @@ reference_ok octets p fits e =
     subst (IsReferred octets) (ok_is {A = ℕ × List ℕ} {F = InterfaceFault} (a.0.0 * 65536 + b.0.0 * 256 + c.0.0, c.0.1) p c.2)
     (three a.0.0 b.0.0 c.0.0 octets c.0.1 (octet_first a.0.0 a.0.1 octets ia fits) (octet_first b.0.0 b.0.1 a.0.1 ib fa) (octet_first c.0.0 c.0.1 b.0.1 ic fb) is fc)
 
-pub references_again : (octets : List ℕ) (destination source : ℕ) (more : List ℕ) → AreReferences octets destination source more → references_at octets ≡ Ok (destination, source, more)
+pub references_again : (octets : List ℕ) (destination source : ℕ) (more : List ℕ) →
+    AreReferences octets destination source more → references_at octets ≡ Ok (destination, source, more)
 unfolding references_at
 references_again octets destination source more r =
     let is : octets ≡ reference_text destination ++ (reference_text source ++ more) = r.is ∙ append_assoc (reference_text destination) (reference_text source) more in
@@ -90,7 +92,8 @@ counted-text value more =
 pub counted_again : (octets value : List ℕ) (c : Counted octets value) → counted_at Short octets ≡ Ok (value, c.more)
 counted_again octets value c = ap (counted_at Short) c.is ∙ counted-text value c.more
 
-pub counted_is : (octets : List ℕ) (p : List ℕ × List ℕ) → AreOctets octets → counted_at Short octets ≡ Ok p → (octets ≡ counted_text p.0 ++ p.1) × (length p.0 ≤ LENGTH_LIMIT)
+pub counted_is : (octets : List ℕ) (p : List ℕ × List ℕ) → AreOctets octets → counted_at Short octets ≡ Ok p →
+    (octets ≡ counted_text p.0 ++ p.1) × (length p.0 ≤ LENGTH_LIMIT)
 counted_is octets p fits e =
     let c = counted_ok Short octets p e in
     let long : length p.0 ≡ c.size = omega (arith, length-take c.size c.rest, ap length c.split.front, c.split.long) in

@@ -7,7 +7,8 @@ use Rattle.octets.specs.declared.limits.TheConstants.{MESSAGE_LIMIT}
 use Rattle.bssmap_codec.specs.Layer3.{IsLayer3, layer3_fault}
 
 -- what a test lets through
-pub chosen : (b : Bool) (fault : InterfaceFault) (later : Option InterfaceFault) → cond b (Some fault) later ≡ None → (b ≡ false) × (later ≡ None)
+pub chosen : (b : Bool) (fault : InterfaceFault) (later : Option InterfaceFault) → cond b (Some fault) later ≡ None →
+    (b ≡ false) × (later ≡ None)
 chosen true fault later e = absurd cc
 chosen false fault later e = (refl, e)
 

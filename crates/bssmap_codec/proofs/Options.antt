@@ -19,7 +19,8 @@ behind-shorter id octets f e =
     let is = some_is (id, a.0.0, a.0.1) f a.2 in
     omega (arith, counted-shorter octets a.0 a.1, ap (λ (g : ℕ × List ℕ × List ℕ). length g.2) is)
 
-cond-shorter : (b : Bool) (id : ℕ) (octets : List ℕ) (f : ℕ × List ℕ × List ℕ) → cond b (Ok None) (option_behind id octets) ≡ Ok (Some f) → length f.2 < length octets
+cond-shorter : (b : Bool) (id : ℕ) (octets : List ℕ) (f : ℕ × List ℕ × List ℕ) →
+    cond b (Ok None) (option_behind id octets) ≡ Ok (Some f) → length f.2 < length octets
 cond-shorter true id octets f e = absurd cc
 cond-shorter false id octets f e = behind-shorter id octets f e
 
@@ -30,7 +31,8 @@ option-shorter [] f e = absurd cc
 option-shorter (id ∷ octets) f e = omega (arith, cond-shorter (eqb id END_OF_OPTIONS) id octets f e)
 
 -- two ways to go on that agree behind the front
-same_by : (front : Result Front InterfaceFault) (go on : List ℕ → Result (Option (List ℕ)) InterfaceFault) → ((f : ℕ × List ℕ × List ℕ) → front ≡ Ok (Some f) → go f.2 ≡ on f.2) → data_by front go ≡ data_by front on
+same_by : (front : Result Front InterfaceFault) (go on : List ℕ → Result (Option (List ℕ)) InterfaceFault) →
+    ((f : ℕ × List ℕ × List ℕ) → front ≡ Ok (Some f) → go f.2 ≡ on f.2) → data_by front go ≡ data_by front on
 same_by (Err e) go on h = refl
 same_by (Ok None) go on h = refl
 same_by (Ok (Some f)) go on h = ap (λ (r : Result (Option (List ℕ)) InterfaceFault). cond (eqb f.0 USER_DATA) (Ok (Some f.1)) r) (h f refl)
@@ -55,13 +57,17 @@ data-front (x ∷ octets) front e =
     ∙ ap (λ r. data_by r (λ rest. data_within (length rest) rest)) e
 
 -- what the loop keeps
-pub data-kept : (octets : List ℕ) (front : Result Front InterfaceFault) (whole : Result (Option (List ℕ)) InterfaceFault) → front ≡ option_at octets → data_in octets ≡ whole → data_by front data_in ≡ whole
+pub data-kept : (octets : List ℕ) (front : Result Front InterfaceFault)
+    (whole : Result (Option (List ℕ)) InterfaceFault) → front ≡ option_at octets → data_in octets ≡ whole →
+    data_by front data_in ≡ whole
 data-kept octets front whole e so_far = sym (data-front octets front (sym e)) ∙ so_far
 
-pub data-here : (id : ℕ) (value rest octets : List ℕ) (whole : Result (Option (List ℕ)) InterfaceFault) → Ok (Some (id, value, rest)) ≡ option_at octets → data_in octets ≡ whole → id ≡ USER_DATA → Ok (Some value) ≡ whole
+pub data-here : (id : ℕ) (value rest octets : List ℕ) (whole : Result (Option (List ℕ)) InterfaceFault) →
+    Ok (Some (id, value, rest)) ≡ option_at octets → data_in octets ≡ whole → id ≡ USER_DATA → Ok (Some value) ≡ whole
 data-here id value rest octets whole e so_far is =
     ap (λ b. cond b (Ok (Some value)) (data_in rest)) (sym (eq-eqb id USER_DATA is)) ∙ data-kept octets (Ok (Some (id, value, rest))) whole e so_far
 
-pub data-on : (id : ℕ) (value rest octets : List ℕ) (whole : Result (Option (List ℕ)) InterfaceFault) → Ok (Some (id, value, rest)) ≡ option_at octets → data_in octets ≡ whole → id ≢ USER_DATA → data_in rest ≡ whole
+pub data-on : (id : ℕ) (value rest octets : List ℕ) (whole : Result (Option (List ℕ)) InterfaceFault) →
+    Ok (Some (id, value, rest)) ≡ option_at octets → data_in octets ≡ whole → id ≢ USER_DATA → data_in rest ≡ whole
 data-on id value rest octets whole e so_far is =
     ap (λ b. cond b (Ok (Some value)) (data_in rest)) (sym (ne_eqb id USER_DATA is)) ∙ data-kept octets (Ok (Some (id, value, rest))) whole e so_far

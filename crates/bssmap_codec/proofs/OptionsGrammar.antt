@@ -18,7 +18,8 @@ use Rattle.bssmap_codec.proofs.Options.{data-front}
 
 -- ---- options are read
 
-option-text : (id : ℕ) (value rest : List ℕ) → id ≢ END_OF_OPTIONS → option_at (id ∷ (counted_text value ++ rest)) ≡ Ok (Some (id, value, rest))
+option-text : (id : ℕ) (value rest : List ℕ) → id ≢ END_OF_OPTIONS →
+    option_at (id ∷ (counted_text value ++ rest)) ≡ Ok (Some (id, value, rest))
 unfolding option_at
 option-text id value rest ne = rw (ne_eqb id END_OF_OPTIONS ne, counted-text value rest) refl
 
@@ -36,7 +37,8 @@ options_again octets user (other id value rest user' ne apart short behind) =
 
 -- ---- what is read are options
 
-behind_is : (id : ℕ) (rest : List ℕ) (user : Option (List ℕ)) (go : List ℕ → Result (Option (List ℕ)) InterfaceFault) (r : Result (List ℕ × List ℕ) InterfaceFault) → AreOctets rest → id ≢ END_OF_OPTIONS → counted_at Short rest ≡ r
+behind_is : (id : ℕ) (rest : List ℕ) (user : Option (List ℕ)) (go : List ℕ → Result (Option (List ℕ)) InterfaceFault)
+    (r : Result (List ℕ × List ℕ) InterfaceFault) → AreOctets rest → id ≢ END_OF_OPTIONS → counted_at Short rest ≡ r
     → ((p : List ℕ × List ℕ) → counted_at Short rest ≡ Ok p → go p.1 ≡ Ok user → Options p.1 user)
     → data_by (r >>= (λ value. Ok (Some (id, value.0, value.1)))) go ≡ Ok user → Options (id ∷ rest) user
 behind_is id rest user go (Err d) fits ne is on e = absurd cc
@@ -54,10 +56,12 @@ behind_is id rest user go (Ok p) fits ne is on e =
           subst (λ (xs : List ℕ). Options (id ∷ xs) user) (sym text.0) (other id p.0 p.1 user ne apart text.1 (on p is there))
     ]
 
-none_is : (octets : List ℕ) (user : Option (List ℕ)) → Options octets None → (let r : Result (Option (List ℕ)) InterfaceFault = Ok None in r) ≡ Ok user → Options octets user
+none_is : (octets : List ℕ) (user : Option (List ℕ)) → Options octets None →
+    (let r : Result (Option (List ℕ)) InterfaceFault = Ok None in r) ≡ Ok user → Options octets user
 none_is octets user o e = let is = ok_is {A = Option (List ℕ)} {F = InterfaceFault} None user e in subst (λ (u : Option (List ℕ)). Options octets u) is o
 
-options_within : (n : ℕ) (octets : List ℕ) (user : Option (List ℕ)) → length octets ≤ n → AreOctets octets → data_within n octets ≡ Ok user → Options octets user
+options_within : (n : ℕ) (octets : List ℕ) (user : Option (List ℕ)) → length octets ≤ n → AreOctets octets →
+    data_within n octets ≡ Ok user → Options octets user
 unfolding option_at
 options_within zero [] user le fits e = none_is [] user over e
 options_within zero (x ∷ octets) user le fits e = absurd (omega arith)
@@ -87,7 +91,8 @@ pub user_none : (rest : List ℕ) → user_data_at NO_PART (NO_PART ∷ rest) �
 unfolding user_data_at
 user_none rest = refl
 
-pub user_again : (octets : List ℕ) (user : Option (List ℕ)) (p : PointsToOptions octets user) → user_data_at p.points.pointer octets ≡ Ok user
+pub user_again : (octets : List ℕ) (user : Option (List ℕ)) (p : PointsToOptions octets user) →
+    user_data_at p.points.pointer octets ≡ Ok user
 unfolding user_data_at
 user_again octets user p =
     let forward = p.points.forward in
@@ -95,7 +100,8 @@ user_again octets user p =
     rw (ne_eqb p.points.pointer NO_PART ne, part_again p.points.pointer octets p.points.forward p.points.within)
     (ap data_in p.points.leads ∙ options_again p.part user p.options)
 
-pub user_ok : (pointer : ℕ) (rest : List ℕ) (user : Option (List ℕ)) → AreOctets (pointer ∷ rest) → user_data_at pointer (pointer ∷ rest) ≡ Ok user → HasOptions (pointer ∷ rest) user
+pub user_ok : (pointer : ℕ) (rest : List ℕ) (user : Option (List ℕ)) → AreOctets (pointer ∷ rest) →
+    user_data_at pointer (pointer ∷ rest) ≡ Ok user → HasOptions (pointer ∷ rest) user
 unfolding user_data_at
 user_ok pointer rest user fits e =
     elim (cases_eq pointer NO_PART) [

@@ -42,189 +42,189 @@ no_other_element = refl
 -- ---- SCCP, read
 
 request : sccp_reading (hex "01 01 02 03 02 02 04 02 42 fe 0f 03 00 01 21 00") ≡ Ok (ConnectionRequest 0x010203 (Some (hex "00 01 21")))
-unfolding sccp_reading octet_at sccp_type reference_at references_at fixed_references_at refused_at request_at part_at counted_at user_data_at data_in option_at data_behind_at data_form_at
+unfolding sccp_reading octet_at sccp_type reference_at request_at part_at counted_at user_data_at data_in option_at
 request = refl
 
 -- a pointer 0 to the options
 request_without_options : sccp_reading (hex "01 01 02 03 02 02 00 02 42 fe") ≡ Ok (ConnectionRequest 0x010203 None)
-unfolding sccp_reading octet_at sccp_type reference_at references_at fixed_references_at refused_at request_at part_at counted_at user_data_at data_in option_at data_behind_at data_form_at
+unfolding sccp_reading octet_at sccp_type reference_at request_at part_at counted_at user_data_at data_in option_at
 request_without_options = refl
 
 request_of_another_class : sccp_reading (hex "01 01 02 03 03 02 00 02 42 fe") ≡ Ok (ConnectionRequest 0x010203 None)
-unfolding sccp_reading octet_at sccp_type reference_at references_at fixed_references_at refused_at request_at part_at counted_at user_data_at data_in option_at data_behind_at data_form_at
+unfolding sccp_reading octet_at sccp_type reference_at request_at part_at counted_at user_data_at data_in option_at
 request_of_another_class = refl
 
 -- the options before the called address
 request_with_parts_exchanged : sccp_reading (hex "01 01 02 03 02 06 01 0f 01 05 00 01 fe")
     ≡ Ok (ConnectionRequest 0x010203 (Some (hex "05")))
-unfolding sccp_reading octet_at sccp_type reference_at references_at fixed_references_at refused_at request_at part_at counted_at user_data_at data_in option_at data_behind_at data_form_at
+unfolding sccp_reading octet_at sccp_type reference_at request_at part_at counted_at user_data_at data_in option_at
 request_with_parts_exchanged = refl
 
 another_option_before_data : sccp_reading (hex "01 01 02 03 02 02 04 02 42 fe 04 01 77 0f 02 05 24 00")
     ≡ Ok (ConnectionRequest 0x010203 (Some (hex "05 24")))
-unfolding sccp_reading octet_at sccp_type reference_at references_at fixed_references_at refused_at request_at part_at counted_at user_data_at data_in option_at data_behind_at data_form_at
+unfolding sccp_reading octet_at sccp_type reference_at request_at part_at counted_at user_data_at data_in option_at
 another_option_before_data = refl
 
 nothing_is_looked_at_behind_data : sccp_reading (hex "01 01 02 03 02 02 04 02 42 fe 0f 01 05 04 09")
     ≡ Ok (ConnectionRequest 0x010203 (Some (hex "05")))
-unfolding sccp_reading octet_at sccp_type reference_at references_at fixed_references_at refused_at request_at part_at counted_at user_data_at data_in option_at data_behind_at data_form_at
+unfolding sccp_reading octet_at sccp_type reference_at request_at part_at counted_at user_data_at data_in option_at
 nothing_is_looked_at_behind_data = refl
 
 data_of_no_octets : sccp_reading (hex "01 01 02 03 02 02 04 02 42 fe 0f 00 00") ≡ Ok (ConnectionRequest 0x010203 (Some []))
-unfolding sccp_reading octet_at sccp_type reference_at references_at fixed_references_at refused_at request_at part_at counted_at user_data_at data_in option_at data_behind_at data_form_at
+unfolding sccp_reading octet_at sccp_type reference_at request_at part_at counted_at user_data_at data_in option_at
 data_of_no_octets = refl
 
 options_end_with_the_octets : sccp_reading (hex "01 01 02 03 02 02 04 02 42 fe 04 01 77") ≡ Ok (ConnectionRequest 0x010203 None)
-unfolding sccp_reading octet_at sccp_type reference_at references_at fixed_references_at refused_at request_at part_at counted_at user_data_at data_in option_at data_behind_at data_form_at
+unfolding sccp_reading octet_at sccp_type reference_at request_at part_at counted_at user_data_at data_in option_at
 options_end_with_the_octets = refl
 
 options_end_before_data : sccp_reading (hex "01 01 02 03 02 02 04 02 42 fe 04 01 77 00 0f 01 05") ≡ Ok (ConnectionRequest 0x010203 None)
-unfolding sccp_reading octet_at sccp_type reference_at references_at fixed_references_at refused_at request_at part_at counted_at user_data_at data_in option_at data_behind_at data_form_at
+unfolding sccp_reading octet_at sccp_type reference_at request_at part_at counted_at user_data_at data_in option_at
 options_end_before_data = refl
 
 pointer_to_the_end_of_options : sccp_reading (hex "01 01 02 03 02 02 04 02 42 fe 00") ≡ Ok (ConnectionRequest 0x010203 None)
-unfolding sccp_reading octet_at sccp_type reference_at references_at fixed_references_at refused_at request_at part_at counted_at user_data_at data_in option_at data_behind_at data_form_at
+unfolding sccp_reading octet_at sccp_type reference_at request_at part_at counted_at user_data_at data_in option_at
 pointer_to_the_end_of_options = refl
 
 option_cut : sccp_reading (hex "01 01 02 03 02 02 04 02 42 fe 04 03 77") ≡ Err Short
-unfolding sccp_reading octet_at sccp_type reference_at references_at fixed_references_at refused_at request_at part_at counted_at user_data_at data_in option_at data_behind_at data_form_at
+unfolding sccp_reading octet_at sccp_type reference_at request_at part_at counted_at user_data_at data_in option_at
 option_cut = refl
 
 option_without_length : sccp_reading (hex "01 01 02 03 02 02 04 02 42 fe 04") ≡ Err Short
-unfolding sccp_reading octet_at sccp_type reference_at references_at fixed_references_at refused_at request_at part_at counted_at user_data_at data_in option_at data_behind_at data_form_at
+unfolding sccp_reading octet_at sccp_type reference_at request_at part_at counted_at user_data_at data_in option_at
 option_without_length = refl
 
 data_cut : sccp_reading (hex "01 01 02 03 02 02 04 02 42 fe 0f 03 05") ≡ Err Short
-unfolding sccp_reading octet_at sccp_type reference_at references_at fixed_references_at refused_at request_at part_at counted_at user_data_at data_in option_at data_behind_at data_form_at
+unfolding sccp_reading octet_at sccp_type reference_at request_at part_at counted_at user_data_at data_in option_at
 data_cut = refl
 
 options_pointer_past_the_end : sccp_reading (hex "01 01 02 03 02 02 04 02 42 fe") ≡ Err BadPointer
-unfolding sccp_reading octet_at sccp_type reference_at references_at fixed_references_at refused_at request_at part_at counted_at user_data_at data_in option_at data_behind_at data_form_at
+unfolding sccp_reading octet_at sccp_type reference_at request_at part_at counted_at user_data_at data_in option_at
 options_pointer_past_the_end = refl
 
 address_pointer_0 : sccp_reading (hex "01 01 02 03 02 00 00 02 42 fe") ≡ Err BadPointer
-unfolding sccp_reading octet_at sccp_type reference_at references_at fixed_references_at refused_at request_at part_at counted_at user_data_at data_in option_at data_behind_at data_form_at
+unfolding sccp_reading octet_at sccp_type reference_at request_at part_at counted_at user_data_at data_in option_at
 address_pointer_0 = refl
 
 address_pointer_past_the_end : sccp_reading (hex "01 01 02 03 02 05 00 02 42 fe") ≡ Err BadPointer
-unfolding sccp_reading octet_at sccp_type reference_at references_at fixed_references_at refused_at request_at part_at counted_at user_data_at data_in option_at data_behind_at data_form_at
+unfolding sccp_reading octet_at sccp_type reference_at request_at part_at counted_at user_data_at data_in option_at
 address_pointer_past_the_end = refl
 
 address_cut : sccp_reading (hex "01 01 02 03 02 04 00 02 42 fe") ≡ Err Short
-unfolding sccp_reading octet_at sccp_type reference_at references_at fixed_references_at refused_at request_at part_at counted_at user_data_at data_in option_at data_behind_at data_form_at
+unfolding sccp_reading octet_at sccp_type reference_at request_at part_at counted_at user_data_at data_in option_at
 address_cut = refl
 
 address_cut_before_options_pointer : sccp_reading (hex "01 01 02 03 02 04 09 02 42 fe") ≡ Err Short
-unfolding sccp_reading octet_at sccp_type reference_at references_at fixed_references_at refused_at request_at part_at counted_at user_data_at data_in option_at data_behind_at data_form_at
+unfolding sccp_reading octet_at sccp_type reference_at request_at part_at counted_at user_data_at data_in option_at
 address_cut_before_options_pointer = refl
 
 address_pointer_before_option_cut : sccp_reading (hex "01 01 02 03 02 09 04 02 42 fe 04 03") ≡ Err BadPointer
-unfolding sccp_reading octet_at sccp_type reference_at references_at fixed_references_at refused_at request_at part_at counted_at user_data_at data_in option_at data_behind_at data_form_at
+unfolding sccp_reading octet_at sccp_type reference_at request_at part_at counted_at user_data_at data_in option_at
 address_pointer_before_option_cut = refl
 
 request_without_options_pointer : sccp_reading (hex "01 01 02 03 02 00") ≡ Err Short
-unfolding sccp_reading octet_at sccp_type reference_at references_at fixed_references_at refused_at request_at part_at counted_at user_data_at data_in option_at data_behind_at data_form_at
+unfolding sccp_reading octet_at sccp_type reference_at request_at part_at counted_at user_data_at data_in option_at
 request_without_options_pointer = refl
 
 confirm : sccp_reading (hex "02 01 02 03 80 00 04 02 00") ≡ Ok (ConnectionConfirm 0x010203 0x800004)
-unfolding sccp_reading octet_at sccp_type reference_at references_at fixed_references_at refused_at request_at part_at counted_at user_data_at data_in option_at data_behind_at data_form_at
+unfolding sccp_reading octet_at sccp_type reference_at references_at fixed_references_at
 confirm = refl
 
 confirm_of_another_class : sccp_reading (hex "02 01 02 03 80 00 04 03 09 77") ≡ Ok (ConnectionConfirm 0x010203 0x800004)
-unfolding sccp_reading octet_at sccp_type reference_at references_at fixed_references_at refused_at request_at part_at counted_at user_data_at data_in option_at data_behind_at data_form_at
+unfolding sccp_reading octet_at sccp_type reference_at references_at fixed_references_at
 confirm_of_another_class = refl
 
 confirm_without_pointer : sccp_reading (hex "02 01 02 03 80 00 04 02") ≡ Err Short
-unfolding sccp_reading octet_at sccp_type reference_at references_at fixed_references_at refused_at request_at part_at counted_at user_data_at data_in option_at data_behind_at data_form_at
+unfolding sccp_reading octet_at sccp_type reference_at references_at fixed_references_at
 confirm_without_pointer = refl
 
 refused : sccp_reading (hex "03 01 02 03 00 00") ≡ Ok (ConnectionRefused 0x010203)
-unfolding sccp_reading octet_at sccp_type reference_at references_at fixed_references_at refused_at request_at part_at counted_at user_data_at data_in option_at data_behind_at data_form_at
+unfolding sccp_reading octet_at sccp_type reference_at refused_at
 refused = refl
 
 refused_for_another_cause : sccp_reading (hex "03 01 02 03 05 09") ≡ Ok (ConnectionRefused 0x010203)
-unfolding sccp_reading octet_at sccp_type reference_at references_at fixed_references_at refused_at request_at part_at counted_at user_data_at data_in option_at data_behind_at data_form_at
+unfolding sccp_reading octet_at sccp_type reference_at refused_at
 refused_for_another_cause = refl
 
 refused_without_pointer : sccp_reading (hex "03 01 02 03 00") ≡ Err Short
-unfolding sccp_reading octet_at sccp_type reference_at references_at fixed_references_at refused_at request_at part_at counted_at user_data_at data_in option_at data_behind_at data_form_at
+unfolding sccp_reading octet_at sccp_type reference_at refused_at
 refused_without_pointer = refl
 
 released : sccp_reading (hex "04 01 02 03 80 00 04 00 00") ≡ Ok (Released 0x010203 0x800004)
-unfolding sccp_reading octet_at sccp_type reference_at references_at fixed_references_at refused_at request_at part_at counted_at user_data_at data_in option_at data_behind_at data_form_at
+unfolding sccp_reading octet_at sccp_type reference_at references_at fixed_references_at
 released = refl
 
 released_for_another_cause : sccp_reading (hex "04 01 02 03 80 00 04 05 09") ≡ Ok (Released 0x010203 0x800004)
-unfolding sccp_reading octet_at sccp_type reference_at references_at fixed_references_at refused_at request_at part_at counted_at user_data_at data_in option_at data_behind_at data_form_at
+unfolding sccp_reading octet_at sccp_type reference_at references_at fixed_references_at
 released_for_another_cause = refl
 
 released_without_pointer : sccp_reading (hex "04 01 02 03 80 00 04 00") ≡ Err Short
-unfolding sccp_reading octet_at sccp_type reference_at references_at fixed_references_at refused_at request_at part_at counted_at user_data_at data_in option_at data_behind_at data_form_at
+unfolding sccp_reading octet_at sccp_type reference_at references_at fixed_references_at
 released_without_pointer = refl
 
 complete : sccp_reading (hex "05 80 00 04 01 02 03") ≡ Ok (ReleaseComplete 0x800004 0x010203)
-unfolding sccp_reading octet_at sccp_type reference_at references_at fixed_references_at refused_at request_at part_at counted_at user_data_at data_in option_at data_behind_at data_form_at
+unfolding sccp_reading octet_at sccp_type reference_at references_at
 complete = refl
 
 complete_with_more : sccp_reading (hex "05 80 00 04 01 02 03 00") ≡ Ok (ReleaseComplete 0x800004 0x010203)
-unfolding sccp_reading octet_at sccp_type reference_at references_at fixed_references_at refused_at request_at part_at counted_at user_data_at data_in option_at data_behind_at data_form_at
+unfolding sccp_reading octet_at sccp_type reference_at references_at
 complete_with_more = refl
 
 complete_cut : sccp_reading (hex "05 80 00 04 01 02") ≡ Err Short
-unfolding sccp_reading octet_at sccp_type reference_at references_at fixed_references_at refused_at request_at part_at counted_at user_data_at data_in option_at data_behind_at data_form_at
+unfolding sccp_reading octet_at sccp_type reference_at references_at
 complete_cut = refl
 
 data_form : sccp_reading (hex "06 01 02 03 00 01 02 05 24 99") ≡ Ok (DataForm1 0x010203 (hex "05 24"))
-unfolding sccp_reading octet_at sccp_type reference_at references_at fixed_references_at refused_at request_at part_at counted_at user_data_at data_in option_at data_behind_at data_form_at
+unfolding sccp_reading octet_at sccp_type reference_at part_at counted_at data_behind_at data_form_at
 data_form = refl
 
 data_form_with_octets_between : sccp_reading (hex "06 01 02 03 00 03 99 99 02 05 24") ≡ Ok (DataForm1 0x010203 (hex "05 24"))
-unfolding sccp_reading octet_at sccp_type reference_at references_at fixed_references_at refused_at request_at part_at counted_at user_data_at data_in option_at data_behind_at data_form_at
+unfolding sccp_reading octet_at sccp_type reference_at part_at counted_at data_behind_at data_form_at
 data_form_with_octets_between = refl
 
 data_form_of_no_octets : sccp_reading (hex "06 01 02 03 00 01 00") ≡ Ok (DataForm1 0x010203 [])
-unfolding sccp_reading octet_at sccp_type reference_at references_at fixed_references_at refused_at request_at part_at counted_at user_data_at data_in option_at data_behind_at data_form_at
+unfolding sccp_reading octet_at sccp_type reference_at part_at counted_at data_behind_at data_form_at
 data_form_of_no_octets = refl
 
 -- before its pointer is looked at
 data_form_segmented : sccp_reading (hex "06 01 02 03 01 00") ≡ Err UnknownType
-unfolding sccp_reading octet_at sccp_type reference_at references_at fixed_references_at refused_at request_at part_at counted_at user_data_at data_in option_at data_behind_at data_form_at
+unfolding sccp_reading octet_at sccp_type reference_at part_at counted_at data_behind_at data_form_at
 data_form_segmented = refl
 
 data_form_segmented_without_pointer : sccp_reading (hex "06 01 02 03 01") ≡ Err Short
-unfolding sccp_reading octet_at sccp_type reference_at references_at fixed_references_at refused_at request_at part_at counted_at user_data_at data_in option_at data_behind_at data_form_at
+unfolding sccp_reading octet_at sccp_type reference_at part_at counted_at data_behind_at data_form_at
 data_form_segmented_without_pointer = refl
 
 data_pointer_0 : sccp_reading (hex "06 01 02 03 00 00 00") ≡ Err BadPointer
-unfolding sccp_reading octet_at sccp_type reference_at references_at fixed_references_at refused_at request_at part_at counted_at user_data_at data_in option_at data_behind_at data_form_at
+unfolding sccp_reading octet_at sccp_type reference_at part_at counted_at data_behind_at data_form_at
 data_pointer_0 = refl
 
 data_pointer_past_the_end : sccp_reading (hex "06 01 02 03 00 03 01 05") ≡ Err BadPointer
-unfolding sccp_reading octet_at sccp_type reference_at references_at fixed_references_at refused_at request_at part_at counted_at user_data_at data_in option_at data_behind_at data_form_at
+unfolding sccp_reading octet_at sccp_type reference_at part_at counted_at data_behind_at data_form_at
 data_pointer_past_the_end = refl
 
 data_form_without_data : sccp_reading (hex "06 01 02 03 00 01") ≡ Err BadPointer
-unfolding sccp_reading octet_at sccp_type reference_at references_at fixed_references_at refused_at request_at part_at counted_at user_data_at data_in option_at data_behind_at data_form_at
+unfolding sccp_reading octet_at sccp_type reference_at part_at counted_at data_behind_at data_form_at
 data_form_without_data = refl
 
 data_form_cut : sccp_reading (hex "06 01 02 03 00 01 03 05 24") ≡ Err Short
-unfolding sccp_reading octet_at sccp_type reference_at references_at fixed_references_at refused_at request_at part_at counted_at user_data_at data_in option_at data_behind_at data_form_at
+unfolding sccp_reading octet_at sccp_type reference_at part_at counted_at data_behind_at data_form_at
 data_form_cut = refl
 
 nothing : sccp_reading [] ≡ Err Short
-unfolding sccp_reading octet_at sccp_type reference_at references_at fixed_references_at refused_at request_at part_at counted_at user_data_at data_in option_at data_behind_at data_form_at
+unfolding sccp_reading octet_at
 nothing = refl
 
 type_0_alone : sccp_reading (hex "00") ≡ Err UnknownType
-unfolding sccp_reading octet_at sccp_type reference_at references_at fixed_references_at refused_at request_at part_at counted_at user_data_at data_in option_at data_behind_at data_form_at
+unfolding sccp_reading octet_at sccp_type
 type_0_alone = refl
 
 type_7_alone : sccp_reading (hex "07") ≡ Err UnknownType
-unfolding sccp_reading octet_at sccp_type reference_at references_at fixed_references_at refused_at request_at part_at counted_at user_data_at data_in option_at data_behind_at data_form_at
+unfolding sccp_reading octet_at sccp_type
 type_7_alone = refl
 
 request_alone : sccp_reading (hex "01") ≡ Err Short
-unfolding sccp_reading octet_at sccp_type reference_at references_at fixed_references_at refused_at request_at part_at counted_at user_data_at data_in option_at data_behind_at data_form_at
+unfolding sccp_reading octet_at sccp_type reference_at request_at part_at counted_at user_data_at data_in option_at
 request_alone = refl
 
 -- the octets behind the type that each message always has: references, class, cause, pointers
@@ -290,243 +290,243 @@ data_of_256_octets = refl
 -- ---- BSSAP, read
 
 assignment_request : bssap_reading (hex "00 06 01 0b 03 01 08 02") ≡ Ok (Management (AssignmentRequest (channel_of (hex "01 08 02"))))
-unfolding bssap_reading octet_at management_at transfer_at bssmap_type message_at breaks_off elements_of walk needed_value needed_octet rr_cause_in layer3_at cause_at assignment_request_at assignment_complete_at assignment_failure_at handover_performed_at reject_at complete_layer3_at
+unfolding bssap_reading octet_at management_at bssmap_type message_at breaks_off elements_of walk needed_value assignment_request_at
 assignment_request = refl
 
 assignment_complete : bssap_reading (hex "00 03 02 15 07") ≡ Ok (Management (AssignmentComplete (Some (rr_cause_of 0x07))))
-unfolding bssap_reading octet_at management_at transfer_at bssmap_type message_at breaks_off elements_of walk needed_value needed_octet rr_cause_in layer3_at cause_at assignment_request_at assignment_complete_at assignment_failure_at handover_performed_at reject_at complete_layer3_at
+unfolding bssap_reading octet_at management_at bssmap_type message_at breaks_off elements_of walk rr_cause_in assignment_complete_at
 assignment_complete = refl
 
 assignment_complete_without_cause : bssap_reading (hex "00 01 02") ≡ Ok (Management (AssignmentComplete None))
-unfolding bssap_reading octet_at management_at transfer_at bssmap_type message_at breaks_off elements_of walk needed_value needed_octet rr_cause_in layer3_at cause_at assignment_request_at assignment_complete_at assignment_failure_at handover_performed_at reject_at complete_layer3_at
+unfolding bssap_reading octet_at management_at bssmap_type message_at breaks_off elements_of walk rr_cause_in assignment_complete_at
 assignment_complete_without_cause = refl
 
 assignment_failure : bssap_reading (hex "00 06 03 04 01 0a 15 03")
     ≡ Ok (Management (AssignmentFailure (cause_of (hex "0a")) (Some (rr_cause_of 0x03))))
-unfolding bssap_reading octet_at management_at transfer_at bssmap_type message_at breaks_off elements_of walk needed_value needed_octet rr_cause_in layer3_at cause_at assignment_request_at assignment_complete_at assignment_failure_at handover_performed_at reject_at complete_layer3_at
+unfolding bssap_reading octet_at management_at bssmap_type message_at breaks_off elements_of walk needed_value rr_cause_in assignment_failure_at
 assignment_failure = refl
 
 assignment_failure_without_rr_cause : bssap_reading (hex "00 05 03 04 02 0a 0b")
     ≡ Ok (Management (AssignmentFailure (cause_of (hex "0a 0b")) None))
-unfolding bssap_reading octet_at management_at transfer_at bssmap_type message_at breaks_off elements_of walk needed_value needed_octet rr_cause_in layer3_at cause_at assignment_request_at assignment_complete_at assignment_failure_at handover_performed_at reject_at complete_layer3_at
+unfolding bssap_reading octet_at management_at bssmap_type message_at breaks_off elements_of walk needed_value rr_cause_in assignment_failure_at
 assignment_failure_without_rr_cause = refl
 
 handover_performed : bssap_reading (hex "00 0e 17 04 01 0c 05 08 00 00 f1 10 00 01 00 02")
     ≡ Ok (Management (HandoverPerformed (cause_of (hex "0c")) (cell_of (hex "00 00 f1 10 00 01 00 02"))))
-unfolding bssap_reading octet_at management_at transfer_at bssmap_type message_at breaks_off elements_of walk needed_value needed_octet rr_cause_in layer3_at cause_at assignment_request_at assignment_complete_at assignment_failure_at handover_performed_at reject_at complete_layer3_at
+unfolding bssap_reading octet_at management_at bssmap_type message_at breaks_off elements_of walk needed_value handover_performed_at
 handover_performed = refl
 
 clear_command : bssap_reading (hex "00 04 20 04 01 09") ≡ Ok (Management (ClearCommand (cause_of (hex "09"))))
-unfolding bssap_reading octet_at management_at transfer_at bssmap_type message_at breaks_off elements_of walk needed_value needed_octet rr_cause_in layer3_at cause_at assignment_request_at assignment_complete_at assignment_failure_at handover_performed_at reject_at complete_layer3_at
+unfolding bssap_reading octet_at management_at bssmap_type message_at breaks_off elements_of walk needed_value cause_at
 clear_command = refl
 
 clear_complete : bssap_reading (hex "00 01 21 99") ≡ Ok (Management ClearComplete)
-unfolding bssap_reading octet_at management_at transfer_at bssmap_type message_at breaks_off elements_of walk needed_value needed_octet rr_cause_in layer3_at cause_at assignment_request_at assignment_complete_at assignment_failure_at handover_performed_at reject_at complete_layer3_at
+unfolding bssap_reading octet_at management_at bssmap_type message_at breaks_off elements_of walk needed_value
 clear_complete = refl
 
 clear_request : bssap_reading (hex "00 04 22 04 01 20") ≡ Ok (Management (ClearRequest (cause_of (hex "20"))))
-unfolding bssap_reading octet_at management_at transfer_at bssmap_type message_at breaks_off elements_of walk needed_value needed_octet rr_cause_in layer3_at cause_at assignment_request_at assignment_complete_at assignment_failure_at handover_performed_at reject_at complete_layer3_at
+unfolding bssap_reading octet_at management_at bssmap_type message_at breaks_off elements_of walk needed_value cause_at
 clear_request = refl
 
 reject : bssap_reading (hex "00 06 25 18 83 04 01 25") ≡ Ok (Management (SapiNReject (rejected_of 0x83) (cause_of (hex "25"))))
-unfolding bssap_reading octet_at management_at transfer_at bssmap_type message_at breaks_off elements_of walk needed_value needed_octet rr_cause_in layer3_at cause_at assignment_request_at assignment_complete_at assignment_failure_at handover_performed_at reject_at complete_layer3_at
+unfolding bssap_reading octet_at management_at bssmap_type message_at breaks_off elements_of walk needed_value needed_octet reject_at
 reject = refl
 
 cipher_mode_command : bssap_reading (hex "00 01 53") ≡ Ok (Management CipherModeCommand)
-unfolding bssap_reading octet_at management_at transfer_at bssmap_type message_at breaks_off elements_of walk needed_value needed_octet rr_cause_in layer3_at cause_at assignment_request_at assignment_complete_at assignment_failure_at handover_performed_at reject_at complete_layer3_at
+unfolding bssap_reading octet_at management_at bssmap_type message_at breaks_off elements_of walk needed_value
 cipher_mode_command = refl
 
 complete_layer3 : bssap_reading (hex "00 10 57 05 08 00 00 f1 10 00 01 00 02 17 03 05 24 71")
     ≡ Ok (Management (CompleteLayer3Information (cell_of (hex "00 00 f1 10 00 01 00 02")) (hex "05 24 71")))
-unfolding bssap_reading octet_at management_at transfer_at bssmap_type message_at breaks_off elements_of walk needed_value needed_octet rr_cause_in layer3_at cause_at assignment_request_at assignment_complete_at assignment_failure_at handover_performed_at reject_at complete_layer3_at
+unfolding bssap_reading octet_at management_at bssmap_type message_at breaks_off elements_of walk needed_value layer3_at complete_layer3_at
 complete_layer3 = refl
 
 cipher_mode_reject : bssap_reading (hex "00 04 59 04 01 40") ≡ Ok (Management (CipherModeReject (cause_of (hex "40"))))
-unfolding bssap_reading octet_at management_at transfer_at bssmap_type message_at breaks_off elements_of walk needed_value needed_octet rr_cause_in layer3_at cause_at assignment_request_at assignment_complete_at assignment_failure_at handover_performed_at reject_at complete_layer3_at
+unfolding bssap_reading octet_at management_at bssmap_type message_at breaks_off elements_of walk needed_value cause_at
 cipher_mode_reject = refl
 
 elements_in_another_order : bssap_reading (hex "00 06 25 04 01 25 18 82")
     ≡ Ok (Management (SapiNReject (rejected_of 0x82) (cause_of (hex "25"))))
-unfolding bssap_reading octet_at management_at transfer_at bssmap_type message_at breaks_off elements_of walk needed_value needed_octet rr_cause_in layer3_at cause_at assignment_request_at assignment_complete_at assignment_failure_at handover_performed_at reject_at complete_layer3_at
+unfolding bssap_reading octet_at management_at bssmap_type message_at breaks_off elements_of walk needed_value needed_octet reject_at
 elements_in_another_order = refl
 
 first_of_repeated_elements : bssap_reading (hex "00 08 20 04 01 09 04 02 0a 0b") ≡ Ok (Management (ClearCommand (cause_of (hex "09"))))
-unfolding bssap_reading octet_at management_at transfer_at bssmap_type message_at breaks_off elements_of walk needed_value needed_octet rr_cause_in layer3_at cause_at assignment_request_at assignment_complete_at assignment_failure_at handover_performed_at reject_at complete_layer3_at
+unfolding bssap_reading octet_at management_at bssmap_type message_at breaks_off elements_of walk needed_value cause_at
 first_of_repeated_elements = refl
 
 -- each format of the table
 other_elements_are_passed_over : bssap_reading
     (hex "00 1d 20 01 aa bb 06 01 cc 07 02 dd ee 0b 01 a0 05 01 a1 17 01 a2 18 a3 15 a4 21 ff 04 01 09")
     ≡ Ok (Management (ClearCommand (cause_of (hex "09"))))
-unfolding bssap_reading octet_at management_at transfer_at bssmap_type message_at breaks_off elements_of walk needed_value needed_octet rr_cause_in layer3_at cause_at assignment_request_at assignment_complete_at assignment_failure_at handover_performed_at reject_at complete_layer3_at
+unfolding bssap_reading octet_at management_at bssmap_type message_at breaks_off elements_of walk needed_value cause_at
 other_elements_are_passed_over = refl
 
 nothing_is_looked_at_behind_unknown_element : bssap_reading (hex "00 06 20 04 01 09 7f 04")
     ≡ Ok (Management (ClearCommand (cause_of (hex "09"))))
-unfolding bssap_reading octet_at management_at transfer_at bssmap_type message_at breaks_off elements_of walk needed_value needed_octet rr_cause_in layer3_at cause_at assignment_request_at assignment_complete_at assignment_failure_at handover_performed_at reject_at complete_layer3_at
+unfolding bssap_reading octet_at management_at bssmap_type message_at breaks_off elements_of walk needed_value cause_at
 nothing_is_looked_at_behind_unknown_element = refl
 
 unknown_element_hides_what_follows : bssap_reading (hex "00 05 20 7f 04 01 09") ≡ Err (MissingElement 0x04)
-unfolding bssap_reading octet_at management_at transfer_at bssmap_type message_at breaks_off elements_of walk needed_value needed_octet rr_cause_in layer3_at cause_at assignment_request_at assignment_complete_at assignment_failure_at handover_performed_at reject_at complete_layer3_at
+unfolding bssap_reading octet_at management_at bssmap_type message_at breaks_off elements_of walk needed_value cause_at
 unknown_element_hides_what_follows = refl
 
 element_of_length_0 : bssap_reading (hex "00 03 20 04 00") ≡ Ok (Management (ClearCommand (cause_of [])))
-unfolding bssap_reading octet_at management_at transfer_at bssmap_type message_at breaks_off elements_of walk needed_value needed_octet rr_cause_in layer3_at cause_at assignment_request_at assignment_complete_at assignment_failure_at handover_performed_at reject_at complete_layer3_at
+unfolding bssap_reading octet_at management_at bssmap_type message_at breaks_off elements_of walk needed_value cause_at
 element_of_length_0 = refl
 
 what_follows_the_length_is_no_element : bssap_reading (hex "00 01 20 04 01 09") ≡ Err (MissingElement 0x04)
-unfolding bssap_reading octet_at management_at transfer_at bssmap_type message_at breaks_off elements_of walk needed_value needed_octet rr_cause_in layer3_at cause_at assignment_request_at assignment_complete_at assignment_failure_at handover_performed_at reject_at complete_layer3_at
+unfolding bssap_reading octet_at management_at bssmap_type message_at breaks_off elements_of walk needed_value cause_at
 what_follows_the_length_is_no_element = refl
 
 no_first_octet : bssap_reading [] ≡ Err Short
-unfolding bssap_reading octet_at management_at transfer_at bssmap_type message_at breaks_off elements_of walk needed_value needed_octet rr_cause_in layer3_at cause_at assignment_request_at assignment_complete_at assignment_failure_at handover_performed_at reject_at complete_layer3_at
+unfolding bssap_reading octet_at
 no_first_octet = refl
 
 first_octet_02 : bssap_reading (hex "02") ≡ Err UnknownType
-unfolding bssap_reading octet_at management_at transfer_at bssmap_type message_at breaks_off elements_of walk needed_value needed_octet rr_cause_in layer3_at cause_at assignment_request_at assignment_complete_at assignment_failure_at handover_performed_at reject_at complete_layer3_at
+unfolding bssap_reading octet_at
 first_octet_02 = refl
 
 management_alone : bssap_reading (hex "00") ≡ Err Short
-unfolding bssap_reading octet_at management_at transfer_at bssmap_type message_at breaks_off elements_of walk needed_value needed_octet rr_cause_in layer3_at cause_at assignment_request_at assignment_complete_at assignment_failure_at handover_performed_at reject_at complete_layer3_at
+unfolding bssap_reading octet_at management_at bssmap_type message_at breaks_off elements_of walk needed_value
 management_alone = refl
 
 management_without_type : bssap_reading (hex "00 01") ≡ Err Short
-unfolding bssap_reading octet_at management_at transfer_at bssmap_type message_at breaks_off elements_of walk needed_value needed_octet rr_cause_in layer3_at cause_at assignment_request_at assignment_complete_at assignment_failure_at handover_performed_at reject_at complete_layer3_at
+unfolding bssap_reading octet_at management_at bssmap_type message_at breaks_off elements_of walk needed_value
 management_without_type = refl
 
 management_of_length_0 : bssap_reading (hex "00 00 20") ≡ Err Short
-unfolding bssap_reading octet_at management_at transfer_at bssmap_type message_at breaks_off elements_of walk needed_value needed_octet rr_cause_in layer3_at cause_at assignment_request_at assignment_complete_at assignment_failure_at handover_performed_at reject_at complete_layer3_at
+unfolding bssap_reading octet_at management_at bssmap_type message_at breaks_off elements_of walk needed_value cause_at
 management_of_length_0 = refl
 
 unknown_type_with_too_few_octets : bssap_reading (hex "00 02 77") ≡ Err UnknownType
-unfolding bssap_reading octet_at management_at transfer_at bssmap_type message_at breaks_off elements_of walk needed_value needed_octet rr_cause_in layer3_at cause_at assignment_request_at assignment_complete_at assignment_failure_at handover_performed_at reject_at complete_layer3_at
+unfolding bssap_reading octet_at management_at bssmap_type message_at breaks_off elements_of walk needed_value
 unknown_type_with_too_few_octets = refl
 
 known_type_with_too_few_octets : bssap_reading (hex "00 02 20") ≡ Err Short
-unfolding bssap_reading octet_at management_at transfer_at bssmap_type message_at breaks_off elements_of walk needed_value needed_octet rr_cause_in layer3_at cause_at assignment_request_at assignment_complete_at assignment_failure_at handover_performed_at reject_at complete_layer3_at
+unfolding bssap_reading octet_at management_at bssmap_type message_at breaks_off elements_of walk needed_value cause_at
 known_type_with_too_few_octets = refl
 
 element_cut : bssap_reading (hex "00 03 20 04 01") ≡ Err Short
-unfolding bssap_reading octet_at management_at transfer_at bssmap_type message_at breaks_off elements_of walk needed_value needed_octet rr_cause_in layer3_at cause_at assignment_request_at assignment_complete_at assignment_failure_at handover_performed_at reject_at complete_layer3_at
+unfolding bssap_reading octet_at management_at bssmap_type message_at breaks_off elements_of walk needed_value cause_at
 element_cut = refl
 
 element_cut_behind_the_needed : bssap_reading (hex "00 07 20 04 01 09 05 02 00") ≡ Err Short
-unfolding bssap_reading octet_at management_at transfer_at bssmap_type message_at breaks_off elements_of walk needed_value needed_octet rr_cause_in layer3_at cause_at assignment_request_at assignment_complete_at assignment_failure_at handover_performed_at reject_at complete_layer3_at
+unfolding bssap_reading octet_at management_at bssmap_type message_at breaks_off elements_of walk needed_value cause_at
 element_cut_behind_the_needed = refl
 
 element_cut_before_missing : bssap_reading (hex "00 04 57 17 02 05") ≡ Err Short
-unfolding bssap_reading octet_at management_at transfer_at bssmap_type message_at breaks_off elements_of walk needed_value needed_octet rr_cause_in layer3_at cause_at assignment_request_at assignment_complete_at assignment_failure_at handover_performed_at reject_at complete_layer3_at
+unfolding bssap_reading octet_at management_at bssmap_type message_at breaks_off elements_of walk needed_value layer3_at complete_layer3_at
 element_cut_before_missing = refl
 
 assignment_request_missing : bssap_reading (hex "00 01 01") ≡ Err (MissingElement 0x0b)
-unfolding bssap_reading octet_at management_at transfer_at bssmap_type message_at breaks_off elements_of walk needed_value needed_octet rr_cause_in layer3_at cause_at assignment_request_at assignment_complete_at assignment_failure_at handover_performed_at reject_at complete_layer3_at
+unfolding bssap_reading octet_at management_at bssmap_type message_at breaks_off elements_of walk needed_value assignment_request_at
 assignment_request_missing = refl
 
 assignment_failure_missing : bssap_reading (hex "00 01 03") ≡ Err (MissingElement 0x04)
-unfolding bssap_reading octet_at management_at transfer_at bssmap_type message_at breaks_off elements_of walk needed_value needed_octet rr_cause_in layer3_at cause_at assignment_request_at assignment_complete_at assignment_failure_at handover_performed_at reject_at complete_layer3_at
+unfolding bssap_reading octet_at management_at bssmap_type message_at breaks_off elements_of walk needed_value rr_cause_in assignment_failure_at
 assignment_failure_missing = refl
 
 handover_performed_missing : bssap_reading (hex "00 01 17") ≡ Err (MissingElement 0x04)
-unfolding bssap_reading octet_at management_at transfer_at bssmap_type message_at breaks_off elements_of walk needed_value needed_octet rr_cause_in layer3_at cause_at assignment_request_at assignment_complete_at assignment_failure_at handover_performed_at reject_at complete_layer3_at
+unfolding bssap_reading octet_at management_at bssmap_type message_at breaks_off elements_of walk needed_value handover_performed_at
 handover_performed_missing = refl
 
 handover_performed_cell_missing : bssap_reading (hex "00 03 17 04 00") ≡ Err (MissingElement 0x05)
-unfolding bssap_reading octet_at management_at transfer_at bssmap_type message_at breaks_off elements_of walk needed_value needed_octet rr_cause_in layer3_at cause_at assignment_request_at assignment_complete_at assignment_failure_at handover_performed_at reject_at complete_layer3_at
+unfolding bssap_reading octet_at management_at bssmap_type message_at breaks_off elements_of walk needed_value handover_performed_at
 handover_performed_cell_missing = refl
 
 clear_command_missing : bssap_reading (hex "00 01 20") ≡ Err (MissingElement 0x04)
-unfolding bssap_reading octet_at management_at transfer_at bssmap_type message_at breaks_off elements_of walk needed_value needed_octet rr_cause_in layer3_at cause_at assignment_request_at assignment_complete_at assignment_failure_at handover_performed_at reject_at complete_layer3_at
+unfolding bssap_reading octet_at management_at bssmap_type message_at breaks_off elements_of walk needed_value cause_at
 clear_command_missing = refl
 
 clear_request_missing : bssap_reading (hex "00 01 22") ≡ Err (MissingElement 0x04)
-unfolding bssap_reading octet_at management_at transfer_at bssmap_type message_at breaks_off elements_of walk needed_value needed_octet rr_cause_in layer3_at cause_at assignment_request_at assignment_complete_at assignment_failure_at handover_performed_at reject_at complete_layer3_at
+unfolding bssap_reading octet_at management_at bssmap_type message_at breaks_off elements_of walk needed_value cause_at
 clear_request_missing = refl
 
 reject_missing : bssap_reading (hex "00 01 25") ≡ Err (MissingElement 0x18)
-unfolding bssap_reading octet_at management_at transfer_at bssmap_type message_at breaks_off elements_of walk needed_value needed_octet rr_cause_in layer3_at cause_at assignment_request_at assignment_complete_at assignment_failure_at handover_performed_at reject_at complete_layer3_at
+unfolding bssap_reading octet_at management_at bssmap_type message_at breaks_off elements_of walk needed_value needed_octet reject_at
 reject_missing = refl
 
 reject_cause_missing : bssap_reading (hex "00 03 25 18 83") ≡ Err (MissingElement 0x04)
-unfolding bssap_reading octet_at management_at transfer_at bssmap_type message_at breaks_off elements_of walk needed_value needed_octet rr_cause_in layer3_at cause_at assignment_request_at assignment_complete_at assignment_failure_at handover_performed_at reject_at complete_layer3_at
+unfolding bssap_reading octet_at management_at bssmap_type message_at breaks_off elements_of walk needed_value needed_octet reject_at
 reject_cause_missing = refl
 
 complete_layer3_both_missing : bssap_reading (hex "00 01 57") ≡ Err (MissingElement 0x05)
-unfolding bssap_reading octet_at management_at transfer_at bssmap_type message_at breaks_off elements_of walk needed_value needed_octet rr_cause_in layer3_at cause_at assignment_request_at assignment_complete_at assignment_failure_at handover_performed_at reject_at complete_layer3_at
+unfolding bssap_reading octet_at management_at bssmap_type message_at breaks_off elements_of walk needed_value layer3_at complete_layer3_at
 complete_layer3_both_missing = refl
 
 complete_layer3_missing : bssap_reading (hex "00 03 57 17 00") ≡ Err (MissingElement 0x05)
-unfolding bssap_reading octet_at management_at transfer_at bssmap_type message_at breaks_off elements_of walk needed_value needed_octet rr_cause_in layer3_at cause_at assignment_request_at assignment_complete_at assignment_failure_at handover_performed_at reject_at complete_layer3_at
+unfolding bssap_reading octet_at management_at bssmap_type message_at breaks_off elements_of walk needed_value layer3_at complete_layer3_at
 complete_layer3_missing = refl
 
 complete_layer3_information_missing : bssap_reading (hex "00 03 57 05 00") ≡ Err (MissingElement 0x17)
-unfolding bssap_reading octet_at management_at transfer_at bssmap_type message_at breaks_off elements_of walk needed_value needed_octet rr_cause_in layer3_at cause_at assignment_request_at assignment_complete_at assignment_failure_at handover_performed_at reject_at complete_layer3_at
+unfolding bssap_reading octet_at management_at bssmap_type message_at breaks_off elements_of walk needed_value layer3_at complete_layer3_at
 complete_layer3_information_missing = refl
 
 cipher_mode_reject_missing : bssap_reading (hex "00 01 59") ≡ Err (MissingElement 0x04)
-unfolding bssap_reading octet_at management_at transfer_at bssmap_type message_at breaks_off elements_of walk needed_value needed_octet rr_cause_in layer3_at cause_at assignment_request_at assignment_complete_at assignment_failure_at handover_performed_at reject_at complete_layer3_at
+unfolding bssap_reading octet_at management_at bssmap_type message_at breaks_off elements_of walk needed_value cause_at
 cipher_mode_reject_missing = refl
 
 empty_layer3_information : bssap_reading (hex "00 05 57 05 00 17 00") ≡ Err Short
-unfolding bssap_reading octet_at management_at transfer_at bssmap_type message_at breaks_off elements_of walk needed_value needed_octet rr_cause_in layer3_at cause_at assignment_request_at assignment_complete_at assignment_failure_at handover_performed_at reject_at complete_layer3_at
+unfolding bssap_reading octet_at management_at bssmap_type message_at breaks_off elements_of walk needed_value layer3_at complete_layer3_at
 empty_layer3_information = refl
 
 layer3_information_of_251_octets : content_at kinds.CompleteLayer3Information (element 0x05 [] ∷ element 0x17 (replicate 251 7) ∷ []) ≡
     Ok (CompleteLayer3Information (cell_of []) (replicate 251 7))
-unfolding bssap_reading octet_at management_at transfer_at bssmap_type message_at breaks_off elements_of walk needed_value needed_octet rr_cause_in layer3_at cause_at assignment_request_at assignment_complete_at assignment_failure_at handover_performed_at reject_at complete_layer3_at
+unfolding needed_value layer3_at complete_layer3_at
 layer3_information_of_251_octets = refl
 
 layer3_information_of_252_octets : content_at kinds.CompleteLayer3Information (element 0x05 [] ∷ element 0x17 (replicate 252 7) ∷ []) ≡
     Err TooLong
-unfolding bssap_reading octet_at management_at transfer_at bssmap_type message_at breaks_off elements_of walk needed_value needed_octet rr_cause_in layer3_at cause_at assignment_request_at assignment_complete_at assignment_failure_at handover_performed_at reject_at complete_layer3_at
+unfolding needed_value layer3_at complete_layer3_at
 layer3_information_of_252_octets = refl
 
 layer3_information_of_252_octets_without_cell : content_at kinds.CompleteLayer3Information (element 0x17 (replicate 252 7) ∷ []) ≡
     Err (MissingElement 0x05)
-unfolding bssap_reading octet_at management_at transfer_at bssmap_type message_at breaks_off elements_of walk needed_value needed_octet rr_cause_in layer3_at cause_at assignment_request_at assignment_complete_at assignment_failure_at handover_performed_at reject_at complete_layer3_at
+unfolding needed_value layer3_at complete_layer3_at
 layer3_information_of_252_octets_without_cell = refl
 
 transfer : bssap_reading (hex "01 c3 02 09 01 99") ≡ Ok (Transfer 0xc3 (hex "09 01"))
-unfolding bssap_reading octet_at management_at transfer_at bssmap_type message_at breaks_off elements_of walk needed_value needed_octet rr_cause_in layer3_at cause_at assignment_request_at assignment_complete_at assignment_failure_at handover_performed_at reject_at complete_layer3_at
+unfolding bssap_reading octet_at transfer_at layer3_at
 transfer = refl
 
 transfer_on_sapi_0 : bssap_reading (hex "01 80 01 05") ≡ Ok (Transfer 0x80 (hex "05"))
-unfolding bssap_reading octet_at management_at transfer_at bssmap_type message_at breaks_off elements_of walk needed_value needed_octet rr_cause_in layer3_at cause_at assignment_request_at assignment_complete_at assignment_failure_at handover_performed_at reject_at complete_layer3_at
+unfolding bssap_reading octet_at transfer_at layer3_at
 transfer_on_sapi_0 = refl
 
 transfer_of_251_octets : bssap_reading (hex "01 00 fb" ++ replicate 251 7) ≡ Ok (Transfer 0x00 (replicate 251 7))
-unfolding bssap_reading octet_at management_at transfer_at bssmap_type message_at breaks_off elements_of walk needed_value needed_octet rr_cause_in layer3_at cause_at assignment_request_at assignment_complete_at assignment_failure_at handover_performed_at reject_at complete_layer3_at
+unfolding bssap_reading octet_at transfer_at layer3_at
 transfer_of_251_octets = refl
 
 transfer_of_252_octets : bssap_reading (hex "01 00 fc" ++ replicate 252 7) ≡ Err TooLong
-unfolding bssap_reading octet_at management_at transfer_at bssmap_type message_at breaks_off elements_of walk needed_value needed_octet rr_cause_in layer3_at cause_at assignment_request_at assignment_complete_at assignment_failure_at handover_performed_at reject_at complete_layer3_at
+unfolding bssap_reading octet_at transfer_at layer3_at
 transfer_of_252_octets = refl
 
 transfer_of_252_octets_cut : bssap_reading (hex "01 00 fc" ++ replicate 251 7) ≡ Err Short
-unfolding bssap_reading octet_at management_at transfer_at bssmap_type message_at breaks_off elements_of walk needed_value needed_octet rr_cause_in layer3_at cause_at assignment_request_at assignment_complete_at assignment_failure_at handover_performed_at reject_at complete_layer3_at
+unfolding bssap_reading octet_at transfer_at layer3_at
 transfer_of_252_octets_cut = refl
 
 transfer_of_no_octets : bssap_reading (hex "01 00 00") ≡ Err Short
-unfolding bssap_reading octet_at management_at transfer_at bssmap_type message_at breaks_off elements_of walk needed_value needed_octet rr_cause_in layer3_at cause_at assignment_request_at assignment_complete_at assignment_failure_at handover_performed_at reject_at complete_layer3_at
+unfolding bssap_reading octet_at transfer_at layer3_at
 transfer_of_no_octets = refl
 
 transfer_cut : bssap_reading (hex "01 00 02 05") ≡ Err Short
-unfolding bssap_reading octet_at management_at transfer_at bssmap_type message_at breaks_off elements_of walk needed_value needed_octet rr_cause_in layer3_at cause_at assignment_request_at assignment_complete_at assignment_failure_at handover_performed_at reject_at complete_layer3_at
+unfolding bssap_reading octet_at transfer_at layer3_at
 transfer_cut = refl
 
 transfer_alone : bssap_reading (hex "01") ≡ Err Short
-unfolding bssap_reading octet_at management_at transfer_at bssmap_type message_at breaks_off elements_of walk needed_value needed_octet rr_cause_in layer3_at cause_at assignment_request_at assignment_complete_at assignment_failure_at handover_performed_at reject_at complete_layer3_at
+unfolding bssap_reading octet_at transfer_at layer3_at
 transfer_alone = refl
 
 sapi_2 : bssap_reading (hex "01 02 01 05") ≡ Err UnknownType
-unfolding bssap_reading octet_at management_at transfer_at bssmap_type message_at breaks_off elements_of walk needed_value needed_octet rr_cause_in layer3_at cause_at assignment_request_at assignment_complete_at assignment_failure_at handover_performed_at reject_at complete_layer3_at
+unfolding bssap_reading octet_at transfer_at layer3_at
 sapi_2 = refl
 
 sapi_2_with_too_few_octets : bssap_reading (hex "01 02 01") ≡ Err UnknownType
-unfolding bssap_reading octet_at management_at transfer_at bssmap_type message_at breaks_off elements_of walk needed_value needed_octet rr_cause_in layer3_at cause_at assignment_request_at assignment_complete_at assignment_failure_at handover_performed_at reject_at complete_layer3_at
+unfolding bssap_reading octet_at transfer_at layer3_at
 sapi_2_with_too_few_octets = refl
 
 sapi_2_without_length : bssap_reading (hex "01 02") ≡ Err Short
-unfolding bssap_reading octet_at management_at transfer_at bssmap_type message_at breaks_off elements_of walk needed_value needed_octet rr_cause_in layer3_at cause_at assignment_request_at assignment_complete_at assignment_failure_at handover_performed_at reject_at complete_layer3_at
+unfolding bssap_reading octet_at transfer_at layer3_at
 sapi_2_without_length = refl
 
 -- the elements that each message of BSSMAP needs, in written order

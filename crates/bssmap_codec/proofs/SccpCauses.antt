@@ -27,23 +27,27 @@ use Rattle.bssmap_codec.proofs.OptionsGrammar.{options_again, options_ok}
 
 -- ---- values that pointers lead to
 
-split_then : {B : Type 0} (short : Bool) (p : List ℕ × List ℕ) (next : List ℕ × List ℕ → Result B InterfaceFault) (causes : Causes) → ((p : List ℕ × List ℕ) → result_err (next p) ≡ first_that_holds causes)
+split_then : {B : Type 0} (short : Bool) (p : List ℕ × List ℕ) (next : List ℕ × List ℕ → Result B InterfaceFault)
+    (causes : Causes) → ((p : List ℕ × List ℕ) → result_err (next p) ≡ first_that_holds causes)
     → result_err (cond short (Err Short) (Ok p) >>= next) ≡ first_that_holds ((short, Short) ∷ causes)
 split_then true p next causes then = refl
 split_then false p next causes then = then p
 
-counted_then : {B : Type 0} (octets : List ℕ) (next : List ℕ × List ℕ → Result B InterfaceFault) (causes : Causes) → ((p : List ℕ × List ℕ) → result_err (next p) ≡ first_that_holds causes)
+counted_then : {B : Type 0} (octets : List ℕ) (next : List ℕ × List ℕ → Result B InterfaceFault) (causes : Causes) →
+    ((p : List ℕ × List ℕ) → result_err (next p) ≡ first_that_holds causes)
     → result_err (counted_at Short octets >>= next) ≡ first_that_holds ((is_cut_value octets, Short) ∷ causes)
 unfolding counted_at octet_at
 counted_then [] next causes then = refl
 counted_then (size ∷ rest) next causes then = split_then (ltb (length rest) size) (take size rest, drop size rest) next causes then
 
-part_by : {B : Type 0} (nowhere : Bool) (part : List ℕ) (next : List ℕ → Result B InterfaceFault) (causes : Causes) → result_err (next part) ≡ first_that_holds causes
+part_by : {B : Type 0} (nowhere : Bool) (part : List ℕ) (next : List ℕ → Result B InterfaceFault) (causes : Causes) →
+    result_err (next part) ≡ first_that_holds causes
     → result_err (cond nowhere (Err BadPointer) (Ok part) >>= next) ≡ first_that_holds ((nowhere, BadPointer) ∷ causes)
 part_by true part next causes then = refl
 part_by false part next causes then = then
 
-part_then : {B : Type 0} (pointer : ℕ) (octets : List ℕ) (next : List ℕ × List ℕ → Result B InterfaceFault) (causes : Causes) → ((p : List ℕ × List ℕ) → result_err (next p) ≡ first_that_holds causes)
+part_then : {B : Type 0} (pointer : ℕ) (octets : List ℕ) (next : List ℕ × List ℕ → Result B InterfaceFault)
+    (causes : Causes) → ((p : List ℕ × List ℕ) → result_err (next p) ≡ first_that_holds causes)
     → result_err (part_at pointer octets >>= (λ part. counted_at Short part >>= next)) ≡ first_that_holds (part_causes pointer octets ++ causes)
 unfolding part_at
 part_then pointer octets next causes then =
@@ -55,7 +59,8 @@ part_then pointer octets next causes then =
 abbrev ShortAlone : {A : Type 0} → Result A InterfaceFault → Type 0
 ShortAlone r = IfErr r (λ fault. fault ≡ Short)
 
-split_short : {B : Type 0} (short : Bool) (p : List ℕ × List ℕ) (f : List ℕ × List ℕ → B) → ShortAlone (cond short (Err Short) (Ok p) >>= (λ q. Ok (f q)))
+split_short : {B : Type 0} (short : Bool) (p : List ℕ × List ℕ) (f : List ℕ × List ℕ → B) →
+    ShortAlone (cond short (Err Short) (Ok p) >>= (λ q. Ok (f q)))
 split_short true p f = refl
 split_short false p f = tt
 
@@ -73,7 +78,8 @@ unfolding option_at
 option_short [] = tt
 option_short (id ∷ octets) = either_short (eqb id END_OF_OPTIONS) None (option_behind id octets) (behind_short id octets)
 
-data_short_by : (front : Result Front InterfaceFault) (go : List ℕ → Result (Option (List ℕ)) InterfaceFault) → ShortAlone front → ((octets : List ℕ) → ShortAlone (go octets)) → ShortAlone (data_by front go)
+data_short_by : (front : Result Front InterfaceFault) (go : List ℕ → Result (Option (List ℕ)) InterfaceFault) →
+    ShortAlone front → ((octets : List ℕ) → ShortAlone (go octets)) → ShortAlone (data_by front go)
 data_short_by (Err fault) go h on = h
 data_short_by (Ok None) go h on = tt
 data_short_by (Ok (Some front)) go h on = either_short (eqb front.0 USER_DATA) (Some front.1) (go front.2) (on front.2)
@@ -94,7 +100,8 @@ record Decided (octets : List ℕ) : Type 0 where
   are : AreOptions octets are_cut
   fault : result_err (data_in octets) ≡ cond are_cut (Some Short) None
 
-decided_by : (octets : List ℕ) (r : Result (Option (List ℕ)) InterfaceFault) → AreOctets octets → data_in octets ≡ r → ShortAlone r → Decided octets
+decided_by : (octets : List ℕ) (r : Result (Option (List ℕ)) InterfaceFault) → AreOctets octets → data_in octets ≡ r →
+    ShortAlone r → Decided octets
 decided_by octets (Ok user) fits e h = record { are_cut = false; are = (user, options_ok octets user fits e); fault = ap result_err e }
 decided_by octets (Err fault) fits e h = record {
   are_cut = true;
@@ -105,26 +112,30 @@ decided_by octets (Err fault) fits e h = record {
 decided : (octets : List ℕ) → AreOctets octets → Decided octets
 decided octets fits = decided_by octets (data_in octets) fits refl (data_short octets)
 
-user_by : {B : Type 0} (none out are_cut : Bool) (part : List ℕ) (f : Option (List ℕ) → B) → result_err (data_in part) ≡ cond are_cut (Some Short) None
+user_by : {B : Type 0} (none out are_cut : Bool) (part : List ℕ) (f : Option (List ℕ) → B) →
+    result_err (data_in part) ≡ cond are_cut (Some Short) None
     → result_err (cond none (Ok None) (cond (none || out) (Err BadPointer) (Ok part) >>= data_in) >>= (λ user. Ok (f user))) ≡ first_that_holds ((not none && out, BadPointer) ∷ (not none && are_cut, Short) ∷ [])
 user_by true out are_cut part f e = refl
 user_by false true are_cut part f e = refl
 user_by false false are_cut part f e = then_ok f (data_in part) ∙ e
 
-user_err : {B : Type 0} (pointer : ℕ) (octets : List ℕ) (are_cut : Bool) (f : Option (List ℕ) → B) → result_err (data_in (drop pointer octets)) ≡ cond are_cut (Some Short) None
+user_err : {B : Type 0} (pointer : ℕ) (octets : List ℕ) (are_cut : Bool) (f : Option (List ℕ) → B) →
+    result_err (data_in (drop pointer octets)) ≡ cond are_cut (Some Short) None
     → result_err (user_data_at pointer octets >>= (λ user. Ok (f user))) ≡ first_that_holds (option_causes pointer octets are_cut)
 unfolding user_data_at part_at
 user_err pointer octets are_cut f e = user_by (eqb pointer NO_PART) (leb (length octets) pointer) are_cut (drop pointer octets) f e
 
 -- ---- messages with pointers
 
-request_err : (a b c class address options : ℕ) (more : List ℕ) (are_cut : Bool) → result_err (data_in (drop options (options ∷ more))) ≡ cond are_cut (Some Short) None
+request_err : (a b c class address options : ℕ) (more : List ℕ) (are_cut : Bool) →
+    result_err (data_in (drop options (options ∷ more))) ≡ cond are_cut (Some Short) None
     → first_that_holds (part_causes address (address ∷ options ∷ more) ++ option_causes options (options ∷ more) are_cut) ≡ result_err (request_at (a ∷ b ∷ c ∷ class ∷ address ∷ options ∷ more))
 unfolding request_at reference_at octet_at
 request_err a b c class address options more are_cut e =
     sym (part_then address (address ∷ options ∷ more) _ (option_causes options (options ∷ more) are_cut) (λ p. user_err options (options ∷ more) are_cut _ e))
 
-request_first : (octet : ℕ) (rest : List ℕ) → AreOctets rest → sccp_type octet ≡ Some kinds.ConnectionRequest → FirstFault (octet ∷ rest) (result_err (request_at rest))
+request_first : (octet : ℕ) (rest : List ℕ) → AreOctets rest → sccp_type octet ≡ Some kinds.ConnectionRequest →
+    FirstFault (octet ∷ rest) (result_err (request_at rest))
 unfolding request_at reference_at octet_at
 request_first octet [] fits names = ends octet [] kinds.ConnectionRequest names (omega arith)
 request_first octet (a ∷ []) fits names = ends octet (a ∷ []) kinds.ConnectionRequest names (omega arith)
@@ -145,7 +156,8 @@ form_by destination false pointer pointers = refl
 form_by destination true pointer pointers =
     sym (ap result_err (bind_again (part_at pointer pointers) (counted_at Short) (λ user. Ok (DataForm1 destination user.0))) ∙ part_then pointer pointers (λ user. Ok (DataForm1 destination user.0)) [] (λ p. refl))
 
-form_first : (octet : ℕ) (rest : List ℕ) → sccp_type octet ≡ Some kinds.DataForm1 → FirstFault (octet ∷ rest) (result_err (data_form_at rest))
+form_first : (octet : ℕ) (rest : List ℕ) → sccp_type octet ≡ Some kinds.DataForm1 →
+    FirstFault (octet ∷ rest) (result_err (data_form_at rest))
 unfolding data_form_at reference_at octet_at data_behind_at
 form_first octet [] names = ends octet [] kinds.DataForm1 names (omega arith)
 form_first octet (a ∷ []) names = ends octet (a ∷ []) kinds.DataForm1 names (omega arith)
@@ -193,16 +205,19 @@ refused_needs (a ∷ b ∷ c ∷ []) = inl (omega arith, refl)
 refused_needs (a ∷ b ∷ c ∷ d ∷ []) = inl (omega arith, refl)
 refused_needs (a ∷ b ∷ c ∷ d ∷ e ∷ rest) = inr (omega arith, refl)
 
-of_fixed : (octet : ℕ) (rest : List ℕ) (kind : SccpType) (fault : Option InterfaceFault) → sccp_type octet ≡ Some kind → has_parts kind ≡ false → NeedsOctets (fixed kind) rest fault → FirstFault (octet ∷ rest) fault
+of_fixed : (octet : ℕ) (rest : List ℕ) (kind : SccpType) (fault : Option InterfaceFault) → sccp_type octet ≡ Some kind →
+    has_parts kind ≡ false → NeedsOctets (fixed kind) rest fault → FirstFault (octet ∷ rest) fault
 of_fixed octet rest kind fault names none (inl n) = subst (λ (first : Option InterfaceFault). FirstFault (octet ∷ rest) first) (sym n.1) (ends octet rest kind names n.0)
 of_fixed octet rest kind fault names none (inr n) = subst (λ (first : Option InterfaceFault). FirstFault (octet ∷ rest) first) (sym n.1) (whole octet rest kind names n.0 none)
 
-mapped : {A : Type 0} (octet : ℕ) (rest : List ℕ) (f : A → Sccp) (r : Result A InterfaceFault) → FirstFault (octet ∷ rest) (result_err r) → FirstFault (octet ∷ rest) (result_err (result_map f r))
+mapped : {A : Type 0} (octet : ℕ) (rest : List ℕ) (f : A → Sccp) (r : Result A InterfaceFault) →
+    FirstFault (octet ∷ rest) (result_err r) → FirstFault (octet ∷ rest) (result_err (result_map f r))
 mapped octet rest f r is = subst (λ (first : Option InterfaceFault). FirstFault (octet ∷ rest) first) (sym (map_err f r)) is
 
 -- ---- the octets
 
-content_first : (octet : ℕ) (rest : List ℕ) (kind : SccpType) → AreOctets rest → sccp_type octet ≡ Some kind → FirstFault (octet ∷ rest) (result_err (content_at kind rest))
+content_first : (octet : ℕ) (rest : List ℕ) (kind : SccpType) → AreOctets rest → sccp_type octet ≡ Some kind →
+    FirstFault (octet ∷ rest) (result_err (content_at kind rest))
 content_first octet rest kinds.ConnectionRequest fits names = request_first octet rest fits names
 content_first octet rest kinds.ConnectionConfirm fits names = mapped octet rest _ (fixed_references_at rest) (of_fixed octet rest kinds.ConnectionConfirm _ names refl (fixed_needs rest))
 content_first octet rest kinds.ConnectionRefused fits names = of_fixed octet rest kinds.ConnectionRefused _ names refl (refused_needs rest)
@@ -210,7 +225,8 @@ content_first octet rest kinds.Released fits names = mapped octet rest _ (fixed_
 content_first octet rest kinds.ReleaseComplete fits names = mapped octet rest _ (references_at rest) (of_fixed octet rest kinds.ReleaseComplete _ names refl (pair_needs rest))
 content_first octet rest kinds.DataForm1 fits names = form_first octet rest names
 
-type_first : (octet : ℕ) (rest : List ℕ) (found : Option SccpType) → AreOctets rest → sccp_type octet ≡ found → FirstFault (octet ∷ rest) (result_err (ok_or found UnknownType >>= (λ kind. content_at kind rest)))
+type_first : (octet : ℕ) (rest : List ℕ) (found : Option SccpType) → AreOctets rest → sccp_type octet ≡ found →
+    FirstFault (octet ∷ rest) (result_err (ok_or found UnknownType >>= (λ kind. content_at kind rest)))
 type_first octet rest None fits names = unknown octet rest names
 type_first octet rest (Some kind) fits names = content_first octet rest kind fits names
 
@@ -219,5 +235,6 @@ unfolding sccp_reading octet_at
 first_fault [] fits = nothing
 first_fault (octet ∷ rest) fits = type_first octet rest (sccp_type octet) (λ i. fits (suc i)) refl
 
-pub refuses_sccp : (octets : List ℕ) (r : Result Sccp InterfaceFault) → AreOctets octets → Gives Memory (λ v. v) r (sccp_reading octets) → RefusesSccp octets r
+pub refuses_sccp : (octets : List ℕ) (r : Result Sccp InterfaceFault) → AreOctets octets →
+    Gives Memory (λ v. v) r (sccp_reading octets) → RefusesSccp octets r
 refuses_sccp octets r fits g = record { first = result_err (sccp_reading octets); is_first = first_fault octets fits; refuses = refused_by Memory r (sccp_reading octets) g }

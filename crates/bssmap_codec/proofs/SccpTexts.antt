@@ -18,7 +18,9 @@ use Rattle.bssmap_codec.proofs.Layer3s.{chosen}
 pub counts : (size : ℕ) → size_fault size ≡ None → size ≤ LENGTH_LIMIT
 counts size e = ltb-false LENGTH_LIMIT size (chosen (ltb LENGTH_LIMIT size) TooLong None e).0
 
-request_text : (source : ℕ) (user : Option (List ℕ)) (more : List ℕ) → IsReference source → sccp_write_fault (ConnectionRequest source user) ≡ None → IsRequest (content_text (ConnectionRequest source user) ++ more) source user
+request_text : (source : ℕ) (user : Option (List ℕ)) (more : List ℕ) → IsReference source →
+    sccp_write_fault (ConnectionRequest source user) ≡ None →
+    IsRequest (content_text (ConnectionRequest source user) ++ more) source user
 request_text source None more h e = record {
   class = PROTOCOL_CLASS;
   address = ADDRESS_POINTER;
@@ -53,7 +55,8 @@ request_text source (Some user) more h e =
       });
     }
 
-content_written : (message : Sccp) (more : List ℕ) → HasReferences message → sccp_write_fault message ≡ None → IsContent (content_text message ++ more) message
+content_written : (message : Sccp) (more : List ℕ) → HasReferences message → sccp_write_fault message ≡ None →
+    IsContent (content_text message ++ more) message
 content_written (ConnectionRequest source user) more h e = request_text source user more h e
 content_written (ConnectionConfirm destination source) more h e = record { class = PROTOCOL_CLASS; pointer = NO_PART; more = more; are = record { is = refl; to = h.0; from = h.1 } }
 content_written (ConnectionRefused destination) more h e = record { cause = END_USER_ORIGINATED; pointer = NO_PART; more = more; is = refl; to = h }
@@ -68,5 +71,6 @@ content_written (DataForm1 destination user) more h e = record {
   counted = record { more = more; is = refl; short = counts (length user) e };
 }
 
-pub sccp_written : (message : Sccp) (more : List ℕ) → HasReferences message → sccp_write_fault message ≡ None → IsSccp (sccp_text message ++ more) message
+pub sccp_written : (message : Sccp) (more : List ℕ) → HasReferences message → sccp_write_fault message ≡ None →
+    IsSccp (sccp_text message ++ more) message
 sccp_written message more h e = record { rest = content_text message ++ more; is = refl; content = content_written message more h e }

@@ -25,7 +25,9 @@ use Rattle.bssmap_codec.proofs.OptionsGrammar.{user_none, user_again, user_ok}
 
 -- ---- a text is read
 
-request_with : (source class address pointer : ℕ) (rest called number behind : List ℕ) (user : Option (List ℕ)) → IsReference source → part_at address (address ∷ pointer ∷ rest) ≡ Ok called → counted_at Short called ≡ Ok (number, behind)
+request_with : (source class address pointer : ℕ) (rest called number behind : List ℕ) (user : Option (List ℕ)) →
+    IsReference source → part_at address (address ∷ pointer ∷ rest) ≡ Ok called →
+    counted_at Short called ≡ Ok (number, behind)
     → user_data_at pointer (pointer ∷ rest) ≡ Ok user → request_at (reference_text source ++ class ∷ address ∷ pointer ∷ rest) ≡ Ok (ConnectionRequest source user)
 unfolding request_at octet_at
 request_with source class address pointer rest called number behind user h points counted carries =
@@ -40,12 +42,14 @@ points_again pointer rest part p =
     part_again pointer (pointer ∷ rest) forward within
     ∙ ap (λ (n : ℕ). Ok (drop n (pointer ∷ rest))) first ∙ ap (λ (xs : List ℕ). Ok xs) p.leads
 
-carried_again : (octets : List ℕ) (user : Option (List ℕ)) → HasOptions octets user → (pointer : ℕ) × (rest : List ℕ) × (octets ≡ pointer ∷ rest) × (user_data_at pointer (pointer ∷ rest) ≡ Ok user)
+carried_again : (octets : List ℕ) (user : Option (List ℕ)) → HasOptions octets user →
+    (pointer : ℕ) × (rest : List ℕ) × (octets ≡ pointer ∷ rest) × (user_data_at pointer (pointer ∷ rest) ≡ Ok user)
 carried_again octets user (inl (none, is)) = (NO_PART, none.rest, none.is, user_none none.rest ∙ ap (λ (u : Option (List ℕ)). Ok u) (sym is))
 carried_again octets user (inr p) =
     (p.points.pointer, p.points.rest, p.points.is, ap (user_data_at p.points.pointer) (sym p.points.is) ∙ user_again octets user p)
 
-request_again : (octets : List ℕ) (source : ℕ) (user : Option (List ℕ)) → IsRequest octets source user → request_at octets ≡ Ok (ConnectionRequest source user)
+request_again : (octets : List ℕ) (source : ℕ) (user : Option (List ℕ)) → IsRequest octets source user →
+    request_at octets ≡ Ok (ConnectionRequest source user)
 request_again octets source user r =
     let o = carried_again r.options user r.carries in
     let is : octets ≡ reference_text source ++ r.class ∷ r.address ∷ o.0 ∷ o.1 =
@@ -54,7 +58,8 @@ request_again octets source user r =
     ap request_at is
     ∙ request_with source r.class r.address o.0 o.1 r.called r.number r.counted.more user r.reference (points_again r.address (o.0 ∷ o.1) r.called points) (counted_again r.called r.number r.counted) o.3
 
-fixed_again : (octets : List ℕ) (destination source : ℕ) → IsFixedPair octets destination source → fixed_references_at octets ≡ Ok (destination, source)
+fixed_again : (octets : List ℕ) (destination source : ℕ) → IsFixedPair octets destination source →
+    fixed_references_at octets ≡ Ok (destination, source)
 unfolding fixed_references_at octet_at
 fixed_again octets destination source r = rw (references_again octets destination source (r.class ∷ r.pointer ∷ r.more) r.are) refl
 
@@ -63,13 +68,15 @@ unfolding refused_at octet_at
 refused_again octets destination r =
     ap refused_at r.is ∙ rw (reference_again destination (r.cause ∷ r.pointer ∷ r.more) r.to) refl
 
-data_with : (destination pointer : ℕ) (rest part user behind : List ℕ) → IsReference destination → part_at pointer (pointer ∷ rest) ≡ Ok part → counted_at Short part ≡ Ok (user, behind)
+data_with : (destination pointer : ℕ) (rest part user behind : List ℕ) → IsReference destination →
+    part_at pointer (pointer ∷ rest) ≡ Ok part → counted_at Short part ≡ Ok (user, behind)
     → data_form_at (reference_text destination ++ UNSEGMENTED ∷ pointer ∷ rest) ≡ Ok (DataForm1 destination user)
 unfolding data_form_at data_behind_at octet_at
 data_with destination pointer rest part user behind h points counted =
     rw (reference_again destination (UNSEGMENTED ∷ pointer ∷ rest) h, points, counted) refl
 
-data_again : (octets : List ℕ) (destination : ℕ) (user : List ℕ) → IsData octets destination user → data_form_at octets ≡ Ok (DataForm1 destination user)
+data_again : (octets : List ℕ) (destination : ℕ) (user : List ℕ) → IsData octets destination user →
+    data_form_at octets ≡ Ok (DataForm1 destination user)
 data_again octets destination user r =
     let p = r.points in
     let is : octets ≡ reference_text destination ++ UNSEGMENTED ∷ p.pointer ∷ p.rest =
@@ -107,7 +114,8 @@ record IsOf (kind : SccpType) (octets : List ℕ) (message : Sccp) : Type 0 wher
   pub kind_is : kind ≡ type_of message
   pub content : IsContent octets message
 
-request_ok : (octets : List ℕ) (message : Sccp) → AreOctets octets → request_at octets ≡ Ok message → IsOf kinds.ConnectionRequest octets message
+request_ok : (octets : List ℕ) (message : Sccp) → AreOctets octets → request_at octets ≡ Ok message →
+    IsOf kinds.ConnectionRequest octets message
 unfolding request_at
 request_ok octets message fits e =
     let a = bind_ok (reference_at octets) _ message e in
@@ -163,7 +171,8 @@ fixed_ok octets p fits e =
       are = subst (λ (xs : List ℕ). AreReferences octets a.0.0 a.0.1 xs) more ra.are;
     })
 
-refused_ok : (octets : List ℕ) (message : Sccp) → AreOctets octets → refused_at octets ≡ Ok message → IsOf kinds.ConnectionRefused octets message
+refused_ok : (octets : List ℕ) (message : Sccp) → AreOctets octets → refused_at octets ≡ Ok message →
+    IsOf kinds.ConnectionRefused octets message
 unfolding refused_at
 refused_ok octets message fits e =
     let a = bind_ok (reference_at octets) _ message e in
@@ -212,7 +221,8 @@ data_ok octets message fits e =
       };
     })
 
-content_ok : (kind : SccpType) (octets : List ℕ) (message : Sccp) → AreOctets octets → content_at kind octets ≡ Ok message → IsOf kind octets message
+content_ok : (kind : SccpType) (octets : List ℕ) (message : Sccp) → AreOctets octets →
+    content_at kind octets ≡ Ok message → IsOf kind octets message
 content_ok kinds.ConnectionRequest octets message fits e = request_ok octets message fits e
 content_ok kinds.ConnectionConfirm octets message fits e =
     let a = result_map_ok (λ p. ConnectionConfirm p.0 p.1) (fixed_references_at octets) message e in
@@ -226,7 +236,8 @@ content_ok kinds.ReleaseComplete octets message fits e =
     subst (IsOf kinds.ReleaseComplete octets) a.2 (record { kind_is = refl; content = record { more = a.0.2; are = (references_ok octets a.0 fits a.1).are } })
 content_ok kinds.DataForm1 octets message fits e = data_ok octets message fits e
 
-found_by : {K : Type 0} (p : K → Bool) (x : K) (b : Bool) (kinds : List K) (k : K) → p x ≡ b → cond b (Some x) (find p kinds) ≡ Some k → (find p kinds ≡ Some k → p k ≡ true) → p k ≡ true
+found_by : {K : Type 0} (p : K → Bool) (x : K) (b : Bool) (kinds : List K) (k : K) → p x ≡ b →
+    cond b (Some x) (find p kinds) ≡ Some k → (find p kinds ≡ Some k → p k ≡ true) → p k ≡ true
 found_by {K} p x true kinds k is e on = let same : x ≡ k = cc in subst (λ (y : K). p y ≡ true) same is
 found_by p x false kinds k is e on = on e
 

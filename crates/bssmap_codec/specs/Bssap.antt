@@ -1,5 +1,6 @@
 -- Messages of BSSAP and BSSMAP, octet by octet (TS 48.006 clause 9.3, TS 48.008 clause 3.2).
-use Rattle.std.specs.Prelude.{◌≡◌, ℕ, ◌≤◌, true, false, List, [], ◌∷◌, ◌++◌, length, Option, Some, option_map}
+use Rattle.std.specs.Prelude.{◌≡◌, ℕ, ◌≤◌, true, false, List, [], ◌∷◌, ◌++◌, length, Option, Some}
+use Rattle.std.specs.Prelude.{option_map}
 use Rattle.octets.specs.Element.{Element, AreElements}
 use Rattle.octets.specs.Field.{Field, field, Carries}
 use Rattle.octets.specs.Front.{counted_text}
@@ -8,7 +9,9 @@ use Rattle.bssmap_codec.specs.declared.bssap.Bssap.TheVariants.{Management, Tran
 use Rattle.bssmap_codec.specs.declared.bssmap.Bssmap.{Bssmap}
 use Rattle.bssmap_codec.specs.declared.bssmap.Bssmap.TheVariants.{AssignmentRequest, AssignmentComplete, AssignmentFailure, HandoverPerformed, ClearCommand, ClearComplete, ClearRequest, SapiNReject, CipherModeCommand, CompleteLayer3Information, CipherModeReject}
 use Rattle.bssmap_codec.specs.declared.bssap.TheConstants.{MANAGEMENT, TRANSFER}
-use Rattle.bssmap_codec.specs.declared.identifiers.TheConstants.{ELEMENTS, CAUSE, CELL_IDENTIFIER, CHANNEL_TYPE, RR_CAUSE, LAYER_3_INFORMATION, DLCI}
+use Rattle.bssmap_codec.specs.declared.identifiers.TheConstants.{ELEMENTS, CAUSE, CELL_IDENTIFIER}
+use Rattle.bssmap_codec.specs.declared.identifiers.TheConstants.{CHANNEL_TYPE, RR_CAUSE}
+use Rattle.bssmap_codec.specs.declared.identifiers.TheConstants.{LAYER_3_INFORMATION, DLCI}
 use Rattle.octets.specs.declared.limits.TheConstants.{LENGTH_LIMIT}
 use Rattle.bssmap_codec.specs.declared.values.Cause.{Cause}
 use Rattle.bssmap_codec.specs.declared.values.RrCause.{RrCause}

@@ -1,6 +1,7 @@
 -- Which fault octets have that are no text of a message of BSSAP, by its elements (TS 48.006 clause
 -- 9.3, TS 48.008 clause 3.2).
-use Rattle.std.specs.Prelude.{◌≡◌, ◌≢◌, ℕ, ◌<◌, Bool, not, ◌==◌, nat_lt, List, [], ◌∷◌, ◌++◌, map, length, take, Option, Some, None, is_none, Result}
+use Rattle.std.specs.Prelude.{◌≡◌, ◌≢◌, ℕ, ◌<◌, Bool, not, ◌==◌, nat_lt, List, [], ◌∷◌, ◌++◌, map}
+use Rattle.std.specs.Prelude.{length, take, Option, Some, None, is_none, Result}
 use Rattle.octets.specs.Causes.{first_that_holds}
 use Rattle.octets.specs.Element.{Element, AreElements}
 use Rattle.octets.specs.Refusal.{RefusesBy}
@@ -11,8 +12,12 @@ use Rattle.bssmap_codec.specs.declared.bssap.TheConstants.{MANAGEMENT, TRANSFER}
 use Rattle.bssmap_codec.specs.declared.bssmap_type.BssmapType.{BssmapType}
 use Rattle.bssmap_codec.specs.declared.bssmap_type.BssmapType.TheVariants.{AssignmentRequest, AssignmentComplete, AssignmentFailure, HandoverPerformed, ClearCommand, ClearComplete, ClearRequest, SapiNReject, CipherModeCommand, CompleteLayer3Information, CipherModeReject}
 use Rattle.bssmap_codec.specs.declared.fault.InterfaceFault.{InterfaceFault}
-use Rattle.bssmap_codec.specs.declared.fault.InterfaceFault.TheVariants.{Short, UnknownType, MissingElement, TooLong, Memory}
-use Rattle.bssmap_codec.specs.declared.identifiers.TheConstants.{ELEMENTS, CAUSE, CELL_IDENTIFIER, CHANNEL_TYPE, LAYER_3_INFORMATION, DLCI}
+use Rattle.bssmap_codec.specs.declared.fault.InterfaceFault.TheVariants.{Short, UnknownType}
+use Rattle.bssmap_codec.specs.declared.fault.InterfaceFault.TheVariants.{MissingElement, TooLong}
+use Rattle.bssmap_codec.specs.declared.fault.InterfaceFault.TheVariants.{Memory}
+use Rattle.bssmap_codec.specs.declared.identifiers.TheConstants.{ELEMENTS, CAUSE, CELL_IDENTIFIER}
+use Rattle.bssmap_codec.specs.declared.identifiers.TheConstants.{CHANNEL_TYPE, LAYER_3_INFORMATION}
+use Rattle.bssmap_codec.specs.declared.identifiers.TheConstants.{DLCI}
 use Rattle.bssmap_codec.specs.BssmapType.{bssmap_type}
 use Rattle.bssmap_codec.specs.Values.{is_dlci}
 

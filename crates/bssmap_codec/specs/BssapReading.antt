@@ -1,6 +1,7 @@
 -- What octets are read as, as a function of them: each step in the order in which faults are looked
 -- for.
-use Rattle.std.specs.Prelude.{ℕ, Bool, ◌==◌, if◌then◌else◌, List, take, Option, Some, None, Result, Ok, Err}
+use Rattle.std.specs.Prelude.{ℕ, Bool, ◌==◌, if◌then◌else◌, List, take, Option, Some, None, Result}
+use Rattle.std.specs.Prelude.{Ok, Err}
 use Rattle.std.specs.Option.{ok_or}
 use Rattle.octets.specs.Answer.{◌>>=◌, result_map}
 use Rattle.octets.specs.Element.{Element}
@@ -14,8 +15,11 @@ use Rattle.bssmap_codec.specs.declared.bssmap.Bssmap.TheVariants.{AssignmentRequ
 use Rattle.bssmap_codec.specs.declared.bssmap_type.BssmapType.{BssmapType}
 use Rattle.bssmap_codec.specs.declared.bssmap_type.BssmapType.TheVariants as kinds
 use Rattle.bssmap_codec.specs.declared.fault.InterfaceFault.{InterfaceFault}
-use Rattle.bssmap_codec.specs.declared.fault.InterfaceFault.TheVariants.{Short, UnknownType, MissingElement}
-use Rattle.bssmap_codec.specs.declared.identifiers.TheConstants.{ELEMENTS, CAUSE, CELL_IDENTIFIER, CHANNEL_TYPE, RR_CAUSE, LAYER_3_INFORMATION, DLCI}
+use Rattle.bssmap_codec.specs.declared.fault.InterfaceFault.TheVariants.{Short, UnknownType}
+use Rattle.bssmap_codec.specs.declared.fault.InterfaceFault.TheVariants.{MissingElement}
+use Rattle.bssmap_codec.specs.declared.identifiers.TheConstants.{ELEMENTS, CAUSE, CELL_IDENTIFIER}
+use Rattle.bssmap_codec.specs.declared.identifiers.TheConstants.{CHANNEL_TYPE, RR_CAUSE}
+use Rattle.bssmap_codec.specs.declared.identifiers.TheConstants.{LAYER_3_INFORMATION, DLCI}
 use Rattle.bssmap_codec.specs.declared.values.Cause.{Cause}
 use Rattle.bssmap_codec.specs.declared.values.CellIdentifier.{CellIdentifier}
 use Rattle.bssmap_codec.specs.declared.values.ChannelType.{ChannelType}

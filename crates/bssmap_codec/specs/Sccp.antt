@@ -1,10 +1,13 @@
 -- Messages of SCCP for connections of class 2, octet by octet (Q.713 clause 4).
-use Rattle.std.specs.Prelude.{◌≡◌, ◌≢◌, ◌⊎◌, ℕ, ◌<◌, ◌≤◌, List, [], ◌∷◌, ◌++◌, length, drop, Option, Some, None}
+use Rattle.std.specs.Prelude.{◌≡◌, ◌≢◌, ◌⊎◌, ℕ, ◌<◌, ◌≤◌, List, [], ◌∷◌, ◌++◌, length, drop, Option}
+use Rattle.std.specs.Prelude.{Some, None}
 use Rattle.octets.specs.Front.{counted_text}
 use Rattle.bssmap_codec.specs.declared.identifiers.TheConstants.{END_OF_OPTIONS, USER_DATA}
 use Rattle.octets.specs.declared.limits.TheConstants.{LENGTH_LIMIT}
 use Rattle.bssmap_codec.specs.declared.sccp.Sccp.{Sccp}
-use Rattle.bssmap_codec.specs.declared.sccp.Sccp.TheVariants.{ConnectionRequest, ConnectionConfirm, ConnectionRefused, Released, ReleaseComplete, DataForm1}
+use Rattle.bssmap_codec.specs.declared.sccp.Sccp.TheVariants.{ConnectionRequest, ConnectionConfirm}
+use Rattle.bssmap_codec.specs.declared.sccp.Sccp.TheVariants.{ConnectionRefused, Released}
+use Rattle.bssmap_codec.specs.declared.sccp.Sccp.TheVariants.{ReleaseComplete, DataForm1}
 use Rattle.bssmap_codec.specs.declared.sccp_parameters.TheConstants.{NO_PART, UNSEGMENTED}
 use Rattle.bssmap_codec.specs.Reference.{IsReference, reference_text, references_text}
 use Rattle.bssmap_codec.specs.SccpType.{sccp_octet, type_of}

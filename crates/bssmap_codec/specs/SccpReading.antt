@@ -1,14 +1,18 @@
 -- What octets are read as, as a function of them: each step in the order in which faults are looked
 -- for.
-use Rattle.std.specs.Prelude.{ℕ, zero, suc, nat_le, ◌||◌, ◌==◌, if◌then◌else◌, List, [], ◌∷◌, length, drop, Option, Some, None, Result, Ok, Err}
+use Rattle.std.specs.Prelude.{ℕ, zero, suc, nat_le, ◌||◌, ◌==◌, if◌then◌else◌, List, [], ◌∷◌}
+use Rattle.std.specs.Prelude.{length, drop, Option, Some, None, Result, Ok, Err}
 use Rattle.std.specs.Option.{ok_or}
 use Rattle.octets.specs.Answer.{◌>>=◌, result_map}
 use Rattle.octets.specs.Front.{octet_at, counted_at}
 use Rattle.bssmap_codec.specs.declared.fault.InterfaceFault.{InterfaceFault}
-use Rattle.bssmap_codec.specs.declared.fault.InterfaceFault.TheVariants.{Short, UnknownType, BadPointer}
+use Rattle.bssmap_codec.specs.declared.fault.InterfaceFault.TheVariants.{Short, UnknownType}
+use Rattle.bssmap_codec.specs.declared.fault.InterfaceFault.TheVariants.{BadPointer}
 use Rattle.bssmap_codec.specs.declared.identifiers.TheConstants.{END_OF_OPTIONS, USER_DATA}
 use Rattle.bssmap_codec.specs.declared.sccp.Sccp.{Sccp}
-use Rattle.bssmap_codec.specs.declared.sccp.Sccp.TheVariants.{ConnectionRequest, ConnectionConfirm, ConnectionRefused, Released, ReleaseComplete, DataForm1}
+use Rattle.bssmap_codec.specs.declared.sccp.Sccp.TheVariants.{ConnectionRequest, ConnectionConfirm}
+use Rattle.bssmap_codec.specs.declared.sccp.Sccp.TheVariants.{ConnectionRefused, Released}
+use Rattle.bssmap_codec.specs.declared.sccp.Sccp.TheVariants.{ReleaseComplete, DataForm1}
 use Rattle.bssmap_codec.specs.declared.sccp_parameters.TheConstants.{NO_PART, UNSEGMENTED}
 use Rattle.bssmap_codec.specs.declared.sccp_type.SccpType.{SccpType}
 use Rattle.bssmap_codec.specs.declared.sccp_type.SccpType.TheVariants as kinds

@@ -1,12 +1,15 @@
 -- The text in which a message of SCCP is written, and why it may not be.
-use Rattle.std.specs.Prelude.{ℕ, nat_lt, if◌then◌else◌, List, [], ◌∷◌, ◌++◌, length, Option, Some, None}
+use Rattle.std.specs.Prelude.{ℕ, nat_lt, if◌then◌else◌, List, [], ◌∷◌, ◌++◌, length, Option, Some}
+use Rattle.std.specs.Prelude.{None}
 use Rattle.octets.specs.Front.{counted_text}
 use Rattle.bssmap_codec.specs.declared.fault.InterfaceFault.{InterfaceFault}
 use Rattle.bssmap_codec.specs.declared.fault.InterfaceFault.TheVariants.{TooLong}
 use Rattle.bssmap_codec.specs.declared.identifiers.TheConstants.{END_OF_OPTIONS, USER_DATA}
 use Rattle.octets.specs.declared.limits.TheConstants.{LENGTH_LIMIT}
 use Rattle.bssmap_codec.specs.declared.sccp.Sccp.{Sccp}
-use Rattle.bssmap_codec.specs.declared.sccp.Sccp.TheVariants.{ConnectionRequest, ConnectionConfirm, ConnectionRefused, Released, ReleaseComplete, DataForm1}
+use Rattle.bssmap_codec.specs.declared.sccp.Sccp.TheVariants.{ConnectionRequest, ConnectionConfirm}
+use Rattle.bssmap_codec.specs.declared.sccp.Sccp.TheVariants.{ConnectionRefused, Released}
+use Rattle.bssmap_codec.specs.declared.sccp.Sccp.TheVariants.{ReleaseComplete, DataForm1}
 use Rattle.bssmap_codec.specs.declared.sccp_parameters.TheConstants.{ADDRESS_POINTER, CALLED_ADDRESS, DATA_POINTER, END_USER_ORIGINATED, NO_PART, OPTIONS_POINTER, PROTOCOL_CLASS, UNSEGMENTED}
 use Rattle.bssmap_codec.specs.Reference.{IsReference, reference_text, references_text}
 use Rattle.bssmap_codec.specs.SccpType.{sccp_octet, type_of}

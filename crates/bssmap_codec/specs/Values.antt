@@ -1,6 +1,8 @@
 -- Values of elements.
-use Rattle.std.specs.Prelude.{ℕ, ◌%◌, Bool, false, ◌||◌, ◌==◌, if◌then◌else◌, List, [], ◌∷◌, Option, Some, None}
-use Rattle.bssmap_codec.specs.declared.values.TheConstants.{SHORT_MESSAGE_SAPI, SIGNALLING_SAPI, SPEECH}
+use Rattle.std.specs.Prelude.{ℕ, ◌%◌, Bool, false, ◌||◌, ◌==◌, if◌then◌else◌, List, [], ◌∷◌, Option}
+use Rattle.std.specs.Prelude.{Some, None}
+use Rattle.bssmap_codec.specs.declared.values.TheConstants.{SHORT_MESSAGE_SAPI, SIGNALLING_SAPI}
+use Rattle.bssmap_codec.specs.declared.values.TheConstants.{SPEECH}
 
 -- the SAPI, bits 3 to 1, is 0 or 3
 abbrev pub is_dlci : ℕ → Bool

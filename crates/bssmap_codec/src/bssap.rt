@@ -1,4 +1,5 @@
-ghost use Rattle.std.specs.Prelude.{◌≡◌, ◌⊎◌, ◌++◌, ℕ, List, length, take, IfOk, OnErr, OnOk, None, Ok, Err};
+ghost use Rattle.std.specs.Prelude.{◌≡◌, ◌⊎◌, ◌++◌, ℕ, List, length, take, IfOk, OnErr, OnOk, None};
+ghost use Rattle.std.specs.Prelude.{Ok, Err};
 ghost use Rattle.std.specs.Result.{result_err};
 ghost use Rattle.octets.specs.Answer.{Gives};
 ghost use Rattle.octets.specs.Refusal.{RefusesBy};
@@ -8,7 +9,8 @@ ghost use Rattle.bssmap_codec.specs.declared.fault.InterfaceFault.TheVariants.{M
 ghost use Rattle.bssmap_codec.specs.Bssap.{IsBssap};
 ghost use Rattle.bssmap_codec.specs.BssapFaults.{RefusesBssap};
 ghost use Rattle.bssmap_codec.specs.BssapReading as reading;
-ghost use Rattle.bssmap_codec.specs.BssapText.{HasDlci, bssap_text, bssap_write_fault, bssmap_size, bssmap_text};
+ghost use Rattle.bssmap_codec.specs.BssapText.{HasDlci, bssap_text, bssap_write_fault, bssmap_size};
+ghost use Rattle.bssmap_codec.specs.BssapText.{bssmap_text};
 
 use crate::bssmap::{management_refusal, management_text, read_message};
 use crate::{Bssmap, BssmapType, Dlci, InterfaceFault, layer3};

@@ -1,4 +1,5 @@
-ghost use Rattle.std.specs.Prelude.{◌≡◌, ◌≤◌, ◌<◌, ◌-◌, ◌^◌, ◌∷◌, [], ◌++◌, length, min, option_map, IfOk, OnOk};
+ghost use Rattle.std.specs.Prelude.{◌≡◌, ◌≤◌, ◌<◌, ◌-◌, ◌^◌, ◌∷◌, [], ◌++◌, length, min};
+ghost use Rattle.std.specs.Prelude.{option_map, IfOk, OnOk};
 ghost use Rattle.octets.specs.Answer.{Gives, result_map};
 ghost use Rattle.octets.specs.Field.{field_text, fields_text};
 ghost use Rattle.octets.specs.Front.{counted_text};
@@ -9,7 +10,8 @@ ghost use Rattle.bssmap_codec.specs.declared.fault.InterfaceFault.TheVariants.{M
 ghost use Rattle.bssmap_codec.specs.declared.identifiers.TheConstants.{ELEMENTS};
 ghost use Rattle.bssmap_codec.specs.Bssap.{fields, rr_cause_field};
 ghost use Rattle.bssmap_codec.specs.BssapReading as reading;
-ghost use Rattle.bssmap_codec.specs.BssapText.{bssmap_size, bssmap_text, content_fault, rr_cause_size};
+ghost use Rattle.bssmap_codec.specs.BssapText.{bssmap_size, bssmap_text, content_fault};
+ghost use Rattle.bssmap_codec.specs.BssapText.{rr_cause_size};
 ghost use Rattle.bssmap_codec.specs.BssmapType.{type_of};
 ghost use Rattle.bssmap_codec.specs.SccpText.{size_fault};
 

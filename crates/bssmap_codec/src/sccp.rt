@@ -1,4 +1,5 @@
-ghost use Rattle.std.specs.Prelude.{◌≡◌, ◌⊎◌, ◌<◌, ◌≤◌, ◌^◌, ◌++◌, ℕ, List, length, IfOk, OnErr, OnOk, None, Ok, Err};
+ghost use Rattle.std.specs.Prelude.{◌≡◌, ◌⊎◌, ◌<◌, ◌≤◌, ◌^◌, ◌++◌, ℕ, List, length, IfOk, OnErr};
+ghost use Rattle.std.specs.Prelude.{OnOk, None, Ok, Err};
 ghost use Rattle.std.specs.Option.{ForSome};
 ghost use Rattle.std.specs.Result.{result_err};
 ghost use Rattle.octets.specs.Answer.{Gives, result_map};
@@ -10,7 +11,8 @@ ghost use Rattle.bssmap_codec.specs.Reference.{references_at, references_text};
 ghost use Rattle.bssmap_codec.specs.Sccp.{IsSccp};
 ghost use Rattle.bssmap_codec.specs.SccpFaults.{RefusesSccp};
 ghost use Rattle.bssmap_codec.specs.SccpReading as reading;
-ghost use Rattle.bssmap_codec.specs.SccpText.{HasReferences, content_text, options_text, sccp_text, sccp_write_fault};
+ghost use Rattle.bssmap_codec.specs.SccpText.{HasReferences, content_text, options_text, sccp_text};
+ghost use Rattle.bssmap_codec.specs.SccpText.{sccp_write_fault};
 ghost use Rattle.bssmap_codec.specs.SccpType.{type_of};
 
 use crate::identifiers::{END_OF_OPTIONS, USER_DATA};

@@ -1,5 +1,5 @@
 -- What a call makes of a connection and of the outputs that it was lent.
-use Rattle.std.specs.Prelude.{◌≡◌, ℕ, Bool, true, false, List, [], ◌++◌, Option, Some, None}
+use Rattle.std.specs.Prelude.{◌≡◌, ℕ, Bool, true, false, List, [], ◌++◌, Option, Some, None, Result, IfOk}
 use Rattle.bssmap_codec.specs.Layer3.{IsLayer3}
 use Rattle.conn_messages.specs.declared.out.Out.{Out}
 use Rattle.std.specs.List.{AllByRecursion}
@@ -9,10 +9,13 @@ use Rattle.conn_rules.specs.declared.input.Input.TheVariants.{Expiry, DrainExpir
 use Rattle.conn_rules.specs.declared.state.State.{State}
 use Rattle.conn_rules.specs.Connection.{Connection, emptied}
 use Rattle.conn_rules.specs.Steps.{Row}
+use Rattle.octets.specs.declared.memory.Memory.{Memory}
 
 -- the row's messages are appended, and the connection is its next
 abbrev pub Does : Row → Connection → Connection → List Out → List Out → Type 0
-Does r old new outs outs_after = (new ≡ r.next) × (outs_after ≡ outs ++ outs_of old.number r.outs) × AllByRecursion IsSound r.outs
+Does r old new outs outs_after =
+    (new ≡ r.next) × (outs_after ≡ outs ++ outs_of old.number r.outs)
+    × AllByRecursion IsSound r.outs
 
 -- nothing is appended, and the connection is as it was
 abbrev pub Stays : Connection → Connection → List Out → List Out → Type 0
@@ -22,6 +25,12 @@ Stays old new outs outs_after = (new ≡ old) × (outs_after ≡ outs)
 abbrev pub Steps : Option Row → Bool → Connection → Connection → List Out → List Out → Type 0
 Steps (Some r) fits old new outs outs_after = (fits ≡ true) × Does r old new outs outs_after
 Steps None fits old new outs outs_after = (fits ≡ false) × Stays old new outs outs_after
+
+-- the call answers whether a row fits, and the row that does is done
+abbrev pub StepsOnOk : Result Bool Memory → Option Row →
+    Connection → Connection → List Out → List Out → Type 0
+StepsOnOk result r old new outs outs_after =
+    IfOk result (λ fits. Steps r fits old new outs outs_after)
 
 -- ---- steps of several connections at once
 
@@ -69,11 +78,15 @@ Closes (Some last) old new = new ≡ emptied last old
 Closes None old new = new ≡ old
 
 -- the frames are appended, and the connection ends in this state, if there is one
-abbrev pub Finishes : Option State → List Out → Bool → Connection → Connection → List Out → List Out → Type 0
-Finishes (Some last) made fits old new outs outs_after = (fits ≡ true) × (new ≡ emptied last old) × (outs_after ≡ outs ++ made)
-Finishes None made fits old new outs outs_after = (fits ≡ false) × (new ≡ old) × (outs_after ≡ outs ++ made)
+abbrev pub Finishes : Option State → List Out → Bool →
+    Connection → Connection → List Out → List Out → Type 0
+Finishes (Some last) made fits old new outs outs_after =
+    (fits ≡ true) × (new ≡ emptied last old) × (outs_after ≡ outs ++ made)
+Finishes None made fits old new outs outs_after =
+    (fits ≡ false) × (new ≡ old) × (outs_after ≡ outs ++ made)
 
 -- the row that fits is done, and these are its frames; where none does, nothing changes
 abbrev pub Commits : Option Row → Connection → Connection → List Out → Type 0
-Commits (Some r) old new outs = (new ≡ r.next) × (outs ≡ outs_of old.number r.outs) × AllByRecursion IsSound r.outs
+Commits (Some r) old new outs =
+    (new ≡ r.next) × (outs ≡ outs_of old.number r.outs) × AllByRecursion IsSound r.outs
 Commits None old new outs = (new ≡ old) × (outs ≡ [])

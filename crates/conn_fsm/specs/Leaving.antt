@@ -1,5 +1,6 @@
 -- Old channels leave: how many, and what a connection is and puts then.
 use Rattle.std.specs.Prelude.{ℕ, zero, suc, if◌then◌else◌, List, [], ◌∷◌, ◌++◌, drop}
+use Rattle.conn_messages.specs.declared.channel.Channel.{Channel}
 use Rattle.conn_messages.specs.declared.message.Message.{Message}
 use Rattle.conn_rules.specs.declared.state.Drain.{Drain}
 use Rattle.conn_rules.specs.Connection.{Connection, first_channel}
@@ -13,15 +14,27 @@ leaving (d ∷ ds) = if d.is_done then suc (leaving ds) else 0
 
 -- the oldest left, and the next tenure was relayed
 abbrev pub oldest_left : Connection → Connection
-oldest_left s = record s { draining = drop 1 s.draining; up = record s.up { tenures = first_cleared (drop 1 s.up.tenures) }; drained = 0 }
+oldest_left s = record s {
+  draining = drop 1 s.draining;
+  up = record s.up { tenures = first_cleared (drop 1 s.up.tenures) };
+  drained = 0;
+}
 
 -- so many left
 abbrev pub left : ℕ → Connection → Connection
 left zero s = s
 left (suc n) s = oldest_left (left n s)
 
+-- the channel of the tenure at this place
+abbrev pub channel_of : ℕ → Connection → Channel
+channel_of tenure s = first_channel (drop tenure s.draining) s.serving
+
+-- what is relayed of it
+abbrev pub outs_of_tenure : ℕ → ℕ → Connection → List Message
+outs_of_tenure reference tenure s =
+    tenure_outs reference (channel_of tenure s) (drop tenure s.up.tenures)
+
 -- what is relayed then: the tenures behind those that left
 abbrev pub left_outs : ℕ → ℕ → Connection → List Message
 left_outs reference zero s = []
-left_outs reference (suc n) s =
-    left_outs reference n s ++ tenure_outs reference (first_channel (drop (suc n) s.draining) s.serving) (drop (suc n) s.up.tenures)
+left_outs reference (suc n) s = left_outs reference n s ++ outs_of_tenure reference (suc n) s

@@ -1,4 +1,5 @@
 pub mod Doing
+pub mod Endings
 pub mod Leaving
 pub mod PlanState
 pub mod Views

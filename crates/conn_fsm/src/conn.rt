@@ -1,9 +1,9 @@
-ghost use Rattle.std.specs.Prelude.{◌≡◌, ◌<◌, ◌^◌, None, IfOk, OnOk, OnErr};
+ghost use Rattle.std.specs.Prelude.{◌≡◌, ◌<◌, ◌^◌, None, IfOk, OnErr};
 ghost use Rattle.conn_rules.specs.Connection.{new_connection};
 ghost use Rattle.conn_rules.specs.Standing.{IsCarried, Stands};
 ghost use Rattle.conn_rules.specs.Table.{row_of, serving_after};
 ghost use Rattle.hold_queue.specs.HoldState.{messages};
-ghost use Rattle.conn_fsm.specs.Doing.{Commits, IsAsPlanned, IsPlanned, Stays, Steps, outs_in};
+ghost use Rattle.conn_fsm.specs.Doing.{Commits, IsAsPlanned, IsPlanned, Stays, StepsOnOk, outs_in};
 ghost use Rattle.conn_rules.specs.Timers.{after_pass};
 ghost use Rattle.conn_fsm.specs.Views.{joined};
 
@@ -66,7 +66,8 @@ impl Conn {
         outputs: &mut Outputs,
     ) -> Result<bool, Memory>
         requires { IsCarried input }
-        ensures done { IfOk result (λ fits. Steps (row_of self.old input offer) fits self.old self.new outputs.old.outs outputs.new.outs) }
+        ensures done { StepsOnOk result (row_of self.old input offer)
+            self.old self.new outputs.old.outs outputs.new.outs }
         ensures err { OnErr result (Stays self.old self.new outputs.old.outs outputs.new.outs) }
     {
         self.machine.step(input, offer, outputs)
@@ -78,7 +79,8 @@ impl Conn {
         requires { IsPlanned input }
         ensures was { IfOk result (λ plan. plan.was ≡ self.now) }
         ensures input { IfOk result (λ plan. plan.input ≡ input) }
-        ensures outs { IfOk result (λ plan. plan.outs ≡ outs_in (row_of self.now input None) self.now.number) }
+        ensures outs { IfOk result
+            (λ plan. plan.outs ≡ outs_in (row_of self.now input None) self.now.number) }
     {
         self.machine.plan(input)
     }

@@ -1,12 +1,12 @@
-ghost use Rattle.std.specs.Prelude.{◌≡◌, [], ◌∷◌, ◌++◌, IfOk, OnOk, OnErr};
+ghost use Rattle.std.specs.Prelude.{◌≡◌, [], ◌∷◌, ◌++◌, OnOk, OnErr};
 ghost use Rattle.bssmap_codec.specs.Layer3.{IsLayer3};
 ghost use Rattle.conn_messages.specs.Out.{IsSound, outs_of};
 ghost use Rattle.std.specs.List.{AllByRecursion};
 ghost use Rattle.conn_messages.specs.StationMessage as words;
 ghost use Rattle.conn_rules.specs.Standing.{Stands};
-ghost use Rattle.conn_rules.specs.Steps.{hold_down, hold_short_message, request_where, short_message};
+ghost use Rattle.conn_rules.specs.Steps.{hold_down, hold_short_message, short_message};
 ghost use Rattle.conn_rules.specs.Table.{on_downlink};
-ghost use Rattle.conn_fsm.specs.Doing.{Does, Stays, Steps};
+ghost use Rattle.conn_fsm.specs.Doing.{Does, Stays, StepsOnOk};
 
 use crate::machine::Machine;
 use conn_messages::causes::EQUIPMENT_FAILURE;
@@ -27,7 +27,8 @@ impl Machine {
         outputs: &mut Outputs,
     ) -> Result<bool, Memory>
         requires { IsLayer3 message }
-        ensures done { IfOk result (λ fits. Steps (on_downlink self.old.state self.old sapi message) fits self.old self.new outputs.old.outs outputs.new.outs) }
+        ensures done { StepsOnOk result (on_downlink self.old.state self.old sapi message)
+            self.old self.new outputs.old.outs outputs.new.outs }
         ensures err { OnErr result (Stays self.old self.new outputs.old.outs outputs.new.outs) }
     {
         let state = self.state;
@@ -43,8 +44,10 @@ impl Machine {
     // The message is handed at once.
     fn hand(&self, sapi: Sapi, message: Octets, outputs: &mut Outputs) -> Result<(), Memory>
         requires { IsLayer3 message }
-        ensures done { OnOk result (outputs.new.outs ≡ outputs.old.outs ++ outs_of self.now.number (words.handing self.now.serving sapi message ∷ [])) }
-        ensures sound { OnOk result (AllByRecursion IsSound (words.handing self.now.serving sapi message ∷ [])) }
+        ensures done { OnOk result (outputs.new.outs ≡ outputs.old.outs
+            ++ outs_of self.now.number (words.handing self.now.serving sapi message ∷ [])) }
+        ensures sound { OnOk result
+            (AllByRecursion IsSound (words.handing self.now.serving sapi message ∷ [])) }
         ensures err { OnErr result (outputs.new.outs ≡ outputs.old.outs) }
     {
         let mut put = Messages::new(self.alloc);
@@ -59,7 +62,8 @@ impl Machine {
         message: Octets,
         outputs: &mut Outputs,
     ) -> Result<(), Memory>
-        ensures done { OnOk result (Does (hold_down self.old.state sapi message self.old) self.old self.new outputs.old.outs outputs.new.outs) }
+        ensures done { OnOk result (Does (hold_down self.old.state sapi message self.old)
+            self.old self.new outputs.old.outs outputs.new.outs) }
         ensures err { OnErr result (Stays self.old self.new outputs.old.outs outputs.new.outs) }
     {
         match self.down.put(sapi, message.into_vec()) {
@@ -72,7 +76,9 @@ impl Machine {
     // A message of SAPI 3.
     fn short_message(&mut self, message: Octets, outputs: &mut Outputs) -> Result<(), Memory>
         requires { IsLayer3 message }
-        ensures done { OnOk result (Does (short_message self.old.state self.old.link message self.old) self.old self.new outputs.old.outs outputs.new.outs) }
+        ensures done { OnOk result (Does
+            (short_message self.old.state self.old.link message self.old)
+            self.old self.new outputs.old.outs outputs.new.outs) }
         ensures err { OnErr result (Stays self.old self.new outputs.old.outs outputs.new.outs) }
     {
         match self.link {
@@ -86,7 +92,8 @@ impl Machine {
     // It waits for its link, which is asked for where it is down. Room for the request is there
     // before the message is held.
     fn hold_short_message(&mut self, message: Octets, outputs: &mut Outputs) -> Result<(), Memory>
-        ensures done { OnOk result (Does (hold_short_message self.old.state message self.old) self.old self.new outputs.old.outs outputs.new.outs) }
+        ensures done { OnOk result (Does (hold_short_message self.old.state message self.old)
+            self.old self.new outputs.old.outs outputs.new.outs) }
         ensures err { OnErr result (Stays self.old self.new outputs.old.outs outputs.new.outs) }
     {
         if self.down.is_full() {

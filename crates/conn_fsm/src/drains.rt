@@ -29,7 +29,8 @@ impl Model for Drains {
     ghost view = { λ drains. drains.list.items };
 
     // the room for all is there, so that one more takes no memory
-    ghost invariant = { λ drains. (length drains.list.items ≤ DRAIN_LIMIT) × (DRAIN_LIMIT ≤ deque_capacity drains.list) };
+    ghost invariant = { λ drains. (length drains.list.items ≤ DRAIN_LIMIT)
+        × (DRAIN_LIMIT ≤ deque_capacity drains.list) };
 }
 
 impl Drains {

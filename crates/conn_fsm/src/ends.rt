@@ -26,7 +26,8 @@ impl Machine {
 
     /// end: the mobile is dismissed with a cause, and the channels are released.
     pub(crate) fn put_end(&self, cause: u8, put: &mut Messages) -> Result<(), Memory>
-        ensures { OnOk result (put.new ≡ put.old ++ end_outs self.now.state self.now.serving cause) }
+        ensures { OnOk result (put.new ≡ put.old
+            ++ end_outs self.now.state self.now.serving cause) }
     {
         put.push(channel_release(self.alloc, &self.serving, cause)?)?;
         put.push(rf_channel_release(&self.serving))?;
@@ -56,7 +57,8 @@ impl Machine {
     }
 
     pub(crate) fn fail(&mut self, cause: u8, outputs: &mut Outputs) -> Result<(), Memory>
-        ensures done { OnOk result (Does (failing self.old.state self.old cause) self.old self.new outputs.old.outs outputs.new.outs) }
+        ensures done { OnOk result (Does (failing self.old.state self.old cause)
+            self.old self.new outputs.old.outs outputs.new.outs) }
         ensures err { OnErr result (Stays self.old self.new outputs.old.outs outputs.new.outs) }
     {
         let mut put = Messages::new(self.alloc);
@@ -73,7 +75,8 @@ impl Machine {
         last: State,
         outputs: &mut Outputs,
     ) -> Result<(), Memory>
-        ensures done { OnOk result (Does (ending self.old.state self.old cause last) self.old self.new outputs.old.outs outputs.new.outs) }
+        ensures done { OnOk result (Does (ending self.old.state self.old cause last)
+            self.old self.new outputs.old.outs outputs.new.outs) }
         ensures err { OnErr result (Stays self.old self.new outputs.old.outs outputs.new.outs) }
     {
         let mut put = Messages::new(self.alloc);
@@ -85,7 +88,8 @@ impl Machine {
 
     /// drop: of a connection that the switch doesn't know.
     pub(crate) fn drop_channel(&mut self, outputs: &mut Outputs) -> Result<(), Memory>
-        ensures done { OnOk result (Does (dropping self.old) self.old self.new outputs.old.outs outputs.new.outs) }
+        ensures done { OnOk result (Does (dropping self.old)
+            self.old self.new outputs.old.outs outputs.new.outs) }
         ensures err { OnErr result (Stays self.old self.new outputs.old.outs outputs.new.outs) }
     {
         let mut put = Messages::new(self.alloc);

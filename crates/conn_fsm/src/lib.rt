@@ -5,19 +5,23 @@
 pub use conn::Conn;
 pub use conn_messages::{Channel, Out, Outputs};
 pub use conn_rules::Input;
+pub use places::is_at;
 pub use plan::Plan;
 
-mod changes;
+mod activation;
 mod conn;
 mod downlink;
 mod drains;
 mod ends;
 mod links;
 mod machine;
+mod outcome;
 mod places;
 mod plan;
 mod planned;
 mod release;
+mod requests;
+mod resumption;
 mod stepping;
 mod switch;
 mod uplink;

@@ -1,10 +1,10 @@
-ghost use Rattle.std.specs.Prelude.{◌≡◌, [], ◌∷◌, ◌++◌, Some, IfOk, OnOk, OnErr, option_map};
+ghost use Rattle.std.specs.Prelude.{◌≡◌, [], ◌∷◌, ◌++◌, Some, OnOk, OnErr, option_map};
 ghost use Rattle.bssmap_codec.specs.Layer3.{IsLayer3};
 ghost use Rattle.conn_rules.specs.declared.state.ShortMessageLink.TheVariants.{Asked};
 ghost use Rattle.conn_rules.specs.Standing.{Stands};
 ghost use Rattle.conn_rules.specs.Steps.{link_down, link_up};
 ghost use Rattle.conn_rules.specs.Table.{access, on_connection_failure, on_error_indication, on_establish_confirm, on_establish_indication, on_release_indication};
-ghost use Rattle.conn_fsm.specs.Doing.{Does, IsInitial, Stays, Steps};
+ghost use Rattle.conn_fsm.specs.Doing.{Does, IsInitial, Stays, StepsOnOk};
 
 use crate::machine::Machine;
 use crate::places::is_at;
@@ -29,7 +29,9 @@ impl Machine {
     ) -> Result<bool, Memory>
         requires stands { Stands self.old }
         requires layer3 { IsInitial message }
-        ensures done { IfOk result (λ fits. Steps (on_establish_indication self.old.state self.old at sapi message) fits self.old self.new outputs.old.outs outputs.new.outs) }
+        ensures done { StepsOnOk result
+            (on_establish_indication self.old.state self.old at sapi message)
+            self.old self.new outputs.old.outs outputs.new.outs }
         ensures err { OnErr result (Stays self.old self.new outputs.old.outs outputs.new.outs) }
     {
         if !is_at(&at, &self.serving) {
@@ -53,7 +55,8 @@ impl Machine {
     // The initial message opens a connection of the switch.
     fn access(&mut self, message: Option<Octets>, outputs: &mut Outputs) -> Result<(), Memory>
         requires { IsInitial message }
-        ensures done { OnOk result (Does (access message self.old) self.old self.new outputs.old.outs outputs.new.outs) }
+        ensures done { OnOk result (Does (access message self.old)
+            self.old self.new outputs.old.outs outputs.new.outs) }
         ensures err { OnErr result (Stays self.old self.new outputs.old.outs outputs.new.outs) }
     {
         match message {
@@ -73,7 +76,8 @@ impl Machine {
     /// SAPI 3 comes up: what is held for it is handed.
     fn link_up(&mut self, outputs: &mut Outputs) -> Result<(), Memory>
         requires { Stands self.old }
-        ensures done { OnOk result (Does (link_up self.old) self.old self.new outputs.old.outs outputs.new.outs) }
+        ensures done { OnOk result (Does (link_up self.old)
+            self.old self.new outputs.old.outs outputs.new.outs) }
         ensures err { OnErr result (Stays self.old self.new outputs.old.outs outputs.new.outs) }
     {
         let mut put = Messages::new(self.alloc);
@@ -86,7 +90,8 @@ impl Machine {
 
     /// SAPI 3 goes down: where it was asked for, what waits for it is rejected.
     fn link_down(&mut self, reference: Reference, outputs: &mut Outputs) -> Result<(), Memory>
-        ensures done { OnOk result (Does (link_down self.old.link reference self.old) self.old self.new outputs.old.outs outputs.new.outs) }
+        ensures done { OnOk result (Does (link_down self.old.link reference self.old)
+            self.old self.new outputs.old.outs outputs.new.outs) }
         ensures err { OnErr result (Stays self.old self.new outputs.old.outs outputs.new.outs) }
     {
         if let ShortMessageLink::Asked = self.link {
@@ -107,7 +112,8 @@ impl Machine {
         outputs: &mut Outputs,
     ) -> Result<bool, Memory>
         requires { Stands self.old }
-        ensures done { IfOk result (λ fits. Steps (on_establish_confirm self.old.state self.old at sapi) fits self.old self.new outputs.old.outs outputs.new.outs) }
+        ensures done { StepsOnOk result (on_establish_confirm self.old.state self.old at sapi)
+            self.old self.new outputs.old.outs outputs.new.outs }
         ensures err { OnErr result (Stays self.old self.new outputs.old.outs outputs.new.outs) }
     {
         let ShortMessageLink::Asked = self.link else {
@@ -134,7 +140,8 @@ impl Machine {
         sapi: Sapi,
         outputs: &mut Outputs,
     ) -> Result<bool, Memory>
-        ensures done { IfOk result (λ fits. Steps (on_error_indication self.old.state self.old at sapi) fits self.old self.new outputs.old.outs outputs.new.outs) }
+        ensures done { StepsOnOk result (on_error_indication self.old.state self.old at sapi)
+            self.old self.new outputs.old.outs outputs.new.outs }
         ensures err { OnErr result (Stays self.old self.new outputs.old.outs outputs.new.outs) }
     {
         if !is_at(&at, &self.serving) {
@@ -162,7 +169,8 @@ impl Machine {
         sapi: Sapi,
         outputs: &mut Outputs,
     ) -> Result<bool, Memory>
-        ensures done { IfOk result (λ fits. Steps (on_release_indication self.old.state self.old at sapi) fits self.old self.new outputs.old.outs outputs.new.outs) }
+        ensures done { StepsOnOk result (on_release_indication self.old.state self.old at sapi)
+            self.old self.new outputs.old.outs outputs.new.outs }
         ensures err { OnErr result (Stays self.old self.new outputs.old.outs outputs.new.outs) }
     {
         match sapi {
@@ -177,7 +185,8 @@ impl Machine {
         at: Place,
         outputs: &mut Outputs,
     ) -> Result<bool, Memory>
-        ensures done { IfOk result (λ fits. Steps (on_connection_failure self.old.state self.old at) fits self.old self.new outputs.old.outs outputs.new.outs) }
+        ensures done { StepsOnOk result (on_connection_failure self.old.state self.old at)
+            self.old self.new outputs.old.outs outputs.new.outs }
         ensures err { OnErr result (Stays self.old self.new outputs.old.outs outputs.new.outs) }
     {
         if !is_at(&at, &self.serving) {

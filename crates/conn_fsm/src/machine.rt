@@ -87,7 +87,8 @@ impl Machine {
 
     /// Appends the frames of the messages.
     pub(crate) fn put(&self, messages: &Messages, outputs: &mut Outputs) -> Result<(), Memory>
-        ensures ok { OnOk result (outputs.new.outs ≡ outputs.old.outs ++ outs_of self.now.number messages.now) }
+        ensures ok { OnOk result (outputs.new.outs ≡ outputs.old.outs
+            ++ outs_of self.now.number messages.now) }
         ensures sound { AllByRecursion IsSound messages.now }
         ensures err { OnErr result (outputs.new.outs ≡ outputs.old.outs) }
     {

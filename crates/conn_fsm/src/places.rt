@@ -1,12 +1,11 @@
 ghost use Rattle.std.specs.Prelude.{◌≡◌};
 ghost use Rattle.conn_rules.specs.Connection.{is_at};
-ghost use Rattle.conn_rules.specs.Table.{same_change, targets};
+ghost use Rattle.conn_rules.specs.Table.{same_change};
 
 use conn_messages::{Change, Channel, Place};
-use conn_rules::Stage;
 
-/// Whether the place is that of the channel.
-pub(crate) fn is_at(at: &Place, channel: &Channel) -> bool
+/// Whether a message that came from this place is of the channel.
+pub fn is_at(at: &Place, channel: &Channel) -> bool
     ensures { result ≡ is_at at.now channel.now }
 {
     at.station == channel.station && at.number == channel.number
@@ -20,14 +19,4 @@ pub(crate) fn same_change(change: &Change, other: &Change) -> bool
         (change, other),
         (Change::Assignment, Change::Assignment) | (Change::Handover, Change::Handover)
     )
-}
-
-/// Whether a target of this station is there.
-pub(crate) fn targets(station: u16, stage: Stage) -> bool
-    ensures { result ≡ targets station stage }
-{
-    match stage {
-        Stage::Preparing(target) | Stage::Changing(target) => target.channel.station == station,
-        Stage::Active | Stage::Draining => false,
-    }
 }

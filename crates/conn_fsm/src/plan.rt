@@ -22,9 +22,16 @@ impl Model for Plan {
 
     ghost Value = { PlanState };
 
-    ghost view = { λ plan. record { outs = plan.outputs.outs; last = plan.last; was = plan.was.value; input = plan.input.value } };
+    ghost view = { λ plan. record {
+      outs = plan.outputs.outs;
+      last = plan.last;
+      was = plan.was.value;
+      input = plan.input.value;
+    } };
 
-    ghost invariant = { λ plan. IsPlanned plan.input.value × Plans plan.outputs.outs plan.last (row_of plan.was.value plan.input.value None) plan.was.value };
+    ghost invariant = { λ plan. IsPlanned plan.input.value
+        × Plans plan.outputs.outs plan.last
+        (row_of plan.was.value plan.input.value None) plan.was.value };
 }
 
 impl Plan {

@@ -2,12 +2,14 @@ ghost use Rattle.std.specs.Prelude.{◌≡◌, ◌++◌, IfOk, OnOk, Some, None,
 ghost use Rattle.conn_messages.specs.Out.{IsSound, outs_of};
 ghost use Rattle.std.specs.List.{AllByRecursion};
 ghost use Rattle.conn_messages.specs.declared.causes.TheConstants.{ABNORMAL_RELEASE, EQUIPMENT_FAILURE};
-ghost use Rattle.conn_rules.specs.Steps.{dropping, end_outs, failing, goes_to, target_release, without_station};
-ghost use Rattle.conn_rules.specs.Table.{on_drain_expiry, on_expiry, on_station_down, on_switch_down};
+ghost use Rattle.conn_rules.specs.Steps.{dropping, end_outs, failing, goes_to};
+ghost use Rattle.conn_rules.specs.Steps.{target_release, without_station};
+ghost use Rattle.conn_rules.specs.Table.{on_drain_expiry, on_expiry};
+ghost use Rattle.conn_rules.specs.Table.{on_station_down, on_switch_down, targets};
 ghost use Rattle.conn_fsm.specs.Doing.{Plans};
+ghost use Rattle.conn_fsm.specs.Endings.{PlansOnOk};
 
 use crate::machine::Machine;
-use crate::places::targets;
 use conn_messages::causes::{ABNORMAL_RELEASE, EQUIPMENT_FAILURE, RADIO_INTERFACE_MESSAGE_FAILURE};
 use conn_messages::station_message::{channel_release, rf_channel_release};
 use conn_messages::switch_message::clear_request;
@@ -36,7 +38,8 @@ impl Machine {
 
     // The connection ends in this state with these messages.
     fn ending_in(&self, put: &Messages, last: State) -> Result<Ending, Memory>
-        ensures { IfOk result (λ e. (e.outputs.outs ≡ outs_of self.now.number put.now) × (e.last ≡ Some last) × AllByRecursion IsSound put.now) }
+        ensures { IfOk result (λ e. (e.outputs.outs ≡ outs_of self.now.number put.now)
+            × (e.last ≡ Some last) × AllByRecursion IsSound put.now) }
     {
         Ok(Ending {
             outputs: Outputs::made(self.alloc, self.number, put)?,
@@ -45,7 +48,7 @@ impl Machine {
     }
 
     fn dropping(&self) -> Result<Ending, Memory>
-        ensures { IfOk result (λ e. Plans e.outputs.outs e.last (Some (dropping self.now)) self.now) }
+        ensures { PlansOnOk result (Some (dropping self.now)) self.now }
     {
         let mut put = Messages::new(self.alloc);
         put.push(rf_channel_release(&self.serving))?;
@@ -53,7 +56,7 @@ impl Machine {
     }
 
     fn failing(&self, cause: u8) -> Result<Ending, Memory>
-        ensures { IfOk result (λ e. Plans e.outputs.outs e.last (Some (failing self.now.state self.now cause)) self.now) }
+        ensures { PlansOnOk result (Some (failing self.now.state self.now cause)) self.now }
     {
         let mut put = Messages::new(self.alloc);
         self.put_failing(cause, &mut put)?;
@@ -62,7 +65,7 @@ impl Machine {
 
     /// The state's timer expired: T3101, T3103 or T3107.
     pub(crate) fn on_expiry(&self) -> Result<Ending, Memory>
-        ensures { IfOk result (λ e. Plans e.outputs.outs e.last (on_expiry self.now.state self.now) self.now) }
+        ensures { PlansOnOk result (on_expiry self.now.state self.now) self.now }
     {
         let state = self.state;
         match state {
@@ -76,7 +79,7 @@ impl Machine {
 
     /// The drain time is over.
     pub(crate) fn on_drain_expiry(&self) -> Result<Ending, Memory>
-        ensures { IfOk result (λ e. Plans e.outputs.outs e.last (on_drain_expiry self.now.state self.now) self.now) }
+        ensures { PlansOnOk result (on_drain_expiry self.now.state self.now) self.now }
     {
         let state = self.state;
         match state {
@@ -87,7 +90,7 @@ impl Machine {
 
     /// The link of a station broke, which gets nothing any more.
     pub(crate) fn on_station_down(&self, station: u16) -> Result<Ending, Memory>
-        ensures { IfOk result (λ e. Plans e.outputs.outs e.last (on_station_down self.now.state self.now station) self.now) }
+        ensures { PlansOnOk result (on_station_down self.now.state self.now station) self.now }
     {
         let serves = self.serving.station == station;
         let state = self.state;
@@ -106,7 +109,9 @@ impl Machine {
 
     // fail, without the messages to a station.
     fn failing_without(&self, station: u16) -> Result<Ending, Memory>
-        ensures { IfOk result (λ e. Plans e.outputs.outs e.last (Some (without_station station (failing self.now.state self.now EQUIPMENT_FAILURE))) self.now) }
+        ensures { PlansOnOk result
+            (Some (without_station station (failing self.now.state self.now EQUIPMENT_FAILURE)))
+            self.now }
     {
         let mut put = Messages::new(self.alloc);
         self.put_failing_without(station, &mut put)?;
@@ -114,7 +119,9 @@ impl Machine {
     }
 
     fn put_failing_without(&self, station: u16, put: &mut Messages) -> Result<(), Memory>
-        ensures { OnOk result (put.new ≡ put.old ++ (without_station station (failing self.now.state self.now EQUIPMENT_FAILURE)).outs) }
+        ensures { OnOk result (put.new ≡ put.old
+            ++ (without_station station
+            (failing self.now.state self.now EQUIPMENT_FAILURE)).outs) }
     {
         let state = self.state;
         if let State::Live(reference, _) = state {
@@ -124,7 +131,9 @@ impl Machine {
     }
 
     fn put_end_without(&self, station: u16, put: &mut Messages) -> Result<(), Memory>
-        ensures { OnOk result (put.new ≡ put.old ++ filter (λ m. not (goes_to station m)) (end_outs self.now.state self.now.serving ABNORMAL_RELEASE)) }
+        ensures { OnOk result (put.new ≡ put.old
+            ++ filter (λ m. not (goes_to station m))
+            (end_outs self.now.state self.now.serving ABNORMAL_RELEASE)) }
     {
         if self.serving.station != station {
             put.push(channel_release(self.alloc, &self.serving, ABNORMAL_RELEASE)?)?;
@@ -134,7 +143,8 @@ impl Machine {
     }
 
     fn put_target_release_without(&self, station: u16, put: &mut Messages) -> Result<(), Memory>
-        ensures { OnOk result (put.new ≡ put.old ++ filter (λ m. not (goes_to station m)) (target_release self.now.state)) }
+        ensures { OnOk result (put.new ≡ put.old
+            ++ filter (λ m. not (goes_to station m)) (target_release self.now.state)) }
     {
         let state = self.state;
         match state {
@@ -148,7 +158,7 @@ impl Machine {
 
     /// The link of the switch broke.
     pub(crate) fn on_switch_down(&self) -> Result<Ending, Memory>
-        ensures { IfOk result (λ e. Plans e.outputs.outs e.last (on_switch_down self.now.state self.now) self.now) }
+        ensures { PlansOnOk result (on_switch_down self.now.state self.now) self.now }
     {
         let state = self.state;
         let mut put = Messages::new(self.alloc);
@@ -161,5 +171,15 @@ impl Machine {
             State::Removed => return Ok(self.ending_none()),
         }
         self.ending_in(&put, State::Removed)
+    }
+}
+
+// Whether a target of this station is there.
+fn targets(station: u16, stage: Stage) -> bool
+    ensures { result ≡ targets station stage }
+{
+    match stage {
+        Stage::Preparing(target) | Stage::Changing(target) => target.channel.station == station,
+        Stage::Active | Stage::Draining => false,
     }
 }

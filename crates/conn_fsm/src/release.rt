@@ -1,9 +1,9 @@
-ghost use Rattle.std.specs.Prelude.{◌≡◌, ◌<◌, ◌≤◌, ◌+◌, ◌&&◌, ◌++◌, length, IfOk, OnOk, OnErr, drop as dropped};
+ghost use Rattle.std.specs.Prelude.{◌≡◌, ◌<◌, ◌≤◌, ◌+◌, ◌&&◌, ◌++◌, length, OnOk, OnErr, drop as dropped};
 ghost use Rattle.conn_rules.specs.declared.state.State.TheVariants.{Live};
 ghost use Rattle.conn_rules.specs.Standing.{FirstIsEmpty, Stands};
 ghost use Rattle.conn_rules.specs.Steps.{done_at, may_begin, settled};
 ghost use Rattle.conn_rules.specs.Table.{on_release_ack, release};
-ghost use Rattle.conn_fsm.specs.Doing.{Does, Stays, Steps};
+ghost use Rattle.conn_fsm.specs.Doing.{Does, Stays, StepsOnOk};
 ghost use Rattle.conn_fsm.specs.Leaving.{left, left_outs, oldest_left};
 
 use crate::machine::Machine;
@@ -21,7 +21,8 @@ impl Machine {
         outputs: &mut Outputs,
     ) -> Result<bool, Memory>
         requires { Stands self.old }
-        ensures done { IfOk result (λ fits. Steps (on_release_ack self.old.state self.old at offer) fits self.old self.new outputs.old.outs outputs.new.outs) }
+        ensures done { StepsOnOk result (on_release_ack self.old.state self.old at offer)
+            self.old self.new outputs.old.outs outputs.new.outs }
         ensures err { OnErr result (Stays self.old self.new outputs.old.outs outputs.new.outs) }
     {
         let state = self.state;
@@ -49,7 +50,8 @@ impl Machine {
         requires stands { Stands self.old }
         requires live { self.old.state ≡ Live reference stage.now }
         requires within { place < length self.old.draining }
-        ensures done { OnOk result (Does (release reference stage.now place offer.now self.old) self.old self.new outputs.old.outs outputs.new.outs) }
+        ensures done { OnOk result (Does (release reference stage.now place offer.now self.old)
+            self.old self.new outputs.old.outs outputs.new.outs) }
         ensures err { OnErr result (Stays self.old self.new outputs.old.outs outputs.new.outs) }
     {
         let leaves = self.draining.leaving(place);
@@ -68,7 +70,8 @@ impl Machine {
     // Whether the waiting request begins once so many left.
     fn begins_without(&self, leaves: usize, stage: &Stage) -> bool
         requires { leaves ≤ length self.now.draining }
-        ensures { result ≡ (self.now.waits && may_begin stage.now (dropped leaves self.now.draining)) }
+        ensures { result ≡ (self.now.waits
+            && may_begin stage.now (dropped leaves self.now.draining)) }
     {
         self.waits
             && match stage {

@@ -1,7 +1,9 @@
 ghost use Rattle.std.specs.Prelude.{◌≡◌, None, IfOk, OnErr};
 ghost use Rattle.conn_rules.specs.Standing.{IsCarried, Stands};
 ghost use Rattle.conn_rules.specs.Table.{row_of};
-ghost use Rattle.conn_fsm.specs.Doing.{Closes, Commits, Finishes, IsAsPlanned, IsPlanned, Plans, Stays, Steps, outs_in};
+ghost use Rattle.conn_fsm.specs.Doing.{Closes, Commits, Finishes, IsAsPlanned, IsPlanned};
+ghost use Rattle.conn_fsm.specs.Doing.{Stays, StepsOnOk, outs_in};
+ghost use Rattle.conn_fsm.specs.Endings.{PlansOnOk};
 ghost use Rattle.conn_rules.specs.Timers.{after_pass};
 
 use crate::Plan;
@@ -23,7 +25,8 @@ impl Machine {
     ) -> Result<bool, Memory>
         requires stands { Stands self.old }
         requires carried { IsCarried input }
-        ensures done { IfOk result (λ fits. Steps (row_of self.old input offer) fits self.old self.new outputs.old.outs outputs.new.outs) }
+        ensures done { StepsOnOk result (row_of self.old input offer)
+            self.old self.new outputs.old.outs outputs.new.outs }
         ensures err { OnErr result (Stays self.old self.new outputs.old.outs outputs.new.outs) }
     {
         match input {
@@ -62,7 +65,8 @@ impl Machine {
     #[tactic(auto, using(crate::proofs::Keeping::finished))]
     fn finish(&mut self, input: &Input, outputs: &mut Outputs) -> Result<bool, Memory>
         requires { IsPlanned input.now }
-        ensures done { IfOk result (λ fits. Steps (row_of self.old input.now None) fits self.old self.new outputs.old.outs outputs.new.outs) }
+        ensures done { StepsOnOk result (row_of self.old input.now None)
+            self.old self.new outputs.old.outs outputs.new.outs }
         ensures err { OnErr result (Stays self.old self.new outputs.old.outs outputs.new.outs) }
     {
         let ending = self.ending(input)?;
@@ -71,7 +75,8 @@ impl Machine {
 
     // The frames are appended, and the connection ends in the state, if there is one.
     fn end_as(&mut self, ending: Ending, outputs: &mut Outputs) -> Result<bool, Memory>
-        ensures done { IfOk result (λ fits. Finishes ending.last ending.outputs.outs fits self.old self.new outputs.old.outs outputs.new.outs) }
+        ensures done { IfOk result (λ fits. Finishes ending.last ending.outputs.outs fits
+            self.old self.new outputs.old.outs outputs.new.outs) }
         ensures err { OnErr result (Stays self.old self.new outputs.old.outs outputs.new.outs) }
     {
         let Ending {
@@ -98,7 +103,7 @@ impl Machine {
     #[tactic(auto, unfolding(conn_rules::specs::Table::row_of))]
     fn ending(&self, input: &Input) -> Result<Ending, Memory>
         requires { IsPlanned input.now }
-        ensures { IfOk result (λ e. Plans e.outputs.outs e.last (row_of self.now input.now None) self.now) }
+        ensures { PlansOnOk result (row_of self.now input.now None) self.now }
     {
         match input {
             Input::Expiry => self.on_expiry(),
@@ -114,7 +119,8 @@ impl Machine {
         requires { IsPlanned input }
         ensures was { IfOk result (λ plan. plan.was ≡ self.now) }
         ensures input { IfOk result (λ plan. plan.input ≡ input) }
-        ensures outs { IfOk result (λ plan. plan.outs ≡ outs_in (row_of self.now input None) self.now.number) }
+        ensures outs { IfOk result
+            (λ plan. plan.outs ≡ outs_in (row_of self.now input None) self.now.number) }
     {
         let Ending { outputs, last } = self.ending(&input)?;
         Ok(Plan {

@@ -1,9 +1,9 @@
-ghost use Rattle.std.specs.Prelude.{◌≡◌, [], ◌∷◌, ◌++◌, IfOk, OnOk, OnErr};
+ghost use Rattle.std.specs.Prelude.{◌≡◌, [], ◌∷◌, ◌++◌, OnErr};
 ghost use Rattle.conn_messages.specs.Out.{outs_of};
 ghost use Rattle.conn_rules.specs.declared.state.State.TheVariants.{Closed};
 ghost use Rattle.conn_rules.specs.Standing.{Stands};
 ghost use Rattle.conn_rules.specs.Table.{on_cipher_mode_command, on_clear_command, on_confirm, on_refused, on_released};
-ghost use Rattle.conn_fsm.specs.Doing.{Does, Stays, Steps};
+ghost use Rattle.conn_fsm.specs.Doing.{Does, Stays, StepsOnOk};
 
 use crate::machine::Machine;
 use bssmap_codec::Reference;
@@ -24,7 +24,8 @@ impl Machine {
         outputs: &mut Outputs,
     ) -> Result<bool, Memory>
         requires { Stands self.old }
-        ensures done { IfOk result (λ fits. Steps (on_confirm self.old.state self.old source) fits self.old self.new outputs.old.outs outputs.new.outs) }
+        ensures done { StepsOnOk result (on_confirm self.old.state self.old source)
+            self.old self.new outputs.old.outs outputs.new.outs }
         ensures err { OnErr result (Stays self.old self.new outputs.old.outs outputs.new.outs) }
     {
         let state = self.state;
@@ -48,7 +49,8 @@ impl Machine {
 
     /// CREF.
     pub(crate) fn on_refused(&mut self, outputs: &mut Outputs) -> Result<bool, Memory>
-        ensures done { IfOk result (λ fits. Steps (on_refused self.old.state self.old) fits self.old self.new outputs.old.outs outputs.new.outs) }
+        ensures done { StepsOnOk result (on_refused self.old.state self.old)
+            self.old self.new outputs.old.outs outputs.new.outs }
         ensures err { OnErr result (Stays self.old self.new outputs.old.outs outputs.new.outs) }
     {
         let state = self.state;
@@ -67,7 +69,8 @@ impl Machine {
         source: Reference,
         outputs: &mut Outputs,
     ) -> Result<bool, Memory>
-        ensures done { IfOk result (λ fits. Steps (on_released self.old.state self.old source) fits self.old self.new outputs.old.outs outputs.new.outs) }
+        ensures done { StepsOnOk result (on_released self.old.state self.old source)
+            self.old self.new outputs.old.outs outputs.new.outs }
         ensures err { OnErr result (Stays self.old self.new outputs.old.outs outputs.new.outs) }
     {
         let state = self.state;
@@ -85,7 +88,8 @@ impl Machine {
 
     /// CIPHER MODE COMMAND, which is rejected.
     pub(crate) fn on_cipher_mode_command(&mut self, outputs: &mut Outputs) -> Result<bool, Memory>
-        ensures done { IfOk result (λ fits. Steps (on_cipher_mode_command self.old.state self.old) fits self.old self.new outputs.old.outs outputs.new.outs) }
+        ensures done { StepsOnOk result (on_cipher_mode_command self.old.state self.old)
+            self.old self.new outputs.old.outs outputs.new.outs }
         ensures err { OnErr result (Stays self.old self.new outputs.old.outs outputs.new.outs) }
     {
         let state = self.state;
@@ -100,7 +104,8 @@ impl Machine {
 
     /// CLEAR COMMAND: the mobile is dismissed where it wasn't, and CLEAR COMPLETE is put, once.
     pub(crate) fn on_clear_command(&mut self, outputs: &mut Outputs) -> Result<bool, Memory>
-        ensures done { IfOk result (λ fits. Steps (on_clear_command self.old.state self.old) fits self.old self.new outputs.old.outs outputs.new.outs) }
+        ensures done { StepsOnOk result (on_clear_command self.old.state self.old)
+            self.old self.new outputs.old.outs outputs.new.outs }
         ensures err { OnErr result (Stays self.old self.new outputs.old.outs outputs.new.outs) }
     {
         let state = self.state;
@@ -120,7 +125,8 @@ impl Machine {
 
     // The mobile was dismissed, and CLEAR COMPLETE is still to be put.
     fn clear_closed(&mut self, clearing: Clearing, outputs: &mut Outputs) -> Result<bool, Memory>
-        ensures done { IfOk result (λ fits. Steps (on_clear_command (Closed clearing) self.old) fits self.old self.new outputs.old.outs outputs.new.outs) }
+        ensures done { StepsOnOk result (on_clear_command (Closed clearing) self.old)
+            self.old self.new outputs.old.outs outputs.new.outs }
         ensures err { OnErr result (Stays self.old self.new outputs.old.outs outputs.new.outs) }
     {
         let Clearing::Asked(reference) = clearing else {

@@ -1,15 +1,16 @@
-ghost use Rattle.std.specs.Prelude.{◌≡◌, ◌<◌, ◌≤◌, [], ◌∷◌, ◌++◌, length, map, IfOk, OnOk, OnErr, drop as dropped};
+ghost use Rattle.std.specs.Prelude.{◌≡◌, ◌<◌, ◌≤◌, [], ◌∷◌, ◌++◌, length, map, OnOk, OnErr};
 ghost use Rattle.std.specs.List.{AllByRecursion};
 ghost use Rattle.bssmap_codec.specs.Layer3.{IsLayer3};
 ghost use Rattle.conn_messages.specs.Out.{IsSound, outs_of};
 ghost use Rattle.conn_messages.specs.SwitchMessage.{relaying as relaying_word};
 ghost use Rattle.conn_rules.specs.declared.state.State.TheVariants.{Live};
-ghost use Rattle.conn_rules.specs.Connection.{first_channel, tenure_at};
+ghost use Rattle.conn_rules.specs.Connection.{tenure_at};
 ghost use Rattle.conn_rules.specs.Standing.{Stands};
-ghost use Rattle.conn_rules.specs.Steps.{hold_up, tenure_outs};
+ghost use Rattle.conn_rules.specs.Steps.{hold_up};
 ghost use Rattle.conn_rules.specs.Table.{dtap_before_access, dtap_on_target, on_dtap, relay_dtap};
 ghost use Rattle.hold_queue.specs.ChainState.{messages_in};
-ghost use Rattle.conn_fsm.specs.Doing.{Does, Stays, Steps};
+ghost use Rattle.conn_fsm.specs.Doing.{Does, Stays, StepsOnOk};
+ghost use Rattle.conn_fsm.specs.Leaving.{channel_of, outs_of_tenure};
 
 use crate::machine::Machine;
 use crate::places::is_at;
@@ -34,7 +35,8 @@ impl Machine {
     ) -> Result<bool, Memory>
         requires stands { Stands self.old }
         requires layer3 { IsLayer3 message }
-        ensures done { IfOk result (λ fits. Steps (on_dtap self.old.state self.old at sapi message) fits self.old self.new outputs.old.outs outputs.new.outs) }
+        ensures done { StepsOnOk result (on_dtap self.old.state self.old at sapi message)
+            self.old self.new outputs.old.outs outputs.new.outs }
         ensures err { OnErr result (Stays self.old self.new outputs.old.outs outputs.new.outs) }
     {
         let state = self.state;
@@ -66,7 +68,8 @@ impl Machine {
         sapi: Sapi,
         outputs: &mut Outputs,
     ) -> Result<bool, Memory>
-        ensures done { IfOk result (λ fits. Steps (dtap_before_access self.old at.now sapi) fits self.old self.new outputs.old.outs outputs.new.outs) }
+        ensures done { StepsOnOk result (dtap_before_access self.old at.now sapi)
+            self.old self.new outputs.old.outs outputs.new.outs }
         ensures err { OnErr result (Stays self.old self.new outputs.old.outs outputs.new.outs) }
     {
         match sapi {
@@ -88,7 +91,8 @@ impl Machine {
         outputs: &mut Outputs,
     ) -> Result<bool, Memory>
         requires { self.old.state ≡ Live reference stage }
-        ensures done { IfOk result (λ fits. Steps (dtap_on_target reference stage self.old at.now sapi) fits self.old self.new outputs.old.outs outputs.new.outs) }
+        ensures done { StepsOnOk result (dtap_on_target reference stage self.old at.now sapi)
+            self.old self.new outputs.old.outs outputs.new.outs }
         ensures err { OnErr result (Stays self.old self.new outputs.old.outs outputs.new.outs) }
     {
         match (stage, sapi) {
@@ -109,8 +113,10 @@ impl Machine {
         outputs: &mut Outputs,
     ) -> Result<(), Memory>
         requires { IsLayer3 message }
-        ensures done { OnOk result (outputs.new.outs ≡ outputs.old.outs ++ outs_of self.now.number (relay_dtap reference sapi message self.now).outs) }
-        ensures sound { OnOk result (AllByRecursion IsSound (relay_dtap reference sapi message self.now).outs) }
+        ensures done { OnOk result (outputs.new.outs ≡ outputs.old.outs
+            ++ outs_of self.now.number (relay_dtap reference sapi message self.now).outs) }
+        ensures sound { OnOk result
+            (AllByRecursion IsSound (relay_dtap reference sapi message self.now).outs) }
         ensures err { OnErr result (outputs.new.outs ≡ outputs.old.outs) }
     {
         let channel = self.channel_of(0);
@@ -128,7 +134,8 @@ impl Machine {
         outputs: &mut Outputs,
     ) -> Result<(), Memory>
         requires { tenure < length self.old.up.tenures }
-        ensures done { OnOk result (Does (hold_up self.old.state tenure sapi message self.old) self.old self.new outputs.old.outs outputs.new.outs) }
+        ensures done { OnOk result (Does (hold_up self.old.state tenure sapi message self.old)
+            self.old self.new outputs.old.outs outputs.new.outs) }
         ensures err { OnErr result (Stays self.old self.new outputs.old.outs outputs.new.outs) }
     {
         match self.up.put(tenure, sapi, message.into_vec()) {
@@ -152,7 +159,7 @@ impl Machine {
     /// The channel of the tenure at this place.
     #[tactic(auto, using(crate::proofs::Pushing::channel_at, crate::proofs::Pushing::channel_behind))]
     pub(crate) fn channel_of(&self, tenure: usize) -> Channel
-        ensures { result ≡ first_channel (dropped tenure self.now.draining) self.now.serving }
+        ensures { result ≡ channel_of tenure self.now }
     {
         match self.draining.get(tenure) {
             Some(drain) => drain.channel,
@@ -169,7 +176,7 @@ impl Machine {
         put: &mut Messages,
     ) -> Result<(), Memory>
         requires { Stands self.now }
-        ensures { OnOk result (put.new ≡ put.old ++ tenure_outs reference (first_channel (dropped tenure self.now.draining) self.now.serving) (dropped tenure self.now.up.tenures)) }
+        ensures { OnOk result (put.new ≡ put.old ++ outs_of_tenure reference tenure self.now) }
     {
         self.put_tenure_of(reference, tenure, Sapi::Zero, put)?;
         self.put_tenure_of(reference, tenure, Sapi::Three, put)?;
@@ -186,7 +193,9 @@ impl Machine {
     ) -> Result<(), Memory>
         requires layer3 { AllByRecursion IsLayer3 (messages_in tenure sapi self.now.up.tenures) }
         requires few { length (messages_in tenure sapi self.now.up.tenures) ≤ UP_LIMIT }
-        ensures { OnOk result (put.new ≡ put.old ++ map (relaying_word reference (first_channel (dropped tenure self.now.draining) self.now.serving) sapi) (messages_in tenure sapi self.now.up.tenures)) }
+        ensures { OnOk result (put.new ≡ put.old
+            ++ map (relaying_word reference (channel_of tenure self.now) sapi)
+            (messages_in tenure sapi self.now.up.tenures)) }
     {
         let channel = self.channel_of(tenure);
         for place in 0..UP_LIMIT {

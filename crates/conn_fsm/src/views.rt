@@ -53,7 +53,8 @@ impl Machine {
     #[tactic(auto, using(crate::proofs::Pushing::all_taken))]
     fn copy_tenure(&self, tenure: usize, sapi: Sapi, list: &mut Vec<Octets>) -> Result<(), Memory>
         requires { length (messages_in tenure sapi self.now.up.tenures) ≤ UP_LIMIT }
-        ensures { OnOk result (list.new.items ≡ list.old.items ++ messages_in tenure sapi self.now.up.tenures) }
+        ensures { OnOk result (list.new.items ≡ list.old.items
+            ++ messages_in tenure sapi self.now.up.tenures) }
     {
         for place in 0..UP_LIMIT {
             let Some(message) = self.up.get(tenure, sapi, place) else {

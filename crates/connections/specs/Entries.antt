@@ -1,12 +1,12 @@
 -- The connections of a controller, and what holds of them.
-use Rattle.std.specs.Prelude.{◌≡◌, ℕ, ◌+◌, ◌≤◌, ◌<◌, Bool, true, false, List, [], ◌∷◌, length, slice_get, Option, Some, None}
+use Rattle.std.specs.Prelude.{◌≡◌, ℕ, ◌+◌, ◌≤◌, ◌<◌, Bool, true, false, List, [], ◌∷◌, find, length, slice_get, Option, Some, None}
 use Rattle.std.specs.List.{AllByRecursion}
 use Rattle.std.specs.Option.{option_to_list}
 use Rattle.conn_messages.specs.declared.channel.Channel.{Channel}
 use Rattle.conn_rules.specs.declared.state.State.{State}
 use Rattle.conn_rules.specs.declared.state.State.TheVariants.{Removed}
 use Rattle.conn_rules.specs.Streams.{target_in}
-use Rattle.controller_model.specs.Controller.{Entry}
+use Rattle.controller_model.specs.Controller.{Entry, has_number}
 use Rattle.controller_model.specs.Life.{with_report}
 use Rattle.controller_model.specs.Reports.{decision_over}
 use Rattle.dtap_codec.specs.declared.report.Report.{Report}
@@ -56,12 +56,17 @@ pub record AreKept (p : Parameters) (es : List Entry) : Type 0 where
 
 -- the settings of the handover decision for the first cells
 abbrev pub AreOfFirst : Parameters → List HandoverSettings → Type 0
-AreOfFirst p handovers = (place : ℕ) → place < length handovers → slice_get handovers place ≡ Some (handover_settings_of p (place + 1))
+AreOfFirst p handovers = (place : ℕ) → place < length handovers →
+    slice_get handovers place ≡ Some (handover_settings_of p (place + 1))
 
 -- for each cell
 pub record AreHandovers (p : Parameters) (handovers : List HandoverSettings) : Type 0 where
   pub count : length handovers ≡ length p.cells
   pub each : AreOfFirst p handovers
+
+-- the connection with this number, if it is there
+abbrev pub entry_in : ℕ → List Entry → Option Entry
+entry_in number es = find (has_number number) es
 
 abbrev pub is_removed : State → Bool
 is_removed Removed = true

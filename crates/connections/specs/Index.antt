@@ -33,8 +33,10 @@ is_gone None = false
 is_gone (Some e) = is_removed e.connection.state
 
 -- an entry that is removed leaves its slot, and its number the index
-abbrev pub Settles : Bool → ℕ → ℕ → List (Option Entry) → List (Option Entry) → List (ℕ × ℕ) → List (ℕ × ℕ) → Type 0
-Settles true number key old new ps ps_after = SameBut key old new × (ps_after ≡ remove_entry (λ k. number == k) ps)
+abbrev pub Settles : Bool → ℕ → ℕ → List (Option Entry) → List (Option Entry) →
+    List (ℕ × ℕ) → List (ℕ × ℕ) → Type 0
+Settles true number key old new ps ps_after =
+    SameBut key old new × (ps_after ≡ remove_entry (λ k. number == k) ps)
 Settles false number key old new ps ps_after = (new ≡ old) × (ps_after ≡ ps)
 
 -- each number stands beside the key of its entry, and no key stands twice

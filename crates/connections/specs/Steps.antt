@@ -40,7 +40,8 @@ all_after p es e None = es
 all_after p es e (Some r) = put_back (entry_after p e r) es
 
 -- the row that fits is done, and its messages are sound
-pub record DoesRow (p : Parameters) (e : Entry) (r : Option Row) (old new : List Entry) (outs outs_after : List Out) : Type 0 where
+pub record DoesRow (p : Parameters) (e : Entry) (r : Option Row) (old new : List Entry)
+    (outs outs_after : List Out) : Type 0 where
   pub entries : new ≡ all_after p old e r
   pub outputs : outs_after ≡ outs ++ outs_in r e.connection.number
   pub sound : AreSound r
@@ -50,19 +51,24 @@ pub record IsLeft (old new : List Entry) (outs outs_after : List Out) : Type 0 w
   pub outputs : outs_after ≡ outs
 
 -- the row of the connection that fits is done; where there is no such connection, nothing changes
-abbrev pub StepsFor : Parameters → Option Entry → Input → Option Channel → Bool → List Entry → List Entry → List Out → List Out → Type 0
-StepsFor p None input offer fits old new outs outs_after = (fits ≡ false) × IsLeft old new outs outs_after
+abbrev pub StepsFor : Parameters → Option Entry → Input → Option Channel → Bool →
+    List Entry → List Entry → List Out → List Out → Type 0
+StepsFor p None input offer fits old new outs outs_after =
+    (fits ≡ false) × IsLeft old new outs outs_after
 StepsFor p (Some e) input offer fits old new outs outs_after =
-    (fits ≡ is_some (row_of e.connection input offer)) × DoesRow p e (row_of e.connection input offer) old new outs outs_after
+    (fits ≡ is_some (row_of e.connection input offer))
+    × DoesRow p e (row_of e.connection input offer) old new outs outs_after
 
 -- the plan is one for this connection
 abbrev pub IsPlanFor : PlanState → Option Entry → Type 0
 IsPlanFor plan None = ⊥
 IsPlanFor plan (Some e) = IsAsPlanned plan.was e.connection
 
-abbrev pub CommitsFor : Parameters → Option Entry → Input → List Entry → List Entry → List Out → Type 0
+abbrev pub CommitsFor : Parameters → Option Entry → Input →
+    List Entry → List Entry → List Out → Type 0
 CommitsFor p None input old new made = ⊥
-CommitsFor p (Some e) input old new made = DoesRow p e (row_of e.connection input None) old new [] made
+CommitsFor p (Some e) input old new made =
+    DoesRow p e (row_of e.connection input None) old new [] made
 
 -- the reports of a connection have one more
 abbrev pub all_with_report : ℕ → Report → Option Entry → List Entry → List Entry

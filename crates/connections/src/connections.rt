@@ -1,10 +1,10 @@
-ghost use Rattle.std.specs.Prelude.{◌≡◌, ◌<◌, ◌^◌, ◌↔◌, [], ◌∷◌, ◌++◌, IsTrue, IfOk, OnOk, OnErr, find, length, map, slice_get};
+ghost use Rattle.std.specs.Prelude.{◌≡◌, ◌<◌, ◌^◌, ◌↔◌, [], ◌∷◌, ◌++◌, IsTrue, IfOk, OnOk, OnErr, length, map, slice_get};
 ghost use Rattle.std.specs.List.{AllByRecursion};
 ghost use Rattle.std.specs.Option.{ForSome, option_copied};
 ghost use Rattle.conn_rules.specs.Standing.{IsCarried};
-ghost use Rattle.controller_model.specs.Controller.{has_number};
 ghost use Rattle.controller_model.specs.Life.{aged, new_entry};
-ghost use Rattle.connections.specs.Entries.{AreKept, IsBelow, IsKept, IsOfCell, IsOffer, decision_with};
+ghost use Rattle.connections.specs.Entries.{AreKept, IsBelow, IsKept, IsOfCell, IsOffer};
+ghost use Rattle.connections.specs.Entries.{decision_with, entry_in};
 ghost use Rattle.connections.specs.Steps.{CommitsFor, IsLeft, IsPlanFor, StepsFor, all_with_report};
 
 use crate::Entry;
@@ -63,7 +63,10 @@ impl Connections {
         requires number { number < 2 ^ 24 }
         requires last { AllByRecursion (IsBelow number) self.old.entries }
         requires channel { IsOfCell self.old.settings channel }
-        ensures ok { OnOk result (self.new ≡ record self.old { entries = self.old.entries ++ new_entry self.old.settings number channel request delay ∷ [] }) }
+        ensures ok { OnOk result (self.new ≡ record self.old {
+          entries = self.old.entries
+              ++ new_entry self.old.settings number channel request delay ∷ [];
+        }) }
         ensures err { OnErr result (self.new ≡ self.old) }
     {
         let entry = Entry::new(self.alloc, number, channel, request, delay, &self.cells)?;
@@ -87,7 +90,7 @@ impl Connections {
 
     /// The connection with this number, if it is there.
     pub fn get(&self, number: u32) -> Option<&Entry>
-        ensures entry { option_copied result ≡ find (has_number number) self.now.entries }
+        ensures entry { option_copied result ≡ entry_in number self.now.entries }
         ensures kept { ForSome (option_copied result) (IsKept self.now.settings) }
     {
         self.table.get(number)
@@ -115,8 +118,11 @@ impl Connections {
     ) -> Result<bool, Memory>
         requires carried { IsCarried input }
         requires offer { IsOffer self.old.settings offer }
-        ensures done { IfOk result (λ fits. StepsFor self.old.settings (find (has_number number) self.old.entries) input offer fits self.old.entries self.new.entries outputs.old.outs outputs.new.outs) }
-        ensures err { OnErr result (IsLeft self.old.entries self.new.entries outputs.old.outs outputs.new.outs) }
+        ensures done { IfOk result (λ fits. StepsFor self.old.settings
+            (entry_in number self.old.entries) input offer fits
+            self.old.entries self.new.entries outputs.old.outs outputs.new.outs) }
+        ensures err { OnErr result (IsLeft
+            self.old.entries self.new.entries outputs.old.outs outputs.new.outs) }
         ensures settings { self.new.settings ≡ self.old.settings }
     {
         self.table.step(number, input, offer, &self.cells, outputs)
@@ -125,8 +131,9 @@ impl Connections {
     /// The connection with this number does the step that was planned for it, and this gives its
     /// frames. It is as it was then, but time may have passed for it. It takes no memory.
     pub fn commit(&mut self, number: u32, plan: Plan) -> Outputs
-        requires { IsPlanFor plan (find (has_number number) self.old.entries) }
-        ensures done { CommitsFor self.old.settings (find (has_number number) self.old.entries) plan.input self.old.entries self.new.entries result.outs }
+        requires { IsPlanFor plan (entry_in number self.old.entries) }
+        ensures done { CommitsFor self.old.settings (entry_in number self.old.entries) plan.input
+            self.old.entries self.new.entries result.outs }
         ensures settings { self.new.settings ≡ self.old.settings }
     {
         self.table.commit(number, plan, &self.cells)
@@ -142,7 +149,10 @@ impl Connections {
     /// The connection with this number gets a report of its serving channel, with the report's
     /// number.
     pub fn add(&mut self, number: u32, report: &Report, report_number: u8)
-        ensures { self.new ≡ record self.old { entries = all_with_report report_number report.now (find (has_number number) self.old.entries) self.old.entries } }
+        ensures { self.new ≡ record self.old {
+          entries = all_with_report report_number report.now
+              (entry_in number self.old.entries) self.old.entries;
+        } }
     {
         self.table.add(number, report, report_number);
     }
@@ -156,7 +166,8 @@ impl Connections {
         report: &Report,
         report_number: u8,
     ) -> Result<Decision, Memory>
-        ensures { IfOk result (λ d. d ≡ decision_with report_number report.now (find (has_number number) self.now.entries)) }
+        ensures { IfOk result (λ d. d ≡ decision_with
+            report_number report.now (entry_in number self.now.entries)) }
     {
         match self.table.get(number) {
             Some(entry) => entry.decide_with(self.alloc, &self.cells, report, report_number),

@@ -81,9 +81,12 @@ impl Entry {
         requires carried { IsCarried input }
         requires kept { IsKept cells.now self.old }
         requires offer { IsOffer cells.now offer }
-        ensures fits { IfOk result (λ fits. fits ≡ is_some (row_of self.old.connection input offer)) }
-        ensures entry { OnOk result (self.new ≡ after_row cells.now self.old (row_of self.old.connection input offer)) }
-        ensures outputs { OnOk result (outputs.new.outs ≡ outputs.old.outs ++ outs_in (row_of self.old.connection input offer) self.old.connection.number) }
+        ensures fits { IfOk result
+            (λ fits. fits ≡ is_some (row_of self.old.connection input offer)) }
+        ensures entry { OnOk result (self.new
+            ≡ after_row cells.now self.old (row_of self.old.connection input offer)) }
+        ensures outputs { OnOk result (outputs.new.outs ≡ outputs.old.outs
+            ++ outs_in (row_of self.old.connection input offer) self.old.connection.number) }
         ensures sound { OnOk result (AreSound (row_of self.old.connection input offer)) }
         ensures err { OnErr result (self.new ≡ self.old) }
         ensures err_outputs { OnErr result (outputs.new.outs ≡ outputs.old.outs) }
@@ -101,8 +104,10 @@ impl Entry {
     pub(crate) fn commit(&mut self, plan: Plan, cells: &Cells) -> Outputs
         requires plan { IsAsPlanned plan.was self.old.connection }
         requires kept { IsKept cells.now self.old }
-        ensures entry { self.new ≡ after_row cells.now self.old (row_of self.old.connection plan.input None) }
-        ensures outputs { result.outs ≡ outs_in (row_of self.old.connection plan.input None) self.old.connection.number }
+        ensures entry { self.new
+            ≡ after_row cells.now self.old (row_of self.old.connection plan.input None) }
+        ensures outputs { result.outs
+            ≡ outs_in (row_of self.old.connection plan.input None) self.old.connection.number }
         ensures sound { AreSound (row_of self.old.connection plan.input None) }
     {
         let before = self.conn.serving();
@@ -115,7 +120,10 @@ impl Entry {
     fn follow(&mut self, before: &Channel, cells: &Cells)
         requires channel { IsOfCell cells.now self.old.connection.serving }
         requires cells { length cells.now.cells ≡ length self.old.averages.settings.cells }
-        ensures { self.new ≡ record self.old { averages = averages_after cells.now before.now self.old.connection.serving self.old.averages } }
+        ensures { self.new ≡ record self.old {
+          averages = averages_after cells.now before.now
+              self.old.connection.serving self.old.averages;
+        } }
     {
         let serving = self.conn.serving();
         if before.station != serving.station || before.number != serving.number {
@@ -147,7 +155,8 @@ impl Entry {
         number: u8,
     ) -> Result<Decision, Memory>
         requires { IsKept cells.now self.now }
-        ensures { IfOk result (λ d. d ≡ decision_over_all (with_report number report.now self.now)) }
+        ensures { IfOk result
+            (λ d. d ≡ decision_over_all (with_report number report.now self.now)) }
     {
         let settings = cells.handover(self.conn.serving().station);
         let mut averages = self.averages.copied(alloc, settings)?;

@@ -37,8 +37,10 @@ pub(crate) fn step_at(
     requires kept { ForSome (get slots.old key) (IsKept cells.now) }
     requires offer { IsOffer cells.now offer }
     ensures fits { IfOk result (λ fits. fits ≡ is_some (row_at input offer (get slots.old key))) }
-    ensures slot { OnOk result (Updates slots.old slots.new key (option_map (stepped cells.now input offer) (get slots.old key))) }
-    ensures outputs { OnOk result (outputs.new.outs ≡ outputs.old.outs ++ outs_in (row_at input offer (get slots.old key)) (number_at (get slots.old key))) }
+    ensures slot { OnOk result (Updates slots.old slots.new key
+        (option_map (stepped cells.now input offer) (get slots.old key))) }
+    ensures outputs { OnOk result (outputs.new.outs ≡ outputs.old.outs
+        ++ outs_in (row_at input offer (get slots.old key)) (number_at (get slots.old key))) }
     ensures sound { OnOk result (AreSound (row_at input offer (get slots.old key))) }
     ensures err { OnErr result (Updates slots.old slots.new key (get slots.old key)) }
     ensures err_outputs { OnErr result (outputs.new.outs ≡ outputs.old.outs) }
@@ -53,8 +55,10 @@ pub(crate) fn step_at(
 pub(crate) fn commit_at(slots: &mut Slab<Entry>, key: usize, plan: Plan, cells: &Cells) -> Outputs
     requires plan { IsPlanFor plan (get slots.old key) }
     requires kept { ForSome (get slots.old key) (IsKept cells.now) }
-    ensures slot { Updates slots.old slots.new key (option_map (stepped cells.now plan.input None) (get slots.old key)) }
-    ensures outputs { result.outs ≡ outs_in (row_at plan.input None (get slots.old key)) (number_at (get slots.old key)) }
+    ensures slot { Updates slots.old slots.new key
+        (option_map (stepped cells.now plan.input None) (get slots.old key)) }
+    ensures outputs { result.outs
+        ≡ outs_in (row_at plan.input None (get slots.old key)) (number_at (get slots.old key)) }
     ensures sound { AreSound (row_at plan.input None (get slots.old key)) }
 {
     match slots.get_mut(key) {
@@ -70,7 +74,8 @@ pub(crate) fn settle(
     number: u32,
     key: usize,
 )
-    ensures { Settles (is_gone (get slots.old key)) number key slots.old.slots slots.new.slots index.old.entries index.new.entries }
+    ensures { Settles (is_gone (get slots.old key)) number key
+        slots.old.slots slots.new.slots index.old.entries index.new.entries }
 {
     let is_removed = match slots.get(key) {
         Some(entry) => entry.is_removed(),
@@ -93,7 +98,8 @@ pub(crate) fn pass_at(slots: &mut Slab<Entry>, key: usize, ms: u32)
 
 /// The entry with this key gets a report of its serving channel, with its number.
 pub(crate) fn add_at(slots: &mut Slab<Entry>, key: usize, report: &Report, number: u8)
-    ensures slot { Updates slots.old slots.new key (option_map (with_report number report.now) (get slots.old key)) }
+    ensures slot { Updates slots.old slots.new key
+        (option_map (with_report number report.now) (get slots.old key)) }
 {
     if let Some(entry) = slots.get_mut(key) {
         entry.add(report, number);

@@ -1,9 +1,8 @@
-ghost use Rattle.std.specs.Prelude.{◌≡◌, ◌∷◌, [], ◌++◌, IfOk, OnOk, OnErr, None, false, find, length, map, slice_get};
+ghost use Rattle.std.specs.Prelude.{◌≡◌, ◌∷◌, [], ◌++◌, IfOk, OnOk, OnErr, None, false, length, map, slice_get};
 ghost use Rattle.std.specs.Option.{ForSome, option_copied};
 ghost use Rattle.conn_rules.specs.Standing.{IsCarried};
-ghost use Rattle.controller_model.specs.Controller.{has_number};
 ghost use Rattle.controller_model.specs.Life.{aged};
-ghost use Rattle.connections.specs.Entries.{IsKept, IsOffer, is_removed};
+ghost use Rattle.connections.specs.Entries.{IsKept, IsOffer, entry_in, is_removed};
 ghost use Rattle.connections.specs.Steps.{CommitsFor, IsLeft, IsPlanFor, StepsFor, all_with_report};
 
 use crate::Entry;
@@ -48,7 +47,7 @@ impl Table {
     }
 
     pub(crate) fn push(&mut self, entry: Entry) -> Result<(), Memory>
-        requires fresh { find (has_number entry.connection.number) self.old ≡ None }
+        requires fresh { entry_in entry.connection.number self.old ≡ None }
         requires stays { is_removed entry.connection.state ≡ false }
         ensures ok { OnOk result (self.new ≡ self.old ++ entry ∷ []) }
         ensures err { OnErr result (self.new ≡ self.old) }
@@ -70,7 +69,7 @@ impl Table {
     }
 
     pub(crate) fn get(&self, number: u32) -> Option<&Entry>
-        ensures { option_copied result ≡ find (has_number number) self.now }
+        ensures { option_copied result ≡ entry_in number self.now }
     {
         match key_of(&self.index, number) {
             Some(key) => self.slots.get(key),
@@ -96,9 +95,11 @@ impl Table {
         outputs: &mut Outputs,
     ) -> Result<bool, Memory>
         requires carried { IsCarried input }
-        requires kept { ForSome (find (has_number number) self.old) (IsKept cells.now) }
+        requires kept { ForSome (entry_in number self.old) (IsKept cells.now) }
         requires offer { IsOffer cells.now offer }
-        ensures done { IfOk result (λ fits. StepsFor cells.now (find (has_number number) self.old) input offer fits self.old self.new outputs.old.outs outputs.new.outs) }
+        ensures done { IfOk result (λ fits. StepsFor cells.now
+            (entry_in number self.old) input offer fits
+            self.old self.new outputs.old.outs outputs.new.outs) }
         ensures err { OnErr result (IsLeft self.old self.new outputs.old.outs outputs.new.outs) }
     {
         let Some(key) = key_of(&self.index, number) else {
@@ -110,9 +111,10 @@ impl Table {
     }
 
     pub(crate) fn commit(&mut self, number: u32, plan: Plan, cells: &Cells) -> Outputs
-        requires plan { IsPlanFor plan (find (has_number number) self.old) }
-        requires kept { ForSome (find (has_number number) self.old) (IsKept cells.now) }
-        ensures { CommitsFor cells.now (find (has_number number) self.old) plan.input self.old self.new result.outs }
+        requires plan { IsPlanFor plan (entry_in number self.old) }
+        requires kept { ForSome (entry_in number self.old) (IsKept cells.now) }
+        ensures { CommitsFor cells.now (entry_in number self.old) plan.input
+            self.old self.new result.outs }
     {
         let Some(key) = key_of(&self.index, number) else {
             unreachable!()
@@ -131,7 +133,8 @@ impl Table {
     }
 
     pub(crate) fn add(&mut self, number: u32, report: &Report, report_number: u8)
-        ensures { self.new ≡ all_with_report report_number report.now (find (has_number number) self.old) self.old }
+        ensures { self.new ≡ all_with_report report_number report.now
+            (entry_in number self.old) self.old }
     {
         if let Some(key) = key_of(&self.index, number) {
             add_at(&mut self.slots, key, report, report_number);

@@ -8,7 +8,9 @@ use Rattle.dtap_codec.specs.declared.sapi.Sapi.{Sapi}
 use Rattle.rsl_codec.specs.RslReading.{rsl_reading}
 
 abbrev pub forwarded_of : ℕ → Out → List Forwarded
-forwarded_of conn out = if to_switch conn out then forwarded_by (sccp_reading out.frame.body) else []
+forwarded_of conn out =
+    if to_switch conn out then forwarded_by (sccp_reading out.frame.body) else []
 
 abbrev pub handed_of : ℕ → Sapi → Out → List (List ℕ)
-handed_of conn sapi out = if to_station conn out then handed_by sapi (rsl_reading out.frame.body) else []
+handed_of conn sapi out =
+    if to_station conn out then handed_by sapi (rsl_reading out.frame.body) else []

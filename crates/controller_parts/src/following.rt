@@ -18,8 +18,9 @@ impl Channels {
     /// that they release is releasing.
     #[tactic(auto, using(crate::proofs::Follows::channels_follow))]
     pub fn follow(&mut self, number: u32, outs: &[Out])
-        ensures { (messages : List Message) → AllByRecursion IsLawfulMessage messages → outs.now ≡ outs_of number messages
-            → self.new ≡ fold (channels_after number) self.old messages }
+        ensures { (messages : List Message) → AllByRecursion IsLawfulMessage messages →
+            outs.now ≡ outs_of number messages →
+            self.new ≡ fold (channels_after number) self.old messages }
     {
         self.follow_each(number, outs);
     }
@@ -47,8 +48,9 @@ impl Channels {
 /// one.
 #[tactic(auto, using(crate::proofs::Follows::handovers_follow))]
 pub fn handovers_begun(outs: &[Out]) -> usize
-    ensures { (number : ℕ) (messages : List Message) → AllByRecursion IsLawfulMessage messages → outs.now ≡ outs_of number messages
-        → result ≡ count_by (λ m. words.begins_handover (use_by m)) messages }
+    ensures { (number : ℕ) (messages : List Message) → AllByRecursion IsLawfulMessage messages →
+        outs.now ≡ outs_of number messages →
+        result ≡ count_by (λ m. words.begins_handover (use_by m)) messages }
 {
     count_handovers(outs)
 }

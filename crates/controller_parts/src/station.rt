@@ -29,7 +29,8 @@ const SACCH: u8 = 1;
 /// What a station says in this body of a frame.
 pub(crate) fn station_word(alloc: Global, station: u16, body: &[u8]) -> Result<Word, Memory>
     requires { station ≢ SWITCH_LINK }
-    ensures word { IfOk result (λ word. word ≡ reading.station_word station (rsl_reading body.now)) }
+    ensures word { IfOk result
+        (λ word. word ≡ reading.station_word station (rsl_reading body.now)) }
     ensures carried { IfOk result IsCarriedWord }
     ensures comes { IfOk result (ComesFrom station) }
 {
@@ -138,7 +139,8 @@ fn data_word(alloc: Global, station: u16, data: Data) -> Result<Word, Memory>
 
 // MEASUREMENT RESULT, perhaps with a report of the mobile.
 fn measured_word(alloc: Global, station: u16, measured: &MeasurementResult) -> Result<Word, Memory>
-    ensures { IfOk result (λ word. word ≡ reading.rsl_word station (rsl.MeasurementResult measured.now)) }
+    ensures { IfOk result
+        (λ word. word ≡ reading.rsl_word station (rsl.MeasurementResult measured.now)) }
 {
     let Some(l3) = &measured.l3 else {
         return Ok(Word::Nothing);

@@ -65,7 +65,8 @@ fn put_forwarded(
 }
 
 fn forwarded_in(alloc: Global, body: &[u8]) -> Result<Option<Forwarded>, Memory>
-    ensures { IfOk result (λ found. option_to_list found ≡ views.forwarded_by (sccp_reading body.now)) }
+    ensures { IfOk result
+        (λ found. option_to_list found ≡ views.forwarded_by (sccp_reading body.now)) }
 {
     match read_sccp(alloc, body) {
         Ok(message) => forwarded_by(alloc, &message),
@@ -88,7 +89,8 @@ fn forwarded_by(alloc: Global, message: &Sccp) -> Result<Option<Forwarded>, Memo
 }
 
 fn forwarded_user(alloc: Global, user: &[u8]) -> Result<Option<Forwarded>, Memory>
-    ensures { IfOk result (λ found. option_to_list found ≡ views.forwarded_in (bssap_reading user.now)) }
+    ensures { IfOk result
+        (λ found. option_to_list found ≡ views.forwarded_in (bssap_reading user.now)) }
 {
     match read_bssap(alloc, user) {
         Ok(message) => Ok(forwarded_message(message)),
@@ -140,7 +142,8 @@ fn put_handed(
 }
 
 fn handed_in(alloc: Global, sapi: &Sapi, body: &[u8]) -> Result<Option<Octets>, Memory>
-    ensures { IfOk result (λ found. option_to_list found ≡ views.handed_by sapi.now (rsl_reading body.now)) }
+    ensures { IfOk result
+        (λ found. option_to_list found ≡ views.handed_by sapi.now (rsl_reading body.now)) }
 {
     match Rsl::read(alloc, body) {
         Ok(Rsl::DataRequest(data)) => Ok(handed_message(sapi, data)),

@@ -25,7 +25,8 @@ Fit-append [] gs h k = k
 Fit-append (f ∷ fs) gs h k = (h.0, Fit-append fs gs h.1 k)
 
 -- fields behind fields
-pub Begin-append : {fs gs : List Field} {many number left rest left' rest' : ℕ} → Begin fs many number left rest → Begin gs left rest left' rest' → Begin (fs ++ gs) many number left' rest'
+pub Begin-append : {fs gs : List Field} {many number left rest left' rest' : ℕ} → Begin fs many number left rest →
+    Begin gs left rest left' rest' → Begin (fs ++ gs) many number left' rest'
 Begin-append {fs} {gs} {many} {number} {left} {rest} {left'} {rest'} h k = record {
   bits = omega (arith, width_of-append fs gs, h.bits, k.bits);
   writes =
@@ -40,7 +41,8 @@ Begin-append {fs} {gs} {many} {number} {left} {rest} {left'} {rest'} h k = recor
 }
 
 -- one field
-pub Begin-one : (width value many number left rest : ℕ) → left + width ≡ many → number ≡ value * 2 ^ left + rest → value < 2 ^ width → Begin (field width value ∷ []) many number left rest
+pub Begin-one : (width value many number left rest : ℕ) → left + width ≡ many → number ≡ value * 2 ^ left + rest →
+    value < 2 ^ width → Begin (field width value ∷ []) many number left rest
 Begin-one width value many number left rest bits writes fit =
     let one : value ≡ value * 1 + 0 = omega arith in
     record {
@@ -50,7 +52,8 @@ Begin-one width value many number left rest bits writes fit =
     }
 
 -- fields behind which no bit is left
-pub Begin-end : (fs : List Field) (many number left rest : ℕ) → Begin fs many number left rest → left ≡ 0 → rest < 2 ^ left → Begin fs many number 0 0
+pub Begin-end : (fs : List Field) (many number left rest : ℕ) → Begin fs many number left rest → left ≡ 0 →
+    rest < 2 ^ left → Begin fs many number 0 0
 Begin-end fs many number left rest h none fits =
     let P : ℕ → Type 0 = λ n. rest < 2 ^ n in
     let below : rest < 2 ^ 0 = subst P none fits in

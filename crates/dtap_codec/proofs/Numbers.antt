@@ -23,7 +23,8 @@ without_number-with_number n (first ∷ second ∷ rest) =
     ap (λ (low : ℕ). first ∷ (low + 64 * 0) ∷ rest) low
 
 -- the number that was written is read
-pub number_in-with_number : (m n : ℕ) (message : List ℕ) → n < m → is_flow_message message ≡ true → number_in m (with_number n message) ≡ Some n
+pub number_in-with_number : (m n : ℕ) (message : List ℕ) → n < m → is_flow_message message ≡ true →
+    number_in m (with_number n message) ≡ Some n
 number_in-with_number m n [] lt flow = cc
 number_in-with_number m n (first ∷ []) lt flow = cc
 number_in-with_number m n (first ∷ second ∷ rest) lt flow =
@@ -37,7 +38,8 @@ number_in-other m (first ∷ []) other = refl
 number_in-other m (first ∷ second ∷ rest) other = cond-false (is_flow_protocol (first % 16)) _ None other
 
 -- the numbers of a list that goes on
-pub with_numbers_from-append : (m k : ℕ) (xs ys : List (List ℕ)) → with_numbers_from m k (xs ++ ys) ≡ with_numbers_from m k xs ++ with_numbers_from m (k + length xs) ys
+pub with_numbers_from-append : (m k : ℕ) (xs ys : List (List ℕ)) →
+    with_numbers_from m k (xs ++ ys) ≡ with_numbers_from m k xs ++ with_numbers_from m (k + length xs) ys
 with_numbers_from-append m k [] ys = ap (λ (n : ℕ). with_numbers_from m n ys) (omega arith)
 with_numbers_from-append m k (x ∷ xs) ys =
     let place : k + 1 + length xs ≡ k + length (x ∷ xs) = omega arith in

@@ -25,21 +25,24 @@ Carries-grow {k} {sent} more c = record {
 }
 
 -- the places stay as they are when more is sent
-pub Rise-grow : {m : ℕ} {sent : List (List ℕ)} (more : List (List ℕ)) {n k : ℕ} {xs : List (List ℕ)} → Rise m sent n xs k → Rise m (sent ++ more) n xs k
+pub Rise-grow : {m : ℕ} {sent : List (List ℕ)} (more : List (List ℕ)) {n k : ℕ} {xs : List (List ℕ)} →
+    Rise m sent n xs k → Rise m (sent ++ more) n xs k
 Rise-grow more (over n) = over n
 Rise-grow more (other flow rise) = other flow (Rise-grow more rise)
 Rise-grow more (next c rise) = next (Carries-grow more c) (Rise-grow more rise)
 Rise-grow more (again e c rise) = again e (Carries-grow more c) (Rise-grow more rise)
 
 -- a list that goes on where another ended rises with it
-pub Rise-append : {m j : ℕ} {sent : List (List ℕ)} (ys : List (List ℕ)) {n k : ℕ} {xs : List (List ℕ)} → Rise m sent n xs k → Rise m sent k ys j → Rise m sent n (xs ++ ys) j
+pub Rise-append : {m j : ℕ} {sent : List (List ℕ)} (ys : List (List ℕ)) {n k : ℕ} {xs : List (List ℕ)} →
+    Rise m sent n xs k → Rise m sent k ys j → Rise m sent n (xs ++ ys) j
 Rise-append ys (over n) later = later
 Rise-append ys (other flow rise) later = other flow (Rise-append ys rise later)
 Rise-append ys (next c rise) later = next c (Rise-append ys rise later)
 Rise-append ys (again e c rise) later = again e c (Rise-append ys rise later)
 
 -- a list that rises is cut into two that rise, the second from where the first ends
-pub Rise-cut : {m : ℕ} {sent : List (List ℕ)} (xs ys : List (List ℕ)) {n k : ℕ} → Rise m sent n (xs ++ ys) k → (j : ℕ) × Rise m sent n xs j × Rise m sent j ys k
+pub Rise-cut : {m : ℕ} {sent : List (List ℕ)} (xs ys : List (List ℕ)) {n k : ℕ} → Rise m sent n (xs ++ ys) k →
+    (j : ℕ) × Rise m sent n xs j × Rise m sent j ys k
 Rise-cut [] ys {n} rise = (n, over n, rise)
 Rise-cut (x ∷ xs) ys (other flow rise) = let cut = Rise-cut xs ys rise in (cut.0, other flow cut.1, cut.2)
 Rise-cut (x ∷ xs) ys (next c rise) = let cut = Rise-cut xs ys rise in (cut.0, next c cut.1, cut.2)
@@ -47,7 +50,9 @@ Rise-cut (x ∷ xs) ys (again e c rise) = let cut = Rise-cut xs ys rise in (cut.
 
 -- Where the messages of the flow in xs are those sent after the first ones, each with its number,
 -- their places rise to the end of the sent list.
-pub Rise-with_numbers_from : (m : ℕ) (sent : List (List ℕ)) (xs before after : List (List ℕ)) (n : ℕ) → before ++ after ≡ sent → length before ≡ n → AreClear after → filter is_flow_message xs ≡ with_numbers_from m n after → Rise m sent n xs (length sent)
+pub Rise-with_numbers_from : (m : ℕ) (sent : List (List ℕ)) (xs before after : List (List ℕ)) (n : ℕ) →
+    before ++ after ≡ sent → length before ≡ n → AreClear after →
+    filter is_flow_message xs ≡ with_numbers_from m n after → Rise m sent n xs (length sent)
 Rise-with_numbers_from m sent [] before [] n split place clear is =
     let end : n ≡ length sent = omega (arith, ap length split, length-append before []) in
     subst (λ (k : ℕ). Rise m sent n [] k) end (over n)
@@ -69,30 +74,35 @@ Rise-with_numbers_from m sent (x ∷ xs) before (y ∷ ys) n split place clear i
     ]
 
 -- the front of a list that rises
-pub Rise-front : {m : ℕ} {sent : List (List ℕ)} (xs ys : List (List ℕ)) {n k : ℕ} → Rise m sent n (xs ++ ys) k → (j : ℕ) × Rise m sent n xs j
+pub Rise-front : {m : ℕ} {sent : List (List ℕ)} (xs ys : List (List ℕ)) {n k : ℕ} → Rise m sent n (xs ++ ys) k →
+    (j : ℕ) × Rise m sent n xs j
 Rise-front xs ys rise = let cut = Rise-cut xs ys rise in (cut.0, cut.1)
 
 -- a message may come twice
-pub Rise-twice : {m : ℕ} {sent : List (List ℕ)} {n k : ℕ} {x : List ℕ} {ys : List (List ℕ)} → Rise m sent n (x ∷ ys) k → Rise m sent n (x ∷ x ∷ ys) k
+pub Rise-twice : {m : ℕ} {sent : List (List ℕ)} {n k : ℕ} {x : List ℕ} {ys : List (List ℕ)} → Rise m sent n (x ∷ ys) k →
+    Rise m sent n (x ∷ x ∷ ys) k
 Rise-twice (other flow rise) = other flow (other flow rise)
 Rise-twice (next c rise) = next c (again refl c rise)
 Rise-twice (again e c rise) = again e c (again e c rise)
 
 -- so may one behind others
-pub Rise-twice_behind : {m : ℕ} {sent : List (List ℕ)} (xs : List (List ℕ)) (x : List ℕ) (ys : List (List ℕ)) {n k : ℕ} → Rise m sent n (xs ++ x ∷ ys) k → Rise m sent n (xs ++ x ∷ x ∷ ys) k
+pub Rise-twice_behind : {m : ℕ} {sent : List (List ℕ)} (xs : List (List ℕ)) (x : List ℕ)
+    (ys : List (List ℕ)) {n k : ℕ} → Rise m sent n (xs ++ x ∷ ys) k → Rise m sent n (xs ++ x ∷ x ∷ ys) k
 Rise-twice_behind [] x ys rise = Rise-twice rise
 Rise-twice_behind (y ∷ xs) x ys (other flow rise) = other flow (Rise-twice_behind xs x ys rise)
 Rise-twice_behind (y ∷ xs) x ys (next c rise) = next c (Rise-twice_behind xs x ys rise)
 Rise-twice_behind (y ∷ xs) x ys (again e c rise) = again e c (Rise-twice_behind xs x ys rise)
 
 -- what stands behind a message may be another list
-Rise-behind : {m : ℕ} {sent : List (List ℕ)} {n k : ℕ} {x : List ℕ} {ys : List (List ℕ)} (xs : List (List ℕ)) → ((p : ℕ) → Rise m sent p ys k → Rise m sent p xs k) → Rise m sent n (x ∷ ys) k → Rise m sent n (x ∷ xs) k
+Rise-behind : {m : ℕ} {sent : List (List ℕ)} {n k : ℕ} {x : List ℕ} {ys : List (List ℕ)} (xs : List (List ℕ)) →
+    ((p : ℕ) → Rise m sent p ys k → Rise m sent p xs k) → Rise m sent n (x ∷ ys) k → Rise m sent n (x ∷ xs) k
 Rise-behind {n} xs behind (other flow rise) = other flow (behind n rise)
 Rise-behind {n} xs behind (next c rise) = next c (behind (n + 1) rise)
 Rise-behind {n} xs behind (again e c rise) = again e c (behind n rise)
 
 -- where the messages of the flow rise, messages of other protocols may stand among them
-pub Rise-of_flow : {m : ℕ} {sent : List (List ℕ)} (xs : List (List ℕ)) {n k : ℕ} → Rise m sent n (filter is_flow_message xs) k → Rise m sent n xs k
+pub Rise-of_flow : {m : ℕ} {sent : List (List ℕ)} (xs : List (List ℕ)) {n k : ℕ} →
+    Rise m sent n (filter is_flow_message xs) k → Rise m sent n xs k
 Rise-of_flow [] rise = rise
 Rise-of_flow {m} {sent} (x ∷ xs) {n} {k} rise =
     elim (cases_Bool (is_flow_message x)) [
@@ -104,7 +114,9 @@ Rise-of_flow {m} {sent} (x ∷ xs) {n} {k} rise =
     ]
 
 -- one more is sent, and stands last with the number of its place
-pub Rise-push : {m n : ℕ} {sent xs : List (List ℕ)} (message : List ℕ) → IsClear message → Rise m sent n xs (length sent) → Rise m (sent ++ message ∷ []) n (xs ++ with_number (length sent % m) message ∷ []) (length (sent ++ message ∷ []))
+pub Rise-push : {m n : ℕ} {sent xs : List (List ℕ)} (message : List ℕ) → IsClear message →
+    Rise m sent n xs (length sent) →
+    Rise m (sent ++ message ∷ []) n (xs ++ with_number (length sent % m) message ∷ []) (length (sent ++ message ∷ []))
 Rise-push {m} {n} {sent} {xs} message clear rise =
     let number : List ℕ = with_number (length sent % m) message in
     let end : length sent + 1 ≡ length (sent ++ message ∷ []) = sym (length-append sent (message ∷ [])) in
@@ -112,7 +124,9 @@ Rise-push {m} {n} {sent} {xs} message clear rise =
     Rise-append (number ∷ []) (Rise-grow (message ∷ []) rise) (next here (subst (λ (k : ℕ). Rise m (sent ++ message ∷ []) (length sent + 1) [] k) end (over (length sent + 1))))
 
 -- what was taken and is still to come may come again
-pub Rise-flow_twice : {m : ℕ} {sent : List (List ℕ)} (xs : List (List ℕ)) (x : List ℕ) (ys : List (List ℕ)) {n k : ℕ} → Rise m sent n (xs ++ filter is_flow_message (x ∷ ys)) k → Rise m sent n ((xs ++ filter is_flow_message (x ∷ [])) ++ filter is_flow_message (x ∷ ys)) k
+pub Rise-flow_twice : {m : ℕ} {sent : List (List ℕ)} (xs : List (List ℕ)) (x : List ℕ) (ys : List (List ℕ)) {n k : ℕ} →
+    Rise m sent n (xs ++ filter is_flow_message (x ∷ ys)) k →
+    Rise m sent n ((xs ++ filter is_flow_message (x ∷ [])) ++ filter is_flow_message (x ∷ ys)) k
 Rise-flow_twice {m} {sent} xs x ys {n} {k} rise =
     let after : List (List ℕ) = filter is_flow_message ys in
     elim (cases_Bool (is_flow_message x)) [

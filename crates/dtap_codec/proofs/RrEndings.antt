@@ -44,19 +44,23 @@ Told f octets (Err Short) = (behind : List ℕ) × AreOctets behind × IsOk (f (
 Told f octets (Err UnknownRr) = (behind : List ℕ) → f (octets ++ behind) ≡ Err UnknownRr
 
 -- a reader behind which another stands
-lift_by : (f g : List ℕ → Result RrMessage RrFault) (xs ys : List ℕ) (r : Result RrMessage RrFault) → ((behind : List ℕ) → g (ys ++ behind) ≡ f (xs ++ behind)) → Told f xs r → Told g ys r
+lift_by : (f g : List ℕ → Result RrMessage RrFault) (xs ys : List ℕ) (r : Result RrMessage RrFault) →
+    ((behind : List ℕ) → g (ys ++ behind) ≡ f (xs ++ behind)) → Told f xs r → Told g ys r
 lift_by f g xs ys (Ok message) same t = tt
 lift_by f g xs ys (Err Memory) same t = t
 lift_by f g xs ys (Err Short) same t = (t.0, t.1, subst (λ (r : Result RrMessage RrFault). IsOk r) (sym (same t.0)) t.2)
 lift_by f g xs ys (Err UnknownRr) same t = λ behind. same behind ∙ t behind
 
-at_end : (f g : List ℕ → Result RrMessage RrFault) (xs ys : List ℕ) → ((behind : List ℕ) → g (ys ++ behind) ≡ f (xs ++ behind)) → f xs ≡ g ys
+at_end : (f g : List ℕ → Result RrMessage RrFault) (xs ys : List ℕ) →
+    ((behind : List ℕ) → g (ys ++ behind) ≡ f (xs ++ behind)) → f xs ≡ g ys
 at_end f g xs ys same = ap f (sym (append-nil xs)) ∙ sym (same []) ∙ ap g (append-nil ys)
 
-lifted : (f g : List ℕ → Result RrMessage RrFault) (xs ys : List ℕ) → ((behind : List ℕ) → g (ys ++ behind) ≡ f (xs ++ behind)) → Told f xs (f xs) → Told g ys (g ys)
+lifted : (f g : List ℕ → Result RrMessage RrFault) (xs ys : List ℕ) →
+    ((behind : List ℕ) → g (ys ++ behind) ≡ f (xs ++ behind)) → Told f xs (f xs) → Told g ys (g ys)
 lifted f g xs ys same t = subst (λ (r : Result RrMessage RrFault). Told g ys r) (at_end f g xs ys same) (lift_by f g xs ys (f xs) same t)
 
-refused_always : (f : List ℕ → Result RrMessage RrFault) (xs : List ℕ) → ((behind : List ℕ) → f (xs ++ behind) ≡ Err UnknownRr) → Told f xs (f xs)
+refused_always : (f : List ℕ → Result RrMessage RrFault) (xs : List ℕ) →
+    ((behind : List ℕ) → f (xs ++ behind) ≡ Err UnknownRr) → Told f xs (f xs)
 refused_always f xs all = subst (λ (r : Result RrMessage RrFault). Told f xs r) (sym (ap f (sym (append-nil xs)) ∙ all [])) all
 
 -- ---- each reader
@@ -88,7 +92,8 @@ assignment_told (a ∷ b ∷ c ∷ []) = (twenty, twenty_are, refl)
 assignment_told (a ∷ b ∷ c ∷ d ∷ rest) = tt
 
 -- as many octets as are split off are there, or more behind them are
-report_by : (octets : List ℕ) (b : Bool) → ltb (length octets) REPORT_LENGTH ≡ b → Told measurement_report_at octets (measurement_report_at octets)
+report_by : (octets : List ℕ) (b : Bool) → ltb (length octets) REPORT_LENGTH ≡ b →
+    Told measurement_report_at octets (measurement_report_at octets)
 unfolding measurement_report_at
 report_by octets true e =
     let long : REPORT_LENGTH ≤ length (octets ++ twenty) = omega (arith, length-append octets (twenty)) in
@@ -136,7 +141,8 @@ content_told types.ImmediateAssignment octets = λ behind. refl
 content_told types.MeasurementReport octets = report_told octets
 content_told types.PagingResponse octets = tt
 
-typed_by : (octet : ℕ) (rest : List ℕ) (found : Option RrType) → rr_type octet ≡ found → Told typed_at (octet ∷ rest) (typed_at (octet ∷ rest))
+typed_by : (octet : ℕ) (rest : List ℕ) (found : Option RrType) → rr_type octet ≡ found →
+    Told typed_at (octet ∷ rest) (typed_at (octet ∷ rest))
 unfolding typed_at octet_at
 typed_by octet rest None e = refused_always typed_at (octet ∷ rest) (λ behind. ap (λ (k : Option RrType). known_type k >>= (λ kind. content_at kind (rest ++ behind))) e)
 typed_by octet rest (Some kind) e =
@@ -193,7 +199,8 @@ is_text octets fits h =
 not_text : (octets : List ℕ) (fault : RrFault) → rr_reading octets ≡ Err fault → IsText octets → ⊥
 not_text octets fault e t = absurd (cc (e, rr_again octets t.message t.text))
 
-fault_told : (octets : List ℕ) (fault : RrFault) → AreOctets octets → rr_reading octets ≡ Err fault → Told rr_reading octets (Err fault) → HasFault octets fault
+fault_told : (octets : List ℕ) (fault : RrFault) → AreOctets octets → rr_reading octets ≡ Err fault →
+    Told rr_reading octets (Err fault) → HasFault octets fault
 fault_told octets Memory fits e t = absurd t
 fault_told octets Short fits e t = (
   not_text octets Short e,
@@ -204,7 +211,8 @@ fault_told octets UnknownRr fits e t = λ begins. not_text (octets ++ begins.beh
 has_fault : (octets : List ℕ) (fault : RrFault) → AreOctets octets → rr_reading octets ≡ Err fault → HasFault octets fault
 has_fault octets fault fits e = fault_told octets fault fits e (subst (λ (r : Result RrMessage RrFault). Told rr_reading octets r) e (reading_told octets))
 
-pub fault_by : (octets : List ℕ) (r : Result RrMessage RrFault) → AreOctets octets → Gives Memory (λ v. v) r (rr_reading octets) → IfErr r (λ fault. HasFault octets fault)
+pub fault_by : (octets : List ℕ) (r : Result RrMessage RrFault) → AreOctets octets →
+    Gives Memory (λ v. v) r (rr_reading octets) → IfErr r (λ fault. HasFault octets fault)
 fault_by octets (Ok message) fits g = tt
 fault_by octets (Err fault) fits (inl g) = has_fault octets fault fits g
 fault_by octets (Err fault) fits (inr g) = subst (λ (f : RrFault). HasFault octets f) (sym g.0) (is_text octets fits g.1)

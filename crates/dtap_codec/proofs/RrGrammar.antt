@@ -65,7 +65,8 @@ three_ok octets p fits e =
 
 -- ---- descriptions
 
-channel_again : (bits : ℕ) (c : ChannelDescription) → bits < 8 → ChannelFits c → channel_of c.channel.0 (c.tsc * 32 + bits * 4 + c.arfcn / 256) (c.arfcn % 256) ≡ c
+channel_again : (bits : ℕ) (c : ChannelDescription) → bits < 8 → ChannelFits c →
+    channel_of c.channel.0 (c.tsc * 32 + bits * 4 + c.arfcn / 256) (c.arfcn % 256) ≡ c
 channel_again bits c few fits =
     let t = fits.tsc in
     let a = fits.arfcn in
@@ -73,7 +74,8 @@ channel_again bits c few fits =
     let arfcn : 256 * ((c.tsc * 32 + bits * 4 + c.arfcn / 256) % 4) + c.arfcn % 256 ≡ c.arfcn = omega arith in
     rw (tsc, arfcn) refl
 
-channel_parts : (x y z : ℕ) → y < 256 → z < 256 → (channel_text (y / 4 % 8) (channel_of x y z) ≡ x ∷ y ∷ z ∷ []) × ChannelFits (channel_of x y z)
+channel_parts : (x y z : ℕ) → y < 256 → z < 256 →
+    (channel_text (y / 4 % 8) (channel_of x y z) ≡ x ∷ y ∷ z ∷ []) × ChannelFits (channel_of x y z)
 channel_parts x y z hy hz =
     let second : y / 32 * 32 + y / 4 % 8 * 4 + (256 * (y % 4) + z) / 256 ≡ y = omega arith in
     let third : (256 * (y % 4) + z) % 256 ≡ z = omega arith in
@@ -100,14 +102,16 @@ three_bits y = omega arith
 
 -- ---- a text is read
 
-handover_again : (octets : List ℕ) (cell : CellDescription) (channel : ChannelDescription) (reference : ℕ) → IsHandoverCommand octets cell channel reference → rr_reading octets ≡ Ok (HandoverCommand cell channel reference)
+handover_again : (octets : List ℕ) (cell : CellDescription) (channel : ChannelDescription) (reference : ℕ) →
+    IsHandoverCommand octets cell channel reference → rr_reading octets ≡ Ok (HandoverCommand cell channel reference)
 unfolding rr_reading typed_at rr_type octet_at three_at handover_command_at
 handover_again octets cell channel reference r =
     ap rr_reading r.is
     ∙ ap (λ (c : CellDescription). Ok (HandoverCommand c (channel_of channel.channel.0 (channel.tsc * 32 + r.bits * 4 + channel.arfcn / 256) (channel.arfcn % 256)) reference)) (cell_again cell r.cell_fits)
     ∙ ap (λ (c : ChannelDescription). Ok (HandoverCommand cell c reference)) (channel_again r.bits channel r.three_bits r.channel_fits)
 
-assignment_again : (octets : List ℕ) (channel : ChannelDescription) → IsAssignmentCommand octets channel → rr_reading octets ≡ Ok (AssignmentCommand channel)
+assignment_again : (octets : List ℕ) (channel : ChannelDescription) → IsAssignmentCommand octets channel →
+    rr_reading octets ≡ Ok (AssignmentCommand channel)
 unfolding rr_reading typed_at rr_type octet_at three_at assignment_command_at
 assignment_again octets channel r =
     ap rr_reading r.is ∙ ap (λ (c : ChannelDescription). Ok (AssignmentCommand c)) (channel_again r.bits channel r.three_bits r.channel_fits)
@@ -123,14 +127,17 @@ three_of (a ∷ b ∷ c ∷ d ∷ xs) h = absurd (omega arith)
 split_again : (size : ℕ) (octets : List ℕ) → size ≤ length octets → split_at Short size octets ≡ Ok (take size octets, drop size octets)
 split_again size octets h = rw (le-ltb (length octets) size h) refl
 
-immediate_with : (page_mode bits high a b c advance : ℕ) (channel : ChannelDescription) (last : List ℕ) → bits < 8 → ChannelFits channel → advance < 64 → IMMEDIATE_END_LENGTH ≤ length last
+immediate_with : (page_mode bits high a b c advance : ℕ) (channel : ChannelDescription) (last : List ℕ) → bits < 8 →
+    ChannelFits channel → advance < 64 → IMMEDIATE_END_LENGTH ≤ length last
     → rr_reading (PSEUDO_LENGTH ∷ RADIO_RESOURCE ∷ IMMEDIATE_ASSIGNMENT ∷ page_mode ∷ (channel_text bits channel ++ ((a ∷ b ∷ c ∷ []) ++ (high * 64 + advance) ∷ last))) ≡ Ok (ImmediateAssignment channel (a ∷ b ∷ c ∷ []) advance)
 unfolding rr_reading pseudo_at octet_at three_at immediate_assignment_at
 immediate_with page_mode bits high a b c advance channel last few fits six long =
     let low : (high * 64 + advance) % 64 ≡ advance = omega arith in
     rw (split_again IMMEDIATE_END_LENGTH last long, low) (ap (λ (d : ChannelDescription). Ok (ImmediateAssignment d (a ∷ b ∷ c ∷ []) advance)) (channel_again bits channel few fits))
 
-immediate_again : (octets : List ℕ) (channel : ChannelDescription) (request : List ℕ) (advance : ℕ) → IsImmediateAssignment octets channel request advance → rr_reading octets ≡ Ok (ImmediateAssignment channel request advance)
+immediate_again : (octets : List ℕ) (channel : ChannelDescription) (request : List ℕ) (advance : ℕ) →
+    IsImmediateAssignment octets channel request advance →
+    rr_reading octets ≡ Ok (ImmediateAssignment channel request advance)
 immediate_again octets channel request advance r =
     let t = three_of request r.three in
     ap rr_reading (r.is ∙ ap (λ (xs : List ℕ). PSEUDO_LENGTH ∷ RADIO_RESOURCE ∷ IMMEDIATE_ASSIGNMENT ∷ r.page_mode ∷ (channel_text r.bits channel ++ (xs ++ (r.high * 64 + advance) ∷ r.last))) t.3)
@@ -158,10 +165,13 @@ rr_again octets (PagingResponse rest) is = ap rr_reading is
 
 -- ---- what is read is a text
 
-along : (octets : List ℕ) (m message : RrMessage) → (let r : Result RrMessage RrFault = Ok m in r) ≡ Ok message → IsRr octets m → IsRr octets message
+along : (octets : List ℕ) (m message : RrMessage) → (let r : Result RrMessage RrFault = Ok m in r) ≡ Ok message →
+    IsRr octets m → IsRr octets message
 along octets m message e is = subst (λ (x : RrMessage). IsRr octets x) (ok_is {A = RrMessage} {F = RrFault} m message e) is
 
-handover_ok : (octets rest : List ℕ) (message : RrMessage) → octets ≡ RADIO_RESOURCE ∷ rr_octet types.HandoverCommand ∷ rest → AreOctets rest → handover_command_at rest ≡ Ok message → IsRr octets message
+handover_ok : (octets rest : List ℕ) (message : RrMessage) →
+    octets ≡ RADIO_RESOURCE ∷ rr_octet types.HandoverCommand ∷ rest → AreOctets rest →
+    handover_command_at rest ≡ Ok message → IsRr octets message
 unfolding handover_command_at
 handover_ok octets rest message is fits e =
     let a = bind_ok (octet_at Short rest) _ message e in
@@ -190,7 +200,9 @@ handover_ok octets rest message is fits e =
       channel_fits = channel.1;
     })
 
-assignment_ok : (octets rest : List ℕ) (message : RrMessage) → octets ≡ RADIO_RESOURCE ∷ rr_octet types.AssignmentCommand ∷ rest → AreOctets rest → assignment_command_at rest ≡ Ok message → IsRr octets message
+assignment_ok : (octets rest : List ℕ) (message : RrMessage) →
+    octets ≡ RADIO_RESOURCE ∷ rr_octet types.AssignmentCommand ∷ rest → AreOctets rest →
+    assignment_command_at rest ≡ Ok message → IsRr octets message
 unfolding assignment_command_at
 assignment_ok octets rest message is fits e =
     let c = bind_ok (three_at rest) _ message e in
@@ -207,14 +219,17 @@ assignment_ok octets rest message is fits e =
       channel_fits = channel.1;
     })
 
-cause_ok : (kind : RrType) (octets rest : List ℕ) (cause : RrCause) → octets ≡ RADIO_RESOURCE ∷ rr_octet kind ∷ rest → AreOctets rest → cause_at rest ≡ Ok cause → IsCauseOf kind octets cause
+cause_ok : (kind : RrType) (octets rest : List ℕ) (cause : RrCause) → octets ≡ RADIO_RESOURCE ∷ rr_octet kind ∷ rest →
+    AreOctets rest → cause_at rest ≡ Ok cause → IsCauseOf kind octets cause
 unfolding cause_at
 cause_ok kind octets rest cause is fits e =
     let a = bind_ok (octet_at Short rest) _ cause e in
     let ha = front_ok rest a.0 fits a.1 in
     subst (λ (c : RrCause). IsCauseOf kind octets c) (ok_is {A = RrCause} {F = RrFault} (cause_of a.0.0) cause a.2) (record { more = a.0.1; is = is ∙ ap (λ (xs : List ℕ). RADIO_RESOURCE ∷ rr_octet kind ∷ xs) ha.is })
 
-report_ok : (octets rest : List ℕ) (message : RrMessage) → octets ≡ RADIO_RESOURCE ∷ rr_octet types.MeasurementReport ∷ rest → measurement_report_at rest ≡ Ok message → IsRr octets message
+report_ok : (octets rest : List ℕ) (message : RrMessage) →
+    octets ≡ RADIO_RESOURCE ∷ rr_octet types.MeasurementReport ∷ rest → measurement_report_at rest ≡ Ok message →
+    IsRr octets message
 unfolding measurement_report_at
 report_ok octets rest message is e =
     let a = bind_ok (split_at Short REPORT_LENGTH rest) _ message e in
@@ -234,7 +249,9 @@ with_cause_ok kind message_of octets rest message its is fits e =
     let a = bind_ok (cause_at rest) _ message e in
     along octets (message_of a.0) message a.2 (its a.0 (cause_ok kind octets rest a.0 is fits a.1))
 
-content_ok : (kind : RrType) (octets rest : List ℕ) (message : RrMessage) → octets ≡ RADIO_RESOURCE ∷ rr_octet kind ∷ rest → AreOctets rest → content_at kind rest ≡ Ok message → IsRr octets message
+content_ok : (kind : RrType) (octets rest : List ℕ) (message : RrMessage) →
+    octets ≡ RADIO_RESOURCE ∷ rr_octet kind ∷ rest → AreOctets rest → content_at kind rest ≡ Ok message →
+    IsRr octets message
 content_ok types.HandoverCommand octets rest message is fits e = handover_ok octets rest message is fits e
 content_ok types.AssignmentCommand octets rest message is fits e = assignment_ok octets rest message is fits e
 content_ok types.HandoverComplete octets rest message is fits e = with_cause_ok types.HandoverComplete (λ c. HandoverComplete c) octets rest message (λ c h. h) is fits e
@@ -246,7 +263,8 @@ content_ok types.ImmediateAssignment octets rest message is fits e = absurd cc
 content_ok types.MeasurementReport octets rest message is fits e = report_ok octets rest message is e
 content_ok types.PagingResponse octets rest message is fits e = along octets (PagingResponse rest) message e is
 
-find_by : {K : Type 0} (p : K → Bool) (x : K) (b : Bool) (kinds : List K) (k : K) → p x ≡ b → cond b (Some x) (find p kinds) ≡ Some k → (find p kinds ≡ Some k → p k ≡ true) → p k ≡ true
+find_by : {K : Type 0} (p : K → Bool) (x : K) (b : Bool) (kinds : List K) (k : K) → p x ≡ b →
+    cond b (Some x) (find p kinds) ≡ Some k → (find p kinds ≡ Some k → p k ≡ true) → p k ≡ true
 find_by {K} p x true kinds k is e on = let same : x ≡ k = cc in subst (λ (y : K). p y ≡ true) same is
 find_by p x false kinds k is e on = on e
 
@@ -262,7 +280,8 @@ octet_is : (octet : ℕ) (kind : RrType) → rr_type octet ≡ Some kind → oct
 unfolding rr_type
 octet_is octet kind e = sym (eqb-true (rr_octet kind) octet (find_is (λ k. eqb (rr_octet k) octet) RR_TYPES kind e))
 
-typed_ok : (octets rest : List ℕ) (message : RrMessage) → octets ≡ RADIO_RESOURCE ∷ rest → AreOctets rest → typed_at rest ≡ Ok message → IsRr octets message
+typed_ok : (octets rest : List ℕ) (message : RrMessage) → octets ≡ RADIO_RESOURCE ∷ rest → AreOctets rest →
+    typed_at rest ≡ Ok message → IsRr octets message
 unfolding typed_at
 typed_ok octets rest message is fits e =
     let a = bind_ok (octet_at Short rest) _ message e in
@@ -270,7 +289,9 @@ typed_ok octets rest message is fits e =
     let b = bind_ok (known_type (rr_type a.0.0)) _ message a.2 in
     content_ok b.0 octets a.0.1 message (is ∙ ap (λ (xs : List ℕ). RADIO_RESOURCE ∷ xs) (ha.is ∙ ap (λ (n : ℕ). n ∷ a.0.1) (octet_is a.0.0 b.0 (known_ok (rr_type a.0.0) b.0 b.1)))) ha.behind b.2
 
-immediate_ok : (octets rest : List ℕ) (message : RrMessage) → octets ≡ PSEUDO_LENGTH ∷ RADIO_RESOURCE ∷ IMMEDIATE_ASSIGNMENT ∷ rest → AreOctets rest → immediate_assignment_at rest ≡ Ok message → IsRr octets message
+immediate_ok : (octets rest : List ℕ) (message : RrMessage) →
+    octets ≡ PSEUDO_LENGTH ∷ RADIO_RESOURCE ∷ IMMEDIATE_ASSIGNMENT ∷ rest → AreOctets rest →
+    immediate_assignment_at rest ≡ Ok message → IsRr octets message
 unfolding immediate_assignment_at
 immediate_ok octets rest message is fits e =
     let a = bind_ok (octet_at Short rest) _ message e in
@@ -302,7 +323,8 @@ immediate_ok octets rest message is fits e =
       whole = hf.long;
     })
 
-pseudo_ok : (octets rest : List ℕ) (message : RrMessage) → octets ≡ PSEUDO_LENGTH ∷ rest → AreOctets rest → pseudo_at rest ≡ Ok message → IsRr octets message
+pseudo_ok : (octets rest : List ℕ) (message : RrMessage) → octets ≡ PSEUDO_LENGTH ∷ rest → AreOctets rest →
+    pseudo_at rest ≡ Ok message → IsRr octets message
 unfolding pseudo_at
 pseudo_ok octets rest message is fits e =
     let a = bind_ok (octet_at Short rest) _ message e in
@@ -316,7 +338,8 @@ pseudo_ok octets rest message is fits e =
     (is ∙ ap (λ (xs : List ℕ). PSEUDO_LENGTH ∷ xs) (ha.is ∙ ap (λ (n : ℕ). n ∷ a.0.1) (eqb-true a.0.0 RADIO_RESOURCE six.0) ∙ ap (λ (xs : List ℕ). RADIO_RESOURCE ∷ xs) (hk.is ∙ ap (λ (n : ℕ). n ∷ k.0.1) (eqb-true k.0.0 IMMEDIATE_ASSIGNMENT t.0))))
     hk.behind t.1
 
-plain_ok : (octets rest : List ℕ) (first : ℕ) (message : RrMessage) → octets ≡ first ∷ rest → AreOctets rest → plain_at first rest ≡ Ok message → IsRr octets message
+plain_ok : (octets rest : List ℕ) (first : ℕ) (message : RrMessage) → octets ≡ first ∷ rest → AreOctets rest →
+    plain_at first rest ≡ Ok message → IsRr octets message
 plain_ok octets rest first message is fits e =
     let b = bind_ok (rr_discriminator first) _ message e in
     let six = passed (eqb first RADIO_RESOURCE) UnknownRr (Ok first) b.0 b.1 in

@@ -1,6 +1,7 @@
 -- What octets are read as, as a function of them: each step in the order in which faults are looked
 -- for.
-use Rattle.std.specs.Prelude.{ℕ, ◌+◌, ◌*◌, ◌/◌, ◌%◌, ◌==◌, if◌then◌else◌, List, [], ◌∷◌, Option, Some, None, Result, Ok, Err}
+use Rattle.std.specs.Prelude.{ℕ, ◌+◌, ◌*◌, ◌/◌, ◌%◌, ◌==◌, if◌then◌else◌, List, [], ◌∷◌, Option}
+use Rattle.std.specs.Prelude.{Some, None, Result, Ok, Err}
 use Rattle.octets.specs.Answer.{◌>>=◌}
 use Rattle.octets.specs.Front.{octet_at, split_at}
 use Rattle.dtap_codec.specs.declared.message.TheConstants.{RADIO_RESOURCE}

@@ -2,7 +2,8 @@ ghost use Rattle.std.specs.Prelude.{◌≡◌, ◌+◌, ◌*◌, ◌^◌, ◌<�
 ghost use Rattle.dtap_codec.specs.declared.report.Report.{Report as ReportValue};
 ghost use Rattle.std.specs.Int.{from_be_bytes, w128};
 ghost use Rattle.dtap_codec.specs.Bits.{Begin};
-ghost use Rattle.dtap_codec.specs.Report.{IsReport, Writes, entry_fields, entries_fields, neighbours_of};
+ghost use Rattle.dtap_codec.specs.Report.{IsReport, Writes, entry_fields, entries_fields};
+ghost use Rattle.dtap_codec.specs.Report.{neighbours_of};
 
 use crate::bits::Bits;
 use crate::rr_fault::RrFault;

@@ -3,7 +3,8 @@ ghost use Rattle.octets.specs.Answer.{result_map};
 ghost use Rattle.octets.specs.Element.{AreOctets};
 ghost use Rattle.ipa_framing.specs.declared.frame.Frame.{Frame as FrameValue};
 ghost use Rattle.ipa_framing.specs.Frame.{IsTooLong, Splits};
-ghost use Rattle.ipa_framing.specs.Framer.{Call, Feeds, FramerState, Run, Takes, new_framer, octets_of, frames_of};
+ghost use Rattle.ipa_framing.specs.Framer.{Call, Feeds, FramerState, Run, Takes, new_framer};
+ghost use Rattle.ipa_framing.specs.Framer.{octets_of, frames_of};
 ghost use Rattle.ipa_framing.specs.Front.{FrontIs, front_of};
 
 use crate::frame::HEADER_LENGTH;

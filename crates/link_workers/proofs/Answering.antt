@@ -15,8 +15,8 @@ use Rattle.msc_end.specs.SwitchState.{SwitchState}
 use Rattle.msc_end.specs.Switch.{after, replies}
 use Rattle.link_workers.specs.declared.fault.IoFault.{IoFault}
 use Rattle.link_workers.specs.declared.fault.IoFault.TheVariants as faults
-use Rattle.link_workers.specs.declared.unread.Unread.{Unread}
-use Rattle.link_workers.specs.declared.unread.Unread.TheVariants.{Endless, Device, Refused}
+use Rattle.link_workers.specs.declared.unread.UnreadLink.{UnreadLink}
+use Rattle.link_workers.specs.declared.unread.UnreadLink.TheVariants.{Endless, Device, Refused}
 use Rattle.link_workers.specs.Faults.{fault_of_frame}
 use Rattle.link_workers.specs.Unread.{fault_for}
 use Rattle.link_workers.specs.Reading.{ReadsOn, frames_text}
@@ -208,7 +208,7 @@ plays_endless start now end old new switch after held some partial read = record
   writes = some.3.writes;
 }
 
-pub plays_unread : (start now end old new : Option (List ℕ)) (switch after : SwitchState) (held fed : FramerState) (unread : Unread) → AnswersSome start now old new switch after held.octets → IsPartial held.octets
+pub plays_unread : (start now end old new : Option (List ℕ)) (switch after : SwitchState) (held fed : FramerState) (unread : UnreadLink) → AnswersSome start now old new switch after held.octets → IsPartial held.octets
     → ReadsOn now end held fed (Err unread) → PlaysSwitch start end old new switch after (Some (fault_for unread))
 plays_unread start now end old new switch after held fed (Endless reads) some partial read = plays_endless start now end old new switch after held.octets some partial read.0
 plays_unread start now end old new switch after held fed (Device error) some partial read = plays_endless start now end old new switch after held.octets some partial read.0

@@ -16,8 +16,8 @@ use Rattle.ruled_relay.specs.declared.item.What.TheVariants.{Frame as GivenFrame
 use Rattle.ruled_relay.specs.Inbox.{PassView}
 use Rattle.link_workers.specs.declared.fault.IoFault.{IoFault}
 use Rattle.link_workers.specs.declared.fault.IoFault.TheVariants as faults
-use Rattle.link_workers.specs.declared.unread.Unread.{Unread}
-use Rattle.link_workers.specs.declared.unread.Unread.TheVariants.{Endless, Device, Refused}
+use Rattle.link_workers.specs.declared.unread.UnreadLink.{UnreadLink}
+use Rattle.link_workers.specs.declared.unread.UnreadLink.TheVariants.{Endless, Device, Refused}
 use Rattle.link_workers.specs.Faults.{fault_of_frame}
 use Rattle.link_workers.specs.Unread.{fault_for, fault_in}
 use Rattle.link_workers.specs.Reading.{AsksGate, BreaksOff, Ends, IsTold, Parts, Puts, PutsAll, PutsDown, ReadsOn, Serves, StopsBefore, after_letting, frames_text, given, having_put, shutting}
@@ -121,7 +121,7 @@ breaks_unread start now end limit refused last old new held some partial read = 
   },
 )
 
-pub breaks_read : (start now end : Option (List ℕ)) (limit refused last : ℕ) (old new : PassView) (held left : FramerState) (unread : Unread) → PutsSome start now refused last old new held.octets → IsPartial held.octets
+pub breaks_read : (start now end : Option (List ℕ)) (limit refused last : ℕ) (old new : PassView) (held left : FramerState) (unread : UnreadLink) → PutsSome start now refused last old new held.octets → IsPartial held.octets
     → ReadsOn now end held left (Err unread) → (octets : List ℕ) × Consumes start end octets × BreaksOff octets limit refused last old new (fault_for unread)
 breaks_read start now end limit refused last old new held left (Endless reads) some partial read = breaks_unread start now end limit refused last old new held.octets some partial read.0
 breaks_read start now end limit refused last old new held left (Device error) some partial read = breaks_unread start now end limit refused last old new held.octets some partial read.0
@@ -277,7 +277,7 @@ serves_broken start end limit refused last now old mid new fault octets faults.M
 serves_broken start end limit refused last now old mid new fault octets faults.WriteFailed read some down = absurd some.stops
 serves_broken start end limit refused last now old mid new fault octets faults.GivenUp read some down = absurd some.stops
 
-pub serves : {X : Type 0} (start end : Option (List ℕ)) (limit refused last now : ℕ) (old mid new : PassView) (read : Result X Unread) (before fault : Option IoFault) → PutsAll start end limit refused last old mid read
+pub serves : {X : Type 0} (start end : Option (List ℕ)) (limit refused last now : ℕ) (old mid new : PassView) (read : Result X UnreadLink) (before fault : Option IoFault) → PutsAll start end limit refused last old mid read
     → before ≡ fault_in read → PutsDown limit last now mid new before fault → Serves start end limit refused now old new fault
 serves start end limit refused last now old mid new (Ok done) before fault all is down =
     serves_asked start end limit refused last now old mid new None fault all.0 all.2 all.1 all.3 all.4 (all.5, all.6) (λ none. none)

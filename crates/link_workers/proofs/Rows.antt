@@ -12,9 +12,9 @@ use Rattle.ruled_relay.specs.declared.outbox.Line.TheVariants.{Frame as FrameLin
 use Rattle.ruled_relay.specs.Inbox.{PassView}
 use Rattle.ruled_relay.specs.Outbox.{TakerView}
 use Rattle.link_workers.specs.declared.fault.IoFault.TheVariants.{ReadFailed, WriteFailed, FrameFault, Memory, GateShut, GivenUp}
-use Rattle.link_workers.specs.declared.read_count.TheConstants.{MOST_READS}
-use Rattle.link_workers.specs.declared.read_count.ReadCount.{ReadCount}
-use Rattle.link_workers.specs.declared.unread.Unread.TheVariants.{Endless, Refused}
+use Rattle.link_workers.specs.declared.link_reads.TheConstants.{MOST_READS}
+use Rattle.link_workers.specs.declared.link_reads.LinkReads.{LinkReads}
+use Rattle.link_workers.specs.declared.unread.UnreadLink.TheVariants.{Endless, Refused}
 use Rattle.link_workers.specs.declared.writing.Wrote.TheVariants.{Octets}
 use Rattle.link_workers.specs.Faults.{fault_of_frame, fault_of_reply}
 use Rattle.link_workers.specs.Unread.{IsUnread, fault_for}
@@ -113,7 +113,7 @@ fails_after_a_frame p = record { octets = ping_octets; frames = ping ∷ []; res
 reads : MOST_READS ≡ 2 ^ 40
 reads = refl
 
-abbrev sixteen_reads : ReadCount
+abbrev sixteen_reads : LinkReads
 sixteen_reads = record { made = 16 }
 
 sixteen_are_too_few : IsUnread (Endless sixteen_reads) → ⊥

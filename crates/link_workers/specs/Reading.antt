@@ -1,5 +1,6 @@
 -- What a reader makes of the octets of its link.
-use Rattle.std.specs.Prelude.{◌≡◌, ◌⊎◌, ℕ, ◌+◌, Bool, true, false, List, [], ◌∷◌, ◌++◌, Option, Some, None, Result, Ok, Err, map}
+use Rattle.std.specs.Prelude.{◌≡◌, ◌⊎◌, ℕ, ◌+◌, Bool, true, false, List, [], ◌∷◌, ◌++◌, Option}
+use Rattle.std.specs.Prelude.{Some, None, Result, Ok, Err, map}
 use Rattle.std.specs.List.{flat_map, AllByRecursion}
 use Rattle.std.specs.Io.KnownBytes.{Consumes, IsAtEnd}
 use Rattle.ipa_framing.specs.declared.frame.Frame.{Frame}
@@ -9,9 +10,10 @@ use Rattle.ruled_relay.specs.declared.item.What.{What}
 use Rattle.ruled_relay.specs.declared.item.What.TheVariants.{Frame as GivenFrame, Down}
 use Rattle.ruled_relay.specs.Inbox.{PassView}
 use Rattle.link_workers.specs.declared.fault.IoFault.{IoFault}
-use Rattle.link_workers.specs.declared.fault.IoFault.TheVariants.{ReadFailed, FrameFault, Memory, GateShut}
-use Rattle.link_workers.specs.declared.unread.Unread.{Unread}
-use Rattle.link_workers.specs.declared.unread.Unread.TheVariants.{Endless, Device, Refused}
+use Rattle.link_workers.specs.declared.fault.IoFault.TheVariants.{ReadFailed, FrameFault, Memory}
+use Rattle.link_workers.specs.declared.fault.IoFault.TheVariants.{GateShut}
+use Rattle.link_workers.specs.declared.unread.UnreadLink.{UnreadLink}
+use Rattle.link_workers.specs.declared.unread.UnreadLink.TheVariants.{Endless, Device, Refused}
 use Rattle.link_workers.specs.Unread.{fault_for}
 
 -- the octets of frames, one behind the other
@@ -29,7 +31,8 @@ given frames = map GivenFrame frames
 
 -- the pass after it has put these, behind what it had put
 abbrev pub having_put : PassView → List What → PassView
-having_put p whats = record { queue = p.queue; capacity = p.capacity; source = p.source; put = p.put ++ whats }
+having_put p whats =
+    record { queue = p.queue; capacity = p.capacity; source = p.source; put = p.put ++ whats }
 
 -- how often in a row a gate has refused when it has let these frames through, each at once or after
 -- refusals
@@ -64,7 +67,8 @@ AsksGate _ limit frames refused now = now ≡ 0
 
 -- Octets were read that are frames and a rest, these frames were put, and `Down` behind them.
 -- `refused` and `now` are how often in a row the gate had refused before, and has now.
-pub record Serves (start end : Option (List ℕ)) (limit refused now : ℕ) (old new : PassView) (fault : Option IoFault) : Type 0 where
+pub record Serves (start end : Option (List ℕ)) (limit refused now : ℕ) (old new : PassView)
+    (fault : Option IoFault) : Type 0 where
   pub octets : List ℕ
   pub frames : List Frame
   pub rest : List ℕ
@@ -85,24 +89,30 @@ IsTold (Some fault) told = told ≡ Some fault
 
 -- The item was put last, and the gate let it through; or the gate refused it so often, and nothing
 -- was put.
-abbrev pub PutsGated : {X : Type 0} → ℕ → ℕ → ℕ → PassView → What → PassView → Result X IoFault → Type 0
+abbrev pub PutsGated : {X : Type 0} → ℕ → ℕ → ℕ → PassView → What → PassView → Result X IoFault
+    → Type 0
 PutsGated limit refused now old what new (Ok _) = (new ≡ having_put old (what ∷ [])) × (now ≡ 0)
-PutsGated limit refused now old what new (Err fault) = (new ≡ old) × (now ≡ refused + limit) × (fault ≡ GateShut)
+PutsGated limit refused now old what new (Err fault) =
+    (new ≡ old) × (now ≡ refused + limit) × (fault ≡ GateShut)
 
 -- `Down` was put, unasked where the gate had stayed shut; a gate that stays shut now is the fault.
 abbrev pub PutsDown : ℕ → ℕ → ℕ → PassView → PassView → Option IoFault → Option IoFault → Type 0
-PutsDown limit refused now old new (Some GateShut) fault = (new ≡ having_put old (Down ∷ [])) × (now ≡ refused) × (fault ≡ Some GateShut)
+PutsDown limit refused now old new (Some GateShut) fault =
+    (new ≡ having_put old (Down ∷ [])) × (now ≡ refused) × (fault ≡ Some GateShut)
 PutsDown limit refused now old new before fault =
-    (new ≡ having_put old (Down ∷ [])) × (((now ≡ 0) × (fault ≡ before)) ⊎ ((now ≡ refused + limit) × (fault ≡ Some GateShut)))
+    (new ≡ having_put old (Down ∷ []))
+    × (((now ≡ 0) × (fault ≡ before)) ⊎ ((now ≡ refused + limit) × (fault ≡ Some GateShut)))
 
 -- The octets are these frames and a rest, and the frames were put.
-pub record Puts (octets : List ℕ) (refused now : ℕ) (old new : PassView) (frames : List Frame) (rest : List ℕ) : Type 0 where
+pub record Puts (octets : List ℕ) (refused now : ℕ) (old new : PassView) (frames : List Frame)
+    (rest : List ℕ) : Type 0 where
   pub parts : Parts octets frames rest
   pub put : new ≡ having_put old (given frames)
   pub asks : now ≡ after_letting refused frames
 
 -- Frames were put, and then there was this fault.
-pub record BreaksOff (octets : List ℕ) (limit refused now : ℕ) (old new : PassView) (fault : IoFault) : Type 0 where
+pub record BreaksOff (octets : List ℕ) (limit refused now : ℕ) (old new : PassView)
+    (fault : IoFault) : Type 0 where
   pub frames : List Frame
   pub rest : List ℕ
   pub before : ℕ
@@ -111,23 +121,32 @@ pub record BreaksOff (octets : List ℕ) (limit refused now : ℕ) (old new : Pa
   pub stops : StopsBefore fault rest
 
 -- All frames were put that the framer held whole.
-abbrev pub PutsWhole : {X : Type 0} → FramerState → FramerState → ℕ → ℕ → ℕ → PassView → PassView → Result X IoFault → Type 0
+abbrev pub PutsWhole : {X : Type 0} → FramerState → FramerState → ℕ → ℕ → ℕ → PassView → PassView
+    → Result X IoFault → Type 0
 PutsWhole held left limit refused now old new (Ok _) =
-    ((frames : List Frame) × Puts held.octets refused now old new frames left.octets) × IsPartial left.octets × (left.failed ≡ held.failed)
-PutsWhole held left limit refused now old new (Err fault) = BreaksOff held.octets limit refused now old new fault
+    ((frames : List Frame) × Puts held.octets refused now old new frames left.octets)
+    × IsPartial left.octets × (left.failed ≡ held.failed)
+PutsWhole held left limit refused now old new (Err fault) =
+    BreaksOff held.octets limit refused now old new fault
 
 -- Octets were read to the end, and all their whole frames put.
-abbrev pub PutsAll : {X : Type 0} → Option (List ℕ) → Option (List ℕ) → ℕ → ℕ → ℕ → PassView → PassView → Result X Unread → Type 0
+abbrev pub PutsAll : {X : Type 0} → Option (List ℕ) → Option (List ℕ) → ℕ → ℕ → ℕ → PassView
+    → PassView → Result X UnreadLink → Type 0
 PutsAll start end limit refused now old new (Ok _) =
-    (octets rest : List ℕ) × (frames : List Frame) × Consumes start end octets × Puts octets refused now old new frames rest × IsPartial rest × IsAtEnd end
+    (octets rest : List ℕ) × (frames : List Frame) × Consumes start end octets
+    × Puts octets refused now old new frames rest × IsPartial rest × IsAtEnd end
 PutsAll start end limit refused now old new (Err unread) =
-    (octets : List ℕ) × Consumes start end octets × BreaksOff octets limit refused now old new (fault_for unread)
+    (octets : List ℕ) × Consumes start end octets
+    × BreaksOff octets limit refused now old new (fault_for unread)
 
 -- Octets were read, and the framer holds them behind what it held; or nothing is left to be read. A
 -- read that fails gives none.
-abbrev pub ReadsOn : Option (List ℕ) → Option (List ℕ) → FramerState → FramerState → Result Bool Unread → Type 0
-ReadsOn start now held new (Ok true) = (octets : List ℕ) × Consumes start now octets × (new ≡ record { octets = held.octets ++ octets; failed = held.failed })
+abbrev pub ReadsOn : Option (List ℕ) → Option (List ℕ) → FramerState → FramerState
+    → Result Bool UnreadLink → Type 0
+ReadsOn start now held new (Ok true) = (octets : List ℕ) × Consumes start now octets
+    × (new ≡ record { octets = held.octets ++ octets; failed = held.failed })
 ReadsOn start now held new (Ok false) = Consumes start now [] × (new ≡ held) × IsAtEnd now
 ReadsOn start now held new (Err (Endless reads)) = Consumes start now [] × (new ≡ held)
 ReadsOn start now held new (Err (Device error)) = Consumes start now [] × (new ≡ held)
-ReadsOn start now held new (Err (Refused fault)) = (octets : List ℕ) × Consumes start now octets × (new ≡ held) × (fault ≡ Memory)
+ReadsOn start now held new (Err (Refused fault)) =
+    (octets : List ℕ) × Consumes start now octets × (new ≡ held) × (fault ≡ Memory)

@@ -1,5 +1,6 @@
 -- What the switch that tests use makes of the octets of its link.
-use Rattle.std.specs.Prelude.{◌≡◌, ◌⊎◌, ℕ, ◌==◌, if◌then◌else◌, List, [], ◌∷◌, ◌++◌, Option, Some, None, Result, Ok, Err, map, option_to_list}
+use Rattle.std.specs.Prelude.{◌≡◌, ◌⊎◌, ℕ, ◌==◌, if◌then◌else◌, List, [], ◌∷◌, ◌++◌, Option, Some}
+use Rattle.std.specs.Prelude.{None, Result, Ok, Err, map, option_to_list}
 use Rattle.std.specs.List.{flat_map}
 use Rattle.std.specs.Result.{result_ok}
 use Rattle.std.specs.Io.KnownBytes.{Appends, Consumes, IsAtEnd}
@@ -13,7 +14,8 @@ use Rattle.bssmap_codec.specs.SccpText.{sccp_text}
 use Rattle.msc_end.specs.SwitchState.{SwitchState}
 use Rattle.msc_end.specs.Switch.{after, replies}
 use Rattle.link_workers.specs.declared.fault.IoFault.{IoFault}
-use Rattle.link_workers.specs.declared.fault.IoFault.TheVariants.{ReadFailed, WriteFailed, FrameFault, Memory}
+use Rattle.link_workers.specs.declared.fault.IoFault.TheVariants.{ReadFailed, WriteFailed}
+use Rattle.link_workers.specs.declared.fault.IoFault.TheVariants.{FrameFault, Memory}
 use Rattle.link_workers.specs.Reading.{frames_text, Parts}
 use Rattle.link_workers.specs.Writing.{AppendsBeginning}
 
@@ -51,6 +53,14 @@ Stops (Some FrameFault) rest now = Unit {0}
 Stops (Some Memory) rest now = Unit {0}
 Stops (Some _) rest now = ⊥
 
+-- the octets of the switch's replies to the messages in frames
+abbrev pub answers_text : SwitchState → List Frame → List ℕ
+answers_text switch frames = replies_text (all_replies switch (messages frames))
+
+-- the switch after the messages in frames
+abbrev pub having_answered : SwitchState → List Frame → SwitchState
+having_answered switch frames = after_all switch (messages frames)
+
 -- The octets of the replies were written; where it isn't the reader that failed, a beginning of
 -- them.
 abbrev pub WritesReplies : Option IoFault → List Sccp → Option (List ℕ) → Option (List ℕ) → Type 0
@@ -59,14 +69,15 @@ WritesReplies (Some ReadFailed) replies old new = Appends old new (replies_text 
 WritesReplies (Some _) replies old new = AppendsBeginning old new (replies_text replies)
 
 -- Octets were read that are frames and a rest, and the messages in these frames were answered.
-pub record PlaysSwitch (start end : Option (List ℕ)) (old new : Option (List ℕ)) (switch now : SwitchState) (fault : Option IoFault) : Type 0 where
+pub record PlaysSwitch (start end : Option (List ℕ)) (old new : Option (List ℕ))
+    (switch now : SwitchState) (fault : Option IoFault) : Type 0 where
   pub octets : List ℕ
   pub frames : List Frame
   pub rest : List ℕ
   pub read : Consumes start end octets
   pub parts : Parts octets frames rest
   pub stops : Stops fault rest end
-  pub state : now ≡ after_all switch (messages frames)
+  pub state : now ≡ having_answered switch frames
   pub writes : WritesReplies fault (all_replies switch (messages frames)) old new
 
 -- ---- what the parts of it do
@@ -80,31 +91,38 @@ IsAnswerFault _ = ⊥
 
 -- The frame was answered. With a fault it wasn't looked at, or a beginning of the replies was
 -- written.
-abbrev pub AnswersFrame : {X : Type 0} → Option (List ℕ) → Option (List ℕ) → SwitchState → SwitchState → Frame → Result X IoFault → Type 0
+abbrev pub AnswersFrame : {X : Type 0} → Option (List ℕ) → Option (List ℕ) → SwitchState
+    → SwitchState → Frame → Result X IoFault → Type 0
 AnswersFrame old new switch now f (Ok _) =
-    (now ≡ after_all switch (messages (f ∷ []))) × Appends old new (replies_text (all_replies switch (messages (f ∷ []))))
+    (now ≡ having_answered switch (f ∷ [])) × Appends old new (answers_text switch (f ∷ []))
 AnswersFrame old new switch now f (Err fault) =
     IsAnswerFault fault
     × (((now ≡ switch) × (new ≡ old))
-    ⊎ ((now ≡ after_all switch (messages (f ∷ []))) × AppendsBeginning old new (replies_text (all_replies switch (messages (f ∷ []))))))
+    ⊎ ((now ≡ having_answered switch (f ∷ []))
+    × AppendsBeginning old new (answers_text switch (f ∷ []))))
 
 -- The octets are these frames and a rest, and the frames were answered.
-pub record Answers (octets : List ℕ) (old new : Option (List ℕ)) (switch now : SwitchState) (frames : List Frame) (rest : List ℕ) : Type 0 where
+pub record Answers (octets : List ℕ) (old new : Option (List ℕ)) (switch now : SwitchState)
+    (frames : List Frame) (rest : List ℕ) : Type 0 where
   pub parts : Parts octets frames rest
-  pub state : now ≡ after_all switch (messages frames)
-  pub writes : Appends old new (replies_text (all_replies switch (messages frames)))
+  pub state : now ≡ having_answered switch frames
+  pub writes : Appends old new (answers_text switch frames)
 
 -- Frames were answered, and then there was this fault.
-pub record StopsAnswering (octets : List ℕ) (old new : Option (List ℕ)) (switch now : SwitchState) (fault : IoFault) : Type 0 where
+pub record StopsAnswering (octets : List ℕ) (old new : Option (List ℕ)) (switch now : SwitchState)
+    (fault : IoFault) : Type 0 where
   pub frames : List Frame
   pub rest : List ℕ
   pub parts : Parts octets frames rest
-  pub state : now ≡ after_all switch (messages frames)
-  pub writes : AppendsBeginning old new (replies_text (all_replies switch (messages frames)))
+  pub state : now ≡ having_answered switch frames
+  pub writes : AppendsBeginning old new (answers_text switch frames)
   pub is : IsAnswerFault fault
 
 -- All frames were answered that the framer held whole.
-abbrev pub AnswersWhole : {X : Type 0} → FramerState → FramerState → Option (List ℕ) → Option (List ℕ) → SwitchState → SwitchState → Result X IoFault → Type 0
+abbrev pub AnswersWhole : {X : Type 0} → FramerState → FramerState → Option (List ℕ)
+    → Option (List ℕ) → SwitchState → SwitchState → Result X IoFault → Type 0
 AnswersWhole held left old new switch now (Ok _) =
-    ((frames : List Frame) × Answers held.octets old new switch now frames left.octets) × IsPartial left.octets × (left.failed ≡ held.failed)
-AnswersWhole held left old new switch now (Err fault) = StopsAnswering held.octets old new switch now fault
+    ((frames : List Frame) × Answers held.octets old new switch now frames left.octets)
+    × IsPartial left.octets × (left.failed ≡ held.failed)
+AnswersWhole held left old new switch now (Err fault) =
+    StopsAnswering held.octets old new switch now fault

@@ -4,23 +4,23 @@ use Rattle.std.specs.IoError.{error_kind}
 use Rattle.std.specs.declared.io.ErrorKind.TheVariants.{Interrupted}
 use Rattle.link_workers.specs.declared.fault.IoFault.{IoFault}
 use Rattle.link_workers.specs.declared.fault.IoFault.TheVariants.{ReadFailed}
-use Rattle.link_workers.specs.declared.read_count.TheConstants.{MOST_READS}
-use Rattle.link_workers.specs.declared.unread.Unread.{Unread}
-use Rattle.link_workers.specs.declared.unread.Unread.TheVariants.{Endless, Device, Refused}
+use Rattle.link_workers.specs.declared.link_reads.TheConstants.{MOST_READS}
+use Rattle.link_workers.specs.declared.unread.UnreadLink.{UnreadLink}
+use Rattle.link_workers.specs.declared.unread.UnreadLink.TheVariants.{Endless, Device, Refused}
 
 -- As many reads were made as a reader makes; or a read failed, which an interrupted one hasn't; or
 -- what was read wasn't taken.
-abbrev pub IsUnread : Unread → Type 0
+abbrev pub IsUnread : UnreadLink → Type 0
 IsUnread (Endless reads) = reads.made ≡ MOST_READS
 IsUnread (Device error) = error_kind error ≢ Interrupted
 IsUnread (Refused fault) = fault ≢ ReadFailed
 
 -- the fault that a worker ends with
-abbrev pub fault_for : Unread → IoFault
+abbrev pub fault_for : UnreadLink → IoFault
 fault_for (Endless reads) = ReadFailed
 fault_for (Device error) = ReadFailed
 fault_for (Refused fault) = fault
 
-abbrev pub fault_in : {X : Type 0} → Result X Unread → Option IoFault
+abbrev pub fault_in : {X : Type 0} → Result X UnreadLink → Option IoFault
 fault_in (Ok _) = None
 fault_in (Err unread) = Some (fault_for unread)

@@ -1,5 +1,6 @@
 -- What a writer makes of the lines of its outbox.
-use Rattle.std.specs.Prelude.{◌≡◌, ℕ, ◌<◌, ◌≤◌, Bool, true, false, List, [], ◌∷◌, ◌++◌, length, take, Option, Some, None, Result, Ok, Err, map}
+use Rattle.std.specs.Prelude.{◌≡◌, ℕ, ◌<◌, ◌≤◌, Bool, true, false, List, [], ◌∷◌, ◌++◌, length}
+use Rattle.std.specs.Prelude.{take, Option, Some, None, Result, Ok, Err, map}
 use Rattle.std.specs.List.{AllByRecursion}
 use Rattle.std.specs.Io.KnownBytes.{Appends, Keeps}
 use Rattle.std.specs.IoError.{error_kind}
@@ -26,7 +27,8 @@ having_taken t lines = record { queue = t.queue; capacity = t.capacity; taken = 
 
 -- known contents grew by a beginning of the text
 abbrev pub AppendsBeginning : Option (List ℕ) → Option (List ℕ) → List ℕ → Type 0
-AppendsBeginning old new text = (written : List ℕ) × (unwritten : List ℕ) × (text ≡ written ++ unwritten) × Appends old new written
+AppendsBeginning old new text = (written : List ℕ) × (unwritten : List ℕ)
+    × (text ≡ written ++ unwritten) × Appends old new written
 
 -- Why not all was written: the device, memory, or a frame that is too long among these.
 abbrev pub IsWriterFault : IoFault → List Frame → Type 0
@@ -37,12 +39,15 @@ IsWriterFault _ frames = ⊥
 
 -- The octets of the frames were written, in order; with a fault a beginning of them.
 abbrev pub WritesFrames : Option IoFault → List Frame → Option (List ℕ) → Option (List ℕ) → Type 0
-WritesFrames None frames old new = AllByRecursion IsFrame frames × Appends old new (frames_text frames)
-WritesFrames (Some fault) frames old new = IsWriterFault fault frames × AppendsBeginning old new (frames_text frames)
+WritesFrames None frames old new =
+    AllByRecursion IsFrame frames × Appends old new (frames_text frames)
+WritesFrames (Some fault) frames old new =
+    IsWriterFault fault frames × AppendsBeginning old new (frames_text frames)
 
 -- Frames were taken and behind them the mark, which is the last that was taken, and the frames were
 -- written.
-pub record Delivers (old new : Option (List ℕ)) (taker taken : TakerView) (fault : Option IoFault) : Type 0 where
+pub record Delivers (old new : Option (List ℕ)) (taker taken : TakerView)
+    (fault : Option IoFault) : Type 0 where
   pub frames : List Frame
   pub takes : taken ≡ having_taken taker (lines frames ++ End ∷ [])
   pub writes : WritesFrames fault frames old new
@@ -52,12 +57,15 @@ pub record Delivers (old new : Option (List ℕ)) (taker taken : TakerView) (fau
 -- The first octets were written, at least one; or the write was interrupted, or it failed, and none
 -- were.
 abbrev pub WritesOnce : Option (List ℕ) → Option (List ℕ) → List ℕ → Result Wrote IoFault → Type 0
-WritesOnce old new octets (Ok (Octets count)) = (0 < count) × (count ≤ length octets) × Appends old new (take count octets)
-WritesOnce old new octets (Ok (Interrupted error)) = (error_kind error ≡ WasInterrupted) × Keeps old new
+WritesOnce old new octets (Ok (Octets count)) =
+    (0 < count) × (count ≤ length octets) × Appends old new (take count octets)
+WritesOnce old new octets (Ok (Interrupted error)) =
+    (error_kind error ≡ WasInterrupted) × Keeps old new
 WritesOnce old new octets (Err fault) = (fault ≡ WriteFailed) × Keeps old new
 
 -- the text was written; where that failed, a beginning of it
-abbrev pub WritesText : {X : Type 0} → Option (List ℕ) → Option (List ℕ) → List ℕ → Result X IoFault → Type 0
+abbrev pub WritesText : {X : Type 0} → Option (List ℕ) → Option (List ℕ) → List ℕ → Result X IoFault
+    → Type 0
 WritesText old new text (Ok _) = Appends old new text
 WritesText old new text (Err fault) = AppendsBeginning old new text × (fault ≡ WriteFailed)
 
@@ -70,16 +78,21 @@ end_if false = []
 -- frame that is refused was taken all the same.
 abbrev pub Gathers : TakerView → TakerView → List ℕ → List ℕ → Result Bool IoFault → Type 0
 Gathers old new text now (Ok ended) =
-    (frames : List Frame) × (new ≡ having_taken old (lines frames ++ end_if ended)) × (now ≡ text ++ frames_text frames) × AllByRecursion IsFrame frames
-Gathers old new text now (Err fault) = (frames : List Frame) × (new ≡ having_taken old (lines frames)) × IsWriterFault fault frames
+    (frames : List Frame) × (new ≡ having_taken old (lines frames ++ end_if ended))
+    × (now ≡ text ++ frames_text frames) × AllByRecursion IsFrame frames
+Gathers old new text now (Err fault) =
+    (frames : List Frame) × (new ≡ having_taken old (lines frames)) × IsWriterFault fault frames
 
 -- All frames up to the mark were taken and written. Where that broke off, it is told whether the
 -- mark was taken.
-abbrev pub WritesLines : {X : Type 0} → Option (List ℕ) → Option (List ℕ) → TakerView → TakerView → Result X Broken → Type 0
+abbrev pub WritesLines : {X : Type 0} → Option (List ℕ) → Option (List ℕ) → TakerView → TakerView
+    → Result X Broken → Type 0
 WritesLines old new taker taken (Ok _) =
-    (frames : List Frame) × (taken ≡ having_taken taker (lines frames ++ End ∷ [])) × Appends old new (frames_text frames) × AllByRecursion IsFrame frames
+    (frames : List Frame) × (taken ≡ having_taken taker (lines frames ++ End ∷ []))
+    × Appends old new (frames_text frames) × AllByRecursion IsFrame frames
 WritesLines old new taker taken (Err broken) =
-    (frames : List Frame) × (taken ≡ having_taken taker (lines frames ++ end_if broken.at_end)) × AppendsBeginning old new (frames_text frames) × IsWriterFault broken.fault frames
+    (frames : List Frame) × (taken ≡ having_taken taker (lines frames ++ end_if broken.at_end))
+    × AppendsBeginning old new (frames_text frames) × IsWriterFault broken.fault frames
 
 -- frames were taken, and behind them the mark
 abbrev pub TakesToEnd : TakerView → TakerView → Type 0

@@ -1,11 +1,11 @@
 ghost use Rattle.std.specs.Prelude.{◌≡◌, ◌+◌, ◌<◌, ◌≤◌, false, length, IfErr, OnOk};
-ghost use Rattle.link_workers.specs.declared.read_count.TheConstants.{MOST_READS};
+ghost use Rattle.link_workers.specs.declared.link_reads.TheConstants.{MOST_READS};
 ghost use Rattle.link_workers.specs.Reading.{ReadsOn};
 ghost use Rattle.link_workers.specs.Unread.{IsUnread};
 
 use crate::IoFault;
-use crate::read_count::ReadCount;
-use crate::unread::Unread;
+use crate::link_reads::LinkReads;
+use crate::unread::UnreadLink;
 use ipa_framing::Framer;
 use std::io::{ErrorKind, Read};
 
@@ -16,20 +16,21 @@ pub(crate) const BLOCK: usize = 8192;
 /// interrupted read is one of no octets. Where so many reads were made already it makes none.
 pub(crate) fn read_on<I: Read>(
     reader: &mut I,
-    reads: &mut ReadCount,
+    reads: &mut LinkReads,
     block: &mut [u8],
     framer: &mut Framer,
-) -> Result<bool, Unread>
+) -> Result<bool, UnreadLink>
     requires within { reads.old.made ≤ MOST_READS }
     requires room { 0 < length block.old }
     requires working { framer.old.failed ≡ false }
-    ensures octets { ReadsOn (I.remaining reader.old) (I.remaining reader.new) framer.old framer.new result }
+    ensures octets { ReadsOn (I.remaining reader.old) (I.remaining reader.new)
+        framer.old framer.new result }
     ensures why { IfErr result (λ unread. IsUnread unread) }
     ensures counted { OnOk result (reads.new.made ≡ reads.old.made + 1) }
     ensures bounded { reads.new.made ≤ MOST_READS }
 {
     if reads.is_spent() {
-        return Err(Unread::Endless(*reads));
+        return Err(UnreadLink::Endless(*reads));
     }
     match reads.read(reader, block) {
         Ok(0) => Ok(false),
@@ -38,6 +39,6 @@ pub(crate) fn read_on<I: Read>(
             Ok(true)
         }
         Err(error) if error.kind() == ErrorKind::Interrupted => Ok(true),
-        Err(error) => Err(Unread::Device(error)),
+        Err(error) => Err(UnreadLink::Device(error)),
     }
 }

@@ -8,5 +8,6 @@ pub trait Gate {
 
     /// Whether the next item of the source may be put.
     fn pass(&mut self, source: u16) -> bool
-        ensures { MatchBool result (refused self.new ≡ 0) (refused self.new ≡ refused self.old + 1) };
+        ensures { MatchBool result
+            (refused self.new ≡ 0) (refused self.new ≡ refused self.old + 1) };
 }

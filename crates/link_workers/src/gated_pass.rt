@@ -27,7 +27,9 @@ impl<G: Gate> GatedPass<G> {
     /// Puts what the link gave, once the gate lets it through and there is room for it. Where the
     /// gate stays shut it isn't put.
     pub fn put<R: Wait>(&mut self, rt: &R, what: What) -> Result<(), IoFault>
-        ensures puts { PutsGated self.old.limit (G.refused self.old.gate) (G.refused self.new.gate) self.old.pass what self.new.pass result }
+        ensures puts { PutsGated self.old.limit
+            (G.refused self.old.gate) (G.refused self.new.gate)
+            self.old.pass what self.new.pass result }
         ensures same { self.new.limit ≡ self.old.limit }
     {
         self.ask(rt)?;
@@ -37,7 +39,9 @@ impl<G: Gate> GatedPass<G> {
 
     /// Asks the gate until it lets the next item through, `limit` times at most.
     pub fn ask<R: Wait>(&mut self, rt: &R) -> Result<(), IoFault>
-        ensures asks { MatchResult result (λ _. G.refused self.new.gate ≡ 0) (λ fault. (fault ≡ GateShut) × (G.refused self.new.gate ≡ G.refused self.old.gate + self.old.limit)) }
+        ensures asks { MatchResult result (λ _. G.refused self.new.gate ≡ 0) (λ fault.
+            (fault ≡ GateShut)
+            × (G.refused self.new.gate ≡ G.refused self.old.gate + self.old.limit)) }
         ensures same { (self.new.limit ≡ self.old.limit) × (self.new.pass ≡ self.old.pass) }
     {
         let source = self.pass.source();

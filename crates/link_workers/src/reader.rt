@@ -7,8 +7,8 @@ ghost use Rattle.link_workers.specs.Unread.{IsUnread};
 
 use crate::framing::{BLOCK, read_on};
 use crate::gated_pass::{GatedPass, put_once_there_is_room};
-use crate::read_count::ReadCount;
-use crate::unread::{Unread, fault_of};
+use crate::link_reads::LinkReads;
+use crate::unread::{UnreadLink, fault_of};
 use crate::{Gate, IoFault, LinkReader};
 use ipa_framing::Framer;
 use ruled_relay::{SourcePass, What};
@@ -33,7 +33,8 @@ pub fn serve_reader<I: LinkReader, G: Gate, R: Wait>(
     pass: SourcePass,
     limit: u32,
 ) -> (I, G, SourcePass, Option<IoFault>)
-    ensures serves { Serves (I.remaining reader) (I.remaining result.0) limit (G.refused gate) (G.refused result.1) pass result.2 result.3 }
+    ensures serves { Serves (I.remaining reader) (I.remaining result.0) limit
+        (G.refused gate) (G.refused result.1) pass result.2 result.3 }
     ensures told { IsTold result.3 (I.told result.0) }
 {
     let mut gated = GatedPass { gate, pass, limit };
@@ -60,7 +61,9 @@ fn put_down<G: Gate, R: Wait>(
     gated: &mut GatedPass<G>,
     fault: Option<IoFault>,
 ) -> Option<IoFault>
-    ensures { PutsDown gated.old.limit (G.refused gated.old.gate) (G.refused gated.new.gate) gated.old.pass gated.new.pass fault result }
+    ensures { PutsDown gated.old.limit
+        (G.refused gated.old.gate) (G.refused gated.new.gate)
+        gated.old.pass gated.new.pass fault result }
 {
     let fault = match fault {
         Some(IoFault::GateShut) => fault,
@@ -80,14 +83,15 @@ fn put_all<I: Read, G: Gate, R: Wait>(
     alloc: Global,
     reader: &mut I,
     gated: &mut GatedPass<G>,
-) -> Result<(), Unread>
-    ensures puts { PutsAll (I.remaining reader.old) (I.remaining reader.new) gated.old.limit (G.refused gated.old.gate) (G.refused gated.new.gate) gated.old.pass gated.new.pass result }
+) -> Result<(), UnreadLink>
+    ensures puts { PutsAll (I.remaining reader.old) (I.remaining reader.new) gated.old.limit
+        (G.refused gated.old.gate) (G.refused gated.new.gate) gated.old.pass gated.new.pass result }
     ensures why { IfErr result (λ unread. IsUnread unread) }
     ensures same { gated.new.limit ≡ gated.old.limit }
 {
     let mut framer = Framer::new(alloc);
     let mut block = [0; BLOCK];
-    let mut reads = ReadCount::none();
+    let mut reads = LinkReads::none();
     while read_on(reader, &mut reads, &mut block, &mut framer)? {
         put_frames(rt, &mut framer, gated)?;
         gated.pass.ring();
@@ -101,7 +105,8 @@ fn put_frames<G: Gate, R: Wait>(
     framer: &mut Framer,
     gated: &mut GatedPass<G>,
 ) -> Result<(), IoFault>
-    ensures puts { PutsWhole framer.old framer.new gated.old.limit (G.refused gated.old.gate) (G.refused gated.new.gate) gated.old.pass gated.new.pass result }
+    ensures puts { PutsWhole framer.old framer.new gated.old.limit (G.refused gated.old.gate)
+        (G.refused gated.new.gate) gated.old.pass gated.new.pass result }
     ensures unfailed { IfErr result (λ fault. fault ≢ ReadFailed) }
     ensures same { gated.new.limit ≡ gated.old.limit }
 {
@@ -116,8 +121,12 @@ fn put_frames<G: Gate, R: Wait>(
 /// So what a reader puts are the first frames of the octets that it read, and all of them unless
 /// memory ran out or its gate stayed shut.
 pub fn frames_put_are_the_first()
-    ensures first { (octets : List ℕ) (frames : List FrameValue) (rest : List ℕ) (all : List FrameValue) (end : List ℕ) →
-        Parts octets frames rest → Splits octets all end → (more : List FrameValue) × (all ≡ frames ++ more) }
-    ensures whole { (octets : List ℕ) (frames : List FrameValue) (rest : List ℕ) (all : List FrameValue) (end : List ℕ) →
-        Parts octets frames rest → IsPartial rest ⊎ IsTooLong rest → Splits octets all end → (all ≡ frames) × (end ≡ rest) }
+    ensures first { (octets : List ℕ) (frames : List FrameValue) (rest : List ℕ)
+        (all : List FrameValue) (end : List ℕ)
+        → Parts octets frames rest → Splits octets all end
+        → (more : List FrameValue) × (all ≡ frames ++ more) }
+    ensures whole { (octets : List ℕ) (frames : List FrameValue) (rest : List ℕ)
+        (all : List FrameValue) (end : List ℕ)
+        → Parts octets frames rest → IsPartial rest ⊎ IsTooLong rest → Splits octets all end
+        → (all ≡ frames) × (end ≡ rest) }
 {}

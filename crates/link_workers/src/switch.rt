@@ -1,12 +1,13 @@
 ghost use Rattle.std.specs.Prelude.{◌≡◌, ◌++◌, IfErr, IfOk, OnOk};
 ghost use Rattle.ipa_framing.specs.Frame.{frame_text};
-ghost use Rattle.link_workers.specs.Switching.{AnswersFrame, AnswersWhole, IsAnswerFault, PlaysSwitch, message_in, replies_text, reply_frame};
+ghost use Rattle.link_workers.specs.Switching.{AnswersFrame, AnswersWhole, IsAnswerFault};
+ghost use Rattle.link_workers.specs.Switching.{PlaysSwitch, message_in, replies_text, reply_frame};
 ghost use Rattle.link_workers.specs.Unread.{IsUnread, fault_in};
 
 use crate::IoFault;
 use crate::framing::{BLOCK, read_on};
-use crate::read_count::ReadCount;
-use crate::unread::{Unread, fault_of};
+use crate::link_reads::LinkReads;
+use crate::unread::{UnreadLink, fault_of};
 use crate::writing::write_octets;
 use bssmap_codec::{InterfaceFault, Sccp, read_sccp, write_sccp};
 use ipa_framing::{Frame, Framer, SCCP_STREAM, write_frame};
@@ -29,7 +30,8 @@ pub fn switch_worker<I: Read, O: Write>(
     mut writer: O,
     mut switch: MscEnd,
 ) -> (I, O, MscEnd, Option<IoFault>)
-    ensures { PlaysSwitch (I.remaining reader) (I.remaining result.0) (O.contents writer) (O.contents result.1) switch result.2 result.3 }
+    ensures { PlaysSwitch (I.remaining reader) (I.remaining result.0) (O.contents writer)
+        (O.contents result.1) switch result.2 result.3 }
 {
     let answered = answer_all(alloc, &mut reader, &mut writer, &mut switch);
     (reader, writer, switch, fault_of(answered))
@@ -41,13 +43,14 @@ fn answer_all<I: Read, O: Write>(
     reader: &mut I,
     writer: &mut O,
     switch: &mut MscEnd,
-) -> Result<(), Unread>
-    ensures plays { PlaysSwitch (I.remaining reader.old) (I.remaining reader.new) (O.contents writer.old) (O.contents writer.new) switch.old switch.new (fault_in result) }
+) -> Result<(), UnreadLink>
+    ensures plays { PlaysSwitch (I.remaining reader.old) (I.remaining reader.new)
+        (O.contents writer.old) (O.contents writer.new) switch.old switch.new (fault_in result) }
     ensures why { IfErr result (λ unread. IsUnread unread) }
 {
     let mut framer = Framer::new(alloc);
     let mut block = [0; BLOCK];
-    let mut reads = ReadCount::none();
+    let mut reads = LinkReads::none();
     while read_on(reader, &mut reads, &mut block, &mut framer)? {
         answer_frames(alloc, &mut framer, writer, switch)?;
     }
@@ -61,7 +64,8 @@ fn answer_frames<O: Write>(
     writer: &mut O,
     switch: &mut MscEnd,
 ) -> Result<(), IoFault>
-    ensures { AnswersWhole framer.old framer.new (O.contents writer.old) (O.contents writer.new) switch.old switch.new result }
+    ensures { AnswersWhole framer.old framer.new
+        (O.contents writer.old) (O.contents writer.new) switch.old switch.new result }
 {
     while let Some(frame) = framer.next()? {
         answer(alloc, &frame, writer, switch)?;
@@ -76,7 +80,8 @@ fn answer<O: Write>(
     writer: &mut O,
     switch: &mut MscEnd,
 ) -> Result<(), IoFault>
-    ensures { AnswersFrame (O.contents writer.old) (O.contents writer.new) switch.old switch.new frame.now result }
+    ensures { AnswersFrame (O.contents writer.old) (O.contents writer.new)
+        switch.old switch.new frame.now result }
 {
     let Some(message) = message_of(alloc, frame)? else {
         return Ok(());
@@ -115,7 +120,8 @@ fn text_of(alloc: Global, replies: &[Sccp]) -> Result<Vec<u8>, IoFault>
 
 /// Appends the octets of the frame that carries a reply.
 fn write_reply(alloc: Global, reply: &Sccp, text: &mut Vec<u8>) -> Result<(), IoFault>
-    ensures text { OnOk result (text.new.items ≡ text.old.items ++ frame_text (reply_frame reply.now)) }
+    ensures text { OnOk result (text.new.items
+        ≡ text.old.items ++ frame_text (reply_frame reply.now)) }
     ensures fault { IfErr result (λ fault. IsAnswerFault fault) }
 {
     let mut body = Vec::new(alloc);

@@ -2,38 +2,38 @@ ghost use Rattle.std.specs.Prelude.{◌≡◌};
 ghost use Rattle.link_workers.specs.Unread.{fault_in};
 
 use crate::IoFault;
-use crate::read_count::ReadCount;
+use crate::link_reads::LinkReads;
 use std::io;
 
 /// Why the octets of a link weren't read to their end.
 #[derive(Drop)]
-pub(crate) enum Unread {
+pub(crate) enum UnreadLink {
     /// They had no end after so many reads.
-    Endless(ReadCount),
+    Endless(LinkReads),
     /// A read failed.
     Device(io::Error),
     /// What was read wasn't taken.
     Refused(IoFault),
 }
 
-impl From<IoFault> for Unread {
+impl From<IoFault> for UnreadLink {
     ghost use Rattle.std.specs.Prelude.{◌≡◌};
-    ghost use Rattle.link_workers.specs.declared.unread.Unread.TheVariants as unread;
+    ghost use Rattle.link_workers.specs.declared.unread.UnreadLink.TheVariants as unread;
 
     ghost from_gives = { λ fault why. why ≡ unread.Refused fault };
 
-    fn from(fault: IoFault) -> Unread {
-        Unread::Refused(fault)
+    fn from(fault: IoFault) -> UnreadLink {
+        UnreadLink::Refused(fault)
     }
 }
 
 /// The fault that a worker ends with.
-pub(crate) fn fault_of(read: Result<(), Unread>) -> Option<IoFault>
+pub(crate) fn fault_of(read: Result<(), UnreadLink>) -> Option<IoFault>
     ensures { result ≡ fault_in read }
 {
     match read {
         Ok(()) => None,
-        Err(Unread::Refused(fault)) => Some(fault),
+        Err(UnreadLink::Refused(fault)) => Some(fault),
         Err(_) => Some(IoFault::ReadFailed),
     }
 }

@@ -66,7 +66,8 @@ fn write_lines<O: Write, R: Wait>(
     writer: &mut O,
     taker: &mut Taker,
 ) -> Result<(), Broken>
-    ensures { WritesLines (O.contents writer.old) (O.contents writer.new) taker.old taker.new result }
+    ensures { WritesLines (O.contents writer.old) (O.contents writer.new)
+        taker.old taker.new result }
 {
     let mut text = Vec::new(alloc);
     for _ in rt.forever() {

@@ -20,7 +20,9 @@ elements_of (f ∷ fs) = with_field f.id f.value (elements_of fs)
 
 -- ---- the text is these elements
 
-with_text : (table : List Entry) (id : ℕ) (value : Option (List ℕ)) (rest : List ℕ) (es : List Element) → FitsIfPresent table id value → AreElements table rest es false → AreElements table (field_text table id value ++ rest) (with_field id value es) false
+with_text : (table : List Entry) (id : ℕ) (value : Option (List ℕ)) (rest : List ℕ) (es : List Element) →
+    FitsIfPresent table id value → AreElements table rest es false →
+    AreElements table (field_text table id value ++ rest) (with_field id value es) false
 with_text table id None rest es fits are = are
 with_text table id (Some value) rest es fits are = (
   element_text fits.format (element id value),
@@ -30,7 +32,8 @@ with_text table id (Some value) rest es fits are = (
   are,
 )
 
-pub fields_are : (table : List Entry) (fs : List Field) (more : List ℕ) → AllFit table fs → Stops table more → AreElements table (fields_text table fs ++ more) (elements_of fs) false
+pub fields_are : (table : List Entry) (fs : List Field) (more : List ℕ) → AllFit table fs → Stops table more →
+    AreElements table (fields_text table fs ++ more) (elements_of fs) false
 fields_are table [] more fits stops = stops
 fields_are table (f ∷ fs) more fits stops =
     subst (λ (octets : List ℕ). AreElements table octets (elements_of (f ∷ fs)) false) (sym (append_assoc (field_text table f.id f.value) (fields_text table fs) more))
@@ -42,7 +45,8 @@ abbrev is_among : ℕ → List Field → Bool
 is_among id fs = list_any (λ (g : Field). eqb g.id id) fs
 
 -- an element with another identifier changes nothing
-first_with : (id other : ℕ) (value : Option (List ℕ)) (es : List Element) → other ≢ id → first_of id (with_field other value es) ≡ first_of id es
+first_with : (id other : ℕ) (value : Option (List ℕ)) (es : List Element) → other ≢ id →
+    first_of id (with_field other value es) ≡ first_of id es
 first_with id other None es h = refl
 first_with id other (Some value) es h = first_behind (element other value) es id h
 
@@ -56,12 +60,14 @@ none_among id (f ∷ fs) h =
     first_with id f.id f.value (elements_of fs) (eqb-false f.id id parts.0) ∙ none_among id fs parts.1
 
 -- a field that stands first is the first with its identifier
-first_is : (id : ℕ) (value : Option (List ℕ)) (fs : List Field) → is_among id fs ≡ false → first_of id (with_field id value (elements_of fs)) ≡ value
+first_is : (id : ℕ) (value : Option (List ℕ)) (fs : List Field) → is_among id fs ≡ false →
+    first_of id (with_field id value (elements_of fs)) ≡ value
 first_is id None fs h = none_among id fs h
 first_is id (Some value) fs h = first_here (element id value) (elements_of fs) id refl
 
 -- what elements carry, they carry behind one with another identifier
-carries_with : (id : ℕ) (value : Option (List ℕ)) (es : List Element) (fs : List Field) → is_among id fs ≡ false → Carries es fs → Carries (with_field id value es) fs
+carries_with : (id : ℕ) (value : Option (List ℕ)) (es : List Element) (fs : List Field) → is_among id fs ≡ false →
+    Carries es fs → Carries (with_field id value es) fs
 carries_with id value es [] h has = tt
 carries_with id value es (f ∷ fs) h has =
     let parts = among_parts id f fs h in
@@ -90,7 +96,8 @@ element_sized table e text is fits = record {
 }
 
 -- the value that is found first has its format's size
-pub found_sized : (table : List Entry) (octets : List ℕ) (es : List Element) (is_cut : Bool) (id : ℕ) (value : List ℕ) → AreOctets octets → AreElements table octets es is_cut → first_of id es ≡ Some value → IsSized table id value
+pub found_sized : (table : List Entry) (octets : List ℕ) (es : List Element) (is_cut : Bool) (id : ℕ) (value : List ℕ) →
+    AreOctets octets → AreElements table octets es is_cut → first_of id es ≡ Some value → IsSized table id value
 found_sized table octets [] is_cut id value fits are found = absurd cc
 found_sized table octets (e ∷ es) is_cut id value fits are found =
     let whole : AreOctets (are.0 ++ are.1) = subst AreOctets are.3 fits in

@@ -89,19 +89,23 @@ split_long xs n le = rw (le-ltb (length xs) n le) refl
 
 -- ---- the front, from the grammar
 
-element_again : (id : ℕ) (format : Format) (value rest : List ℕ) → HasSize format (length value) → element_at id format ((length_octets format (length value) ++ value) ++ rest) ≡ Ok (Some (element id value, rest))
+element_again : (id : ℕ) (format : Format) (value rest : List ℕ) → HasSize format (length value) →
+    element_at id format ((length_octets format (length value) ++ value) ++ rest) ≡ Ok (Some (element id value, rest))
 element_again id format value rest size =
     ap (element_at id format) (append_assoc (length_octets format (length value)) value rest)
     ∙ rw (split_again (length_octets format (length value)) (value ++ rest) (width_of format) (width-length format (length value)), size-length format (length value) size, split_again value rest (length value) refl) refl
 
-front_again : (table : List Entry) (e : Element) (text rest : List ℕ) → IsElement table e text → front_of table (text ++ rest) ≡ Ok (Some (e, rest))
+front_again : (table : List Entry) (e : Element) (text rest : List ℕ) → IsElement table e text →
+    front_of table (text ++ rest) ≡ Ok (Some (e, rest))
 front_again table e text rest is =
     ap (λ t. front_of table (t ++ rest)) is.text
     ∙ ap (λ o. front_by e.id o ((length_octets is.format (length e.value) ++ e.value) ++ rest)) is.known
     ∙ element_again e.id is.format e.value rest is.size
 
 -- of an element that lacks octets the length or the value is short
-element_short : (id : ℕ) (format : Format) (value octets more : List ℕ) → HasSize format (length value) → octets ++ more ≡ length_octets format (length value) ++ value → 0 < length more → element_at id format octets ≡ Err the_cut
+element_short : (id : ℕ) (format : Format) (value octets more : List ℕ) → HasSize format (length value) →
+    octets ++ more ≡ length_octets format (length value) ++ value → 0 < length more →
+    element_at id format octets ≡ Err the_cut
 element_short id format value octets more size text lacks =
     let w = width_of format in
     let ls = length_octets format (length value) in
@@ -138,7 +142,8 @@ front_stops table [] h = refl
 front_stops table (id ∷ octets) h = rw h refl
 
 -- the octets that are these elements, cut or not, are finding so
-pub walk_only : (table : List Entry) (octets : List ℕ) (es : List Element) (is_cut : Bool) → AreElements table octets es is_cut → walk table octets ≡ record { elements = es; is_cut = is_cut }
+pub walk_only : (table : List Entry) (octets : List ℕ) (es : List Element) (is_cut : Bool) →
+    AreElements table octets es is_cut → walk table octets ≡ record { elements = es; is_cut = is_cut }
 walk_only table octets [] true are = walk-front table octets (Err the_cut) (front_short table octets are)
 walk_only table octets [] false are = walk-front table octets (Ok None) (front_stops table octets are)
 walk_only table octets (e ∷ es) is_cut are =
@@ -156,7 +161,8 @@ FrontIs table octets (Ok None) = Stops table octets
 FrontIs table octets (Ok (Some f)) = (text : List ℕ) × IsElement table f.0 text × (octets ≡ text ++ f.1)
 
 -- the length itself is cut: behind it zeros would do
-length_breaks : (table : List Entry) (id : ℕ) (format : Format) (octets : List ℕ) → AreOctets octets → format_in table id ≡ Some format → length octets < width_of format → BreaksOff table (id ∷ octets)
+length_breaks : (table : List Entry) (id : ℕ) (format : Format) (octets : List ℕ) → AreOctets octets →
+    format_in table id ≡ Some format → length octets < width_of format → BreaksOff table (id ∷ octets)
 length_breaks table id format octets fits known lt =
     let lack : List ℕ = replicate (width_of format - length octets) 0 in
     let whole : List ℕ = octets ++ lack in
@@ -176,7 +182,8 @@ length_breaks table id format octets fits known lt =
     }
 
 -- the value is cut: behind it zeros would do
-value_breaks : (table : List Entry) (id : ℕ) (format : Format) (octets : List ℕ) → AreOctets octets → format_in table id ≡ Some format → width_of format ≤ length octets
+value_breaks : (table : List Entry) (id : ℕ) (format : Format) (octets : List ℕ) → AreOctets octets →
+    format_in table id ≡ Some format → width_of format ≤ length octets
     → length (drop (width_of format) octets) < size_by format (take (width_of format) octets) → BreaksOff table (id ∷ octets)
 value_breaks table id format octets fits known le lt =
     let w = width_of format in
@@ -197,7 +204,8 @@ value_breaks table id format octets fits known le lt =
     }
 
 -- the element is whole
-element_is : (table : List Entry) (id : ℕ) (format : Format) (octets : List ℕ) → AreOctets octets → format_in table id ≡ Some format → width_of format ≤ length octets
+element_is : (table : List Entry) (id : ℕ) (format : Format) (octets : List ℕ) → AreOctets octets →
+    format_in table id ≡ Some format → width_of format ≤ length octets
     → size_by format (take (width_of format) octets) ≤ length (drop (width_of format) octets)
     → FrontIs table (id ∷ octets) (Ok (Some (element id (take (size_by format (take (width_of format) octets)) (drop (width_of format) octets)), drop (size_by format (take (width_of format) octets)) (drop (width_of format) octets))))
 element_is table id format octets fits known le le' =
@@ -215,7 +223,8 @@ element_is table id format octets fits known le le' =
       ap (λ (xs : List ℕ). id ∷ xs) parts,
     )
 
-front_by_is : (table : List Entry) (id : ℕ) (octets : List ℕ) (format : Option Format) → AreOctets octets → format_in table id ≡ format → FrontIs table (id ∷ octets) (front_by id format octets)
+front_by_is : (table : List Entry) (id : ℕ) (octets : List ℕ) (format : Option Format) → AreOctets octets →
+    format_in table id ≡ format → FrontIs table (id ∷ octets) (front_by id format octets)
 front_by_is table id octets None fits known = known
 front_by_is table id octets (Some format) fits known =
     let w = width_of format in
@@ -241,7 +250,8 @@ found_by table octets (Err e) is behind = is
 found_by table octets (Ok None) is behind = is
 found_by table octets (Ok (Some f)) is behind = (is.0, f.1, is.1, is.2, behind f refl)
 
-found_within : (table : List Entry) (n : ℕ) (octets : List ℕ) → length octets ≤ n → AreOctets octets → AreElements table octets (walk table octets).elements (walk table octets).is_cut
+found_within : (table : List Entry) (n : ℕ) (octets : List ℕ) → length octets ≤ n → AreOctets octets →
+    AreElements table octets (walk table octets).elements (walk table octets).is_cut
 found_within table zero [] le fits = subst (λ (w : Finding). AreElements table [] w.elements w.is_cut) (sym (walk-front table [] (Ok None) refl)) tt
 found_within table zero (x ∷ octets) le fits = absurd (omega arith)
 found_within table (suc n) octets le fits =
@@ -253,5 +263,6 @@ found_within table (suc n) octets le fits =
     found_within table n f.1 (omega arith) (octets_back is.0 f.1 (subst AreOctets is.2 fits))))
 
 -- what a walk finds is what the octets are
-pub walk_found : (table : List Entry) (octets : List ℕ) → AreOctets octets → AreElements table octets (walk table octets).elements (walk table octets).is_cut
+pub walk_found : (table : List Entry) (octets : List ℕ) → AreOctets octets →
+    AreElements table octets (walk table octets).elements (walk table octets).is_cut
 walk_found table octets fits = found_within table (length octets) octets (omega arith) fits

@@ -41,7 +41,8 @@ pub record IsSplit (size : ℕ) (octets : List ℕ) (p : List ℕ × List ℕ) :
   pub front : take size octets ≡ p.0
   pub back : drop size octets ≡ p.1
 
-pub split_ok : {F : Type 0} (fault : F) (size : ℕ) (octets : List ℕ) (p : List ℕ × List ℕ) → split_at fault size octets ≡ Ok p → IsSplit size octets p
+pub split_ok : {F : Type 0} (fault : F) (size : ℕ) (octets : List ℕ) (p : List ℕ × List ℕ) →
+    split_at fault size octets ≡ Ok p → IsSplit size octets p
 split_ok {F} fault size octets p e =
     let g = guard (ltb (length octets) size) fault (Ok (take size octets, drop size octets)) p e in
     let is = ok_is {A = List ℕ × List ℕ} {F = F} (take size octets, drop size octets) p g.1 in
@@ -66,16 +67,19 @@ ok_none : {V F : Type 0} (read : Result V F) → IsOk read → result_err read �
 ok_none (Ok v) h = refl
 ok_none (Err fault) h = absurd cc
 
-pub refused_by : {V F : Type 0} (memory : F) (r : Result V F) (read : Result V F) → Gives memory (λ v. v) r read → RefusesBy memory r (result_err read)
+pub refused_by : {V F : Type 0} (memory : F) (r : Result V F) (read : Result V F) → Gives memory (λ v. v) r read →
+    RefusesBy memory r (result_err read)
 refused_by memory (Ok v) read g = ap result_err g
 refused_by memory (Err fault) read (inl g) = inl (ap result_err g)
 refused_by memory (Err fault) read (inr g) = inr (g.0, ok_none read g.1)
 
-pub only_by : {V F : Type 0} (memory : F) (r : Result V F) (read : Result V F) (v : V) → read ≡ Ok v → Gives memory (λ v. v) r read → (r ≡ Ok v) ⊎ (r ≡ Err memory)
+pub only_by : {V F : Type 0} (memory : F) (r : Result V F) (read : Result V F) (v : V) → read ≡ Ok v →
+    Gives memory (λ v. v) r read → (r ≡ Ok v) ⊎ (r ≡ Err memory)
 only_by memory (Ok w) read v is g = inl (sym g ∙ is)
 only_by memory (Err fault) read v is (inl g) = absurd (cc (g, is))
 only_by {V} {F} memory (Err fault) read v is (inr g) = inr (ap (λ (f : F). Err f) g.0)
 
-pub found_by : {V F : Type 0} (memory : F) (r : Result V F) (read : Result V F) (P : V → Type 0) → ((v : V) → read ≡ Ok v → P v) → Gives memory (λ v. v) r read → IfOk r P
+pub found_by : {V F : Type 0} (memory : F) (r : Result V F) (read : Result V F) (P : V → Type 0) →
+    ((v : V) → read ≡ Ok v → P v) → Gives memory (λ v. v) r read → IfOk r P
 found_by memory (Ok v) read P ok g = ok v g
 found_by memory (Err fault) read P ok g = tt

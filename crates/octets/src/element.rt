@@ -1,5 +1,7 @@
-ghost use Rattle.std.specs.Prelude.{◌≡◌, ◌++◌, ℕ, Bool, true, false, List, length, option_map, OnErr, OnOk};
-ghost use Rattle.octets.specs.Element.{AreElements, AreOctets, Element, HasLength, Stops, element, element_text, format_in};
+ghost use Rattle.std.specs.Prelude.{◌≡◌, ◌++◌, ℕ, Bool, true, false, List, length, option_map};
+ghost use Rattle.std.specs.Prelude.{OnErr, OnOk};
+ghost use Rattle.octets.specs.Element.{AreElements, AreOctets, Element, HasLength, Stops, element};
+ghost use Rattle.octets.specs.Element.{element_text, format_in};
 ghost use Rattle.octets.specs.Field.{AllFit, Carries, Field, IsSized, are_distinct, fields_text};
 ghost use Rattle.octets.specs.Answer.{result_map};
 ghost use Rattle.octets.specs.Walk.{width_of, size_by, front_of, walk, finding, first_of};

@@ -8,6 +8,7 @@ pub mod Decoding
 mod NameRows
 mod CommandRows
 pub mod Taking
+pub mod Entering
 pub mod Commanding
 pub mod Splitting
 pub mod HexadecimalLemmas

@@ -1,5 +1,6 @@
 -- What `decode` prints of a stream.
-use Rattle.std.specs.Prelude.{◌≡◌, ◌⊎◌, ℕ, false, List, [], ◌∷◌, ◌++◌, length, codes, decimal, Option, IfSome}
+use Rattle.std.specs.Prelude.{◌≡◌, ◌⊎◌, ℕ, false, List, [], ◌∷◌, ◌++◌, length, codes, decimal}
+use Rattle.std.specs.Prelude.{Option, IfSome}
 use Rattle.std.specs.List.{flat_map, AllByRecursion}
 use Rattle.std.specs.Io.KnownBytes.{Appends}
 use Rattle.hex.specs.Hex.{encode_lower}
@@ -45,21 +46,25 @@ pub record IsRefused (stream text : List ℕ) : Type 0 where
 
 -- Known contents grew by the lines of a known stream.
 abbrev pub Decodes : Option (List ℕ) → Option (List ℕ) → Option (List ℕ) → Type 0
-Decodes start old new = IfSome start (λ stream. (text : List ℕ) × IsDecoded stream text × Appends old new text)
+Decodes start old new =
+    IfSome start (λ stream. (text : List ℕ) × IsDecoded stream text × Appends old new text)
 
 -- Known contents grew by the lines of a known stream before a frame that is too long, and by a last
 -- line.
 abbrev pub RefusesWith : List ℕ → Option (List ℕ) → Option (List ℕ) → Option (List ℕ) → Type 0
-RefusesWith last start old new = IfSome start (λ stream. (text : List ℕ) × IsRefused stream text × Appends old new (text ++ last))
+RefusesWith last start old new = IfSome start (λ stream.
+    (text : List ℕ) × IsRefused stream text × Appends old new (text ++ last))
 
 -- The text is the lines of the stream's frames, and behind them that of the rest, or where a frame
 -- is too long these last octets.
 abbrev pub IsOutput : List ℕ → List ℕ → List ℕ → Type 0
-IsOutput last stream text = IsDecoded stream text ⊎ ((lines : List ℕ) × IsRefused stream lines × (text ≡ lines ++ last))
+IsOutput last stream text =
+    IsDecoded stream text ⊎ ((lines : List ℕ) × IsRefused stream lines × (text ≡ lines ++ last))
 
 -- Known contents grew by a beginning of that text of a known stream.
 abbrev pub Begins : List ℕ → Option (List ℕ) → Option (List ℕ) → Option (List ℕ) → Type 0
-Begins last start old new = IfSome start (λ stream. (text : List ℕ) → IsOutput last stream text → AppendsBeginning old new text)
+Begins last start old new = IfSome start (λ stream.
+    (text : List ℕ) → IsOutput last stream text → AppendsBeginning old new text)
 
 -- ---- what the parts of the program do
 
@@ -87,11 +92,13 @@ abbrev pub with_more : FramerState → List ℕ → FramerState
 with_more held octets = record { octets = held.octets ++ octets; failed = held.failed }
 
 -- Octets were fed and the frames printed that were whole then.
-pub record NamesOctets (held : FramerState) (octets : List ℕ) (left : FramerState) (old new : Option (List ℕ)) : Type 0 where
+pub record NamesOctets (held : FramerState) (octets : List ℕ) (left : FramerState)
+    (old new : Option (List ℕ)) : Type 0 where
   pub prints : PrintsFrames (with_more held octets) left old new
   pub partial : IsPartial held.octets → IsPartial left.octets
   pub working : held.failed ≡ false → left.failed ≡ false
 
 -- Octets were fed, and not all were named.
 abbrev pub StopsNaming : FramerState → List ℕ → Stop → Option (List ℕ) → Option (List ℕ) → Type 0
-StopsNaming held octets stop old new = held.failed ≡ false → StopsAmong (held.octets ++ octets) stop old new
+StopsNaming held octets stop old new =
+    held.failed ≡ false → StopsAmong (held.octets ++ octets) stop old new

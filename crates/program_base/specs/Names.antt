@@ -1,7 +1,8 @@
 -- The names of what frames carry, as `decode` prints them.
 use Rattle.std.specs.Prelude.{ℕ, ◌==◌, if◌then◌else◌, List, [], ◌∷◌, codes, Result, Ok, Err}
 use Rattle.ipa_framing.specs.declared.frame.Frame.{Frame}
-use Rattle.ipa_framing.specs.declared.streams.TheConstants.{CCM_STREAM, OML_STREAM, PING, PONG, RSL_STREAM, SCCP_STREAM}
+use Rattle.ipa_framing.specs.declared.streams.TheConstants.{CCM_STREAM, OML_STREAM, PING, PONG}
+use Rattle.ipa_framing.specs.declared.streams.TheConstants.{RSL_STREAM, SCCP_STREAM}
 use Rattle.rsl_codec.specs.declared.rsl.Rsl.{Rsl}
 use Rattle.rsl_codec.specs.declared.rsl.Rsl.TheVariants as messages
 use Rattle.rsl_codec.specs.declared.fault.RslFault.{RslFault}
@@ -55,7 +56,8 @@ rsl_name body = rsl_name_by (rsl_reading body)
 -- a message of the link's own management, by its first octet
 abbrev pub ccm_name : List ℕ → List ℕ
 ccm_name [] = codes "CCM"
-ccm_name (first ∷ _) = if first == PING then codes "PING" else if first == PONG then codes "PONG" else codes "CCM"
+ccm_name (first ∷ _) =
+    if first == PING then codes "PING" else if first == PONG then codes "PONG" else codes "CCM"
 
 -- a message of the switch link (Q.713 clause 4)
 abbrev pub sccp_message_name : Sccp → List ℕ

@@ -1,5 +1,6 @@
 -- How the octets of a stream are named piece by piece.
-use Rattle.std.proofs.Common.{◌≡◌, ℕ, List, [], ◌++◌, Option, refl, sym, ap, subst, ◌∙◌, append_assoc}
+use Rattle.std.proofs.Common.{◌≡◌, ℕ, List, [], ◌++◌, Option, refl, sym, ap, subst, ◌∙◌}
+use Rattle.std.proofs.Common.{append_assoc}
 use Rattle.std.specs.List.{flat_map}
 use Rattle.std.specs.Io.KnownBytes.{Appends, Keeps}
 use Rattle.std.proofs.KnownBytes.{Appends-kept, Appends-nil, Appends-trans}
@@ -18,37 +19,65 @@ use Rattle.program_base.specs.Pieces.{all_both}
 pub begins_none : (known : Option (List ℕ)) (text : List ℕ) → AppendsBeginning known known text
 begins_none known text = ([], text, refl, Appends-nil known)
 
-pub begins_all : (old new : Option (List ℕ)) (text : List ℕ) → Appends old new text → AppendsBeginning old new text
+pub begins_all : (old new : Option (List ℕ)) (text : List ℕ)
+    → Appends old new text → AppendsBeginning old new text
 begins_all old new text all = (text, [], sym (append-nil text), all)
 
-pub begins_longer : (old new : Option (List ℕ)) (text more : List ℕ) → AppendsBeginning old new text → AppendsBeginning old new (text ++ more)
-begins_longer old new text more some = (some.0, some.1 ++ more, ap (λ (xs : List ℕ). xs ++ more) some.2 ∙ append_assoc some.0 some.1 more, some.3)
+pub begins_longer : (old new : Option (List ℕ)) (text more : List ℕ)
+    → AppendsBeginning old new text → AppendsBeginning old new (text ++ more)
+begins_longer old new text more some = (
+  some.0,
+  some.1 ++ more,
+  ap (λ (xs : List ℕ). xs ++ more) some.2 ∙ append_assoc some.0 some.1 more,
+  some.3,
+)
 
-pub begins_behind : (old mid new : Option (List ℕ)) (text more : List ℕ) → Appends old mid text → AppendsBeginning mid new more → AppendsBeginning old new (text ++ more)
-begins_behind old mid new text more all some =
-    (text ++ some.0, some.1, ap (λ (xs : List ℕ). text ++ xs) some.2 ∙ sym (append_assoc text some.0 some.1), Appends-trans old mid new text some.0 all some.3)
+pub begins_behind : (old mid new : Option (List ℕ)) (text more : List ℕ)
+    → Appends old mid text → AppendsBeginning mid new more → AppendsBeginning old new (text ++ more)
+begins_behind old mid new text more all some = (
+  text ++ some.0,
+  some.1,
+  ap (λ (xs : List ℕ). text ++ xs) some.2
+      ∙ sym (append_assoc text some.0 some.1),
+  Appends-trans old mid new text some.0 all some.3,
+)
 
-pub begins_kept : (old mid new : Option (List ℕ)) (text : List ℕ) → AppendsBeginning old mid text → Keeps mid new → AppendsBeginning old new text
-begins_kept old mid new text some keeps = (some.0, some.1, some.2, Appends-kept old mid new some.0 some.3 keeps)
+pub begins_kept : (old mid new : Option (List ℕ)) (text : List ℕ)
+    → AppendsBeginning old mid text → Keeps mid new → AppendsBeginning old new text
+begins_kept old mid new text some keeps =
+    (some.0, some.1, some.2, Appends-kept old mid new some.0 some.3 keeps)
 
 -- ---- pieces one behind the other
 
-pub names_none : (held : FramerState) (known : Option (List ℕ)) → NamesOctets held [] held known known
+pub names_none : (held : FramerState) (known : Option (List ℕ))
+    → NamesOctets held [] held known known
 names_none held known = record {
-  prints = record { frames = []; each = tt; whole = append-nil held.octets; printed = Appends-nil known };
+  prints = record {
+    frames = [];
+    each = tt;
+    whole = append-nil held.octets;
+    printed = Appends-nil known;
+  };
   partial = λ partial. partial;
   working = λ working. working;
 }
 
 -- frames, and behind them octets that begin with frames
-joined : (held between octets second left : List ℕ) (fs gs : List Frame) → held ++ octets ≡ flat_map frame_text fs ++ between → between ++ second ≡ flat_map frame_text gs ++ left
+joined : (held between octets second left : List ℕ) (fs gs : List Frame)
+    → held ++ octets ≡ flat_map frame_text fs ++ between
+    → between ++ second ≡ flat_map frame_text gs ++ left
     → held ++ (octets ++ second) ≡ flat_map frame_text (fs ++ gs) ++ left
 joined held between octets second left fs gs first then =
     let some : List ℕ = flat_map frame_text fs in
-    sym (append_assoc held octets second) ∙ ap (λ (xs : List ℕ). xs ++ second) first ∙ append_assoc some between second ∙ ap (λ (xs : List ℕ). some ++ xs) then
-    ∙ sym (append_assoc some (flat_map frame_text gs) left) ∙ ap (λ (xs : List ℕ). xs ++ left) (sym (flat_map-append frame_text fs gs))
+    sym (append_assoc held octets second) ∙ ap (λ (xs : List ℕ). xs ++ second) first
+    ∙ append_assoc some between second ∙ ap (λ (xs : List ℕ). some ++ xs) then
+    ∙ sym (append_assoc some (flat_map frame_text gs) left)
+    ∙ ap (λ (xs : List ℕ). xs ++ left) (sym (flat_map-append frame_text fs gs))
 
-pub names_both : (held between left : FramerState) (first second : List ℕ) (old mid new : Option (List ℕ)) → NamesOctets held first between old mid → NamesOctets between second left mid new → NamesOctets held (first ++ second) left old new
+pub names_both : (held between left : FramerState) (first second : List ℕ)
+    (old mid new : Option (List ℕ))
+    → NamesOctets held first between old mid → NamesOctets between second left mid new
+    → NamesOctets held (first ++ second) left old new
 names_both held between left first second old mid new some more =
     let fs : List Frame = some.prints.frames in
     let gs : List Frame = more.prints.frames in
@@ -57,14 +86,21 @@ names_both held between left first second old mid new some more =
           record {
             frames = fs ++ gs;
             each = all_both IsFrame fs gs some.prints.each more.prints.each;
-            whole = joined held.octets between.octets first second left.octets fs gs some.prints.whole more.prints.whole;
-            printed = subst (Appends old new) (sym (flat_map-append frame_line fs gs)) (Appends-trans old mid new (frame_lines fs) (frame_lines gs) some.prints.printed more.prints.printed);
+            whole = joined held.octets between.octets first second left.octets fs gs
+                some.prints.whole more.prints.whole;
+            printed =
+                subst (Appends old new) (sym (flat_map-append frame_line fs gs))
+                (Appends-trans old mid new (frame_lines fs) (frame_lines gs)
+                some.prints.printed more.prints.printed);
           };
       partial = λ partial. more.partial (some.partial partial);
       working = λ working. more.working (some.working working);
     }
 
-pub stops_later : (held between : FramerState) (first second : List ℕ) (stop : Stop) (old mid new : Option (List ℕ)) → NamesOctets held first between old mid → StopsNaming between second stop mid new → StopsNaming held (first ++ second) stop old new
+pub stops_later : (held between : FramerState) (first second : List ℕ) (stop : Stop)
+    (old mid new : Option (List ℕ))
+    → NamesOctets held first between old mid → StopsNaming between second stop mid new
+    → StopsNaming held (first ++ second) stop old new
 stops_later held between first second stop old mid new some stops working =
     let more = stops (some.working working) in
     let fs : List Frame = some.prints.frames in
@@ -73,9 +109,17 @@ stops_later held between first second stop old mid new some stops working =
       frames = fs ++ gs;
       rest = more.rest;
       each = all_both IsFrame fs gs some.prints.each more.each;
-      whole = joined held.octets between.octets first second more.rest fs gs some.prints.whole more.whole;
-      begun = subst (AppendsBeginning old new) (sym (flat_map-append frame_line fs gs)) (begins_behind old mid new (frame_lines fs) (frame_lines gs) some.prints.printed more.begun);
+      whole = joined held.octets between.octets first second more.rest fs gs some.prints.whole
+          more.whole;
+      begun =
+          subst (AppendsBeginning old new) (sym (flat_map-append frame_line fs gs))
+          (begins_behind old mid new (frame_lines fs) (frame_lines gs)
+          some.prints.printed more.begun);
       long = λ is.
-          let long = more.long is in
-          (long.0, subst (Appends old new) (sym (flat_map-append frame_line fs gs)) (Appends-trans old mid new (frame_lines fs) (frame_lines gs) some.prints.printed long.1));
+          let long = more.long is in (
+            long.0,
+            subst (Appends old new) (sym (flat_map-append frame_line fs gs))
+                (Appends-trans old mid new (frame_lines fs) (frame_lines gs)
+                some.prints.printed long.1),
+          );
     }

@@ -4,7 +4,8 @@ use Rattle.std.specs.Io.KnownBytes.{Appends}
 
 -- known contents grew by a beginning of the text
 abbrev pub AppendsBeginning : Option (List ℕ) → Option (List ℕ) → List ℕ → Type 0
-AppendsBeginning old new text = (written : List ℕ) × (unwritten : List ℕ) × (text ≡ written ++ unwritten) × Appends old new written
+AppendsBeginning old new text = (written : List ℕ) × (unwritten : List ℕ)
+    × (text ≡ written ++ unwritten) × Appends old new written
 
 -- the text was written; where that failed, a beginning of it
 abbrev pub Puts : {X E : Type 0} → Result X E → Option (List ℕ) → Option (List ℕ) → List ℕ → Type 0

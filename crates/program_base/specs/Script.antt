@@ -2,10 +2,15 @@
 use Rattle.std.specs.Prelude.{◌≡◌, ℕ, Bool, false, Some, codes, List, [], ◌∷◌}
 use Rattle.std.specs.List.{AllByRecursion, join_with_byte, All}
 use Rattle.dtap_codec.specs.declared.sapi.Sapi.{Sapi}
-use Rattle.program_base.specs.Words.{mobile_in, station_in, source_in, any_number_in, sapi_in, answer_in, octets_in}
+use Rattle.program_base.specs.Words.{mobile_in, station_in, source_in, any_number_in, sapi_in}
+use Rattle.program_base.specs.Words.{answer_in, octets_in}
 use Rattle.program_base.specs.WordsLeft.{is_space}
 use Rattle.world_model.specs.declared.event.Event.{Event}
-use Rattle.world_model.specs.declared.event.Event.TheVariants.{Upper, Connect, AirUp, AirAck, AirDown, AirDownLost, Move, Touch, Arrive, Return, BaseTakes, BasePush, Handle, SwitchTakes, SwitchDoes, Tick, BaseDown, Report}
+use Rattle.world_model.specs.declared.event.Event.TheVariants.{Upper, Connect, AirUp, AirAck}
+use Rattle.world_model.specs.declared.event.Event.TheVariants.{AirDown, AirDownLost, Move, Touch}
+use Rattle.world_model.specs.declared.event.Event.TheVariants.{Arrive, Return, BaseTakes, BasePush}
+use Rattle.world_model.specs.declared.event.Event.TheVariants.{Handle, SwitchTakes, SwitchDoes}
+use Rattle.world_model.specs.declared.event.Event.TheVariants.{Tick, BaseDown, Report}
 use Rattle.world_model.specs.declared.event.SwitchAction.TheVariants.{Assign, Clear, Dtap}
 use Rattle.program_base.specs.declared.script.Kind.{Kind}
 use Rattle.program_base.specs.declared.script.Kind.TheVariants as kind
@@ -63,8 +68,10 @@ IsWord cells (octets os) word = octets_in word ≡ Some os
 
 -- the words of an event's line, of which the first is its kind's name
 abbrev pub words_of : Event → List Word
-words_of (Upper m s message) = keyword (name_of kind.Upper) ∷ mobile m ∷ sapi s ∷ octets message ∷ []
-words_of (Connect m b initial accepts) = keyword (name_of kind.Connect) ∷ mobile m ∷ station b ∷ octets initial ∷ answer accepts ∷ []
+words_of (Upper m s message) =
+    keyword (name_of kind.Upper) ∷ mobile m ∷ sapi s ∷ octets message ∷ []
+words_of (Connect m b initial accepts) =
+    keyword (name_of kind.Connect) ∷ mobile m ∷ station b ∷ octets initial ∷ answer accepts ∷ []
 words_of (AirUp m s) = keyword (name_of kind.AirUp) ∷ mobile m ∷ sapi s ∷ []
 words_of (AirAck m s) = keyword (name_of kind.AirAck) ∷ mobile m ∷ sapi s ∷ []
 words_of (AirDown m) = keyword (name_of kind.AirDown) ∷ mobile m ∷ []
@@ -77,10 +84,13 @@ words_of (BaseTakes b) = keyword (name_of kind.BaseTakes) ∷ station b ∷ []
 words_of (BasePush n) = keyword (name_of kind.BasePush) ∷ source n ∷ []
 words_of Handle = keyword (name_of kind.Handle) ∷ []
 words_of SwitchTakes = keyword (name_of kind.SwitchTakes) ∷ []
-words_of (SwitchDoes (Assign c)) = keyword (name_of kind.SwitchDoes) ∷ keyword (name_of_action action.Assign) ∷ any_number c ∷ []
-words_of (SwitchDoes (Clear c)) = keyword (name_of kind.SwitchDoes) ∷ keyword (name_of_action action.Clear) ∷ any_number c ∷ []
+words_of (SwitchDoes (Assign c)) =
+    keyword (name_of kind.SwitchDoes) ∷ keyword (name_of_action action.Assign) ∷ any_number c ∷ []
+words_of (SwitchDoes (Clear c)) =
+    keyword (name_of kind.SwitchDoes) ∷ keyword (name_of_action action.Clear) ∷ any_number c ∷ []
 words_of (SwitchDoes (Dtap c s message)) =
-    keyword (name_of kind.SwitchDoes) ∷ keyword (name_of_action action.Dtap) ∷ any_number c ∷ sapi s ∷ octets message ∷ []
+    keyword (name_of kind.SwitchDoes) ∷ keyword (name_of_action action.Dtap)
+    ∷ any_number c ∷ sapi s ∷ octets message ∷ []
 words_of (Tick ms) = keyword (name_of kind.Tick) ∷ any_number ms ∷ []
 words_of (BaseDown n) = keyword (name_of kind.BaseDown) ∷ source n ∷ []
 words_of (Report m report) = keyword (name_of kind.Report) ∷ mobile m ∷ octets report ∷ []
@@ -89,7 +99,8 @@ words_of (Report m report) = keyword (name_of kind.Report) ∷ mobile m ∷ octe
 abbrev pub AreWords : ℕ → List Word → List (List ℕ) → Type 0
 AreWords cells [] words = words ≡ []
 AreWords cells (said ∷ others) words =
-    (word : List ℕ) × (rest : List (List ℕ)) × (words ≡ word ∷ rest) × IsWord cells said word × AreWords cells others rest
+    (word : List ℕ) × (rest : List (List ℕ)) × (words ≡ word ∷ rest) × IsWord cells said word
+    × AreWords cells others rest
 
 abbrev pub HasNoSpace : List ℕ → Type 0
 HasNoSpace word = All (λ octet. is_space octet ≡ false) word

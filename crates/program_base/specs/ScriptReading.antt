@@ -1,10 +1,16 @@
 -- Reading a script line word by word, as a function of its words. The grammar of lines stands in
 -- Script.
-use Rattle.std.specs.Prelude.{◌≡◌, ℕ, find, Option, Some, None, IsSome, Result, Ok, Err, List, [], ◌∷◌}
+use Rattle.std.specs.Prelude.{◌≡◌, ℕ, find, Option, Some, None, IsSome, Result, Ok, Err, List, []}
+use Rattle.std.specs.Prelude.{◌∷◌}
 use Rattle.dtap_codec.specs.declared.sapi.Sapi.{Sapi}
-use Rattle.program_base.specs.Words.{value_at, end_of, mobile_in, station_in, source_in, any_number_in, sapi_in, answer_in, octets_in}
+use Rattle.program_base.specs.Words.{value_at, end_of, mobile_in, station_in, source_in}
+use Rattle.program_base.specs.Words.{any_number_in, sapi_in, answer_in, octets_in}
 use Rattle.world_model.specs.declared.event.Event.{Event}
-use Rattle.world_model.specs.declared.event.Event.TheVariants.{Upper, Connect, AirUp, AirAck, AirDown, AirDownLost, Move, Touch, Arrive, Return, BaseTakes, BasePush, Handle, SwitchTakes, SwitchDoes, Tick, BaseDown, Report}
+use Rattle.world_model.specs.declared.event.Event.TheVariants.{Upper, Connect, AirUp, AirAck}
+use Rattle.world_model.specs.declared.event.Event.TheVariants.{AirDown, AirDownLost, Move, Touch}
+use Rattle.world_model.specs.declared.event.Event.TheVariants.{Arrive, Return, BaseTakes, BasePush}
+use Rattle.world_model.specs.declared.event.Event.TheVariants.{Handle, SwitchTakes, SwitchDoes}
+use Rattle.world_model.specs.declared.event.Event.TheVariants.{Tick, BaseDown, Report}
 use Rattle.world_model.specs.declared.event.SwitchAction.TheVariants.{Assign, Clear, Dtap}
 use Rattle.program_base.specs.declared.script.Kind.{Kind}
 use Rattle.program_base.specs.declared.script.Kind.TheVariants as kind
@@ -23,8 +29,10 @@ None >>= f = None
 -- all kinds of line, and the kind that has this name
 abbrev pub all_kinds : List Kind
 all_kinds =
-    kind.Upper ∷ kind.Connect ∷ kind.AirUp ∷ kind.AirAck ∷ kind.AirDown ∷ kind.AirDownLost ∷ kind.Move ∷ kind.Touch ∷ kind.Arrive ∷ kind.Return
-    ∷ kind.BaseTakes ∷ kind.BasePush ∷ kind.Handle ∷ kind.SwitchTakes ∷ kind.SwitchDoes ∷ kind.Tick ∷ kind.BaseDown ∷ kind.Report ∷ []
+    kind.Upper ∷ kind.Connect ∷ kind.AirUp ∷ kind.AirAck ∷ kind.AirDown ∷ kind.AirDownLost
+    ∷ kind.Move ∷ kind.Touch ∷ kind.Arrive ∷ kind.Return ∷ kind.BaseTakes ∷ kind.BasePush
+    ∷ kind.Handle ∷ kind.SwitchTakes ∷ kind.SwitchDoes ∷ kind.Tick ∷ kind.BaseDown ∷ kind.Report
+    ∷ []
 
 unfoldable pub kind_in : List ℕ → Option Kind
 kind_in word = find (λ kind. bytes_eq word (name_of kind)) all_kinds
@@ -75,7 +83,8 @@ action_at action.Clear words = do
 action_at action.Dtap words = dtap_at words
 
 unfoldable pub action_in : List ℕ → Option Action
-action_in word = find (λ action. bytes_eq word (name_of_action action)) (action.Assign ∷ action.Clear ∷ action.Dtap ∷ [])
+action_in word = find (λ action. bytes_eq word (name_of_action action))
+    (action.Assign ∷ action.Clear ∷ action.Dtap ∷ [])
 
 unfoldable pub switch_does_at : List (List ℕ) → Option Event
 switch_does_at words = do

@@ -5,7 +5,8 @@ use Rattle.std.specs.declared.io.ErrorKind.TheVariants.{OutOfMemory}
 use Rattle.std.specs.IoError.{error_kind}
 use Rattle.program_base.specs.declared.failure.Failure.{Failure}
 use Rattle.program_base.specs.declared.fault.ProgramFault.{ProgramFault}
-use Rattle.program_base.specs.declared.fault.ProgramFault.TheVariants.{UnreadSettings, Settings, BadBreak, Failed}
+use Rattle.program_base.specs.declared.fault.ProgramFault.TheVariants.{UnreadSettings, Settings}
+use Rattle.program_base.specs.declared.fault.ProgramFault.TheVariants.{BadBreak, Failed}
 use Rattle.program_base.specs.declared.input.Unread.{Unread}
 use Rattle.program_base.specs.declared.input.Unread.TheVariants as unread
 use Rattle.program_base.specs.declared.input.Unread.TheVariants.{Endless, Refused}

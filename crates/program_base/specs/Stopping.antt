@@ -8,7 +8,8 @@ use Rattle.program_base.specs.declared.input.Unread.TheVariants as unread
 use Rattle.program_base.specs.declared.input.Unread.TheVariants.{Endless, Refused}
 use Rattle.program_base.specs.Status.{failure_of}
 use Rattle.program_base.specs.declared.decode_command.Stop.{Stop}
-use Rattle.program_base.specs.declared.decode_command.Stop.TheVariants.{TooLong, Failed as StopFailed}
+use Rattle.program_base.specs.declared.decode_command.Stop.TheVariants.{TooLong}
+use Rattle.program_base.specs.declared.decode_command.Stop.TheVariants.{Failed as StopFailed}
 
 -- an input that wasn't read to its end: one that has none counts as a device that fails
 abbrev pub stop_unread : Unread Stop → Stop

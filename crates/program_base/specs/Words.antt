@@ -1,5 +1,7 @@
 -- Reading the words of a script line, one after the other.
-use Rattle.std.specs.Prelude.{◌≡◌, ℕ, ◌+◌, ◌-◌, ◌*◌, ◌^◌, ◌&&◌, ◌==◌, nat_le, not, length, Bool, true, false, Option, Some, None, Result, MatchResult, List, [], ◌∷◌, if◌then◌else◌}
+use Rattle.std.specs.Prelude.{◌≡◌, ℕ, ◌+◌, ◌-◌, ◌*◌, ◌^◌, ◌&&◌, ◌==◌, nat_le, not, length, Bool}
+use Rattle.std.specs.Prelude.{true, false, Option, Some, None, Result, MatchResult, List, [], ◌∷◌}
+use Rattle.std.specs.Prelude.{if◌then◌else◌}
 use Rattle.std.specs.Char.{is_ascii_digit}
 use Rattle.std.specs.List.{list_all}
 use Rattle.std.specs.Result.{result_ok}
@@ -44,7 +46,8 @@ sapi_in _ = None
 
 -- yes or no is the word `y` or `n`
 abbrev pub answer_in : List ℕ → Option Bool
-answer_in (letter ∷ []) = if letter == 121 then Some true else (if letter == 110 then Some false else None)
+answer_in (letter ∷ []) =
+    if letter == 121 then Some true else (if letter == 110 then Some false else None)
 answer_in _ = None
 
 -- octets are pairs of hexadecimal digits of either case, at least one pair
@@ -70,10 +73,13 @@ and_rest words None = None
 and_rest words (Some x) = Some (x, words)
 
 -- what the first word says, and the words behind it
-abbrev pub value_at : {X : Type 0} → (List ℕ → Option X) → List (List ℕ) → Option (X × List (List ℕ))
+abbrev pub value_at : {X : Type 0} → (List ℕ → Option X) → List (List ℕ)
+    → Option (X × List (List ℕ))
 value_at says [] = None
 value_at says (word ∷ words) = and_rest words (says word)
 
 -- what a reader answers, seen by view, and the words that it leaves
-abbrev pub ReadsNext : {X Y E : Type 0} → (X → Y) → Result X E → Option (Y × List (List ℕ)) → List (List ℕ) → Type 0
-ReadsNext view result said left = MatchResult result (λ x. said ≡ Some (view x, left)) (λ _. said ≡ None)
+abbrev pub ReadsNext : {X Y E : Type 0} → (X → Y) → Result X E → Option (Y × List (List ℕ))
+    → List (List ℕ) → Type 0
+ReadsNext view result said left =
+    MatchResult result (λ x. said ≡ Some (view x, left)) (λ _. said ≡ None)

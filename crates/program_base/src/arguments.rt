@@ -1,5 +1,7 @@
-use crate::parsing::{complaint, task};
+use crate::no_task::NoTask;
+use crate::parsing::task;
 use crate::words::{Task, TaskFault};
+use clap::Error;
 use std::env;
 use std::io::ErrorKind;
 use std::rt::Runtime;
@@ -13,19 +15,20 @@ pub fn asked<R: Runtime + AllocGlobal>(rt: &R) -> Result<Task, TaskFault> {
         Err(_) => return Err(TaskFault::Words),
     };
     let texts: Vec<&str> = words.iter().map(|word| word.as_str()).collect(rt.alloc())?;
-    let task = task(rt.alloc(), &texts);
-    if let Err(TaskFault::Words) = task {
-        complain(rt, &texts);
+    match task(rt.alloc(), &texts) {
+        Ok(task) => Ok(task),
+        Err(NoTask::Memory) => Err(TaskFault::Memory),
+        Err(NoTask::Refused(complaint)) => {
+            complain(rt, &complaint);
+            Err(TaskFault::Words)
+        }
     }
-    task
 }
 
 /// Tells what `clap` finds wrong with the words. Its help is left out, since the program has a
 /// usage of its own.
-fn complain<R: Runtime + AllocGlobal>(rt: &R, words: &[&str]) {
-    if let Some(error) = complaint(rt.alloc(), words) {
-        if error.use_stderr() {
-            let _ = eprint!(rt; "{error}");
-        }
+fn complain<R: Runtime>(rt: &R, complaint: &Error) {
+    if complaint.use_stderr() {
+        let _ = eprint!(rt; "{complaint}");
     }
 }

@@ -4,7 +4,8 @@ ghost use Rattle.std.specs.Io.KnownBytes.{IsAtEnd};
 ghost use Rattle.std.specs.IoError.{error_kind};
 ghost use Rattle.ipa_framing.specs.Frame.{IsPartial};
 ghost use Rattle.ipa_framing.specs.Framer.{new_framer};
-ghost use Rattle.program_base.specs.Decoded.{Begins, Decodes, IsRefused, PrintsFrames, RefusesWith, StopsAmong, frame_line, rest_line};
+ghost use Rattle.program_base.specs.Decoded.{Begins, Decodes, IsRefused, PrintsFrames, RefusesWith};
+ghost use Rattle.program_base.specs.Decoded.{StopsAmong, frame_line, rest_line};
 ghost use Rattle.program_base.specs.Output.{Puts};
 ghost use Rattle.program_base.specs.Status.{failure_of};
 ghost use Rattle.program_base.specs.Stopping.{stop_of, stop_unread};
@@ -86,9 +87,11 @@ fn print_frame<W: Write>(alloc: Global, frame: &Frame, output: &mut W) -> Result
 
 /// Prints a line for each frame that is whole.
 fn print_frames<W: Write>(alloc: Global, framer: &mut Framer, output: &mut W) -> Result<(), Stop>
-    ensures ok { OnOk result (PrintsFrames framer.old framer.new (W.contents output.old) (W.contents output.new) ×
-        IsPartial framer.new.octets × (framer.new.failed ≡ framer.old.failed)) }
-    ensures err { IfErr result (λ stop. StopsAmong framer.old.octets stop (W.contents output.old) (W.contents output.new)) }
+    ensures ok { OnOk result
+        (PrintsFrames framer.old framer.new (W.contents output.old) (W.contents output.new)
+        × IsPartial framer.new.octets × (framer.new.failed ≡ framer.old.failed)) }
+    ensures err { IfErr result (λ stop.
+        StopsAmong framer.old.octets stop (W.contents output.old) (W.contents output.new)) }
 {
     while let Some(frame) = framer.next()? {
         print_frame(alloc, &frame, output)?;
@@ -99,7 +102,8 @@ fn print_frames<W: Write>(alloc: Global, framer: &mut Framer, output: &mut W) ->
 /// Prints the count of the octets that remain of a started frame, where there are any.
 fn print_rest<W: Write>(alloc: Global, framer: &Framer, output: &mut W) -> Result<(), Failure>
     requires { IsPartial framer.now.octets }
-    ensures { Puts result (W.contents output.old) (W.contents output.new) (rest_line framer.now.octets) }
+    ensures { Puts result (W.contents output.old) (W.contents output.new)
+        (rest_line framer.now.octets) }
 {
     let rest = framer.rest();
     if rest > 0 {
@@ -140,21 +144,25 @@ impl<W: Write> Sink for Namer<'_, W> {
     type Fault = Stop;
 
     ghost takes = { λ old octets new. (new.output.ghost_name ≡ old.output.ghost_name)
-        × NamesOctets old.framer octets new.framer (W.contents old.output.now) (W.contents new.output.now) };
+        × NamesOctets old.framer octets new.framer
+        (W.contents old.output.now) (W.contents new.output.now) };
 
     ghost refuses = { λ old octets new stop. (new.output.ghost_name ≡ old.output.ghost_name)
-        × StopsNaming old.framer octets stop (W.contents old.output.now) (W.contents new.output.now) };
+        × StopsNaming old.framer octets stop
+        (W.contents old.output.now) (W.contents new.output.now) };
 
     ghost takes_none = { λ namer. (refl, names_none namer.framer (W.contents namer.output.now)) };
 
     ghost takes_both = { λ old mid new first second some more. (
       more.0 ∙ some.0,
-      names_both old.framer mid.framer new.framer first second (W.contents old.output.now) (W.contents mid.output.now) (W.contents new.output.now) some.1 more.1,
+      names_both old.framer mid.framer new.framer first second (W.contents old.output.now)
+          (W.contents mid.output.now) (W.contents new.output.now) some.1 more.1,
     ) };
 
     ghost refuses_later = { λ old mid new first second stop some stops. (
       stops.0 ∙ some.0,
-      stops_later old.framer mid.framer first second stop (W.contents old.output.now) (W.contents mid.output.now) (W.contents new.output.now) some.1 stops.1,
+      stops_later old.framer mid.framer first second stop (W.contents old.output.now)
+          (W.contents mid.output.now) (W.contents new.output.now) some.1 stops.1,
     ) };
 
     /// Names the frames that are whole with this piece. What is named is printed before more is
@@ -170,10 +178,12 @@ impl<W: Write> Sink for Namer<'_, W> {
 /// Prints the frames of the input to its end, and what remains of a started one.
 fn print_stream<R: Read, W: Write>(alloc: Global, input: &mut R, output: &mut W) -> Result<(), Stop>
     ensures read { OnOk result (IsAtEnd (R.remaining input.new)) }
-    ensures printed { OnOk result (Decodes (R.remaining input.old) (W.contents output.old) (W.contents output.new)) }
+    ensures printed { OnOk result
+        (Decodes (R.remaining input.old) (W.contents output.old) (W.contents output.new)) }
     ensures long { result ≡ Err TooLong →
         RefusesWith [] (R.remaining input.old) (W.contents output.old) (W.contents output.new) }
-    ensures begun { Begins [] (R.remaining input.old) (W.contents output.old) (W.contents output.new) }
+    ensures begun { Begins [] (R.remaining input.old)
+        (W.contents output.old) (W.contents output.new) }
 {
     let mut room = room_for(alloc, BLOCK)?;
     let mut namer = Namer::new(alloc, output);
@@ -189,8 +199,10 @@ fn print_stream<R: Read, W: Write>(alloc: Global, input: &mut R, output: &mut W)
 /// Prints the stream, and a frame that is too long as its last line.
 fn print_all<R: Read, W: Write>(alloc: Global, input: &mut R, output: &mut W) -> Result<(), Stop>
     ensures read { OnOk result (IsAtEnd (R.remaining input.new)) }
-    ensures printed { OnOk result (Decodes (R.remaining input.old) (W.contents output.old) (W.contents output.new)) }
-    ensures begun { Begins (codes "fault F1\n") (R.remaining input.old) (W.contents output.old) (W.contents output.new) }
+    ensures printed { OnOk result
+        (Decodes (R.remaining input.old) (W.contents output.old) (W.contents output.new)) }
+    ensures begun { Begins (codes "fault F1\n") (R.remaining input.old)
+        (W.contents output.old) (W.contents output.new) }
 {
     match print_stream(alloc, input, output) {
         Err(Stop::TooLong) => {
@@ -220,11 +232,14 @@ pub fn decode<R: Read, W: Write, E: Write>(
     ensures read { result ≡ 0 → IsAtEnd (R.remaining input.new) }
     // What is printed then are the lines of the frames that the octets are, if it is known what an
     // output holds.
-    ensures printed { result ≡ 0 → Decodes (R.remaining input.old) (W.contents output.old) (W.contents output.new) }
+    ensures printed { result ≡ 0
+        → Decodes (R.remaining input.old) (W.contents output.old) (W.contents output.new) }
     // Where a frame is too long the lines end with `fault F1`. Whatever the status, what is printed
     // is a beginning of them.
-    ensures begun { Begins (codes "fault F1\n") (R.remaining input.old) (W.contents output.old) (W.contents output.new) }
-    ensures long { IfSome (R.remaining input.old) (λ stream. (text : List ℕ) → IsRefused stream text → result ≡ 3) }
+    ensures begun { Begins (codes "fault F1\n") (R.remaining input.old)
+        (W.contents output.old) (W.contents output.new) }
+    ensures long { IfSome (R.remaining input.old) (λ stream.
+        (text : List ℕ) → IsRefused stream text → result ≡ 3) }
 {
     match print_all(alloc, input, output) {
         Ok(()) => 0,

@@ -34,7 +34,8 @@ impl Failure {
 }
 
 impl From<io::Error> for Failure {
-    ghost from_gives = { λ error failure. (failure ≡ failure_of (error_kind error)) × (status_of failure ≡ 3) };
+    ghost from_gives = { λ error failure. (failure ≡ failure_of (error_kind error))
+        × (status_of failure ≡ 3) };
 
     fn from(error: io::Error) -> Failure {
         match error.kind() {

@@ -1,4 +1,5 @@
-ghost use Rattle.std.specs.Prelude.{◌≡◌, ◌+◌, ◌<◌, ℕ, List, [], ◌++◌, length, IfErr, IfOk, OnOk, vec_len};
+ghost use Rattle.std.specs.Prelude.{◌≡◌, ◌+◌, ◌<◌, ℕ, List, [], ◌++◌, length, IfErr, IfOk, OnOk};
+ghost use Rattle.std.specs.Prelude.{vec_len};
 ghost use Rattle.program_base.specs.Input.{ReadsInput};
 ghost use Rattle.program_base.specs.Status.{status_of};
 
@@ -33,11 +34,12 @@ pub trait Sink {
 
     ghost takes_none: { (sink : Self) → takes sink [] sink };
 
-    ghost takes_both: { (old mid new : Self) (first second : List ℕ) → takes old first mid → takes mid second new →
-        takes old (first ++ second) new };
+    ghost takes_both: { (old mid new : Self) (first second : List ℕ)
+        → takes old first mid → takes mid second new → takes old (first ++ second) new };
 
-    ghost refuses_later: { (old mid new : Self) (first second : List ℕ) (fault : Self.Fault) →
-        takes old first mid → refuses mid second new fault → refuses old (first ++ second) new fault };
+    ghost refuses_later: { (old mid new : Self) (first second : List ℕ) (fault : Self.Fault)
+        → takes old first mid → refuses mid second new fault
+        → refuses old (first ++ second) new fault };
 }
 
 /// Why an input wasn't read to its end.
@@ -58,7 +60,8 @@ pub fn read_all<R: Read, S: Sink>(
     sink: &mut S,
 ) -> Result<(), Unread<S::Fault>>
     requires { 0 < length block.old }
-    ensures { ReadsInput S.takes S.refuses MOST_READS (R.remaining input.old) (R.remaining input.new) sink.old sink.new result }
+    ensures { ReadsInput S.takes S.refuses MOST_READS
+        (R.remaining input.old) (R.remaining input.new) sink.old sink.new result }
 {
     read_within(input, block, MOST_READS, sink)
 }
@@ -72,7 +75,8 @@ fn read_within<R: Read, S: Sink>(
     sink: &mut S,
 ) -> Result<(), Unread<S::Fault>>
     requires { 0 < length block.old }
-    ensures { ReadsInput S.takes S.refuses most (R.remaining input.old) (R.remaining input.new) sink.old sink.new result }
+    ensures { ReadsInput S.takes S.refuses most
+        (R.remaining input.old) (R.remaining input.new) sink.old sink.new result }
 {
     let mut reads = ReadCount::none();
     for _ in 0..most {

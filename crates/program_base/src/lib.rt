@@ -26,6 +26,7 @@ mod input;
 mod line_fault;
 mod line_words;
 mod names;
+mod no_task;
 mod output;
 mod parsing;
 mod read_count;

@@ -1,5 +1,5 @@
 ghost use Rattle.std.specs.Prelude.{◌≡◌};
-ghost use Rattle.program_base.specs.declared.line_fault.LineFault.TheVariants.{BadEvent as BadLine, Memory as OutOfMemory};
+ghost use Rattle.program_base.specs.declared.line_fault.LineFault.TheVariants as faults;
 
 use octets::Memory;
 use thiserror::Error;
@@ -19,7 +19,7 @@ pub enum LineFault {
 }
 
 impl From<BadEvent> for LineFault {
-    ghost from_gives = { λ _ fault. fault ≡ BadLine };
+    ghost from_gives = { λ _ fault. fault ≡ faults.BadEvent };
 
     fn from(_fault: BadEvent) -> LineFault {
         LineFault::BadEvent
@@ -27,7 +27,7 @@ impl From<BadEvent> for LineFault {
 }
 
 impl From<Memory> for LineFault {
-    ghost from_gives = { λ _ fault. fault ≡ OutOfMemory };
+    ghost from_gives = { λ _ fault. fault ≡ faults.Memory };
 
     fn from(_memory: Memory) -> LineFault {
         LineFault::Memory

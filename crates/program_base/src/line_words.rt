@@ -1,7 +1,9 @@
 ghost use Rattle.std.specs.Prelude.{◌≡◌, ◌≢◌, ◌≤◌, [], ◌∷◌, option_map, IfOk, MatchResult};
 ghost use Rattle.std.specs.List.{slice_split};
 ghost use Rattle.program_base.specs.WordsLeft.{is_space, words_left};
-ghost use Rattle.program_base.specs.Words.{word_at, value_at, number_in, mobile_in, station_in, source_in, any_number_in, sapi_in, answer_in, octets_in, end_of, Reads, ReadsNext};
+ghost use Rattle.program_base.specs.Words.{word_at, value_at, number_in, mobile_in, station_in};
+ghost use Rattle.program_base.specs.Words.{source_in, any_number_in, sapi_in, answer_in, octets_in};
+ghost use Rattle.program_base.specs.Words.{end_of, Reads, ReadsNext};
 
 use crate::hexadecimal::Hexadecimal;
 use crate::line_fault::BadEvent;
@@ -63,7 +65,8 @@ impl<'a> Words<'a> {
 
     /// The next word as the number of a station, from 1 to the number of cells.
     pub(crate) fn station(&mut self, cells: u16) -> Result<u16, BadEvent>
-        ensures { ReadsNext (λ station. station) result (value_at (station_in cells) self.old) self.new }
+        ensures { ReadsNext (λ station. station) result
+            (value_at (station_in cells) self.old) self.new }
     {
         let station = self.number(1, u32::from(cells))?;
         Ok(station as u16)
@@ -71,7 +74,8 @@ impl<'a> Words<'a> {
 
     /// The next word as the number of a source, from 0 to the number of cells.
     pub(crate) fn source(&mut self, cells: u16) -> Result<u16, BadEvent>
-        ensures { ReadsNext (λ source. source) result (value_at (source_in cells) self.old) self.new }
+        ensures { ReadsNext (λ source. source) result
+            (value_at (source_in cells) self.old) self.new }
     {
         let source = self.number(0, u32::from(cells))?;
         Ok(source as u16)
@@ -118,7 +122,8 @@ impl<'a> Words<'a> {
 
 /// The first word of a line, and the line behind the space after it, if there is one.
 fn split_first(line: &str) -> (&str, Option<&str>)
-    ensures { slice_split is_space line.now ≡ result.0.now ∷ words_left (option_map (λ rest. rest.now) result.1) }
+    ensures { slice_split is_space line.now
+        ≡ result.0.now ∷ words_left (option_map (λ rest. rest.now) result.1) }
 {
     match line.split_once(' ') {
         Some((word, rest)) => (word, Some(rest)),

@@ -1,6 +1,10 @@
 //! The names of what frames carry, as `bsc decode` prints them.
 ghost use Rattle.std.specs.Prelude.{◌≡◌, IfOk};
-ghost use Rattle.program_base.specs.Names.{ccm_name as ccm_name_of, name_of, rsl_message_name as rsl_message_name_of, rsl_name as rsl_name_of, sccp_message_name as sccp_message_name_of, sccp_name as sccp_name_of};
+ghost use Rattle.program_base.specs.Names.{ccm_name as ccm_name_of, name_of};
+ghost use Rattle.program_base.specs.Names.{rsl_message_name as rsl_message_name_of};
+ghost use Rattle.program_base.specs.Names.{rsl_name as rsl_name_of};
+ghost use Rattle.program_base.specs.Names.{sccp_message_name as sccp_message_name_of};
+ghost use Rattle.program_base.specs.Names.{sccp_name as sccp_name_of};
 
 use bssmap_codec::{InterfaceFault, Sccp, read_sccp};
 use ipa_framing::{CCM_STREAM, Frame, OML_STREAM, PING, PONG, RSL_STREAM, SCCP_STREAM};

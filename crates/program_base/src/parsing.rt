@@ -1,12 +1,16 @@
-ghost use Rattle.std.specs.Prelude.{◌≡◌, ◌≢◌, false, IfOk, IfErr, IfSome, map, option_map, string_bytes};
-ghost use Rattle.clap.specs.Words.{app_of, kind_of, new_rule, rule_of, subcommand_of, subcommand_rows_of};
-ghost use Rattle.clap.specs.declared.error.kind.ErrorKind.TheVariants.{OutOfMemory};
+ghost use Rattle.std.specs.Prelude.{◌≡◌, ◌≢◌, false, IfOk, option_map, string_bytes};
+ghost use Rattle.clap.specs.Words.{app_of, kind_of, new_rule, rule_of, subcommand_of};
+ghost use Rattle.clap.specs.Words.{subcommand_rows_of};
 ghost use Rattle.clap.specs.declared.builder.command.Command.TheViews.{out-Command as fields_of};
-ghost use Rattle.program_base.specs.CommandLine.{bsc, program, run_command, replay_command, decode_command, AreTaken, AreRefused, IsTask};
+ghost use Rattle.clap.specs.declared.error.Error.{Error as Complaint};
+ghost use Rattle.program_base.specs.CommandLine.{bsc, program, run_command, replay_command};
+ghost use Rattle.program_base.specs.CommandLine.{decode_command, AreTaken, AreRefused, IsTask};
+ghost use Rattle.program_base.specs.CommandLine.{texts};
+ghost use Rattle.program_base.specs.declared.no_task.NoTask.TheVariants.{Refused};
 
-use crate::words::{Task, TaskFault};
-use clap::error::ErrorKind;
-use clap::{Arg, ArgMatches, Command, Error};
+use crate::no_task::NoTask;
+use crate::words::Task;
+use clap::{Arg, ArgMatches, Command};
 use std::alloc::{AllocError, Global};
 
 /// The command line of the program.
@@ -56,75 +60,59 @@ fn replay<'a>(alloc: Global) -> Result<Command<'a>, AllocError>
 
 /// An option with this name, and a value behind it.
 fn option<'a>(alloc: Global, name: &'a str) -> Arg<'a>
-    ensures rule { rule_of result ≡ record (new_rule name.entry.now) { long = Some name.entry.now } }
+    ensures rule { rule_of result
+        ≡ record (new_rule name.entry.now) { long = Some name.entry.now } }
     ensures local { result.global ≡ false }
 {
     Arg::new(alloc, name).long(name)
 }
 
 /// The matches of the words, where `clap` takes them.
-fn matches_of<'a>(alloc: Global, words: &'a [&'a str]) -> Result<ArgMatches<'a>, TaskFault>
-    ensures ok { IfOk result (λ matches. AreTaken (map (λ word. word.now) words.entry.now) × (subcommand_rows_of matches ≡ subcommand_of bsc (map (λ word. word.now) words.entry.now))) }
-    ensures words { result ≡ Err TaskFault.Words → AreRefused (map (λ word. word.now) words.entry.now) }
+fn matches_of<'a>(alloc: Global, words: &'a [&'a str]) -> Result<ArgMatches<'a>, NoTask>
+    ensures taken { IfOk result (λ _. AreTaken (texts words.entry.now)) }
+    ensures found { IfOk result (λ matches.
+        subcommand_rows_of matches ≡ subcommand_of bsc (texts words.entry.now)) }
+    ensures refused { (complaint : Complaint) → result ≡ Err (Refused complaint)
+        → AreRefused (texts words.entry.now) }
 {
     let command = command(alloc)?;
     match command.try_get_matches_from(words) {
         Ok(matches) => Ok(matches),
-        Err(error) => Err(fault_of(&error)),
+        Err(error) => Err(NoTask::from(error)),
     }
 }
 
-/// Want of memory is told apart from words that `clap` doesn't take.
-fn fault_of(error: &Error) -> TaskFault
-    ensures { result ≡ TaskFault.Words → kind_of error.now ≢ OutOfMemory }
-{
-    if error.kind() == ErrorKind::OutOfMemory {
-        TaskFault::Memory
-    } else {
-        TaskFault::Words
-    }
-}
-
-/// Reads the words behind the program's name. They are `Words` only where `clap` refuses them; else
+/// Reads the words behind the program's name. They are refused only where `clap` refuses them; else
 /// the task is the subcommand that `clap` finds, with the values of its options.
-pub fn task<'a>(alloc: Global, words: &'a [&'a str]) -> Result<Task, TaskFault>
-    ensures ok { IfOk result (λ task. AreTaken (map (λ word. word.now) words.entry.now) × IsTask task (subcommand_of bsc (map (λ word. word.now) words.entry.now))) }
-    ensures words { result ≡ Err TaskFault.Words → AreRefused (map (λ word. word.now) words.entry.now) }
+pub fn task<'a>(alloc: Global, words: &'a [&'a str]) -> Result<Task, NoTask>
+    ensures taken { IfOk result (λ _. AreTaken (texts words.entry.now)) }
+    ensures found { IfOk result (λ task. IsTask task (subcommand_of bsc (texts words.entry.now))) }
+    ensures refused { (complaint : Complaint) → result ≡ Err (Refused complaint)
+        → AreRefused (texts words.entry.now) }
 {
     let matches = matches_of(alloc, words)?;
-    match matches.subcommand() {
-        Some(("run", options)) => {
+    let Some((name, options)) = matches.subcommand() else {
+        unreachable!()
+    };
+    match name {
+        "run" => {
             let settings = options.get_str("config").unwrap_or("");
             Ok(Task::Run(String::from_str(alloc, settings)?))
         }
-        Some(("replay", options)) => {
+        "replay" => {
             let settings = copy_of(alloc, options.get_str("config"))?;
             let breaks = copy_of(alloc, options.get_str("break"))?;
             Ok(Task::Replay(settings, breaks))
         }
-        Some(("decode", _)) => Ok(Task::Decode),
-        _ => Err(TaskFault::Memory),
-    }
-}
-
-/// What `clap` says of words that it refuses; `None` where it takes them, or where memory for its
-/// words can't be had.
-pub fn complaint<'a>(alloc: Global, words: &'a [&'a str]) -> Option<Error>
-    ensures { IfSome result (λ error. kind_of error ≢ OutOfMemory → AreRefused (map (λ word. word.now) words.entry.now)) }
-{
-    let Ok(command) = command(alloc) else {
-        return None;
-    };
-    match command.try_get_matches_from(words) {
-        Ok(_) => None,
-        Err(error) => Some(error),
+        "decode" => Ok(Task::Decode),
+        _ => unreachable!(),
     }
 }
 
 /// A copy of a text, if there is one.
-fn copy_of(alloc: Global, text: Option<&str>) -> Result<Option<String>, TaskFault>
-    ensures ok { IfOk result (λ copy. option_map (λ copy. string_bytes copy) copy ≡ option_map (λ text. text.now) text.entry) }
-    ensures err { IfErr result (λ fault. fault ≡ TaskFault.Memory) }
+fn copy_of(alloc: Global, text: Option<&str>) -> Result<Option<String>, AllocError>
+    ensures { IfOk result (λ copy.
+        option_map (λ copy. string_bytes copy) copy ≡ option_map (λ text. text.now) text.entry) }
 {
     match text {
         Some(text) => Ok(Some(String::from_str(alloc, text)?)),

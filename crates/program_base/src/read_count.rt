@@ -22,7 +22,8 @@ impl ReadCount {
         requires { self.old.made < 2 ^ 64 - 1 }
         ensures counted { self.new.made ≡ self.old.made + 1 }
         ensures bound { ReadsAtMost result block.new }
-        ensures octets { ReadConsumes (R.remaining input.old) (R.remaining input.new) result block.new }
+        ensures octets { ReadConsumes (R.remaining input.old) (R.remaining input.new)
+            result block.new }
     {
         self.made += 1;
         input.read(block)

@@ -1,6 +1,9 @@
 ghost use Rattle.std.specs.Prelude.{◌≡◌, ◌⊎◌, IfOk};
 ghost use Rattle.program_base.specs.Words.{Reads, mobile_in, station_in, source_in, any_number_in};
-ghost use Rattle.program_base.specs.ScriptReading.{GivesEvent, kind_in, action_in, last_at, mobile_and_sapi_in, upper_at, connect_at, report_at, dtap_at, switch_does_at, event_at, line_at};
+ghost use Rattle.program_base.specs.ScriptReading.{GivesEvent, kind_in, action_in, last_at};
+ghost use Rattle.program_base.specs.ScriptReading.{mobile_and_sapi_in, upper_at, connect_at};
+ghost use Rattle.program_base.specs.ScriptReading.{report_at, dtap_at, switch_does_at, event_at};
+ghost use Rattle.program_base.specs.ScriptReading.{line_at};
 ghost use Rattle.program_base.specs.Script.{IsLine};
 ghost use Rattle.world_model.specs.declared.event.Event.{Event as WorldEvent};
 
@@ -258,8 +261,10 @@ fn line_of(alloc: Global, cells: u16, mut words: Words<'_>) -> Result<Event, Lin
 /// line that is no event's text is `BadEvent`; memory is needed only where the line is one's.
 pub fn read_line(alloc: Global, cells: u16, line: &str) -> Result<Event, LineFault>
     ensures event { IfOk result (λ event. IsLine cells event line.now) }
-    ensures only { (event : WorldEvent) → IsLine cells event line.now → (result ≡ Ok event) ⊎ (result ≡ Err LineFault.Memory) }
-    ensures memory { result ≡ Err LineFault.Memory → (event : WorldEvent) × IsLine cells event line.now }
+    ensures only { (event : WorldEvent) → IsLine cells event line.now
+        → (result ≡ Ok event) ⊎ (result ≡ Err LineFault.Memory) }
+    ensures memory { result ≡ Err LineFault.Memory
+        → (event : WorldEvent) × IsLine cells event line.now }
 {
     line_of(alloc, cells, Words::of(line))
 }

@@ -1,7 +1,8 @@
 ghost use Rattle.std.specs.Prelude.{◌≡◌, ◌≤◌, ◌^◌, true, IfOk, MatchResult};
 ghost use Rattle.std.specs.Char.{is_ascii_digit};
 ghost use Rattle.std.specs.List.{list_all};
-ghost use Rattle.program_base.specs.Words.{Reads, is_decimal, decimal_after, number_in, source_in, sapi_in, answer_in};
+ghost use Rattle.program_base.specs.Words.{Reads, is_decimal, decimal_after, number_in, source_in};
+ghost use Rattle.program_base.specs.Words.{sapi_in, answer_in};
 
 use crate::line_fault::BadEvent;
 use dtap_codec::Sapi;
@@ -30,7 +31,8 @@ pub fn read_source(cells: u16, word: &str) -> Option<u16>
 
 /// The number that a word of decimal digits writes, where that is below 2 to the 32.
 fn decimal(word: &str) -> Result<u32, BadEvent>
-    ensures { MatchResult result (λ n. (is_decimal word.now ≡ true) × (decimal_after 0 word.now ≡ n)) (λ _. is_decimal word.now ≡ true → 2 ^ 32 ≤ decimal_after 0 word.now) }
+    ensures { MatchResult result (λ n. (is_decimal word.now ≡ true) × (decimal_after 0 word.now
+        ≡ n)) (λ _. is_decimal word.now ≡ true → 2 ^ 32 ≤ decimal_after 0 word.now) }
 {
     if !is_decimal(word) {
         return Err(BadEvent);

@@ -37,18 +37,21 @@ need : {B : Type 0} (id : ℕ) (o : Option (List ℕ)) (next : List ℕ → Resu
 need id None next causes then = refl
 need id (Some value) next causes then = then value refl
 
-channel_by_test : {B : Type 0} (octet : ℕ) (b : Bool) (next : ℕ → Result B RslFault) (causes : Causes) → ((channel : ℕ) → result_err (next channel) ≡ first_that_holds causes)
+channel_by_test : {B : Type 0} (octet : ℕ) (b : Bool) (next : ℕ → Result B RslFault) (causes : Causes) →
+    ((channel : ℕ) → result_err (next channel) ≡ first_that_holds causes)
     → result_err (cond b (Ok octet) (Err BadChannel) >>= next) ≡ cond (not b) (Some BadChannel) (first_that_holds causes)
 channel_by_test octet true next causes then = then octet
 channel_by_test octet false next causes then = refl
 
-channel_of_value : {B : Type 0} (value : List ℕ) (next : ℕ → Result B RslFault) (causes : Causes) → ((channel : ℕ) → result_err (next channel) ≡ first_that_holds causes)
+channel_of_value : {B : Type 0} (value : List ℕ) (next : ℕ → Result B RslFault) (causes : Causes) →
+    ((channel : ℕ) → result_err (next channel) ≡ first_that_holds causes)
     → result_err (channel_at value >>= next) ≡ first_that_holds ((is_bad_channel value, BadChannel) ∷ causes)
 channel_of_value [] next causes then = refl
 channel_of_value (octet ∷ value) next causes then = channel_by_test octet (is_channel octet) next causes then
 
 -- the channel of the element that was found
-channel : {B : Type 0} (es : List Element) (value : List ℕ) → first_of CHANNEL_NUMBER es ≡ Some value → (next : ℕ → Result B RslFault) (causes : Causes)
+channel : {B : Type 0} (es : List Element) (value : List ℕ) → first_of CHANNEL_NUMBER es ≡ Some value →
+    (next : ℕ → Result B RslFault) (causes : Causes)
     → ((channel : ℕ) → result_err (next channel) ≡ first_that_holds causes) → result_err (channel_at value >>= next) ≡ first_that_holds ((has_value is_bad_channel es CHANNEL_NUMBER, BadChannel) ∷ causes)
 channel es value found next causes then =
     channel_of_value value next causes then ∙ ap (λ (o : Option (List ℕ)). first_that_holds ((meets is_bad_channel o, BadChannel) ∷ causes)) (sym found)
@@ -70,11 +73,13 @@ l3_of_value (x ∷ xs) next then =
     l3_by_test (x ∷ xs) (ltb MESSAGE_LIMIT (length (x ∷ xs))) next then
     ∙ ap (λ b. cond b (Some Short) (cond (ltb MESSAGE_LIMIT (length (x ∷ xs))) (Some TooLong) None)) (sym some)
 
-l3 : {B : Type 0} (es : List Element) (value : List ℕ) → first_of L3_INFORMATION es ≡ Some value → (next : List ℕ → Result B RslFault) → ((l3 : List ℕ) → result_err (next l3) ≡ None)
+l3 : {B : Type 0} (es : List Element) (value : List ℕ) → first_of L3_INFORMATION es ≡ Some value →
+    (next : List ℕ → Result B RslFault) → ((l3 : List ℕ) → result_err (next l3) ≡ None)
     → result_err (l3_at value >>= next) ≡ first_that_holds (causes_of_l3 (first_of L3_INFORMATION es))
 l3 es value found next then = l3_of_value value next then ∙ ap (λ (o : Option (List ℕ)). first_that_holds (causes_of_l3 o)) (sym found)
 
-bind_again : {A B C : Type 0} (r : Result A RslFault) (f : A → Result B RslFault) (g : B → Result C RslFault) → (r >>= f >>= g) ≡ (r >>= (λ x. f x >>= g))
+bind_again : {A B C : Type 0} (r : Result A RslFault) (f : A → Result B RslFault) (g : B → Result C RslFault) →
+    (r >>= f >>= g) ≡ (r >>= (λ x. f x >>= g))
 bind_again (Ok x) f g = refl
 bind_again (Err fault) f g = refl
 
@@ -86,10 +91,12 @@ only_channel_of : (value : List ℕ) → result_err (channel_at value) ≡ first
 only_channel_of [] = refl
 only_channel_of (octet ∷ value) = only_channel_by octet (is_channel octet)
 
-only_channel : (es : List Element) (value : List ℕ) → first_of CHANNEL_NUMBER es ≡ Some value → result_err (channel_at value) ≡ first_that_holds ((has_value is_bad_channel es CHANNEL_NUMBER, BadChannel) ∷ [])
+only_channel : (es : List Element) (value : List ℕ) → first_of CHANNEL_NUMBER es ≡ Some value →
+    result_err (channel_at value) ≡ first_that_holds ((has_value is_bad_channel es CHANNEL_NUMBER, BadChannel) ∷ [])
 only_channel es value found = only_channel_of value ∙ ap (λ (o : Option (List ℕ)). first_that_holds ((meets is_bad_channel o, BadChannel) ∷ [])) (sym found)
 
-optional_l3 : {B : Type 0} (o : Option (List ℕ)) (next : Option (List ℕ) → Result B RslFault) → ((l3 : Option (List ℕ)) → result_err (next l3) ≡ None)
+optional_l3 : {B : Type 0} (o : Option (List ℕ)) (next : Option (List ℕ) → Result B RslFault) →
+    ((l3 : Option (List ℕ)) → result_err (next l3) ≡ None)
     → result_err (optional_l3_at o >>= next) ≡ first_that_holds (causes_of_l3 o)
 optional_l3 None next then = then None
 optional_l3 (Some value) next then = ap result_err (bind_again (l3_at value) (λ x. Ok (Some x)) next) ∙ l3_of_value value (λ x. next (Some x)) (λ x. then (Some x))
@@ -102,7 +109,8 @@ missing es id = (lacks es id, MissingElement id)
 abbrev bad : List Element → Bool × RslFault
 bad es = (has_value is_bad_channel es CHANNEL_NUMBER, BadChannel)
 
-line_of_one : {B : Type 0} (es : List Element) (next : ℕ → Result B RslFault) (causes : Causes) → ((channel : ℕ) → result_err (next channel) ≡ first_that_holds causes)
+line_of_one : {B : Type 0} (es : List Element) (next : ℕ → Result B RslFault) (causes : Causes) →
+    ((channel : ℕ) → result_err (next channel) ≡ first_that_holds causes)
     → result_err (needed_value CHANNEL_NUMBER es >>= (λ number. channel_at number >>= next)) ≡ first_that_holds (missing es CHANNEL_NUMBER ∷ bad es ∷ causes)
 line_of_one es next causes then =
     need CHANNEL_NUMBER (first_of CHANNEL_NUMBER es) (λ number. channel_at number >>= next) (bad es ∷ causes) (λ number e. channel es number e next causes then)
@@ -150,7 +158,8 @@ release_err : (es : List Element) → result_err (release_at es) ≡ first_that_
 unfolding release_at
 release_err es = line_of_three es LINK_IDENTIFIER RELEASE_MODE _ [] (λ value more f channel. refl)
 
-channel_required_err : (es : List Element) → result_err (channel_required_at es) ≡ first_that_holds (element_causes types.ChannelRequired es)
+channel_required_err : (es : List Element) →
+    result_err (channel_required_at es) ≡ first_that_holds (element_causes types.ChannelRequired es)
 unfolding channel_required_at
 channel_required_err es = line_of_three es REQUEST_REFERENCE ACCESS_DELAY _ [] (λ value more f channel. refl)
 
@@ -162,7 +171,8 @@ activation_err : (es : List Element) → result_err (activation_at es) ≡ first
 unfolding activation_at
 activation_err es = line_of_three es ACTIVATION_TYPE CHANNEL_MODE _ [] (λ value more f channel. refl)
 
-activation_ack_err : (es : List Element) → result_err (activation_ack_at es) ≡ first_that_holds (element_causes types.ChannelActivationAck es)
+activation_ack_err : (es : List Element) →
+    result_err (activation_ack_at es) ≡ first_that_holds (element_causes types.ChannelActivationAck es)
 unfolding activation_ack_at
 activation_ack_err es = line_of_one es _ [] (λ channel. refl)
 
@@ -174,7 +184,8 @@ detection_err : (es : List Element) → result_err (detection_at es) ≡ first_t
 unfolding detection_at
 detection_err es = line_of_one es _ [] (λ channel. refl)
 
-measurement_result_err : (es : List Element) → result_err (measurement_result_at es) ≡ first_that_holds (element_causes types.MeasurementResult es)
+measurement_result_err : (es : List Element) →
+    result_err (measurement_result_at es) ≡ first_that_holds (element_causes types.MeasurementResult es)
 unfolding measurement_result_at
 measurement_result_err es = line_of_two es MEASUREMENT_NUMBER _ (causes_of_l3 (first_of L3_INFORMATION es)) (λ value f channel. optional_l3 (first_of L3_INFORMATION es) _ (λ x. refl))
 
@@ -208,11 +219,14 @@ found_elements : (body : List ℕ) → AreOctets body → AreElements ELEMENTS b
 unfolding elements_of breaks_off
 found_elements body fits = walk_found ELEMENTS body fits
 
-cut_first : (is_cut : Bool) (r : Result Rsl RslFault) (causes : Causes) → result_err r ≡ first_that_holds causes → first_that_holds ((is_cut, Short) ∷ causes) ≡ result_err (cond is_cut (Err Short) r)
+cut_first : (is_cut : Bool) (r : Result Rsl RslFault) (causes : Causes) → result_err r ≡ first_that_holds causes →
+    first_that_holds ((is_cut, Short) ∷ causes) ≡ result_err (cond is_cut (Err Short) r)
 cut_first true r causes e = refl
 cut_first false r causes e = sym e
 
-first_by : (discriminator octet : ℕ) (body : List ℕ) (kind : Option RslType) → AreOctets body → rsl_type discriminator octet ≡ kind → FirstFault (discriminator ∷ octet ∷ body) (result_err (rsl_reading_by kind body))
+first_by : (discriminator octet : ℕ) (body : List ℕ) (kind : Option RslType) → AreOctets body →
+    rsl_type discriminator octet ≡ kind →
+    FirstFault (discriminator ∷ octet ∷ body) (result_err (rsl_reading_by kind body))
 first_by discriminator octet body None fits names = unknown discriminator octet body names
 first_by discriminator octet body (Some kind) fits names =
     subst (λ (first : Option RslFault). FirstFault (discriminator ∷ octet ∷ body) first) (cut_first (breaks_off body) (message_at kind (elements_of body)) (element_causes kind (elements_of body)) (message_err kind (elements_of body)))
@@ -224,5 +238,6 @@ first_fault [] fits = ends [] (omega arith)
 first_fault (a ∷ []) fits = ends (a ∷ []) (omega arith)
 first_fault (a ∷ b ∷ body) fits = first_by a b body (rsl_type a b) (λ i. fits (suc (suc i))) refl
 
-pub refuses_rsl : (octets : List ℕ) (r : Result Rsl RslFault) → AreOctets octets → Gives Memory (λ v. v) r (rsl_reading octets) → RefusesRsl octets r
+pub refuses_rsl : (octets : List ℕ) (r : Result Rsl RslFault) → AreOctets octets →
+    Gives Memory (λ v. v) r (rsl_reading octets) → RefusesRsl octets r
 refuses_rsl octets r fits g = record { first = result_err (rsl_reading octets); is_first = first_fault octets fits; refuses = refused_by Memory r (rsl_reading octets) g }

@@ -8,7 +8,8 @@ use Rattle.octets.proofs.Grammar.{walk_only}
 use Rattle.rsl_codec.specs.declared.identifiers.TheConstants.{ELEMENTS}
 use Rattle.rsl_codec.specs.RslReading.{data_elements}
 
-l3_is : (high low : ℕ) (l3 : List ℕ) → high < 256 → low < 256 → length l3 ≡ 256 * high + low → IsElement ELEMENTS (element 0x0b l3) (0x0b ∷ high ∷ low ∷ l3)
+l3_is : (high low : ℕ) (l3 : List ℕ) → high < 256 → low < 256 → length l3 ≡ 256 * high + low →
+    IsElement ELEMENTS (element 0x0b l3) (0x0b ∷ high ∷ low ∷ l3)
 l3_is high low l3 one two long =
     let first : length l3 / 256 ≡ high = omega arith in
     let second : length l3 % 256 ≡ low = omega arith in

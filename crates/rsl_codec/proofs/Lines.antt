@@ -37,14 +37,16 @@ pub record Reads (es : List Element) (fs : List Field) (channel : ℕ) (l3 : Opt
   pub on_channel : is_channel channel ≡ true
   pub has_l3 : IsL3 l3
 
-pub channel_only_ok : (es : List Element) → AreSized es → (channel : ℕ) → channel_only_at es ≡ Ok channel → Reads es (channel_fields channel) channel None
+pub channel_only_ok : (es : List Element) → AreSized es → (channel : ℕ) → channel_only_at es ≡ Ok channel →
+    Reads es (channel_fields channel) channel None
 unfolding channel_only_at
 channel_only_ok es all channel h =
     let a = bind_ok (needed_value CHANNEL_NUMBER es) _ channel h in
     let is = channel_is es all a.0 channel a.1 a.2 in
     record { carries = (is.0, tt); on_channel = is.1; has_l3 = tt }
 
-pub channel_only_again : (es : List Element) (channel : ℕ) → Reads es (channel_fields channel) channel None → channel_only_at es ≡ Ok channel
+pub channel_only_again : (es : List Element) (channel : ℕ) → Reads es (channel_fields channel) channel None →
+    channel_only_at es ≡ Ok channel
 unfolding channel_only_at
 channel_only_again es channel r = rw (r.carries.0, r.on_channel) refl
 
@@ -93,7 +95,8 @@ pub error_again : (es : List Element) (m : ErrorReport) → Reads es (error_fiel
 unfolding error_at
 error_again es m r = rw (r.carries.0, r.carries.1.0, r.on_channel, r.carries.1.1.0, optional_again m.cause (λ v. let x : RlmCause = record { 0 = v } in x) (λ x. x.0) (λ x. refl)) refl
 
-pub establishment_ok : (es : List Element) → AreSized es → (m : Establishment) → establishment_at es ≡ Ok m → Reads es (establishment_fields m) m.channel m.l3
+pub establishment_ok : (es : List Element) → AreSized es → (m : Establishment) → establishment_at es ≡ Ok m →
+    Reads es (establishment_fields m) m.channel m.l3
 unfolding establishment_at
 establishment_ok es all m h =
     let a = bind_ok (needed_value CHANNEL_NUMBER es) _ m h in
@@ -105,7 +108,8 @@ establishment_ok es all m h =
     subst (λ (x : Establishment). Reads es (establishment_fields x) x.channel x.l3) (ok_is _ m d.2)
     (record { carries = (channel.0, (field_is LINK_IDENTIFIER es octet_of octet_value (octet_is LINK_IDENTIFIER es refl all) b.0 b.1, (l3.0, tt))); on_channel = channel.1; has_l3 = l3.1 })
 
-pub establishment_again : (es : List Element) (m : Establishment) → Reads es (establishment_fields m) m.channel m.l3 → establishment_at es ≡ Ok m
+pub establishment_again : (es : List Element) (m : Establishment) → Reads es (establishment_fields m) m.channel m.l3 →
+    establishment_at es ≡ Ok m
 unfolding establishment_at
 establishment_again es m r = rw (r.carries.0, r.carries.1.0, r.on_channel, r.carries.1.1.0, optional_l3_again m.l3 r.has_l3) refl
 
@@ -124,7 +128,8 @@ pub release_again : (es : List Element) (m : Release) → Reads es (release_fiel
 unfolding release_at
 release_again es m r = rw (r.carries.0, r.carries.1.0, r.carries.1.1.0, r.on_channel) refl
 
-pub channel_required_ok : (es : List Element) → AreSized es → (m : ChannelRequired) → channel_required_at es ≡ Ok m → Reads es (channel_required_fields m) m.channel None
+pub channel_required_ok : (es : List Element) → AreSized es → (m : ChannelRequired) → channel_required_at es ≡ Ok m →
+    Reads es (channel_required_fields m) m.channel None
 unfolding channel_required_at
 channel_required_ok es all m h =
     let a = bind_ok (needed_value CHANNEL_NUMBER es) _ m h in
@@ -135,11 +140,13 @@ channel_required_ok es all m h =
     subst (λ (x : ChannelRequired). Reads es (channel_required_fields x) x.channel None) (ok_is _ m d.2)
     (record { carries = (channel.0, (field_is REQUEST_REFERENCE es reference_of reference_value (reference_is REQUEST_REFERENCE es refl all) b.0 b.1, (field_is ACCESS_DELAY es octet_of octet_value (octet_is ACCESS_DELAY es refl all) c.0 c.1, tt))); on_channel = channel.1; has_l3 = tt })
 
-pub channel_required_again : (es : List Element) (m : ChannelRequired) → Reads es (channel_required_fields m) m.channel None → channel_required_at es ≡ Ok m
+pub channel_required_again : (es : List Element) (m : ChannelRequired) →
+    Reads es (channel_required_fields m) m.channel None → channel_required_at es ≡ Ok m
 unfolding channel_required_at
 channel_required_again es m r = rw (r.carries.0, r.carries.1.0, r.carries.1.1.0, r.on_channel, number_again m.reference.frame) refl
 
-pub assignment_ok : (es : List Element) → AreSized es → (m : ImmediateAssignment) → assignment_at es ≡ Ok m → Reads es (assignment_fields m) m.channel None
+pub assignment_ok : (es : List Element) → AreSized es → (m : ImmediateAssignment) → assignment_at es ≡ Ok m →
+    Reads es (assignment_fields m) m.channel None
 unfolding assignment_at
 assignment_ok es all m h =
     let a = bind_ok (needed_value CHANNEL_NUMBER es) _ m h in
@@ -149,11 +156,13 @@ assignment_ok es all m h =
     subst (λ (x : ImmediateAssignment). Reads es (assignment_fields x) x.channel None) (ok_is _ m c.2)
     (record { carries = (channel.0, (needed_value_ok FULL_IMMEDIATE_ASSIGN es b.0 b.1, tt)); on_channel = channel.1; has_l3 = tt })
 
-pub assignment_again : (es : List Element) (m : ImmediateAssignment) → Reads es (assignment_fields m) m.channel None → assignment_at es ≡ Ok m
+pub assignment_again : (es : List Element) (m : ImmediateAssignment) → Reads es (assignment_fields m) m.channel None →
+    assignment_at es ≡ Ok m
 unfolding assignment_at
 assignment_again es m r = rw (r.carries.0, r.carries.1.0, r.on_channel) refl
 
-pub activation_ok : (es : List Element) → AreSized es → (m : Activation) → activation_at es ≡ Ok m → Reads es (activation_fields m) m.channel None
+pub activation_ok : (es : List Element) → AreSized es → (m : Activation) → activation_at es ≡ Ok m →
+    Reads es (activation_fields m) m.channel None
 unfolding activation_at
 activation_ok es all m h =
     let a = bind_ok (needed_value CHANNEL_NUMBER es) _ m h in
@@ -168,7 +177,8 @@ pub activation_again : (es : List Element) (m : Activation) → Reads es (activa
 unfolding activation_at
 activation_again es m r = rw (r.carries.0, r.carries.1.0, r.carries.1.1.0, r.on_channel, r.carries.1.1.1.0, optional_again m.reference (λ v. let x : HandoverReference = record { 0 = octet_of v } in x) (λ x. octet_value x.0) (λ x. refl)) refl
 
-pub activation_ack_ok : (es : List Element) → AreSized es → (m : ActivationAck) → activation_ack_at es ≡ Ok m → Reads es (activation_ack_fields m) m.channel None
+pub activation_ack_ok : (es : List Element) → AreSized es → (m : ActivationAck) → activation_ack_at es ≡ Ok m →
+    Reads es (activation_ack_fields m) m.channel None
 unfolding activation_ack_at
 activation_ack_ok es all m h =
     let a = bind_ok (needed_value CHANNEL_NUMBER es) _ m h in
@@ -177,7 +187,8 @@ activation_ack_ok es all m h =
     subst (λ (x : ActivationAck). Reads es (activation_ack_fields x) x.channel None) (ok_is _ m b.2)
     (record { carries = (channel.0, (optional_is FRAME_NUMBER es (λ v. let x : FrameNumber = record { 0 = number_of v } in x) (λ x. number_value x.0) (number_is FRAME_NUMBER es refl all), tt)); on_channel = channel.1; has_l3 = tt })
 
-pub activation_ack_again : (es : List Element) (m : ActivationAck) → Reads es (activation_ack_fields m) m.channel None → activation_ack_at es ≡ Ok m
+pub activation_ack_again : (es : List Element) (m : ActivationAck) → Reads es (activation_ack_fields m) m.channel None →
+    activation_ack_at es ≡ Ok m
 unfolding activation_ack_at
 activation_ack_again es m r = rw (r.carries.0, r.on_channel, r.carries.1.0, optional_again m.frame (λ v. let x : FrameNumber = record { 0 = number_of v } in x) (λ x. number_value x.0) (λ x. ap (λ n. let y : FrameNumber = record { 0 = n } in y) (number_again x.0))) refl
 
@@ -194,7 +205,8 @@ pub failure_again : (es : List Element) (m : Failure) → Reads es (failure_fiel
 unfolding failure_at
 failure_again es m r = rw (r.carries.0, r.on_channel, r.carries.1.0, optional_again m.cause (λ v. let x : Cause = record { 0 = v } in x) (λ x. x.0) (λ x. refl)) refl
 
-pub detection_ok : (es : List Element) → AreSized es → (m : Detection) → detection_at es ≡ Ok m → Reads es (detection_fields m) m.channel None
+pub detection_ok : (es : List Element) → AreSized es → (m : Detection) → detection_at es ≡ Ok m →
+    Reads es (detection_fields m) m.channel None
 unfolding detection_at
 detection_ok es all m h =
     let a = bind_ok (needed_value CHANNEL_NUMBER es) _ m h in
@@ -207,7 +219,8 @@ pub detection_again : (es : List Element) (m : Detection) → Reads es (detectio
 unfolding detection_at
 detection_again es m r = rw (r.carries.0, r.on_channel, r.carries.1.0, optional_again m.access_delay (λ v. let x : AccessDelay = record { 0 = octet_of v } in x) (λ x. octet_value x.0) (λ x. refl)) refl
 
-pub measurement_result_ok : (es : List Element) → AreSized es → (m : MeasurementResult) → measurement_result_at es ≡ Ok m → Reads es (measurement_result_fields m) m.channel m.l3
+pub measurement_result_ok : (es : List Element) → AreSized es → (m : MeasurementResult) →
+    measurement_result_at es ≡ Ok m → Reads es (measurement_result_fields m) m.channel m.l3
 unfolding measurement_result_at
 measurement_result_ok es all m h =
     let a = bind_ok (needed_value CHANNEL_NUMBER es) _ m h in
@@ -219,6 +232,7 @@ measurement_result_ok es all m h =
     subst (λ (x : MeasurementResult). Reads es (measurement_result_fields x) x.channel x.l3) (ok_is _ m d.2)
     (record { carries = (channel.0, (field_is MEASUREMENT_NUMBER es octet_of octet_value (octet_is MEASUREMENT_NUMBER es refl all) b.0 b.1, (optional_is UPLINK_MEASUREMENTS es (λ v. let x : UplinkMeasurements = record { 0 = v } in x) (λ x. x.0) (λ v e. refl), (optional_is BS_POWER es (λ v. let x : BsPower = record { 0 = octet_of v } in x) (λ x. octet_value x.0) (octet_is BS_POWER es refl all), (optional_is L1_INFORMATION es (λ v. let x : L1Information = record { 0 = number_of v } in x) (λ x. number_value x.0) (number_is L1_INFORMATION es refl all), (l3.0, tt)))))); on_channel = channel.1; has_l3 = l3.1 })
 
-pub measurement_result_again : (es : List Element) (m : MeasurementResult) → Reads es (measurement_result_fields m) m.channel m.l3 → measurement_result_at es ≡ Ok m
+pub measurement_result_again : (es : List Element) (m : MeasurementResult) →
+    Reads es (measurement_result_fields m) m.channel m.l3 → measurement_result_at es ≡ Ok m
 unfolding measurement_result_at
 measurement_result_again es m r = rw (r.carries.0, r.carries.1.0, r.on_channel, r.carries.1.1.1.1.1.0, optional_l3_again m.l3 r.has_l3, r.carries.1.1.0, optional_again m.uplink (λ v. let x : UplinkMeasurements = record { 0 = v } in x) (λ x. x.0) (λ x. refl), r.carries.1.1.1.0, optional_again m.bs_power (λ v. let x : BsPower = record { 0 = octet_of v } in x) (λ x. octet_value x.0) (λ x. refl), r.carries.1.1.1.1.0, optional_again m.l1 (λ v. let x : L1Information = record { 0 = number_of v } in x) (λ x. number_value x.0) (λ x. ap (λ n. let y : L1Information = record { 0 = n } in y) (number_again x.0))) refl

@@ -87,13 +87,15 @@ whole_elements : (body : List ℕ) → AreOctets body → breaks_off body ≡ fa
 unfolding breaks_off elements_of
 whole_elements body fits whole = subst (AreElements ELEMENTS body (walk ELEMENTS body).elements) whole (walk_found ELEMENTS body fits)
 
-elements_only : (body : List ℕ) (es : List Element) → AreElements ELEMENTS body es false → (elements_of body ≡ es) × (breaks_off body ≡ false)
+elements_only : (body : List ℕ) (es : List Element) → AreElements ELEMENTS body es false →
+    (elements_of body ≡ es) × (breaks_off body ≡ false)
 unfolding breaks_off elements_of
 elements_only body es are =
     let is = walk_only ELEMENTS body es false are in
     (ap (λ (w : Finding). w.elements) is, ap (λ (w : Finding). w.is_cut) is)
 
-text_by : (discriminator octet : ℕ) (kind : Option RslType) (body : List ℕ) (v : Rsl) → AreOctets body → rsl_type discriminator octet ≡ kind → rsl_reading_by kind body ≡ Ok v → IsRsl (discriminator ∷ octet ∷ body) v
+text_by : (discriminator octet : ℕ) (kind : Option RslType) (body : List ℕ) (v : Rsl) → AreOctets body →
+    rsl_type discriminator octet ≡ kind → rsl_reading_by kind body ≡ Ok v → IsRsl (discriminator ∷ octet ∷ body) v
 text_by discriminator octet None body v fits names e = absurd cc
 text_by discriminator octet (Some kind) body v fits names e =
     let whole = guard {A = Rsl} {F = RslFault} (breaks_off body) faults.Short (message_at kind (elements_of body)) v e in
@@ -166,11 +168,13 @@ value_short v e = short_of (value_of v) (fault_by (is_empty (l3_of v)) (is_over 
 fits_octet : (id : ℕ) (n : ℕ) → format_in ELEMENTS id ≡ Some (Tv 1) → FitsIfPresent ELEMENTS id (Some (octet_value n))
 fits_octet id n known = record { format = Tv 1; known = known; size = refl }
 
-fits_octet_if : {X : Type 0} (id : ℕ) (o : Option X) (f : X → ℕ) → format_in ELEMENTS id ≡ Some (Tv 1) → FitsIfPresent ELEMENTS id (option_map (λ x. octet_value (f x)) o)
+fits_octet_if : {X : Type 0} (id : ℕ) (o : Option X) (f : X → ℕ) → format_in ELEMENTS id ≡ Some (Tv 1) →
+    FitsIfPresent ELEMENTS id (option_map (λ x. octet_value (f x)) o)
 fits_octet_if id None f known = tt
 fits_octet_if id (Some x) f known = fits_octet id (f x) known
 
-fits_number_if : {X : Type 0} (id : ℕ) (o : Option X) (f : X → ℕ) → format_in ELEMENTS id ≡ Some (Tv 2) → FitsIfPresent ELEMENTS id (option_map (λ x. number_value (f x)) o)
+fits_number_if : {X : Type 0} (id : ℕ) (o : Option X) (f : X → ℕ) → format_in ELEMENTS id ≡ Some (Tv 2) →
+    FitsIfPresent ELEMENTS id (option_map (λ x. number_value (f x)) o)
 fits_number_if id None f known = tt
 fits_number_if id (Some x) f known = record { format = Tv 2; known = known; size = refl }
 
@@ -251,7 +255,8 @@ type_again types.RfChannelReleaseAck = refl
 
 -- what is written of a message is a text of it, whatever follows that begins with no identifier of
 -- the table
-pub rsl_text_is_text : (v : Rsl) (more : List ℕ) → IsLawful v → rsl_write_fault v ≡ None → Stops ELEMENTS more → IsRsl (rsl_text v ++ more) v
+pub rsl_text_is_text : (v : Rsl) (more : List ℕ) → IsLawful v → rsl_write_fault v ≡ None → Stops ELEMENTS more →
+    IsRsl (rsl_text v ++ more) v
 rsl_text_is_text v more lawful fault stops = record {
   discriminator = rsl_discriminator (type_of v);
   octet = rsl_octet (type_of v);

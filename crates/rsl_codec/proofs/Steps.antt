@@ -56,31 +56,40 @@ three_is : (v : List ℕ) → length v ≡ 3 → AreOctets v → reference_value
 three_is [] e fits = absurd (omega arith)
 three_is (a ∷ v) e fits = ap (λ (xs : List ℕ). a ∷ xs) (two_is v (omega arith) (λ i. fits (suc i)))
 
-pub octet_is : (id : ℕ) (es : List Element) → format_in ELEMENTS id ≡ Some (Tv 1) → AreSized es → (v : List ℕ) → first_of id es ≡ Some v → octet_value (octet_of v) ≡ v
+pub octet_is : (id : ℕ) (es : List Element) → format_in ELEMENTS id ≡ Some (Tv 1) → AreSized es → (v : List ℕ) →
+    first_of id es ≡ Some v → octet_value (octet_of v) ≡ v
 octet_is id es known all v e = one_is v (sized_as id (Tv 1) v known (all id v e))
 
-pub number_is : (id : ℕ) (es : List Element) → format_in ELEMENTS id ≡ Some (Tv 2) → AreSized es → (v : List ℕ) → first_of id es ≡ Some v → number_value (number_of v) ≡ v
+pub number_is : (id : ℕ) (es : List Element) → format_in ELEMENTS id ≡ Some (Tv 2) → AreSized es → (v : List ℕ) →
+    first_of id es ≡ Some v → number_value (number_of v) ≡ v
 number_is id es known all v e = let is = all id v e in two_is v (sized_as id (Tv 2) v known is) is.octets
 
-pub reference_is : (id : ℕ) (es : List Element) → format_in ELEMENTS id ≡ Some (Tv 3) → AreSized es → (v : List ℕ) → first_of id es ≡ Some v → reference_value (reference_of v) ≡ v
+pub reference_is : (id : ℕ) (es : List Element) → format_in ELEMENTS id ≡ Some (Tv 3) → AreSized es → (v : List ℕ) →
+    first_of id es ≡ Some v → reference_value (reference_of v) ≡ v
 reference_is id es known all v e = let is = all id v e in three_is v (sized_as id (Tv 3) v known is) is.octets
 
 -- an element that the message needs is the field of its value
-pub field_is : {X : Type 0} (id : ℕ) (es : List Element) (f : List ℕ → X) (g : X → List ℕ) → ((v : List ℕ) → first_of id es ≡ Some v → g (f v) ≡ v) → (v : List ℕ) → needed_value id es ≡ Ok v → first_of id es ≡ Some (g (f v))
+pub field_is : {X : Type 0} (id : ℕ) (es : List Element) (f : List ℕ → X) (g : X → List ℕ) →
+    ((v : List ℕ) → first_of id es ≡ Some v → g (f v) ≡ v) → (v : List ℕ) → needed_value id es ≡ Ok v →
+    first_of id es ≡ Some (g (f v))
 field_is id es f g back v e =
     let there = needed_value_ok id es v e in
     there ∙ ap (λ (x : List ℕ). Some x) (sym (back v there))
 
 -- and so is one that may be absent
-optional_by : {X : Type 0} (o : Option (List ℕ)) (f : List ℕ → X) (g : X → List ℕ) → ((v : List ℕ) → o ≡ Some v → g (f v) ≡ v) → o ≡ option_map g (option_map f o)
+optional_by : {X : Type 0} (o : Option (List ℕ)) (f : List ℕ → X) (g : X → List ℕ) →
+    ((v : List ℕ) → o ≡ Some v → g (f v) ≡ v) → o ≡ option_map g (option_map f o)
 optional_by None f g back = refl
 optional_by (Some v) f g back = ap (λ (x : List ℕ). Some x) (sym (back v refl))
 
-pub optional_is : {X : Type 0} (id : ℕ) (es : List Element) (f : List ℕ → X) (g : X → List ℕ) → ((v : List ℕ) → first_of id es ≡ Some v → g (f v) ≡ v) → first_of id es ≡ option_map g (option_map f (first_of id es))
+pub optional_is : {X : Type 0} (id : ℕ) (es : List Element) (f : List ℕ → X) (g : X → List ℕ) →
+    ((v : List ℕ) → first_of id es ≡ Some v → g (f v) ≡ v) →
+    first_of id es ≡ option_map g (option_map f (first_of id es))
 optional_is id es f g back = optional_by (first_of id es) f g back
 
 -- what is written of a value is that value
-pub optional_again : {X : Type 0} (o : Option X) (f : List ℕ → X) (g : X → List ℕ) → ((x : X) → f (g x) ≡ x) → option_map f (option_map g o) ≡ o
+pub optional_again : {X : Type 0} (o : Option X) (f : List ℕ → X) (g : X → List ℕ) → ((x : X) → f (g x) ≡ x) →
+    option_map f (option_map g o) ≡ o
 optional_again None f g back = refl
 optional_again (Some x) f g back = ap (λ (y : _). Some y) (back x)
 
@@ -97,7 +106,9 @@ channel_ok (n ∷ v) channel e =
     (same, subst (λ (m : ℕ). is_channel m ≡ true) same there.0)
 
 -- the channel is that of its element, and there is such a channel
-pub channel_is : (es : List Element) → AreSized es → (v : List ℕ) (channel : ℕ) → needed_value CHANNEL_NUMBER es ≡ Ok v → channel_at v ≡ Ok channel → (first_of CHANNEL_NUMBER es ≡ Some (octet_value channel)) × (is_channel channel ≡ true)
+pub channel_is : (es : List Element) → AreSized es → (v : List ℕ) (channel : ℕ) →
+    needed_value CHANNEL_NUMBER es ≡ Ok v → channel_at v ≡ Ok channel →
+    (first_of CHANNEL_NUMBER es ≡ Some (octet_value channel)) × (is_channel channel ≡ true)
 channel_is es all v channel e h =
     let is = channel_ok v channel h in
     (field_is CHANNEL_NUMBER es octet_of octet_value (octet_is CHANNEL_NUMBER es refl all) v e ∙ ap (λ (n : ℕ). Some (octet_value n)) is.0, is.1)

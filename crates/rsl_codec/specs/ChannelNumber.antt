@@ -1,6 +1,7 @@
 -- Channel numbers (TS 48.058 clause 9.3.1).
 use Rattle.std.specs.Prelude.{ℕ, Bool, ◌||◌, ◌&&◌, ◌==◌, nat_le, if◌then◌else◌, Result, Ok, Err}
-use Rattle.rsl_codec.specs.declared.channel_number.TheConstants.{FIRST_TCH, LAST_SDCCH, RACH, PCH_AND_AGCH}
+use Rattle.rsl_codec.specs.declared.channel_number.TheConstants.{FIRST_TCH, LAST_SDCCH, RACH}
+use Rattle.rsl_codec.specs.declared.channel_number.TheConstants.{PCH_AND_AGCH}
 use Rattle.rsl_codec.specs.declared.fault.RslFault.{RslFault}
 use Rattle.rsl_codec.specs.declared.fault.RslFault.TheVariants.{BadChannel}
 

@@ -1,13 +1,15 @@
 -- Which fault octets have that are no text of a message, by their elements (TS 48.058 clauses 8 and
 -- 9).
-use Rattle.std.specs.Prelude.{◌≡◌, ℕ, ◌<◌, Bool, true, false, not, ◌==◌, nat_lt, List, [], ◌∷◌, ◌++◌, map, length, slice_index, Option, Some, None, is_none, Result}
+use Rattle.std.specs.Prelude.{◌≡◌, ℕ, ◌<◌, Bool, true, false, not, ◌==◌, nat_lt, List, [], ◌∷◌}
+use Rattle.std.specs.Prelude.{◌++◌, map, length, slice_index, Option, Some, None, is_none, Result}
 use Rattle.octets.specs.Causes.{first_that_holds}
 use Rattle.octets.specs.Element.{Element, AreElements}
 use Rattle.octets.specs.Refusal.{RefusesBy}
 use Rattle.octets.specs.Walk.{first_of}
 use Rattle.octets.specs.declared.limits.TheConstants.{MESSAGE_LIMIT}
 use Rattle.rsl_codec.specs.declared.fault.RslFault.{RslFault}
-use Rattle.rsl_codec.specs.declared.fault.RslFault.TheVariants.{Short, UnknownType, MissingElement, BadChannel, Memory, TooLong}
+use Rattle.rsl_codec.specs.declared.fault.RslFault.TheVariants.{Short, UnknownType, MissingElement}
+use Rattle.rsl_codec.specs.declared.fault.RslFault.TheVariants.{BadChannel, Memory, TooLong}
 use Rattle.rsl_codec.specs.declared.identifiers.TheConstants.{ELEMENTS, ACCESS_DELAY, ACTIVATION_TYPE, CHANNEL_MODE, CHANNEL_NUMBER, FULL_IMMEDIATE_ASSIGN, L3_INFORMATION, LINK_IDENTIFIER, MEASUREMENT_NUMBER, RELEASE_MODE, REQUEST_REFERENCE}
 use Rattle.rsl_codec.specs.declared.rsl.Rsl.{Rsl}
 use Rattle.rsl_codec.specs.declared.rsl_type.RslType.{RslType}

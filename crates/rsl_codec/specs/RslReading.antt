@@ -1,5 +1,6 @@
 -- Reading a message as a function of its octets, with the fault that stands first.
-use Rattle.std.specs.Prelude.{ℕ, ◌+◌, ◌*◌, Bool, List, [], ◌∷◌, length, Option, Some, None, option_map, Result, Ok, Err, nat_lt, if◌then◌else◌}
+use Rattle.std.specs.Prelude.{ℕ, ◌+◌, ◌*◌, Bool, List, [], ◌∷◌, length, Option, Some, None}
+use Rattle.std.specs.Prelude.{option_map, Result, Ok, Err, nat_lt, if◌then◌else◌}
 use Rattle.octets.specs.Answer.{◌>>=◌, result_map}
 use Rattle.octets.specs.Element.{Element, element}
 use Rattle.octets.specs.Walk.{walk, first_of}

@@ -1,12 +1,15 @@
 -- The text that is written of a message, and why one can't be written.
-use Rattle.std.specs.Prelude.{ℕ, Bool, false, ◌||◌, ◌==◌, nat_lt, List, [], ◌∷◌, ◌++◌, length, Option, Some, None, option_map, if◌then◌else◌}
+use Rattle.std.specs.Prelude.{ℕ, Bool, false, ◌||◌, ◌==◌, nat_lt, List, [], ◌∷◌, ◌++◌, length}
+use Rattle.std.specs.Prelude.{Option, Some, None, option_map, if◌then◌else◌}
 use Rattle.octets.specs.Field.{Field, field_text}
 use Rattle.rsl_codec.specs.declared.fault.RslFault.{RslFault}
 use Rattle.rsl_codec.specs.declared.fault.RslFault.TheVariants.{Short, TooLong}
 use Rattle.octets.specs.declared.limits.TheConstants.{MESSAGE_LIMIT, LENGTH_LIMIT}
 use Rattle.rsl_codec.specs.declared.identifiers.TheConstants.{ELEMENTS}
 use Rattle.rsl_codec.specs.declared.rsl.Rsl.{Rsl}
-use Rattle.rsl_codec.specs.declared.rsl.Rsl.TheVariants.{ErrorIndication, ImmediateAssignCommand, ChannelActivation, ChannelActivationNack, ConnectionFailure, MeasurementResult}
+use Rattle.rsl_codec.specs.declared.rsl.Rsl.TheVariants.{ErrorIndication, ImmediateAssignCommand}
+use Rattle.rsl_codec.specs.declared.rsl.Rsl.TheVariants.{ChannelActivation, ChannelActivationNack}
+use Rattle.rsl_codec.specs.declared.rsl.Rsl.TheVariants.{ConnectionFailure, MeasurementResult}
 use Rattle.rsl_codec.specs.Rsl.{fields, l3_of}
 use Rattle.rsl_codec.specs.RslType.{rsl_discriminator, rsl_octet, type_of}
 

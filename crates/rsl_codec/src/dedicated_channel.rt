@@ -2,8 +2,12 @@ ghost use Rattle.std.specs.Prelude.{◌≡◌, ◌++◌, ◌≤◌, length, OnOk
 ghost use Rattle.std.specs.Option.{ForSome};
 ghost use Rattle.octets.specs.Answer.{Gives};
 ghost use Rattle.octets.specs.declared.limits.TheConstants.{LENGTH_LIMIT};
-ghost use Rattle.rsl_codec.specs.Fields.{channel_fields, activation_fields, activation_ack_fields, failure_fields, detection_fields, downlink_fields, measurement_result_fields};
-ghost use Rattle.rsl_codec.specs.RslReading.{channel_only_at, elements_of, activation_at, activation_ack_at, failure_at, detection_at, measurement_result_at};
+ghost use Rattle.rsl_codec.specs.Fields.{channel_fields, activation_fields, activation_ack_fields};
+ghost use Rattle.rsl_codec.specs.Fields.{failure_fields, detection_fields, downlink_fields};
+ghost use Rattle.rsl_codec.specs.Fields.{measurement_result_fields};
+ghost use Rattle.rsl_codec.specs.RslReading.{channel_only_at, elements_of, activation_at};
+ghost use Rattle.rsl_codec.specs.RslReading.{activation_ack_at, failure_at, detection_at};
+ghost use Rattle.rsl_codec.specs.RslReading.{measurement_result_at};
 ghost use Rattle.rsl_codec.specs.RslText.{rsl_fields_text};
 
 use crate::fields::{

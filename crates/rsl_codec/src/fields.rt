@@ -5,7 +5,9 @@ ghost use Rattle.octets.specs.Walk.{finding, first_of, walk};
 ghost use Rattle.octets.specs.declared.limits.TheConstants.{LENGTH_LIMIT};
 ghost use Rattle.rsl_codec.specs.declared.identifiers.TheConstants.{ELEMENTS};
 ghost use Rattle.rsl_codec.specs.Fields.{octet_value, number_value, reference_value};
-ghost use Rattle.rsl_codec.specs.RslReading.{breaks_off, channel_at, data_elements, elements_of, l3_at, needed_value as needed_value_of, number_of, octet_of, optional_l3_at, reference_of};
+ghost use Rattle.rsl_codec.specs.RslReading.{breaks_off, channel_at, data_elements, elements_of};
+ghost use Rattle.rsl_codec.specs.RslReading.{l3_at, needed_value as needed_value_of, number_of};
+ghost use Rattle.rsl_codec.specs.RslReading.{octet_of, optional_l3_at, reference_of};
 ghost use Rattle.rsl_codec.specs.RslText.{rsl_element_text, rsl_field_text};
 
 use crate::identifiers::{CHANNEL_NUMBER, ELEMENTS, L3_INFORMATION, LINK_IDENTIFIER};

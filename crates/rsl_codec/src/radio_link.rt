@@ -2,8 +2,10 @@ ghost use Rattle.std.specs.Prelude.{◌≡◌, ◌++◌, ◌≤◌, length, OnOk
 ghost use Rattle.std.specs.Option.{ForSome};
 ghost use Rattle.octets.specs.Answer.{Gives};
 ghost use Rattle.octets.specs.declared.limits.TheConstants.{LENGTH_LIMIT};
-ghost use Rattle.rsl_codec.specs.Fields.{data_fields, link_fields, error_fields, establishment_fields, release_fields};
-ghost use Rattle.rsl_codec.specs.RslReading.{elements_of, data_at, data_elements, link_at, error_at, establishment_at, release_at};
+ghost use Rattle.rsl_codec.specs.Fields.{data_fields, link_fields, error_fields};
+ghost use Rattle.rsl_codec.specs.Fields.{establishment_fields, release_fields};
+ghost use Rattle.rsl_codec.specs.RslReading.{elements_of, data_at, data_elements, link_at};
+ghost use Rattle.rsl_codec.specs.RslReading.{error_at, establishment_at, release_at};
 ghost use Rattle.rsl_codec.specs.RslText.{rsl_fields_text};
 
 use crate::fields::{

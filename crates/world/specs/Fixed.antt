@@ -1,10 +1,12 @@
 -- What each event makes of the fixed world. None: its actor can't take it.
-use Rattle.std.specs.Prelude.{ℕ, ◌==◌, Option, Some, None, Result, Ok, Err, List, [], ◌∷◌, ◌++◌, if◌then◌else◌}
+use Rattle.std.specs.Prelude.{ℕ, ◌==◌, Option, Some, None, Result, Ok}
+use Rattle.std.specs.Prelude.{Err, List, [], ◌∷◌, ◌++◌, if◌then◌else◌}
 use Rattle.dtap_codec.specs.declared.sapi.Sapi.{Sapi}
 use Rattle.dtap_codec.specs.declared.sapi.Sapi.TheVariants.{Zero}
 use Rattle.mobile_end.specs.declared.fault.MobileFault.{MobileFault}
 use Rattle.mobile_end.specs.MobileState.{MobileState}
-use Rattle.mobile_end.specs.Mobile.{new_mobile, connected_mobile, after_queue, refusal_of_send, frame_answer, after_frame, is_acknowledged, after_acked}
+use Rattle.mobile_end.specs.Mobile.{new_mobile, connected_mobile, after_queue, refusal_of_send}
+use Rattle.mobile_end.specs.Mobile.{frame_answer, after_frame, is_acknowledged, after_acked}
 use Rattle.world_model.specs.declared.event.Event.{Event}
 use Rattle.world_model.specs.declared.event.Event.TheVariants.{Upper, AirUp, AirAck, SwitchTakes}
 use Rattle.world.specs.declared.fixed.TheConstants.{FIXED_MOBILE}
@@ -12,7 +14,12 @@ use Rattle.world.specs.FixedState.{FixedState}
 
 -- one mobile, connected without an initial message
 abbrev pub fixed_beginning : ℕ → FixedState
-fixed_beginning m = record { mobile = connected_mobile (new_mobile m); outbox = []; switch = record { modulus = m; taken = [] } }
+fixed_beginning m =
+    record {
+      mobile = connected_mobile (new_mobile m);
+      outbox = [];
+      switch = record { modulus = m; taken = [] };
+    }
 
 abbrev pub with_mobile : FixedState → MobileState → FixedState
 with_mobile world mobile = record { mobile = mobile; outbox = world.outbox; switch = world.switch }
@@ -24,7 +31,8 @@ unless_refused None old new = Some new
 
 abbrev pub after_upper : FixedState → Sapi → List ℕ → Option FixedState
 after_upper world sapi message =
-    unless_refused (refusal_of_send world.mobile sapi message) world (with_mobile world (after_queue world.mobile sapi message))
+    unless_refused (refusal_of_send world.mobile sapi message) world
+    (with_mobile world (after_queue world.mobile sapi message))
 
 -- the frame that the station can take, if there is one
 abbrev pub frame_in : Result (Option (List ℕ)) MobileFault → Option (List ℕ)
@@ -38,14 +46,19 @@ frame_up world = frame_in (frame_answer world.mobile Zero)
 abbrev pub air_up_with : Option (List ℕ) → FixedState → Option FixedState
 air_up_with None world = None
 air_up_with (Some frame) world =
-    Some (record { mobile = after_frame world.mobile Zero; outbox = world.outbox ++ frame ∷ []; switch = world.switch })
+    Some (record world {
+      mobile = after_frame world.mobile Zero;
+      outbox = world.outbox ++ frame ∷ [];
+    })
 
 abbrev pub after_air_up : FixedState → Option FixedState
 after_air_up world = air_up_with (frame_up world) world
 
 abbrev pub after_air_ack : FixedState → Option FixedState
 after_air_ack world =
-    if is_acknowledged world.mobile Zero then Some (with_mobile world (after_acked world.mobile Zero)) else None
+    if is_acknowledged world.mobile Zero
+    then Some (with_mobile world (after_acked world.mobile Zero))
+    else None
 
 -- the switch takes the first message of its outbox
 abbrev pub after_taking : List (List ℕ) → FixedState → Option FixedState

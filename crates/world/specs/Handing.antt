@@ -21,15 +21,19 @@ pub record IsHandedInOrder (begin : Actors) (events : List Event) (connection : 
   -- per SAPI, what was handed is some of what the switch sent, each message at most once and in its
   -- order; as long as the connection is open, what was handed, then what is held, is what the
   -- switch sent and wasn't rejected
-  pub conserved : DownlinkIsConserved connection begin.controller.settings (all_steps begin events) (controller_run begin events)
+  pub conserved : DownlinkIsConserved connection begin.controller.settings (all_steps begin events)
+      (controller_run begin events)
   -- from the COMMAND on nothing is handed until its mobile answers or it is cleared, and what is
   -- handed goes to the channel that serves, the first of the service list; once CLEAR COMPLETE was
   -- put only RLC is put
-  pub in_place : HandsInPlace connection begin.controller.settings (all_steps begin events) (controller_run begin events)
+  pub in_place : HandsInPlace connection begin.controller.settings (all_steps begin events)
+      (controller_run begin events)
   -- and from the step that closes it on nothing is handed or relayed
-  pub silent : SilenceIsKept connection begin.controller.settings (all_steps begin events) (controller_run begin events)
+  pub silent : SilenceIsKept connection begin.controller.settings (all_steps begin events)
+      (controller_run begin events)
 
 -- each connection; in the fixed world nothing is handed, since no controller is there
 abbrev pub HandsInOrder : Scene → List Event → Type 0
 HandsInOrder (Fixed world) events = Unit {0}
-HandsInOrder (Controlled w) events = (connection : ℕ) → 1 ≤ connection → IsHandedInOrder w events connection
+HandsInOrder (Controlled w) events =
+    (connection : ℕ) → 1 ≤ connection → IsHandedInOrder w events connection

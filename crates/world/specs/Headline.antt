@@ -11,7 +11,8 @@ use Rattle.world.specs.declared.world.Scene.{Scene}
 use Rattle.world.specs.declared.world.Scene.TheVariants.{Fixed, Controlled}
 use Rattle.world.specs.Handing.{HandsInOrder}
 use Rattle.world.specs.Openers.{opener_in}
-use Rattle.world.specs.Queues.{Queue, outbox, all_messages_put, all_messages_taken, messages_left, is_kept, IsTakenBySwitch}
+use Rattle.world.specs.Queues.{Queue, outbox, all_messages_put, all_messages_taken}
+use Rattle.world.specs.Queues.{messages_left, is_kept, IsTakenBySwitch}
 use Rattle.world.specs.Views.{sent_list, accepted_list, progress_in}
 use Rattle.world.specs.World.{fixed_world, controlled_world}
 use Rattle.world.specs.WorldState.{WorldState}
@@ -28,7 +29,8 @@ AreEventsFor (Fixed world) events = Unit {0}
 AreEventsFor (Controlled w) events = AreOctetEvents events
 
 -- the list is the beginning of what the mobile sent whose connection this is
-pub record IsBeginningOfSent (begin : Scene) (events : List Event) (scene : Scene) (connection : ℕ) (list : List (List ℕ)) : Type 0 where
+pub record IsBeginningOfSent (begin : Scene) (events : List Event) (scene : Scene) (connection : ℕ)
+    (list : List (List ℕ)) : Type 0 where
   pub mobile : ℕ
   pub opened : opener_in begin events connection ≡ Some mobile
   pub sent : List (List ℕ)
@@ -38,18 +40,24 @@ pub record IsBeginningOfSent (begin : Scene) (events : List Event) (scene : Scen
 -- What holds of the relay queues. With a controller, an outbox is lost with its link.
 pub record QueuesKeepOrder (begin : Scene) (events : List Event) (scene : Scene) : Type 0 where
   -- what was taken is the beginning of what was put
-  pub first_out : (queue : Queue) → IsPrefix (all_messages_taken begin events queue) (all_messages_put begin events queue)
+  pub first_out : (queue : Queue)
+      → IsPrefix (all_messages_taken begin events queue) (all_messages_put begin events queue)
   -- and what stands there is the rest, unless its link broke
-  pub left : (queue : Queue) → is_kept scene queue ≡ true → all_messages_put begin events queue ≡ all_messages_taken begin events queue ++ messages_left scene queue
+  pub left : (queue : Queue) → is_kept scene queue ≡ true
+      → all_messages_put begin events queue ≡
+      all_messages_taken begin events queue ++ messages_left scene queue
   -- and the switch has what was taken out of its outbox
   pub switch : IsTakenBySwitch scene (all_messages_taken begin events (outbox 0))
 
 -- what holds of the actors whom these events have made from a beginning
 pub record IsInOrder (begin : Scene) (events : List Event) (scene : Scene) : Type 0 where
   -- what the switch accepts is a prefix of what the mobile sent
-  pub accepted : (connection : ℕ) (list : List (List ℕ)) → accepted_list scene connection ≡ Some list → IsBeginningOfSent begin events scene connection list
+  pub accepted : (connection : ℕ) (list : List (List ℕ))
+      → accepted_list scene connection ≡ Some list
+      → IsBeginningOfSent begin events scene connection list
   -- no gap is ever judged
-  pub no_gap : (connection : ℕ) (progress : Option ℕ) → progress_in scene connection ≡ Some progress → IsSome progress
+  pub no_gap : (connection : ℕ) (progress : Option ℕ)
+      → progress_in scene connection ≡ Some progress → IsSome progress
   -- what the switch sends is handed to the mobile in order, and after CLEAR COMPLETE only RLC is
   -- put
   pub handed : HandsInOrder begin events

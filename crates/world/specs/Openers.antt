@@ -8,5 +8,6 @@ use Rattle.world.specs.declared.world.Scene.TheVariants.{Fixed, Controlled}
 
 -- the mobile whose connection of the switch it is, after these events
 abbrev pub opener_in : Scene → List Event → ℕ → Option ℕ
-opener_in (Fixed world) events connection = if connection == FIXED_CONNECTION then Some FIXED_MOBILE else None
+opener_in (Fixed world) events connection =
+    if connection == FIXED_CONNECTION then Some FIXED_MOBILE else None
 opener_in (Controlled w) events connection = opener_of w events connection

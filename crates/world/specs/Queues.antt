@@ -1,5 +1,6 @@
 -- The relay queues of a world, and their histories over any list of events.
-use Rattle.std.specs.Prelude.{◌≡◌, ℕ, ◌==◌, Bool, true, List, [], ◌∷◌, ◌++◌, fold, map, option_to_list, Option, Some, None, if◌then◌else◌}
+use Rattle.std.specs.Prelude.{◌≡◌, ℕ, ◌==◌, Bool, true, List, [], ◌∷◌, ◌++◌, fold}
+use Rattle.std.specs.Prelude.{map, option_to_list, Option, Some, None, if◌then◌else◌}
 use Rattle.bssmap_codec.specs.declared.sccp.Sccp.{Sccp}
 use Rattle.dtap_codec.specs.declared.sapi.Sapi.TheVariants.{Zero}
 use Rattle.msc_end.specs.Switch.{after as switch_after}
@@ -37,7 +38,8 @@ in_switch_outbox (inbox source) messages = []
 
 -- what a frame that the station takes from the mobile puts into the switch's outbox
 abbrev pub fixed_messages_put : FixedState → Event → List (List ℕ)
-fixed_messages_put world (AirUp mobile Zero) = if mobile == FIXED_MOBILE then option_to_list (frame_up world) else []
+fixed_messages_put world (AirUp mobile Zero) =
+    if mobile == FIXED_MOBILE then option_to_list (frame_up world) else []
 fixed_messages_put world _ = []
 
 -- the first of these
@@ -86,11 +88,13 @@ is_kept scene queue = true
 -- the history of a queue: all that was put there by these events, and all that was taken, in order
 abbrev pub all_messages_put : Scene → List Event → Queue → List Queued
 all_messages_put scene [] queue = []
-all_messages_put scene (event ∷ events) queue = messages_put scene event queue ++ all_messages_put (actors_after scene event) events queue
+all_messages_put scene (event ∷ events) queue =
+    messages_put scene event queue ++ all_messages_put (actors_after scene event) events queue
 
 abbrev pub all_messages_taken : Scene → List Event → Queue → List Queued
 all_messages_taken scene [] queue = []
-all_messages_taken scene (event ∷ events) queue = messages_taken scene event queue ++ all_messages_taken (actors_after scene event) events queue
+all_messages_taken scene (event ∷ events) queue =
+    messages_taken scene event queue ++ all_messages_taken (actors_after scene event) events queue
 
 -- the switch end after a message, where there is one
 abbrev pub switch_by : SwitchState → Option Sccp → SwitchState
@@ -111,4 +115,5 @@ messages_of switch = map (λ c. c.reception.taken) switch.connections
 -- The connections of the switch have what was taken out of its outbox.
 abbrev pub IsTakenBySwitch : Scene → List Queued → Type 0
 IsTakenBySwitch (Fixed world) taken = taken ≡ map message world.switch.taken
-IsTakenBySwitch (Controlled w) taken = messages_of w.switch ≡ messages_of (switch_of w.switch.modulus taken)
+IsTakenBySwitch (Controlled w) taken =
+    messages_of w.switch ≡ messages_of (switch_of w.switch.modulus taken)

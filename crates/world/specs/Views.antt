@@ -19,13 +19,16 @@ received_list (Controlled w) mobile = received w mobile
 
 -- what the switch took on a connection
 abbrev pub taken_list : Scene → ℕ → Option (List (List ℕ))
-taken_list (Fixed world) connection = if connection == FIXED_CONNECTION then Some world.switch.taken else None
+taken_list (Fixed world) connection =
+    if connection == FIXED_CONNECTION then Some world.switch.taken else None
 taken_list (Controlled w) connection = taken w connection
 
 -- the accepted list of a connection
 abbrev pub accepted_list : Scene → ℕ → Option (List (List ℕ))
 accepted_list (Fixed world) connection =
-    if connection == FIXED_CONNECTION then Some (accepted_of world.switch.modulus world.switch.taken) else None
+    if connection == FIXED_CONNECTION
+    then Some (accepted_of world.switch.modulus world.switch.taken)
+    else None
 accepted_list (Controlled w) connection = accepted w connection
 
 -- the messages without numbers of a connection
@@ -37,5 +40,7 @@ unnumbered_list (Controlled w) connection = unnumbered w connection
 -- how far the flow of a connection has come at the switch's filter; None after a gap
 abbrev pub progress_in : Scene → ℕ → Option (Option ℕ)
 progress_in (Fixed world) connection =
-    if connection == FIXED_CONNECTION then Some (progress world.switch.modulus world.switch.taken) else None
+    if connection == FIXED_CONNECTION
+    then Some (progress world.switch.modulus world.switch.taken)
+    else None
 progress_in (Controlled w) connection = progress_of w connection

@@ -1,5 +1,6 @@
 -- What events make of a world.
-use Rattle.std.specs.Prelude.{ℕ, ◌+◌, ◌-◌, ◌^◌, min, false, Option, option_map, unwrap_or, is_some, List, [], ◌∷◌, ◌++◌, take, drop, if◌then◌else◌}
+use Rattle.std.specs.Prelude.{ℕ, ◌+◌, ◌-◌, ◌^◌, min, false, Option, option_map, unwrap_or}
+use Rattle.std.specs.Prelude.{is_some, List, [], ◌∷◌, ◌++◌, take, drop, if◌then◌else◌}
 use Rattle.settings.specs.Parameters.{Parameters}
 use Rattle.world_model.specs.declared.event.Event.{Event}
 use Rattle.world_model.specs.declared.event.Event.TheVariants.{BaseDown}
@@ -16,7 +17,8 @@ fixed_world m = record { scene = Fixed (fixed_beginning m); not_taken = 0; faile
 
 -- the world of these settings, in which nothing has happened
 abbrev pub controlled_world : Parameters → WorldState
-controlled_world settings = record { scene = Controlled (new_actors settings); not_taken = 0; failed = false }
+controlled_world settings =
+    record { scene = Controlled (new_actors settings); not_taken = 0; failed = false }
 
 -- the actors after an event; None where its actor can't take it
 abbrev pub scene_after : Scene → Event → Option Scene
@@ -29,10 +31,11 @@ actors_after scene event = unwrap_or (scene_after scene event) scene
 -- an event that is not taken is counted, and changes nothing else
 abbrev pub after : WorldState → Event → WorldState
 after world event =
-    record {
+    record world {
       scene = actors_after world.scene event;
-      not_taken = if is_some (scene_after world.scene event) then world.not_taken else min (world.not_taken + 1) (2 ^ 64 - 1);
-      failed = world.failed;
+      not_taken = if is_some (scene_after world.scene event)
+          then world.not_taken
+          else min (world.not_taken + 1) (2 ^ 64 - 1);
     }
 
 -- the world after these events, one after the other

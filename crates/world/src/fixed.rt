@@ -2,11 +2,12 @@ ghost use Rattle.std.specs.Prelude.{◌≡◌, IfOk, IsSome, OnErr};
 ghost use Rattle.dtap_codec.specs.Number.{count_of};
 ghost use Rattle.nsd_filter.specs.AcceptedList.{accepted_list, not_of_the_flow};
 ghost use Rattle.world_model.specs.Takes.{Takes};
-ghost use Rattle.world.specs.Fixed.{fixed_beginning, after_upper, after_air_up, after_air_ack, after_switch_takes, fixed_after};
+ghost use Rattle.world.specs.Fixed.{fixed_beginning, after_upper, after_air_up};
+ghost use Rattle.world.specs.Fixed.{after_air_ack, after_switch_takes, fixed_after};
 
 use crate::Event;
 use dtap_codec::{Modulus, Sapi};
-use mobile_end::{MobileEnd, MobileFault};
+use mobile_end::MobileEnd;
 use nsd_filter::Reception;
 use octets::{Memory, Octets};
 use std::alloc::Global;
@@ -34,7 +35,11 @@ impl Model for FixedWorld {
 
     ghost Value = { FixedState };
 
-    ghost view = { λ world. record { mobile = world.mobile; outbox = world.outbox.items; switch = world.switch } };
+    ghost view = { λ world. record {
+      mobile = world.mobile;
+      outbox = world.outbox.items;
+      switch = world.switch;
+    } };
 }
 
 impl FixedWorld {
@@ -54,7 +59,8 @@ impl FixedWorld {
 
     /// Lets the event's actor act, and says whether it could.
     pub(crate) fn take(&mut self, event: &Event) -> Result<bool, Memory>
-        ensures ok { IfOk result (λ taken. Takes self.old (fixed_after self.old event.now) taken self.new) }
+        ensures ok { IfOk result (λ taken.
+            Takes self.old (fixed_after self.old event.now) taken self.new) }
         // Memory is wanted only for what the actor can take.
         ensures memory { OnErr result (IsSome (fixed_after self.old event.now)) }
     {
@@ -79,19 +85,16 @@ impl FixedWorld {
 
     /// The upper layers send a message, which the mobile may refuse.
     fn upper(&mut self, sapi: Sapi, message: &Octets) -> Result<bool, Memory>
-        ensures ok { IfOk result (λ taken. Takes self.old (after_upper self.old sapi message.now) taken self.new) }
+        ensures ok { IfOk result (λ taken.
+            Takes self.old (after_upper self.old sapi message.now) taken self.new) }
         ensures memory { OnErr result (IsSome (after_upper self.old sapi message.now)) }
     {
         if self.mobile.refusal(sapi, message.as_slice()).is_some() {
             return Ok(false);
         }
         let copy = Octets::copy(self.alloc, message.as_slice())?;
-        match self.mobile.send(sapi, copy.into_vec()) {
-            Ok(()) => Ok(true),
-            Err(MobileFault::Memory) => Err(Memory),
-            Err(MobileFault::NotConnected) => Ok(false),
-            Err(MobileFault::BadMessage) => Ok(false),
-        }
+        self.mobile.send(sapi, copy.into_vec()).map_err(|_| Memory)?;
+        Ok(true)
     }
 
     /// The station takes the frame in the air, and it goes into the switch's outbox.
@@ -119,7 +122,8 @@ impl FixedWorld {
 
     /// The switch takes the first message of its outbox.
     fn switch_takes(&mut self) -> Result<bool, Memory>
-        ensures ok { IfOk result (λ taken. Takes self.old (after_switch_takes self.old) taken self.new) }
+        ensures ok { IfOk result (λ taken.
+            Takes self.old (after_switch_takes self.old) taken self.new) }
         ensures memory { OnErr result (IsSome (after_switch_takes self.old)) }
     {
         match self.outbox.pop_front() {

@@ -12,7 +12,9 @@ ghost use Rattle.world.specs.Headline.{AreEventsFor, Begins, IsInOrder, QueuesKe
 /// gap is ever judged; and each relay queue gives what was put there, in order. With a controller,
 /// events are of octets. It is a law on the definitions that `World::run` cites.
 pub fn keeps_order()
-    ensures { (begin : WorldState) (events : List Event) → Begins begin → AreEventsFor begin.scene events → IsInOrder begin.scene events (after_all begin events).scene }
+    ensures { (begin : WorldState) (events : List Event)
+        → Begins begin → AreEventsFor begin.scene events
+        → IsInOrder begin.scene events (after_all begin events).scene }
 {}
 
 /// Law: in a world with a controller, whatever events happen, each relay queue gives what was put
@@ -20,5 +22,6 @@ pub fn keeps_order()
 /// what was taken out of its outbox.
 pub fn queues_keep_order()
     ensures { (settings : Parameters) (events : List Event)
-        → QueuesKeepOrder (controlled_world settings).scene events (after_all (controlled_world settings) events).scene }
+        → QueuesKeepOrder (controlled_world settings).scene events
+        (after_all (controlled_world settings) events).scene }
 {}

@@ -1,11 +1,14 @@
-ghost use Rattle.std.specs.Prelude.{IsSome, ◌≡◌, ℕ, ◌++◌, List, false, true, IfOk, OnOk, OnErr, is_some, option_map};
+ghost use Rattle.std.specs.Prelude.{IsSome, ◌≡◌, ℕ, ◌++◌, List, false, true};
+ghost use Rattle.std.specs.Prelude.{IfOk, OnOk, OnErr, is_some, option_map};
 ghost use Rattle.dtap_codec.specs.Number.{count_of};
 ghost use Rattle.settings.specs.Parameters.{Parameters};
 ghost use Rattle.world_model.specs.declared.event.Event.{Event as WorldEvent};
 ghost use Rattle.world_model.specs.Takes.{Takes};
 ghost use Rattle.world.specs.WorldState.{WorldState};
-ghost use Rattle.world.specs.World.{fixed_world, controlled_world, scene_after, after, after_all, broken};
-ghost use Rattle.world.specs.Views.{sent_list, received_list, taken_list, accepted_list, unnumbered_list};
+ghost use Rattle.world.specs.World.{fixed_world, controlled_world};
+ghost use Rattle.world.specs.World.{scene_after, after, after_all, broken};
+ghost use Rattle.world.specs.Views.{sent_list, received_list, taken_list};
+ghost use Rattle.world.specs.Views.{accepted_list, unnumbered_list};
 ghost use Rattle.world.specs.Headline.{AreEventsFor, Begins, IsInOrder, QueuesKeepOrder};
 
 use crate::Event;
@@ -40,7 +43,11 @@ impl Model for World {
 
     ghost Value = { WorldState };
 
-    ghost view = { λ world. record { scene = world.scene; not_taken = world.not_taken; failed = world.failed } };
+    ghost view = { λ world. record {
+      scene = world.scene;
+      not_taken = world.not_taken;
+      failed = world.failed;
+    } };
 }
 
 impl World {
@@ -83,7 +90,8 @@ impl World {
         place: usize,
         source: u16,
     ) -> Result<World, Memory>
-        ensures world { IfOk result (λ world. world ≡ after_all (controlled_world settings) (broken events.now place source)) }
+        ensures world { IfOk result (λ world.
+            world ≡ after_all (controlled_world settings) (broken events.now place source)) }
     {
         let mut world = World::new(alloc, settings)?;
         match world.run_to_break(events, place, source) {
@@ -113,7 +121,8 @@ impl World {
         ensures taken { IfOk result (λ taken. taken ≡ is_some (scene_after self.old.scene event)) }
         ensures stands { OnOk result (self.old.failed ≡ false) }
         ensures failed { OnErr result (self.new.failed ≡ true) }
-        ensures memory { OnErr result (self.old.failed ≡ false → IsSome (scene_after self.old.scene event)) }
+        ensures memory { OnErr result
+            (self.old.failed ≡ false → IsSome (scene_after self.old.scene event)) }
     {
         self.act(&event)
     }
@@ -125,14 +134,18 @@ impl World {
         // Whatever events made the world from a beginning, what the switch accepts in a connection
         // is the beginning of what its mobile sent, no filter ever finds a gap, and each queue
         // gives what was put there, in order. The events are of octets.
-        ensures in_order { OnOk result ((begin : WorldState) (before : List WorldEvent) → Begins begin → AreEventsFor begin.scene (before ++ events.now)
-            → self.old ≡ after_all begin before → IsInOrder begin.scene (before ++ events.now) self.new.scene) }
+        ensures in_order { OnOk result ((begin : WorldState) (before : List WorldEvent)
+            → Begins begin → AreEventsFor begin.scene (before ++ events.now)
+            → self.old ≡ after_all begin before
+            → IsInOrder begin.scene (before ++ events.now) self.new.scene) }
 
         // And whatever events made the world from one with a controller, of whatever settings, each
         // queue gives what was put there, in order, and the switch has what was taken out of its
         // outbox.
-        ensures queues { OnOk result ((settings : Parameters) (before : List WorldEvent) → self.old ≡ after_all (controlled_world settings) before
-            → QueuesKeepOrder (controlled_world settings).scene (before ++ events.now) self.new.scene) }
+        ensures queues { OnOk result ((settings : Parameters) (before : List WorldEvent)
+            → self.old ≡ after_all (controlled_world settings) before
+            → QueuesKeepOrder (controlled_world settings).scene (before ++ events.now)
+            self.new.scene) }
         ensures stands { OnOk result (self.old.failed ≡ false) }
         ensures failed { OnErr result (self.new.failed ≡ true) }
     {
@@ -147,10 +160,12 @@ impl World {
 
     fn act(&mut self, event: &Event) -> Result<bool, Memory>
         ensures ok { OnOk result (self.new ≡ after self.old event.now) }
-        ensures taken { IfOk result (λ taken. taken ≡ is_some (scene_after self.old.scene event.now)) }
+        ensures taken { IfOk result (λ taken.
+            taken ≡ is_some (scene_after self.old.scene event.now)) }
         ensures stands { OnOk result (self.old.failed ≡ false) }
         ensures failed { OnErr result (self.new.failed ≡ true) }
-        ensures memory { OnErr result (self.old.failed ≡ false → IsSome (scene_after self.old.scene event.now)) }
+        ensures memory { OnErr result
+            (self.old.failed ≡ false → IsSome (scene_after self.old.scene event.now)) }
     {
         if self.failed {
             return Err(Memory);
@@ -237,7 +252,8 @@ impl World {
 
 impl Scene {
     fn take(&mut self, event: &Event) -> Result<bool, Memory>
-        ensures ok { IfOk result (λ taken. Takes self.old (scene_after self.old event.now) taken self.new) }
+        ensures ok { IfOk result (λ taken.
+            Takes self.old (scene_after self.old event.now) taken self.new) }
         ensures memory { OnErr result (IsSome (scene_after self.old event.now)) }
     {
         match self {

@@ -4,7 +4,8 @@ use Rattle.std.specs.Option.{is_some}
 use Rattle.std.specs.Result.{result_ok}
 use Rattle.octets.specs.Element.{Element}
 use Rattle.octets.specs.Walk.{first_of}
-use Rattle.rsl_codec.specs.declared.identifiers.TheConstants.{ACTIVATION_TYPE, CHANNEL_MODE, CHANNEL_NUMBER}
+use Rattle.rsl_codec.specs.declared.identifiers.TheConstants.{ACTIVATION_TYPE}
+use Rattle.rsl_codec.specs.declared.identifiers.TheConstants.{CHANNEL_MODE, CHANNEL_NUMBER}
 use Rattle.rsl_codec.specs.declared.rsl.Rsl.{Rsl}
 use Rattle.rsl_codec.specs.declared.rsl.Rsl.TheVariants.{ChannelActivation}
 use Rattle.rsl_codec.specs.declared.rsl_type.RslType.{RslType}
@@ -29,4 +30,6 @@ channel_in (Some value) = result_ok (channel_at value)
 -- by the elements behind its type
 abbrev pub channel_by_elements : List Element → Option ℕ
 channel_by_elements es =
-    if is_some (first_of ACTIVATION_TYPE es) && is_some (first_of CHANNEL_MODE es) then channel_in (first_of CHANNEL_NUMBER es) else None
+    if is_some (first_of ACTIVATION_TYPE es) && is_some (first_of CHANNEL_MODE es)
+    then channel_in (first_of CHANNEL_NUMBER es)
+    else None

@@ -1,11 +1,13 @@
 -- What the calls of the mobiles make of them, by the words of `world_model`, which has the same for
 -- the whole world.
-use Rattle.std.specs.Prelude.{ℕ, ◌&&◌, Bool, true, false, if◌then◌else◌, List, set, slice_get, Option, Some, None}
+use Rattle.std.specs.Prelude.{ℕ, ◌&&◌, Bool, true, false, if◌then◌else◌}
+use Rattle.std.specs.Prelude.{List, set, slice_get, Option, Some, None}
 use Rattle.std.specs.List.{position_or_len}
 use Rattle.std.specs.Option.{is_none, option_and_then, option_map}
 use Rattle.dtap_codec.specs.declared.sapi.Sapi.{Sapi}
 use Rattle.dtap_codec.specs.declared.sapi.Sapi.TheVariants.{Zero, Three}
-use Rattle.mobile_end.specs.Mobile.{after_acked, after_arrival, after_leave, after_queue, frame_answer, is_acknowledged, refusal_of_send}
+use Rattle.mobile_end.specs.Mobile.{after_acked, after_arrival, after_leave, after_queue}
+use Rattle.mobile_end.specs.Mobile.{frame_answer, is_acknowledged, refusal_of_send}
 use Rattle.world_model.specs.declared.seat.Command.{Command}
 use Rattle.world_model.specs.declared.seat.Seat.{Seat}
 use Rattle.world_model.specs.declared.seat.Seat.TheVariants.{On, Moving}
@@ -19,7 +21,9 @@ use Rattle.world_ends.specs.MobilesState.{MobilesState}
 -- its upper layers send, where they may
 abbrev pub sending : Sapi → List ℕ → Mobile → Option Mobile
 sending sapi message p =
-    if may_send p.seat && is_none (refusal_of_send p.end sapi message) then Some (record p { end = after_queue p.end sapi message }) else None
+    if may_send p.seat && is_none (refusal_of_send p.end sapi message)
+    then Some (record p { end = after_queue p.end sapi message })
+    else None
 
 -- the frame in the air that the station can take
 abbrev pub frame_of : Sapi → Mobile → Option (List ℕ)
@@ -40,11 +44,13 @@ taking sapi p = option_map (λ frame. taken_from sapi p) (frame_of sapi p)
 
 -- it is acknowledged, where it was taken
 abbrev pub acknowledging : Sapi → Mobile → Option Mobile
-acknowledging sapi p = if is_acknowledged p.end sapi then Some (record p { end = after_acked p.end sapi }) else None
+acknowledging sapi p =
+    if is_acknowledged p.end sapi then Some (record p { end = after_acked p.end sapi }) else None
 
 -- it leaves its channel
 abbrev pub leaving : Tenure → Command → Mobile → Mobile
-leaving from command p = record p { end = after_leave p.end; seat = Moving from command; opens = false }
+leaving from command p =
+    record p { end = after_leave p.end; seat = Moving from command; opens = false }
 
 abbrev pub is_moving : Seat → Bool
 is_moving (Moving from command) = true
@@ -80,4 +86,6 @@ at_mobile number happens s = at_found number happens s (mobile_in number s.mobil
 
 -- or this, where it can
 abbrev pub by_mobile : ℕ → (Mobile → Option Mobile) → MobilesState → Option MobilesState
-by_mobile number happens s = option_map (λ p. with_mobile_in number p s) (option_and_then happens (mobile_in number s.mobiles))
+by_mobile number happens s =
+    option_map (λ p. with_mobile_in number p s)
+    (option_and_then happens (mobile_in number s.mobiles))

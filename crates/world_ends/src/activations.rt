@@ -36,7 +36,8 @@ fn activated_by(octets: &[u8]) -> Option<ChanNo>
 }
 
 fn activated_by_type(discriminator: u8, octet: u8, body: &[u8]) -> Option<ChanNo>
-    ensures { result ≡ activations.activated_by (result_ok (rsl_reading_by (rsl_type discriminator octet) body.now)) }
+    ensures { result ≡ activations.activated_by
+        (result_ok (rsl_reading_by (rsl_type discriminator octet) body.now)) }
 {
     if !is_activation(discriminator, octet) {
         return None;
@@ -55,7 +56,8 @@ fn is_activation(discriminator: u8, octet: u8) -> bool
 
 // By what follows the type.
 fn activated_channel(body: &[u8]) -> Option<ChanNo>
-    ensures { result ≡ activations.activated_by (result_ok (rsl_reading_by (Some ChannelActivation) body.now)) }
+    ensures { result ≡ activations.activated_by
+        (result_ok (rsl_reading_by (Some ChannelActivation) body.now)) }
 {
     if breaks_off(body) {
         return None;

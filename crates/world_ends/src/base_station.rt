@@ -1,8 +1,8 @@
-ghost use Rattle.std.specs.Prelude.{◌≡◌, true, OnOk, IfOk, IfSome, replicate};
+ghost use Rattle.std.specs.Prelude.{◌≡◌, None, true, OnOk, IfOk, IfSome, replicate};
 ghost use Rattle.controller_model.specs.declared.limits.TheConstants.{CHANNEL_NUMBERS};
-ghost use Rattle.link_model.specs.Base.{is_active, is_told, first_message};
+ghost use Rattle.link_model.specs.Base.{after_establish, is_active, is_told, first_message};
 ghost use Rattle.world_model.specs.World.{new_spot, new_station};
-ghost use Rattle.world_ends.specs.Stations.{established_on, given_on, silenced, spot_of, told_to};
+ghost use Rattle.world_ends.specs.Stations.{given_on, silenced, spot_of, told_to};
 ghost use Rattle.world_ends.specs.Written.{IsWritten};
 
 use crate::radio_channel::RadioChannel;
@@ -86,21 +86,16 @@ impl BaseStation {
         requires written { IsWritten message }
         ensures { OnOk result (self.new ≡ told_to message self.old) }
     {
-        match self.base.tell(message) {
-            Ok(()) => Ok(()),
-            Err(_) => Err(Memory),
-        }
+        self.base.tell(message).map_err(|_| Memory)
     }
 
-    /// A mobile establishes the main link of an active channel.
-    pub(crate) fn establish(&mut self, channel: ChanNo) -> Result<(), Memory>
+    /// A mobile establishes the data link of a SAPI on an active channel, without a message.
+    pub(crate) fn establish(&mut self, channel: ChanNo, sapi: Sapi) -> Result<(), Memory>
         requires { is_active self.old.base.active channel ≡ true }
-        ensures { OnOk result (self.new ≡ established_on channel self.old) }
+        ensures { OnOk result (self.new ≡
+            record self.old { base = after_establish self.old.base channel sapi None }) }
     {
-        match self.base.establish(channel, Sapi::Zero, None) {
-            Ok(()) => Ok(()),
-            Err(_) => Err(Memory),
-        }
+        self.base.establish(channel, sapi, None).map_err(|_| Memory)
     }
 
     /// All that was made is dropped.

@@ -1,10 +1,10 @@
-ghost use Rattle.std.specs.Prelude.{◌≡◌, ◌%◌, ◌+◌, length, Some, None, true, OnOk, IfOk};
+ghost use Rattle.std.specs.Prelude.{◌≡◌, length, Some, true, OnOk, IfOk};
 ghost use Rattle.dtap_codec.specs.declared.rr.RrMessage.TheVariants.{MeasurementReport};
 ghost use Rattle.dtap_codec.specs.RrText.{rr_text};
 ghost use Rattle.dtap_codec.specs.declared.sapi.Sapi.TheVariants.{Zero, Three};
-ghost use Rattle.link_model.specs.Base.{after_establish, after_up, is_active};
+ghost use Rattle.link_model.specs.Base.{after_up, is_active};
 ghost use Rattle.rsl_codec.specs.Rsl.{IsL3};
-ghost use Rattle.world_ends.specs.Stations.{brought_on, reported_on, spot_of, with_spot_of};
+ghost use Rattle.world_ends.specs.Stations.{brought_on, counted_on, reported_on, with_sapi_three};
 
 use crate::base_station::BaseStation;
 use dtap_codec::{REPORT_LENGTH, RrMessage, Sapi};
@@ -50,21 +50,18 @@ impl BaseStation {
         requires l3 { IsL3 (Some frame.now) }
         ensures { OnOk result (self.new ≡ brought_on channel true Zero frame.now self.old) }
     {
-        match self.base.establish(channel, Sapi::Zero, Some(frame)) {
-            Ok(()) => Ok(()),
-            Err(_) => Err(Memory),
-        }
+        self.base
+            .establish(channel, Sapi::Zero, Some(frame))
+            .map_err(|_| Memory)
     }
 
     fn bring_data(&mut self, channel: ChanNo, sapi: Sapi, frame: &[u8]) -> Result<(), Memory>
         requires active { is_active self.old.base.active channel ≡ true }
         requires l3 { IsL3 (Some frame.now) }
-        ensures { OnOk result (self.new ≡ record self.old { base = after_up self.old.base channel sapi frame.now }) }
+        ensures { OnOk result
+            (self.new ≡ record self.old { base = after_up self.old.base channel sapi frame.now }) }
     {
-        match self.base.up(channel, sapi, frame) {
-            Ok(()) => Ok(()),
-            Err(_) => Err(Memory),
-        }
+        self.base.up(channel, sapi, frame).map_err(|_| Memory)
     }
 
     fn bring_short_message(&mut self, channel: ChanNo, frame: &[u8]) -> Result<(), Memory>
@@ -73,25 +70,15 @@ impl BaseStation {
         ensures { OnOk result (self.new ≡ brought_on channel true Three frame.now self.old) }
     {
         if !self.is_sapi_three_up(channel) {
-            self.establish_short_messages(channel)?;
+            self.establish(channel, Sapi::Three)?;
         }
         self.set_sapi_three(channel, true);
         self.bring_data(channel, Sapi::Three, frame)
     }
 
-    fn establish_short_messages(&mut self, channel: ChanNo) -> Result<(), Memory>
-        requires { is_active self.old.base.active channel ≡ true }
-        ensures { OnOk result (self.new ≡ record self.old { base = after_establish self.old.base channel Three None }) }
-    {
-        match self.base.establish(channel, Sapi::Three, None) {
-            Ok(()) => Ok(()),
-            Err(_) => Err(Memory),
-        }
-    }
-
     /// The data link of SAPI 3 is up from now on, or down.
     pub(crate) fn set_sapi_three(&mut self, channel: ChanNo, up: bool)
-        ensures { self.new ≡ with_spot_of channel (record (spot_of self.old channel) { sapi_three_up = up }) self.old }
+        ensures { self.new ≡ with_sapi_three up channel self.old }
     {
         if let Some(channel) = self.channels.get_mut(usize::from(channel.octet())) {
             channel.set_sapi_three(up);
@@ -118,7 +105,7 @@ impl BaseStation {
     }
 
     fn count_report(&mut self, channel: ChanNo)
-        ensures { self.new ≡ with_spot_of channel (record (spot_of self.old channel) { reports = ((spot_of self.old channel).reports + 1) % 256 }) self.old }
+        ensures { self.new ≡ counted_on channel self.old }
     {
         if let Some(channel) = self.channels.get_mut(usize::from(channel.octet())) {
             channel.count_report();

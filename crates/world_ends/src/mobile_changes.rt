@@ -1,7 +1,8 @@
 ghost use Rattle.std.specs.Prelude.{◌≡◌, IfOk, OnOk, None, Ok, true};
 ghost use Rattle.dtap_codec.specs.RrText.{rr_text};
 ghost use Rattle.world_model.specs.declared.seat.Seat.TheVariants.{On};
-ghost use Rattle.world_model.specs.Mobiles.{complete as complete_of, controlled, failure as failure_of, hearing, remembering};
+ghost use Rattle.world_model.specs.Mobiles.{complete as complete_of, controlled};
+ghost use Rattle.world_model.specs.Mobiles.{failure as failure_of, hearing, remembering};
 ghost use Rattle.world_ends.specs.Mobiles.{arriving, assigned_to, is_moving, leaving};
 
 use crate::mobile_station::MobileStation;

@@ -57,7 +57,8 @@ impl MobileStation {
         accepts_sapi_three: bool,
     ) -> Result<MobileStation, Memory>
         requires { is_initial initial.now ≡ true }
-        ensures { IfOk result (λ m. m ≡ connected (count_of modulus) number initial.now accepts_sapi_three) }
+        ensures { IfOk result (λ m.
+            m ≡ connected (count_of modulus) number initial.now accepts_sapi_three) }
     {
         let initial = Octets::copy(alloc, initial)?;
         let mut end = MobileEnd::new(alloc, modulus);
@@ -127,7 +128,8 @@ impl MobileStation {
 
     /// Its upper layers send a message, where they may and where its end doesn't refuse it.
     pub(crate) fn send(&mut self, alloc: Global, sapi: Sapi, message: &[u8]) -> Result<bool, Memory>
-        ensures ok { IfOk result (λ taken. Takes self.old (sending sapi message.now self.old) taken self.new) }
+        ensures ok { IfOk result (λ taken.
+            Takes self.old (sending sapi message.now self.old) taken self.new) }
         ensures memory { OnErr result (IsSome (sending sapi message.now self.old)) }
     {
         if !self.may_send() || self.end.refusal(sapi, message).is_some() {

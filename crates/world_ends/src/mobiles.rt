@@ -1,4 +1,5 @@
-ghost use Rattle.std.specs.Prelude.{◌≡◌, ◌∷◌, [], ◌++◌, IsSome, IfSome, IfOk, OnOk, OnErr, true, unwrap_or, option_map};
+ghost use Rattle.std.specs.Prelude.{◌≡◌, ◌∷◌, [], ◌++◌, IsSome, IfSome, IfOk};
+ghost use Rattle.std.specs.Prelude.{OnOk, OnErr, true, unwrap_or, option_map};
 ghost use Rattle.std.specs.List.{find, position};
 ghost use Rattle.std.specs.Option.{option_and_then};
 ghost use Rattle.dtap_codec.specs.Number.{count_of};
@@ -8,7 +9,9 @@ ghost use Rattle.world_model.specs.Mobiles.{complete, connected, failure, hearin
 ghost use Rattle.world_model.specs.Stations.{accepts, is_on};
 ghost use Rattle.world_model.specs.Takes.{Takes};
 ghost use Rattle.world_model.specs.World.{has_number};
-ghost use Rattle.world_ends.specs.Mobiles.{acknowledging, arriving, assigned_to, at_mobile, by_mobile, frame_of, is_moving, leaving, mobile_in, place_in, sending, taking};
+ghost use Rattle.world_ends.specs.Mobiles.{acknowledging, arriving, assigned_to};
+ghost use Rattle.world_ends.specs.Mobiles.{at_mobile, by_mobile, frame_of, is_moving};
+ghost use Rattle.world_ends.specs.Mobiles.{leaving, mobile_in, place_in, sending, taking};
 
 use crate::mobile_station::MobileStation;
 use conn_messages::Change;
@@ -76,7 +79,8 @@ impl Mobiles {
 
     // The mobile of this tenure.
     fn on(&self, tenure: &Tenure) -> Option<&MobileStation>
-        ensures { option_map (λ m. m.now) result ≡ find (λ p. is_on tenure.now p.seat) self.now.mobiles }
+        ensures { option_map (λ m. m.now) result ≡
+            find (λ p. is_on tenure.now p.seat) self.now.mobiles }
     {
         self.mobiles.iter().find(|mobile| mobile.is_on(tenure))
     }
@@ -100,7 +104,10 @@ impl Mobiles {
         accepts_sapi_three: bool,
     ) -> Result<(), Memory>
         requires { is_initial initial.now ≡ true }
-        ensures { OnOk result (self.new ≡ record self.old { mobiles = self.old.mobiles ++ connected self.old.modulus number initial.now accepts_sapi_three ∷ [] }) }
+        ensures { OnOk result (self.new ≡ record self.old {
+          mobiles = self.old.mobiles
+              ++ connected self.old.modulus number initial.now accepts_sapi_three ∷ [];
+        }) }
     {
         let mobile = MobileStation::connected(
             self.alloc,
@@ -116,8 +123,10 @@ impl Mobiles {
     /// The upper layers of a mobile send a message, where they may and where its end doesn't refuse
     /// it.
     pub fn send(&mut self, number: u8, sapi: Sapi, message: &[u8]) -> Result<bool, Memory>
-        ensures ok { IfOk result (λ taken. Takes self.old (by_mobile number (sending sapi message.now) self.old) taken self.new) }
-        ensures memory { OnErr result (IsSome (by_mobile number (sending sapi message.now) self.old)) }
+        ensures ok { IfOk result (λ taken.
+            Takes self.old (by_mobile number (sending sapi message.now) self.old) taken self.new) }
+        ensures memory { OnErr result
+            (IsSome (by_mobile number (sending sapi message.now) self.old)) }
     {
         let place = self.place_of(number);
         let Some(mobile) = self.mobiles.get_mut(place) else {
@@ -128,10 +137,13 @@ impl Mobiles {
 
     /// The frame in the air of a mobile, which the station takes now. It has 1 to 251 octets.
     pub fn frame(&mut self, number: u8, sapi: Sapi) -> Result<Option<Octets>, Memory>
-        ensures frame { IfOk result (λ frame. frame ≡ option_and_then (frame_of sapi) (mobile_in number self.old.mobiles)) }
+        ensures frame { IfOk result (λ frame.
+            frame ≡ option_and_then (frame_of sapi) (mobile_in number self.old.mobiles)) }
         ensures l3 { IfOk result IsL3 }
-        ensures after { OnOk result (self.new ≡ unwrap_or (by_mobile number (taking sapi) self.old) self.old) }
-        ensures memory { OnErr result (IsSome (option_and_then (frame_of sapi) (mobile_in number self.old.mobiles))) }
+        ensures after { OnOk result
+            (self.new ≡ unwrap_or (by_mobile number (taking sapi) self.old) self.old) }
+        ensures memory { OnErr result
+            (IsSome (option_and_then (frame_of sapi) (mobile_in number self.old.mobiles))) }
     {
         let place = self.place_of(number);
         let Some(mobile) = self.mobiles.get_mut(place) else {
@@ -176,7 +188,8 @@ impl Mobiles {
     /// A mobile arrives on the channel to which it was told to change.
     pub fn arrive(&mut self, number: u8, tenure: Tenure, change: Change) -> Result<(), Memory>
         requires { IfSome (mobile_in number self.old.mobiles) (λ p. is_moving p.seat ≡ true) }
-        ensures { OnOk result (self.new ≡ at_mobile number (arriving tenure (complete change)) self.old) }
+        ensures { OnOk result
+            (self.new ≡ at_mobile number (arriving tenure (complete change)) self.old) }
     {
         let place = self.place_of(number);
         match self.mobiles.get_mut(place) {
@@ -188,7 +201,8 @@ impl Mobiles {
     /// A mobile returns to the channel that it left.
     pub fn give_up(&mut self, number: u8, tenure: Tenure, change: Change) -> Result<(), Memory>
         requires { IfSome (mobile_in number self.old.mobiles) (λ p. is_moving p.seat ≡ true) }
-        ensures { OnOk result (self.new ≡ at_mobile number (arriving tenure (failure change)) self.old) }
+        ensures { OnOk result
+            (self.new ≡ at_mobile number (arriving tenure (failure change)) self.old) }
     {
         let place = self.place_of(number);
         match self.mobiles.get_mut(place) {

@@ -28,7 +28,12 @@ impl Model for RadioChannel {
 
     ghost Value = { Spot };
 
-    ghost view = { λ c. record { tenure = c.tenure; sapi_three_up = c.sapi_three_up; air = c.air.items; reports = c.reports } };
+    ghost view = { λ c. record {
+      tenure = c.tenure;
+      sapi_three_up = c.sapi_three_up;
+      air = c.air.items;
+      reports = c.reports;
+    } };
 }
 
 impl RadioChannel {

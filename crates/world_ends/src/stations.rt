@@ -5,7 +5,11 @@ ghost use Rattle.rsl_codec.specs.Rsl.{IsL3};
 ghost use Rattle.world_model.specs.declared.limits.TheConstants.{MAX_TENURE};
 ghost use Rattle.world_model.specs.Lists.{first_in};
 ghost use Rattle.world_model.specs.World.{stations_from};
-ghost use Rattle.world_ends.specs.Stations.{activated_on, aired_on, answered_on, at_station, brought_on, established_on, given_on, is_active_in, is_present, left_on, released_on, reported_on, silenced, spot_in, station_in, taken_on, told_to};
+ghost use Rattle.world_ends.specs.Stations.{activated_on, aired_on, answered_on};
+ghost use Rattle.world_ends.specs.Stations.{at_channel, brought_on, established_on};
+ghost use Rattle.world_ends.specs.Stations.{given_on, is_active_in, is_present, left_on};
+ghost use Rattle.world_ends.specs.Stations.{released_on, reported_on, at_station, silenced};
+ghost use Rattle.world_ends.specs.Stations.{spot_in, station_in, taken_on, told_to};
 ghost use Rattle.world_ends.specs.Written.{IsWritten};
 
 use crate::base_station::BaseStation;
@@ -92,7 +96,8 @@ impl Stations {
     pub fn bring(&mut self, at: &Place, opens: bool, sapi: Sapi, frame: &[u8]) -> Result<(), Memory>
         requires active { is_active_in self.old at.now ≡ true }
         requires l3 { IsL3 (Some frame.now) }
-        ensures { OnOk result (self.new ≡ at_station at.now.station (brought_on at.now.number opens sapi frame.now) self.old) }
+        ensures { OnOk result (self.new ≡
+            at_channel at.now (λ channel. brought_on channel opens sapi frame.now) self.old) }
     {
         match self.stations.get_mut(place_of(at.station)) {
             Some(station) => station.bring(at.number, opens, sapi, frame),
@@ -103,10 +108,10 @@ impl Stations {
     /// A mobile establishes the main link of an active channel.
     pub fn establish(&mut self, at: &Place) -> Result<(), Memory>
         requires { is_active_in self.old at.now ≡ true }
-        ensures { OnOk result (self.new ≡ at_station at.now.station (established_on at.now.number) self.old) }
+        ensures { OnOk result (self.new ≡ at_channel at.now established_on self.old) }
     {
         match self.stations.get_mut(place_of(at.station)) {
-            Some(station) => station.establish(at.number),
+            Some(station) => station.establish(at.number, Sapi::Zero),
             None => Ok(()),
         }
     }
@@ -114,7 +119,7 @@ impl Stations {
     /// A mobile leaves the channel: its messages for the air are dropped, and the data link of SAPI
     /// 3 is down.
     pub fn leave(&mut self, at: &Place)
-        ensures { self.new ≡ at_station at.now.station (left_on at.now.number) self.old }
+        ensures { self.new ≡ at_channel at.now left_on self.old }
     {
         if let Some(station) = self.stations.get_mut(place_of(at.station)) {
             station.leave(at.number);
@@ -125,7 +130,8 @@ impl Stations {
     /// and the number of reports before it.
     pub fn report(&mut self, at: &Place, report: &[u8]) -> Result<(), Memory>
         requires { length report.now ≡ REPORT_LENGTH }
-        ensures { OnOk result (self.new ≡ at_station at.now.station (reported_on at.now.number report.now) self.old) }
+        ensures { OnOk result (self.new ≡
+            at_channel at.now (λ channel. reported_on channel report.now) self.old) }
     {
         match self.stations.get_mut(place_of(at.station)) {
             Some(station) => station.report(at.number, report),
@@ -136,7 +142,7 @@ impl Stations {
     /// Takes the first message of a channel from the air.
     pub fn take(&mut self, at: &Place) -> Option<AirMessage>
         ensures message { result ≡ first_in (spot_in self.old at.now).air }
-        ensures after { self.new ≡ at_station at.now.station (taken_on at.now.number) self.old }
+        ensures after { self.new ≡ at_channel at.now taken_on self.old }
     {
         match self.stations.get_mut(place_of(at.station)) {
             Some(station) => station.take(at.number),
@@ -148,7 +154,7 @@ impl Stations {
     /// active channel stays as it is.
     pub fn activate(&mut self, at: &Place) -> Result<(), Memory>
         requires { (spot_in self.old at.now).tenure ≢ MAX_TENURE }
-        ensures { OnOk result (self.new ≡ at_station at.now.station (activated_on at.now.number) self.old) }
+        ensures { OnOk result (self.new ≡ at_channel at.now activated_on self.old) }
     {
         match self.stations.get_mut(place_of(at.station)) {
             Some(station) => station.activate(at.number),
@@ -158,7 +164,8 @@ impl Stations {
 
     /// DATA REQUEST: a message goes into the air of an active channel.
     pub fn put(&mut self, at: &Place, message: AirMessage) -> Result<(), Memory>
-        ensures { OnOk result (self.new ≡ at_station at.now.station (aired_on at.now.number message) self.old) }
+        ensures { OnOk result (self.new ≡
+            at_channel at.now (λ channel. aired_on channel message) self.old) }
     {
         match self.stations.get_mut(place_of(at.station)) {
             Some(station) => station.put(at.number, message),
@@ -169,7 +176,7 @@ impl Stations {
     /// ESTABLISH REQUEST: the data link of SAPI 3 is confirmed where the answer is yes, else
     /// released.
     pub fn answer(&mut self, at: &Place, answer: bool) -> Result<(), Memory>
-        ensures { OnOk result (self.new ≡ at_station at.now.station (answered_on answer at.now.number) self.old) }
+        ensures { OnOk result (self.new ≡ at_channel at.now (answered_on answer) self.old) }
     {
         match self.stations.get_mut(place_of(at.station)) {
             Some(station) => station.answer(at.number, answer),
@@ -179,7 +186,7 @@ impl Stations {
 
     /// RF CHANNEL RELEASE: a tenure ends, and this is acknowledged.
     pub fn release(&mut self, at: &Place) -> Result<(), Memory>
-        ensures { OnOk result (self.new ≡ at_station at.now.station (released_on at.now.number) self.old) }
+        ensures { OnOk result (self.new ≡ at_channel at.now released_on self.old) }
     {
         match self.stations.get_mut(place_of(at.station)) {
             Some(station) => station.release(at.number),

@@ -1,4 +1,5 @@
-ghost use Rattle.std.specs.Prelude.{◌≡◌, ◌≢◌, ◌≤◌, ◌++◌, ◌∷◌, [], false, length, IsSome, IfOk, IfSome, OnOk, OnErr, option_map};
+ghost use Rattle.std.specs.Prelude.{◌≡◌, ◌≢◌, ◌≤◌, ◌++◌, ◌∷◌, [], false, length};
+ghost use Rattle.std.specs.Prelude.{IsSome, IfOk, IfSome, OnOk, OnErr, option_map};
 ghost use Rattle.std.specs.List.{AllByRecursion};
 ghost use Rattle.dtap_codec.specs.Number.{count_of};
 ghost use Rattle.ipa_framing.specs.declared.streams.TheConstants.{SCCP_STREAM};
@@ -46,7 +47,8 @@ impl Model for Switch {
 impl Switch {
     /// A switch without connections. It takes no memory.
     pub fn new(alloc: Global, modulus: Modulus) -> Switch
-        ensures { result ≡ record { switch = record { modulus = count_of modulus; connections = [] }; made = [] } }
+        ensures { result ≡
+            record { switch = record { modulus = count_of modulus; connections = [] }; made = [] } }
     {
         Switch {
             alloc,
@@ -78,7 +80,8 @@ impl Switch {
 
     /// Asks for a speech channel for a connection that is open.
     pub fn assign(&mut self, connection: u32) -> Result<bool, Memory>
-        ensures ok { IfOk result (λ taken. Takes self.old (assigning connection self.old) taken self.new) }
+        ensures ok { IfOk result (λ taken.
+            Takes self.old (assigning connection self.old) taken self.new) }
         ensures memory { OnErr result (IsSome (assigning connection self.old)) }
     {
         let mut forms = Vec::new(self.alloc);
@@ -93,7 +96,8 @@ impl Switch {
 
     /// Clears a connection that is open.
     pub fn clear(&mut self, connection: u32) -> Result<bool, Memory>
-        ensures ok { IfOk result (λ taken. Takes self.old (clearing connection self.old) taken self.new) }
+        ensures ok { IfOk result (λ taken.
+            Takes self.old (clearing connection self.old) taken self.new) }
         ensures memory { OnErr result (IsSome (clearing connection self.old)) }
     {
         let mut forms = Vec::new(self.alloc);
@@ -110,7 +114,8 @@ impl Switch {
     pub fn send(&mut self, connection: u32, sapi: Sapi, message: &[u8]) -> Result<bool, Memory>
         requires some { 1 ≤ length message.now }
         requires few { length message.now ≤ MESSAGE_LIMIT }
-        ensures ok { IfOk result (λ taken. Takes self.old (sending connection sapi message.now self.old) taken self.new) }
+        ensures ok { IfOk result (λ taken.
+            Takes self.old (sending connection sapi message.now self.old) taken self.new) }
         ensures memory { OnErr result (IsSome (sending connection sapi message.now self.old)) }
     {
         let mut forms = Vec::new(self.alloc);
@@ -126,7 +131,8 @@ impl Switch {
     // Makes these messages, behind the others.
     fn make_all(&mut self, messages: Vec<Sccp>) -> Result<(), Memory>
         requires { AllByRecursion IsWritten messages.items }
-        ensures { OnOk result (self.new ≡ record self.old { made = self.old.made ++ messages.items }) }
+        ensures { OnOk result
+            (self.new ≡ record self.old { made = self.old.made ++ messages.items }) }
     {
         for message in messages {
             self.make(message)?;
@@ -136,7 +142,8 @@ impl Switch {
 
     fn make(&mut self, message: Sccp) -> Result<(), Memory>
         requires { IsWritten message }
-        ensures { OnOk result (self.new ≡ record self.old { made = self.old.made ++ message ∷ [] }) }
+        ensures { OnOk result
+            (self.new ≡ record self.old { made = self.old.made ++ message ∷ [] }) }
     {
         self.made.push_back(message)?;
         Ok(())
@@ -160,21 +167,27 @@ impl Switch {
 
     /// All messages that it took on a connection, in order; none where there is no such connection.
     pub fn taken(&self, connection: u32) -> Option<&[Octets]>
-        ensures { option_map (λ v. v.now) result ≡ option_map (λ c. c.reception.taken) (connection_of self.now.switch.connections connection) }
+        ensures { option_map (λ v. v.now) result ≡
+            option_map (λ c. c.reception.taken)
+            (connection_of self.now.switch.connections connection) }
     {
         self.end.taken(connection)
     }
 
     /// The messages of the flow that it accepted on a connection, in order, with numbers cleared.
     pub fn accepted(&self, connection: u32) -> Option<&[Octets]>
-        ensures { option_map (λ v. v.now) result ≡ option_map (λ c. accepted_list c.reception.modulus c.reception.taken) (connection_of self.now.switch.connections connection) }
+        ensures { option_map (λ v. v.now) result ≡
+            option_map (λ c. accepted_list c.reception.modulus c.reception.taken)
+            (connection_of self.now.switch.connections connection) }
     {
         self.end.accepted(connection)
     }
 
     /// The messages without numbers that it took on a connection, in order.
     pub fn unnumbered(&self, connection: u32) -> Option<&[Octets]>
-        ensures { option_map (λ v. v.now) result ≡ option_map (λ c. not_of_the_flow c.reception.taken) (connection_of self.now.switch.connections connection) }
+        ensures { option_map (λ v. v.now) result ≡
+            option_map (λ c. not_of_the_flow c.reception.taken)
+            (connection_of self.now.switch.connections connection) }
     {
         self.end.unnumbered(connection)
     }

@@ -2,7 +2,8 @@ ghost use Rattle.std.specs.Prelude.{◌≡◌, ◌≢◌, OnOk};
 ghost use Rattle.world_model.specs.declared.limits.TheConstants.{MAX_TENURE};
 ghost use Rattle.world_model.specs.Lists.{first_in};
 ghost use Rattle.world_model.specs.Stations.{new_tenure};
-ghost use Rattle.world_ends.specs.Stations.{activated_on, aired_on, answered_on, left_on, released_on, spot_of, taken_on, with_spot_of};
+ghost use Rattle.world_ends.specs.Stations.{activated_on, aired_on, answered_on, left_on};
+ghost use Rattle.world_ends.specs.Stations.{released_on, spot_of, taken_on, with_spot_of};
 
 use crate::base_station::BaseStation;
 use link_model::LinkFault;

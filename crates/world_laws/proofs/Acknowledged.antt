@@ -6,22 +6,15 @@ use Rattle.world_laws.proofs.Prelude.{flat_map-append, append-nil, filter-append
 use Rattle.world_laws.proofs.Prelude.{first_message, first_of_messages, is_active, Tenures, is_bound_of, tenure_brings, apart, Item, What}
 use Rattle.world_laws.proofs.Prelude.{Rsl, Parameters, Event, BasePush, BaseDown, actors_after, acknowledgements, due}
 use Rattle.world_laws.proofs.Prelude.{first_of, pushed, all_pushed, all_popped, station_item, switch_item, rsl_in, Actors, base_of, is_up}
-use Rattle.world_laws.proofs.Prelude.{new_actors, outbox_of, Good, end-of, good-new, good-step, IsSound, sound-read, false≢true}
-use Rattle.std.proofs.Common.{Result}
+use Rattle.world_laws.proofs.Prelude.{new_actors, outbox_of, Good, end-of, good-new, good-step, IsSound, sound-read, false≢true, Result}
+use Rattle.world_laws.proofs.Prelude.{released, is_brought_on, AreHonest-new, KeepsQueues-new, ArePipes-new, read_by, read_of, messages_up}
+use Rattle.world_laws.proofs.Prelude.{is_release_ack, NoneReleases, ReleasesLast, AllAcksTell, AcksFlow, of_main, of_establishment, brings}
+use Rattle.world_laws.proofs.Prelude.{brings_if, brings_by, brings_in, coming_up, is_ended, EndsLast}
 use Rattle.world_laws.specs.LineUp.Places.{Item as Brought}
-use Rattle.world_laws.specs.LineUp.Places.Item.{released}
-use Rattle.link_model.specs.Tenures.{is_brought_on}
 use Rattle.link_model.specs.Tenures.Tenures.{over, begins, ends}
 use Rattle.ruled_relay.specs.declared.item.What.TheVariants as whats
 use Rattle.rsl_codec.specs.declared.rsl.Rsl.TheVariants as rsl
 use Rattle.world_model.specs.Honest.{given, all_given}
-use Rattle.world_model.proofs.Honesty.{AreHonest-new}
-use Rattle.world_model.proofs.Outboxes.{KeepsQueues-new}
-use Rattle.world_model.proofs.Piping.{ArePipes-new}
-use Rattle.world_laws.specs.Acknowledged.{read_by, read_of, messages_up, is_release_ack, NoneReleases, ReleasesLast, AllAcksTell, AcksFlow}
-use Rattle.world_laws.specs.ComingUp.{of_main, of_establishment, brings, brings_if, brings_by, brings_in, coming_up}
-use Rattle.world_laws.specs.LineUps.{is_ended}
-use Rattle.world_laws.specs.Staying.{EndsLast}
 use Rattle.world_laws.proofs.Events.{world}
 
 -- ---- what comes of a channel is what a station's messages bring

@@ -1,11 +1,10 @@
 -- Definitions of acknowledgements on their way up, at literal values.
 use Rattle.world_laws.proofs.Prelude.{◌≡◌, ℕ, true, false, List, [], ◌∷◌, map, refl, place_at, usual_settings, Zero}
 use Rattle.world_laws.proofs.Prelude.{activation_ack, data_indication, Rsl, RfChannelRelease, RfChannelReleaseAck, station_item}
-use Rattle.world_laws.proofs.Prelude.{Actors, base_of, new_actors, with_base, true≢false, false≢true}
+use Rattle.world_laws.proofs.Prelude.{Actors, base_of, new_actors, with_base, true≢false, false≢true, read_of, messages_up}
+use Rattle.world_laws.proofs.Prelude.{acknowledgements_up, acknowledgements_taken, is_release_ack, NoneReleases, ReleasesLast}
 use Rattle.ruled_relay.specs.declared.item.What.TheVariants as whats
 use Rattle.world_model.proofs.Worlds.{on_literals}
-use Rattle.world_laws.specs.Acknowledged.{read_of, messages_up, acknowledgements_up, acknowledgements_taken, is_release_ack, NoneReleases}
-use Rattle.world_laws.specs.Acknowledged.{ReleasesLast}
 
 abbrev text_on : ℕ → Rsl
 text_on channel = data_indication channel Zero (0x03 ∷ 0x05 ∷ [])

@@ -1,10 +1,7 @@
 -- The acknowledgements that came and are on their way are the first of those due.
 use Rattle.world_laws.proofs.Prelude.{◌≡◌, ◌≤◌, false, List, ◌++◌, ap, ◌∙◌, subst, append_assoc, arith, flat_map, filter-append}
 use Rattle.world_laws.proofs.Prelude.{is_bound_of, Rsl, Parameters, Event, acknowledgements, due, all_popped, Actors, base_of, new_actors}
-use Rattle.octets.specs.Lists.{IsPrefix}
-use Rattle.world_model.specs.Queues.{all_put}
-use Rattle.world_model.proofs.Piping.{acks-start}
-use Rattle.world_laws.specs.Acknowledged.{messages_up, read_of}
+use Rattle.world_laws.proofs.Prelude.{IsPrefix, all_put, acks-start, messages_up, read_of}
 use Rattle.world_laws.specs.AcksBegin.{AcksBegin}
 use Rattle.world_laws.proofs.Acknowledged.{given-read}
 use Rattle.world_laws.proofs.Events.{world}

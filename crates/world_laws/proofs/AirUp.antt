@@ -5,23 +5,16 @@ use Rattle.world_laws.proofs.Prelude.{Place, SWITCH_LINK, Target, Connection, is
 use Rattle.world_laws.proofs.Prelude.{establish_indication, data_indication, Whereabouts, Stage, New, Connected, lent_message}
 use Rattle.world_laws.proofs.Prelude.{after_lending, frame_answer, after_frame, after_frame_at, MobileState, Rsl, AirMessage, Command, On}
 use Rattle.world_laws.proofs.Prelude.{ChannelTenure, frame_in, signalling_brought, framed, Actors, Mobile, is_station_up, base_of}
-use Rattle.world_laws.proofs.Prelude.{with_base, is_reached, reached-up, none-some, AreAway}
+use Rattle.world_laws.proofs.Prelude.{with_base, is_reached, reached-up, none-some, AreAway, Alive, LineUp, with_items, flow, on_serving}
+use Rattle.world_laws.proofs.Prelude.{on_target, after_up, frame_answer_at, brought_in_world, made_of, coming_up, going_down, seat_from}
+use Rattle.world_laws.proofs.Prelude.{remembered, old_tenures, serving_hold, serving_tenure, commanded_target, target_tenure, waiting_of}
+use Rattle.world_laws.proofs.Prelude.{taken_of, assembled, line_up, Sits, Leads, NoneOn, LinedUp}
 use Rattle.conn_rules.specs.Streams.{target_in}
-use Rattle.world_laws.specs.LineUp.Alive.{Alive}
-use Rattle.world_laws.specs.LineUp.Places.{Item, Tenure, Seat, LineUp, with_items, flow}
+use Rattle.world_laws.specs.LineUp.Places.{Item, Tenure, Seat}
 use Rattle.world_laws.specs.LineUp.Places.Item.{brought}
-use Rattle.world_laws.specs.LineUp.Places.Seat.{on_serving, on_target}
 use Rattle.world_laws.specs.LineUp.MobileStep.MobileStep.{taken_on_serving, taken_on_target}
 use Rattle.world_laws.proofs.LineUp.Moving.{alive_mobile}
-use Rattle.link_model.specs.Base.{after_up}
 use Rattle.mobile_end.specs.declared.mobile_end.Place.TheVariants as places
-use Rattle.mobile_end.specs.Mobile.{frame_answer_at}
-use Rattle.world_model.specs.Mobiles.{brought as brought_in_world}
-use Rattle.world_laws.specs.ComingUp.{made_of, coming_up}
-use Rattle.world_laws.specs.GoingDown.{going_down}
-use Rattle.world_laws.specs.LineUps.{seat_from, remembered, old_tenures, serving_hold, serving_tenure, commanded_target, target_tenure}
-use Rattle.world_laws.specs.LineUps.{waiting_of, taken_of, assembled, line_up}
-use Rattle.world_laws.specs.Seated.{Sits, Leads, NoneOn, LinedUp}
 use Rattle.world_laws.proofs.Apart.{all_both, is_at_station, target-in, OnServing, OnTarget, is_on_serving, is_on_target, SitsOn, sits_on_tenure}
 use Rattle.world_laws.proofs.Apart.SitsOn.{serves, arrived}
 use Rattle.world_laws.proofs.Framing.{AreSame, all_left, all_right, old-same, serving-same, target-same, assembled-same}
@@ -59,8 +52,7 @@ air_up_coming w p tenure frame c reached c_is = by_opening p.opens where
 
   two : (a b : Bool) → (if a then (if b then brought frame ∷ [] else []) ++ [] else []) ≡ (if a && b then brought frame ∷ [] else [])
   two true true = refl
-  two true false = refl
-  two false b = refl
+  two _ _ = refl
 
   telling : (base_after : BaseState) (message : Rsl) → base_after.messages ≡ base.messages ++ message ∷ [] → made_of c.number (message ∷ []) ≡ (if tenure.at.number == c.number then brought frame ∷ [] else []) ++ []
       → coming_up (with_base tenure.at.station base_after w) (place_of c) ≡ coming_up w (place_of c) ++ (if is_at tenure.at c then brought frame ∷ [] else [])

@@ -1,13 +1,12 @@
 -- Where a place is among the channels of a connection.
 use Rattle.world_laws.proofs.Prelude.{◌≡◌, ℕ, ◌&&◌, nat_eq, Bool, true, false, List, [], ◌∷◌, ◌++◌, Option, Some, None, unwrap_or, refl}
 use Rattle.world_laws.proofs.Prelude.{sym, ap, ◌∙◌, subst, inl, inr, AllByRecursion, cases_Bool, eqb-true, eqb-false, ne_eqb, eq-eqb}
-use Rattle.world_laws.proofs.Prelude.{Channel, Place, Preparing, Changing, State, Live, Target, Connection, is_at, IsApart, AreApart}
-use Rattle.world_laws.proofs.Prelude.{undone, used_channels, place_of, Command, On, Moving, Tenure, Actors, tenure_at, false≢true}
-use Rattle.world_laws.proofs.Prelude.{AreAway}
+use Rattle.world_laws.proofs.Prelude.{Channel, Place, Changing, State, Live, Target, Connection, is_at, IsApart, AreApart, undone}
+use Rattle.world_laws.proofs.Prelude.{used_channels, place_of, Command, On, Moving, Tenure, Actors, tenure_at, false≢true, AreAway}
+use Rattle.world_laws.proofs.Prelude.{commanded_target, Remembers, Sits, came, between}
 use Rattle.conn_rules.specs.Streams.{target_in}
-use Rattle.world_laws.specs.LineUps.{commanded_target}
-use Rattle.world_laws.specs.Seated.{command_to, Remembers, Sits}
-use Rattle.world_laws.specs.Seated.Sits.{stays, came, between}
+use Rattle.world_laws.specs.Seated.{command_to}
+use Rattle.world_laws.specs.Seated.Sits.{stays}
 use Rattle.world_laws.proofs.Framing.{all_right}
 
 -- ---- lists
@@ -57,8 +56,6 @@ last_apart (d ∷ before) c last apart =
 
 pub target-in : (state : State) (t : Target) → commanded_target state ≡ Some t → target_in state ≡ t.channel ∷ []
 target-in (Live reference (Changing target)) t is = ap (λ (o : Option Target). (unwrap_or o target).channel ∷ []) is
-target-in (Live reference (Preparing target)) t is = absurd cc
-target-in (Live reference _) t is = absurd cc
 target-in _ t is = absurd cc
 
 -- the place is that of the serving channel

@@ -1,21 +1,15 @@
 -- A station takes the first entry of its outbox: the connections stay lined up.
 use Rattle.world_laws.proofs.Prelude.{◌≡◌, ℕ, ◌+◌, Bool, true, false, if◌then◌else◌, List, [], ◌∷◌, ◌++◌, length, Option, Some, None, refl}
-use Rattle.world_laws.proofs.Prelude.{sym, ap, ◌∙◌, subst, arith, AllByRecursion, Channel, Place, Drain, Preparing, Changing, State, Live}
+use Rattle.world_laws.proofs.Prelude.{sym, ap, ◌∙◌, subst, arith, AllByRecursion, Channel, Place, Drain, Changing, State, Live}
 use Rattle.world_laws.proofs.Prelude.{Target, Connection, undone, used_channels, place_of, Held, AirMessage, MobileSeat, Actors, Mobile}
-use Rattle.world_laws.proofs.Prelude.{is_station_up, tenure_at, AllByRecursion-so}
+use Rattle.world_laws.proofs.Prelude.{is_station_up, tenure_at, AllByRecursion-so, Alive, ended, flow, with_items, released, coming_up}
+use Rattle.world_laws.proofs.Prelude.{going_down, seat_from, remembered, draining_tenure, old_tenure, old_tenures, serving_hold}
+use Rattle.world_laws.proofs.Prelude.{serving_tenure, commanded_target, target_tenure, waiting_of, taken_of, assembled, line_up, Remembers}
+use Rattle.world_laws.proofs.Prelude.{Sits, Leads, NoneOn, LinedUp, leads, came, between}
 use Rattle.conn_rules.specs.Streams.{target_in}
-use Rattle.world_laws.specs.LineUp.Alive.{Alive}
-use Rattle.world_laws.specs.LineUp.ChangeStep.{ended}
-use Rattle.world_laws.specs.LineUp.Places.{Item, Tenure, Seat, flow, with_items}
-use Rattle.world_laws.specs.LineUp.Places.Item.{released}
-use Rattle.world_laws.specs.ComingUp.{coming_up}
-use Rattle.world_laws.specs.GoingDown.{going_down}
-use Rattle.world_laws.specs.LineUps.{seat_from, remembered, draining_tenure, old_tenure, old_tenures, serving_hold, serving_tenure}
-use Rattle.world_laws.specs.LineUps.{commanded_target, target_tenure, waiting_of, taken_of, assembled, line_up}
-use Rattle.world_laws.specs.Seated.{Remembers, Sits, Leads, NoneOn, LinedUp}
-use Rattle.world_laws.specs.Seated.Leads.{leads}
+use Rattle.world_laws.specs.LineUp.Places.{Item, Tenure, Seat}
 use Rattle.world_laws.specs.Seated.Remembers.{nothing, told}
-use Rattle.world_laws.specs.Seated.Sits.{stays, came, between, gone}
+use Rattle.world_laws.specs.Seated.Sits.{stays, gone}
 use Rattle.world_laws.proofs.Framing.{AreUp, all_left, all_right, lined-same}
 use Rattle.world_laws.proofs.Likening.{Like, AllLike, like_itself, like_released, alive_like}
 use Rattle.world_laws.proofs.OwnMoves.{alive_fewer}
@@ -56,8 +50,6 @@ items_like t now (ends is up) = subst (λ (items : List Item). Like t (with_item
 
 target_like : (f g : Place → List Item) (up : ℕ → Bool) (seat : Seat) (state : State) → AreGrown up f g (target_in state) → Like (target_tenure g up seat (commanded_target state)) (target_tenure f up seat (commanded_target state))
 target_like f g up seat (Live reference (Changing target)) grown = items_like (target_tenure g up seat (Some target)) (f (place_of target.channel)) grown.0
-target_like f g up seat (Live reference (Preparing target)) grown = like_itself (target_tenure g up seat None)
-target_like f g up seat (Live reference _) grown = like_itself (target_tenure g up seat None)
 target_like f g up seat _ grown = like_itself (target_tenure g up seat None)
 
 -- ---- a connection sees no more commands on their way, and perhaps an RF CHANNEL RELEASE ACK

@@ -1,28 +1,21 @@
 -- Connections stay lined up at every event in which the relay takes no part, whatever happened
 -- before.
 use Rattle.world_laws.proofs.Prelude.{◌≡◌, ◌≢◌, ℕ, zero, suc, ◌-◌, nat_eq, Bool, true, false, if◌then◌else◌, cond, List, [], ◌∷◌, ◌++◌}
-use Rattle.world_laws.proofs.Prelude.{find, Option, Some, None, Ok, refl, ap, ◌∙◌, subst, AllByRecursion, eqb-false, Bssap}
-use Rattle.world_laws.proofs.Prelude.{Transfer, Sccp, SWITCH_LINK, Connection, used_channels, place_of, first_message, first_of_messages}
-use Rattle.world_laws.proofs.Prelude.{after_next, SwitchConnection, Clearing, after_clear, assignment_request, clear_command}
-use Rattle.world_laws.proofs.Prelude.{connections_after_clear, data_forms_on, dlci_for, with_stage, SwitchState, Rsl, rsl_reading, rsl_text}
-use Rattle.world_laws.proofs.Prelude.{Parameters, new_mobile, MobileState, Event, Upper, Connect, AirUp, AirAck, AirDown, AirDownLost, Move}
-use Rattle.world_laws.proofs.Prelude.{Touch, Arrive, Return, BaseTakes, BasePush, Handle, SwitchTakes, SwitchDoes, Tick, BaseDown, Report}
-use Rattle.world_laws.proofs.Prelude.{SwitchAction, Assign, Clear, Dtap, station_item, switch_item, with_item}
+use Rattle.world_laws.proofs.Prelude.{find, Option, Some, None, Ok, refl, ap, ◌∙◌, subst, AllByRecursion, eqb-false, Bssap, Transfer, Sccp}
+use Rattle.world_laws.proofs.Prelude.{SWITCH_LINK, Connection, used_channels, place_of, first_message, first_of_messages, after_next}
+use Rattle.world_laws.proofs.Prelude.{SwitchConnection, Clearing, after_clear, assignment_request, clear_command, connections_after_clear}
+use Rattle.world_laws.proofs.Prelude.{data_forms_on, dlci_for, with_stage, SwitchState, Rsl, rsl_reading, rsl_text, Parameters, new_mobile}
+use Rattle.world_laws.proofs.Prelude.{MobileState, Event, Upper, Connect, AirUp, AirAck, AirDown, AirDownLost, Move, Touch, Arrive, Return}
+use Rattle.world_laws.proofs.Prelude.{BasePush, SwitchDoes, Report, SwitchAction, Assign, Clear, Dtap, station_item, switch_item, with_item}
 use Rattle.world_laws.proofs.Prelude.{pushed_by_station, pushed_by_switch, after_base_push, may_send_on, sent_on, is_layer_3}
 use Rattle.world_laws.proofs.Prelude.{after_switch_does, Actors, Mobile, modulus_in, new_actors, base_of, with_base, Good, end-of, good-new}
-use Rattle.world_laws.proofs.Prelude.{good-all, after-taken, IsSound, sound-read, same_Some}
+use Rattle.world_laws.proofs.Prelude.{good-all, after-taken, IsSound, sound-read, same_Some, Call, IsKept-calls, all_calls, MobilesLive-new}
+use Rattle.world_laws.proofs.Prelude.{coming_up, is_of_peer, taken_in, taken_of, AreLinedUp, is_beside_relay, MobilesKeepLineUps}
 use Rattle.std.proofs.Common.{slice_set, slice_get}
 use Rattle.msc_end.specs.Switch.{connection_of}
-use Rattle.mobile_end.specs.Calls.{Call}
-use Rattle.mobile_end.proofs.Lives.{IsKept-calls}
 use Rattle.world_model.specs.Life.{event_after}
-use Rattle.world_model.specs.Calls.{all_calls}
 use Rattle.world_model.specs.Lives.{Lives}
 use Rattle.world_model.proofs.Leads.{OfTaken}
-use Rattle.world_model.proofs.Mobility.{MobilesLive-new}
-use Rattle.world_laws.specs.ComingUp.{coming_up}
-use Rattle.world_laws.specs.LineUps.{is_of_peer, taken_in, taken_of}
-use Rattle.world_laws.specs.Staying.{AreLinedUp, is_beside_relay, MobilesKeepLineUps}
 use Rattle.world_laws.proofs.Apart.{all_both}
 use Rattle.world_laws.proofs.MobileEvents.{Before, quiet_stays, upper_stays, ack_stays, frame_stays, heard_stays, lost_stays, move_stays}
 use Rattle.world_laws.proofs.MobileEvents.{arrive_stays, return_stays, connect_stays, touch_stays, report_stays}
@@ -150,11 +143,7 @@ beside_stays (Return number) beside good h = return_stays number h
 beside_stays (BasePush source) beside good h = push_stays source good h
 beside_stays (SwitchDoes action) beside good h = does_stays action h
 beside_stays (Report number report) beside good h = report_stays number report h
-beside_stays (BaseTakes station) beside good h = absurd cc
-beside_stays Handle beside good h = absurd cc
-beside_stays SwitchTakes beside good h = absurd cc
-beside_stays (Tick ms) beside good h = absurd cc
-beside_stays (BaseDown source) beside good h = absurd cc
+beside_stays _ beside good h = absurd cc
 
 pub mobiles_keep_line_ups_new : (settings : Parameters) (events : List Event) (event : Event) → MobilesKeepLineUps settings events event
 mobiles_keep_line_ups_new settings events event mobile s beside alone lined =

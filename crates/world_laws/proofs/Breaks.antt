@@ -7,25 +7,20 @@ use Rattle.world_laws.proofs.Prelude.{Channel, Place, SWITCH_LINK, Drain, Target
 use Rattle.world_laws.proofs.Prelude.{BaseState, after_take_down, Parameters, Event, AirMessage, with_item, after_break}
 use Rattle.world_laws.proofs.Prelude.{Actors, Mobile, Link, broken_link, with_link, modulus_in, is_up, is_station_up, base_of}
 use Rattle.world_laws.proofs.Prelude.{with_base, outbox_of, spot_at, base-elsewhere, base-there, broken-leads, after-taken, and-right}
-use Rattle.world_laws.proofs.Prelude.{AllByRecursion-so, no-length}
+use Rattle.world_laws.proofs.Prelude.{AllByRecursion-so, no-length, forwarded, Alive, remains, left, ended, flow, messages_in, controls_in}
+use Rattle.world_laws.proofs.Prelude.{texts_in, released, brings_in, made_of, coming_up, leading_from_air, leading_from_outbox, going_down}
+use Rattle.world_laws.proofs.Prelude.{seat_from, remembered, is_ended, draining_tenure, old_tenure, old_tenures, serving_hold}
+use Rattle.world_laws.proofs.Prelude.{serving_tenure, commanded_target, target_tenure, is_changing, waiting_of, taken_of, assembled}
+use Rattle.world_laws.proofs.Prelude.{line_up, Leads, NoneOn, LinedUp, AreLinedUp, EndsLast, StationBreaksKeepLineUps}
 use Rattle.conn_rules.specs.Streams.{target_in}
-use Rattle.controller_model.specs.Views.{forwarded}
-use Rattle.world_laws.specs.LineUp.Alive.{Alive, Stands}
-use Rattle.world_laws.specs.LineUp.Alive.Stays.{remains, left}
+use Rattle.world_laws.specs.LineUp.Alive.{Stands}
 use Rattle.world_laws.specs.LineUp.Alive.Stands.{waits, leaves, arrives, returns}
-use Rattle.world_laws.specs.LineUp.ChangeStep.{ended}
-use Rattle.world_laws.specs.LineUp.Places.{Item, Seat, flow, messages_in, controls_in, texts_in}
-use Rattle.world_laws.specs.LineUp.Places.Item.{brought, released}
+use Rattle.world_laws.specs.LineUp.Places.{Item, Seat}
+use Rattle.world_laws.specs.LineUp.Places.Item.{brought}
 use Rattle.world_laws.proofs.LineUp.Lines.{messages_in-append, controls_front, texts_front}
 use Rattle.ruled_relay.specs.declared.item.What.TheVariants as whats
 use Rattle.world_model.specs.Life.{event_after}
-use Rattle.world_laws.specs.ComingUp.{brings_in, made_of, coming_up}
-use Rattle.world_laws.specs.GoingDown.{leading_from_air, leading_from_outbox, going_down}
-use Rattle.world_laws.specs.LineUps.{seat_from, remembered, is_ended, draining_tenure, old_tenure, old_tenures, serving_hold}
-use Rattle.world_laws.specs.LineUps.{serving_tenure, came, commanded_target, target_tenure, is_changing, waiting_of, taken_of, assembled}
-use Rattle.world_laws.specs.LineUps.{line_up}
-use Rattle.world_laws.specs.Seated.{Leads, NoneOn, LinedUp}
-use Rattle.world_laws.specs.Staying.{AreLinedUp, EndsLast, StationBreaksKeepLineUps}
+use Rattle.world_laws.specs.LineUps.{came}
 use Rattle.world_laws.proofs.Apart.{target-in}
 use Rattle.world_laws.proofs.Cutting.{Cuts, AllCut, cuts_itself, alive_cut}
 use Rattle.world_laws.proofs.Cutting.Cuts.{whole, breaks}
@@ -45,10 +40,9 @@ pub data Breaks (up now_up : Bool) (was now : List Item) : Type 0 where
 
 -- behind an RF CHANNEL RELEASE ACK nothing was
 none_behind : (items dropped : List Item) → is_ended items ≡ true → EndsLast (items ++ dropped) → dropped ≡ []
-none_behind [] dropped is last = absurd cc
 none_behind (released ∷ []) dropped is last = last
-none_behind (released ∷ item ∷ items) dropped is last = absurd cc
 none_behind (brought message ∷ items) dropped is last = none_behind items dropped is last
+none_behind _ dropped is last = absurd cc
 
 draining_breaks : (up now_up : Bool) (was now : List Item) (hold : List (List ℕ)) → EndsLast was → Breaks up now_up was now → Cuts (draining_tenure up was hold) (draining_tenure now_up now hold)
 draining_breaks up now_up was now hold last (stays is same) = subst (λ (b : Bool). Cuts (draining_tenure up was hold) (draining_tenure b now hold)) (sym is) (subst (λ (items : List Item). Cuts (draining_tenure up was hold) (draining_tenure up items hold)) (sym same) (cuts_itself (draining_tenure up was hold)))

@@ -1,16 +1,15 @@
 -- A line that is cut where a link broke.
 use Rattle.world_laws.proofs.Prelude.{◌≡◌, ℕ, ◌≤◌, Bool, true, false, ◌||◌, ◌&&◌, not, if◌then◌else◌, List, [], ◌∷◌, ◌++◌, length, refl}
 use Rattle.world_laws.proofs.Prelude.{sym, ap, ◌∙◌, subst, append_assoc, length-append, arith, append-nil, State, DataLinkState}
-use Rattle.world_laws.proofs.Prelude.{true≢false, false≢true}
-use Rattle.world_laws.specs.LineUp.Alive.{Alive, FirstRelays, Condition, Follows, some_lost}
-use Rattle.world_laws.specs.LineUp.Alive.Stays.{remains}
-use Rattle.world_laws.specs.LineUp.Alive.Condition.{sound, left_the_cell, lost_old, lost_serving, lost_target}
-use Rattle.world_laws.specs.LineUp.Places.{Tenure, Seat, flow, messages_in, part_of, parts_of, controls_of, controls_in, texts_in}
-use Rattle.world_laws.specs.LineUp.Places.Seat.{on_serving, on_target, moving, gone}
+use Rattle.world_laws.proofs.Prelude.{true≢false, false≢true, Alive, FirstRelays, Condition, Follows, some_lost, remains, sound}
+use Rattle.world_laws.proofs.Prelude.{left_the_cell, lost_old, lost_serving, lost_target, flow, messages_in, part_of, parts_of, controls_of}
+use Rattle.world_laws.proofs.Prelude.{controls_in, texts_in, on_serving, on_target, moving, gone, is_gone, is_confirmed, is_intact}
+use Rattle.world_laws.proofs.Prelude.{assembled}
+use Rattle.world_laws.specs.LineUp.Places.{Tenure, Seat}
 use Rattle.world_laws.proofs.LineUp.Following.{follows_line, follows_front}
 use Rattle.world_laws.proofs.LineUp.Lines.{flow-append, controls-append}
 use Rattle.world_laws.proofs.LineUp.Standing.{stands_fewer}
-use Rattle.world_laws.specs.LineUps.{came, is_gone, is_confirmed, is_intact, assembled}
+use Rattle.world_laws.specs.LineUps.{came}
 
 -- ---- tenures
 
@@ -107,18 +106,16 @@ first_cut confirmed (t ∷ ts) [] hold hold2 all same first = elim all [ ]
 -- by what is lost
 pub condition_of : (seat : Seat) (old serving target : Bool) → (target ≡ true → came seat ≡ true) → Condition seat old serving target (not (is_gone seat) && not old && not serving && not target)
 condition_of gone old serving target there = left_the_cell
-condition_of on_serving true serving target there = lost_old
 condition_of on_serving false true target there = lost_serving
 condition_of on_serving false false true there = absurd (false≢true (there refl))
 condition_of on_serving false false false there = sound
-condition_of on_target true serving target there = lost_old
 condition_of on_target false true target there = lost_serving
 condition_of on_target false false true there = lost_target remains
 condition_of on_target false false false there = sound
-condition_of moving true serving target there = lost_old
 condition_of moving false true target there = lost_serving
 condition_of moving false false true there = absurd (false≢true (there refl))
 condition_of moving false false false there = sound
+condition_of _ _ serving target there = lost_old
 
 -- of the whole line
 some-behind : (ts us : List Tenure) → some_lost (ts ++ us) ≡ (some_lost ts || some_lost us)
@@ -131,11 +128,8 @@ some-behind (t ∷ ts) us = by_lost t.is_lost (some-behind ts us) where
 intact-line : (seat : Seat) (old : List Tenure) (serving target : Tenure) → is_intact seat old serving target ≡ (not (is_gone seat) && not (some_lost (old ++ serving ∷ target ∷ [])))
 intact-line seat old serving target = by_all (not (is_gone seat)) (some_lost old) serving.is_lost target.is_lost ∙ ap (λ (b : Bool). not (is_gone seat) && not b) (sym (some-behind old (serving ∷ target ∷ []))) where
   by_all : (g a b c : Bool) → (g && not a && not b && not c) ≡ (g && not (a || (b || (c || false))))
-  by_all true true b c = refl
-  by_all true false true c = refl
   by_all true false false true = refl
-  by_all true false false false = refl
-  by_all false a b c = refl
+  by_all _ _ _ _ = refl
 
 -- ---- the line-up
 

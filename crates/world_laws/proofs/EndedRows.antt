@@ -1,13 +1,10 @@
 -- A connection that ends while a message of it waits for the switch.
 use Rattle.world_laws.proofs.Prelude.{◌≡◌, [], ◌∷◌, map, refl, Zero, Three, Carries, next, Upper, AirUp, AirAck, BasePush}
-use Rattle.world_laws.proofs.Prelude.{BaseDown, Handle, SwitchTakes, put, World, opened, after_all}
+use Rattle.world_laws.proofs.Prelude.{BaseDown, Handle, SwitchTakes, put, World, opened, after_all, flow, HasEnded, PutsNoMore, taken_of}
+use Rattle.world_laws.proofs.Prelude.{waiting_of, carried_for}
 use Rattle.dtap_codec.specs.Places.Rise.{over}
 use Rattle.controller_model.specs.Views.{forwarded}
-use Rattle.world_laws.specs.LineUp.Places.{flow}
 use Rattle.world_model.proofs.Worlds.{on_literals}
-use Rattle.world_laws.specs.Ended.{HasEnded, PutsNoMore}
-use Rattle.world_laws.specs.LineUps.{taken_of, waiting_of}
-use Rattle.world_laws.specs.Staying.{carried_for}
 
 -- the second message of the mobile waits for the switch, which took the first
 abbrev waiting : World

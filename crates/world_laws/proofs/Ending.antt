@@ -1,23 +1,14 @@
 -- A connection that closed or went stays in order, whatever happens.
-use Rattle.world_laws.proofs.Prelude.{◌≡◌, ℕ, List, [], ◌∷◌, ◌++◌, map}
-use Rattle.world_laws.proofs.Prelude.{refl, sym, ap, ◌∙◌, subst, append_assoc, AllByRecursion, append-nil, map-append}
-use Rattle.world_laws.proofs.Prelude.{Out, SWITCH_LINK, Connection, Forwarded, Rise}
-use Rattle.world_laws.proofs.Prelude.{Parameters, Event}
-use Rattle.world_laws.proofs.Prelude.{OutboxEntry, actors_after}
-use Rattle.world_laws.proofs.Prelude.{put, taken}
-use Rattle.world_laws.proofs.Prelude.{Actors, Link}
-use Rattle.world_laws.proofs.Prelude.{modulus_in, outbox_of}
-use Rattle.world_laws.proofs.Prelude.{breaks}
+use Rattle.world_laws.proofs.Prelude.{◌≡◌, ℕ, List, [], ◌∷◌, ◌++◌, map, refl, sym, ap, ◌∙◌, subst, append_assoc, AllByRecursion, append-nil}
+use Rattle.world_laws.proofs.Prelude.{map-append, Out, SWITCH_LINK, Connection, Forwarded, Rise, Parameters, Event, OutboxEntry}
+use Rattle.world_laws.proofs.Prelude.{actors_after, put, taken, Actors, Link, modulus_in, outbox_of, breaks, flow, EndedAreInOrder}
+use Rattle.world_laws.proofs.Prelude.{EndedStayInOrder, LineUpsMayEnd, PutsNoMore, taken_of, waiting_of, carried_for}
 use Rattle.controller_model.specs.Views.{forwarded}
-use Rattle.world_laws.specs.LineUp.Places.{flow}
 use Rattle.world_laws.specs.LineUp.Order.{Ended}
 use Rattle.world_laws.proofs.LineUp.Lines.{flow-append}
 use Rattle.world_laws.proofs.LineUp.Ordering.{ended_alive, ended_loses, ended_sends, is_in_order_rise}
 use Rattle.world_model.proofs.Outboxes.{Step, step}
 use Rattle.world_model.proofs.Outboxes.Step.{goes}
-use Rattle.world_laws.specs.Ended.{EndedAreInOrder, EndedStayInOrder, LineUpsMayEnd, PutsNoMore}
-use Rattle.world_laws.specs.LineUps.{taken_of, waiting_of}
-use Rattle.world_laws.specs.Staying.{carried_for}
 use Rattle.world_laws.proofs.Others.{forwarded-append}
 use Rattle.world_laws.proofs.SentGrows.{HasSent, sent_grows}
 use Rattle.world_laws.proofs.SwitchTook.{switch_stays, waiting_in}

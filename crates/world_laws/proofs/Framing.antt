@@ -1,12 +1,12 @@
 -- The line-up stays where what it is seen by stays.
 use Rattle.world_laws.proofs.Prelude.{◌≡◌, ℕ, ◌+◌, ◌&&◌, not, Bool, true, false, if◌then◌else◌, List, [], ◌∷◌, ◌++◌, length, Some, refl, ap}
-use Rattle.world_laws.proofs.Prelude.{◌∙◌, AllByRecursion, Channel, Place, Drain, Preparing, Changing, State, Live, Connection, undone}
-use Rattle.world_laws.proofs.Prelude.{used_channels, place_of, Held, DataLinkState, AirMessage, MobileSeat, Mobile}
+use Rattle.world_laws.proofs.Prelude.{◌∙◌, AllByRecursion, Channel, Place, Drain, Changing, State, Live, Connection, undone}
+use Rattle.world_laws.proofs.Prelude.{used_channels, place_of, Held, DataLinkState, AirMessage, MobileSeat, Mobile, ended, flow, seat_from}
+use Rattle.world_laws.proofs.Prelude.{remembered, draining_tenure, old_tenure, old_tenures, serving_tenure, serving_hold, commanded_target}
+use Rattle.world_laws.proofs.Prelude.{target_tenure, assembled, lined}
 use Rattle.conn_rules.specs.Streams.{target_in}
-use Rattle.world_laws.specs.LineUp.ChangeStep.{ended}
-use Rattle.world_laws.specs.LineUp.Places.{Item, Tenure, Seat, flow}
-use Rattle.world_laws.specs.LineUps.{seat_from, remembered, draining_tenure, old_tenure, old_tenures, serving_tenure, serving_hold, came}
-use Rattle.world_laws.specs.LineUps.{commanded_target, target_tenure, assembled, lined}
+use Rattle.world_laws.specs.LineUp.Places.{Item, Tenure, Seat}
+use Rattle.world_laws.specs.LineUps.{came}
 
 -- ---- all of a list
 
@@ -50,8 +50,6 @@ serving-same f g up up2 c hold ups same = ap (λ (items : List Item). record (se
 pub target-same : (f g : Place → List Item) (up up2 : ℕ → Bool) (seat : Seat) (state : State) → AreUp up up2 → AreSame f g (target_in state) → target_tenure f up seat (commanded_target state) ≡ target_tenure g up2 seat (commanded_target state)
 target-same f g up up2 seat (Live reference (Changing target)) ups same =
     ap (λ (items : List Item). record (target_tenure g up seat (Some target)) { items = items }) same.0 ∙ ap (λ (b : Bool). record (target_tenure g up2 seat (Some target)) { is_lost = not b && came seat }) (ups target.channel.station)
-target-same f g up up2 seat (Live reference (Preparing target)) ups same = refl
-target-same f g up up2 seat (Live reference _) ups same = refl
 target-same f g up up2 seat _ ups same = refl
 
 -- ---- line-ups

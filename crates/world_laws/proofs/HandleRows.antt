@@ -2,13 +2,11 @@
 use Rattle.world_laws.proofs.Prelude.{◌≡◌, ℕ, Bool, true, false, if◌then◌else◌, List, [], ◌∷◌, ◌++◌, map, Some, None, refl, arith}
 use Rattle.world_laws.proofs.Prelude.{Assignment, Handover, Channel, Place, Connection, new_connection, Active, Preparing, Changing}
 use Rattle.world_laws.proofs.Prelude.{Draining, WaitActivation, WaitEstablish, WaitConfirm, Live, Removed, roles_stay, role_commands}
-use Rattle.world_laws.proofs.Prelude.{role_completes, role_goes_back, place_at, Zero, Three, same_place}
+use Rattle.world_laws.proofs.Prelude.{role_completes, role_goes_back, place_at, Zero, Three, same_place, released, on_serving, on_target}
+use Rattle.world_laws.proofs.Prelude.{moving, gone, awaited_in, IsRequested}
 use Rattle.conn_rules.specs.declared.input.Input.TheVariants as inputs
 use Rattle.world_laws.specs.LineUp.Places.{Item}
-use Rattle.world_laws.specs.LineUp.Places.Item.{brought, released}
-use Rattle.world_laws.specs.LineUp.Places.Seat.{on_serving, on_target, moving, gone}
-use Rattle.world_laws.specs.Handled.{awaited_in}
-use Rattle.world_laws.specs.OwnFrame.{IsRequested}
+use Rattle.world_laws.specs.LineUp.Places.Item.{brought}
 use Rattle.world_laws.specs.OwnItem.{said_by, IsRead, IsBesideTarget, CommandsAfter, seat_after, Finds}
 
 -- ---- what an input brings

@@ -1,23 +1,13 @@
 -- A frame keeps the line-up of the connection that it says an input to.
-use Rattle.world_laws.proofs.Prelude.{◌≡◌, ◌≢◌, ℕ, not, false, List, [], ◌∷◌, Option, Some, option_map, ap}
-use Rattle.world_laws.proofs.Prelude.{◌∙◌, AllByRecursion, option_and_then, IsLayer3, Channel, SWITCH_LINK}
-use Rattle.world_laws.proofs.Prelude.{AllByRecursion-filter, Input, Active, Preparing, Changing, Draining, State, WaitActivation}
-use Rattle.world_laws.proofs.Prelude.{WaitEstablish, WaitConfirm, Live, Closed, Removed, Connection, undone, used_channels}
-use Rattle.world_laws.proofs.Prelude.{connection_of, ChannelState, Free, InUse, Releasing, Word, Controller, Entry, channel_state, entry_of}
-use Rattle.world_laws.proofs.Prelude.{holder, place_of, is_control, Parameters, Event, Actors}
+use Rattle.world_laws.proofs.Prelude.{◌≡◌, ◌≢◌, ℕ, not, false, List, [], ◌∷◌, Option, Some, option_map, ap, ◌∙◌, AllByRecursion}
+use Rattle.world_laws.proofs.Prelude.{option_and_then, IsLayer3, Channel, SWITCH_LINK, AllByRecursion-filter, Input, Preparing, Changing}
+use Rattle.world_laws.proofs.Prelude.{State, Live, Connection, undone, used_channels, connection_of, ChannelState, Free, InUse, Releasing}
+use Rattle.world_laws.proofs.Prelude.{Word, Controller, Entry, channel_state, entry_of, holder, place_of, is_control, Parameters, Event}
+use Rattle.world_laws.proofs.Prelude.{Actors, messages_in, acknowledgements_up, NoneReleases, ReleasesLast, coming_up, going_down}
+use Rattle.world_laws.proofs.Prelude.{awaited_in, FramesKeepLineUps, commanded_target, is_ended, IsSaidTo, on_channel, on_connection}
+use Rattle.world_laws.proofs.Prelude.{AreInOrder, NoneOn, EndsLast, AreLayer3, texts_of}
 use Rattle.conn_rules.specs.Streams.{target_in}
-use Rattle.world_laws.specs.LineUp.Places.{Item, messages_in}
-use Rattle.world_laws.specs.Acknowledged.{acknowledgements_up, NoneReleases, ReleasesLast}
-use Rattle.world_laws.specs.ComingUp.{coming_up}
-use Rattle.world_laws.specs.GoingDown.{going_down}
-use Rattle.world_laws.specs.Handled.{awaited_in, FramesKeepLineUps}
-use Rattle.world_laws.specs.LineUps.{commanded_target, is_ended}
-use Rattle.world_laws.specs.OwnFrame.{IsSaidTo}
-use Rattle.world_laws.specs.OwnFrame.IsSaidTo.{on_channel, on_connection}
-use Rattle.world_laws.specs.OwnHandle.{AreInOrder}
-use Rattle.world_laws.specs.Seated.{NoneOn}
-use Rattle.world_laws.specs.Staying.{EndsLast}
-use Rattle.world_laws.specs.ToCome.{AreLayer3, texts_of}
+use Rattle.world_laws.specs.LineUp.Places.{Item}
 use Rattle.world_laws.proofs.Acknowledged.{all_acks_tell_new}
 use Rattle.world_laws.proofs.Apart.{all_both}
 use Rattle.world_laws.proofs.Framing.{all_left, all_right}
@@ -51,13 +41,7 @@ whole_texts items whole = AllByRecursion-filter IsLayer3 (λ message. not (is_co
 none_on_any_target : (w : Actors) (state : State) → NoneOn w (commanded_target state) → AllByRecursion (λ c. going_down w (place_of c) ≡ []) (awaited_in state) → AllByRecursion (λ c. going_down w (place_of c) ≡ []) (target_in state)
 none_on_any_target w (Live reference (Changing target)) none awaited = (none, tt)
 none_on_any_target w (Live reference (Preparing target)) none awaited = awaited
-none_on_any_target w (Live reference Active) none awaited = tt
-none_on_any_target w (Live reference Draining) none awaited = tt
-none_on_any_target w WaitActivation none awaited = tt
-none_on_any_target w WaitEstablish none awaited = tt
-none_on_any_target w WaitConfirm none awaited = tt
-none_on_any_target w (Closed clearing) none awaited = tt
-none_on_any_target w Removed none awaited = tt
+none_on_any_target w _ none awaited = tt
 
 pub frames_keep_line_ups_new : (settings : Parameters) (events : List Event) → FramesKeepLineUps settings events
 frames_keep_line_ups_new settings events mobile s item items input offer r stood comes ready read lined =

@@ -1,11 +1,9 @@
 -- What the switch accepts of a connection that is lined up is in order.
-use Rattle.world_laws.proofs.Prelude.{◌≡◌, ℕ, List, [], ◌∷◌, ◌++◌, ap, ◌∙◌, subst, append_assoc, Connection, Rise, Actors}
-use Rattle.world_laws.specs.LineUp.Places.{LineUp, flow, parts_of, line}
-use Rattle.world_laws.specs.LineUp.Order.{coming}
+use Rattle.world_laws.proofs.Prelude.{◌≡◌, ℕ, List, [], ◌∷◌, ◌++◌, ap, ◌∙◌, subst, append_assoc, Connection, Rise, Actors, LineUp, flow}
+use Rattle.world_laws.proofs.Prelude.{parts_of, line, coming, taken_of, line_up}
 use Rattle.world_laws.proofs.LineUp.Following.{follows_rise}
 use Rattle.world_laws.proofs.LineUp.Ordering.{is_in_order_rise}
 use Rattle.world_laws.specs.InOrder.{LineUpsAreInOrder}
-use Rattle.world_laws.specs.LineUps.{taken_of, line_up}
 use Rattle.world_laws.proofs.OwnRow.{flow-twice}
 
 pub line_ups_are_in_order_new : (m : ℕ) (w : Actors) (mobile : ℕ) (s : Connection) → LineUpsAreInOrder m w mobile s

@@ -1,13 +1,11 @@
 -- Tenures that are the same on the line.
 use Rattle.world_laws.proofs.Prelude.{◌≡◌, ℕ, Bool, ◌||◌, if◌then◌else◌, List, [], ◌∷◌, ◌++◌, length, refl, sym, ap, ◌∙◌, subst, arith}
-use Rattle.world_laws.proofs.Prelude.{append-nil, State, DataLinkState}
-use Rattle.world_laws.specs.LineUp.Alive.{Alive, Follows, FirstRelays, Condition, some_lost}
-use Rattle.world_laws.specs.LineUp.Places.{Tenure, Seat, flow, messages_in, part_of, parts_of, with_items, controls_of}
-use Rattle.world_laws.specs.LineUp.Places.Item.{released}
+use Rattle.world_laws.proofs.Prelude.{append-nil, State, DataLinkState, Alive, Follows, FirstRelays, Condition, some_lost, flow}
+use Rattle.world_laws.proofs.Prelude.{messages_in, part_of, parts_of, with_items, controls_of, released, is_confirmed, is_intact, assembled}
+use Rattle.world_laws.specs.LineUp.Places.{Tenure, Seat}
 use Rattle.world_laws.proofs.LineUp.Following.{follows_line}
 use Rattle.world_laws.proofs.LineUp.Lines.{messages_in-append}
 use Rattle.world_laws.proofs.LineUp.Standing.{stands_fewer}
-use Rattle.world_laws.specs.LineUps.{is_confirmed, is_intact, assembled}
 
 pub record Like (t u : Tenure) : Type 0 where
   pub hold : u.hold ≡ t.hold

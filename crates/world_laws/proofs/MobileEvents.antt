@@ -14,23 +14,18 @@ use Rattle.world_laws.proofs.Prelude.{is_station_up, base_of, with_base, spot_at
 use Rattle.world_laws.proofs.Prelude.{found-number, base-with_spot, reached-up, up-right, and-left, and-right, only_if-leads}
 use Rattle.world_laws.proofs.Prelude.{by_mobile-leads, connect-leads, air_up-leads, air_ack-leads, air_down-leads, air_down_lost-leads}
 use Rattle.world_laws.proofs.Prelude.{move-leads, touch-leads, arrive-leads, return-leads, report-leads, hearing-number, control-complete}
-use Rattle.world_laws.proofs.Prelude.{same_Some, spot-with_base, found-front}
+use Rattle.world_laws.proofs.Prelude.{same_Some, spot-with_base, found-front, after_up, reported_at, OfTaken, of_main, made_of}
+use Rattle.world_laws.proofs.Prelude.{leading_from_air, IsAlone, LinedUp, AreLinedUp, control-failure}
 use Rattle.world_laws.specs.LineUp.Places.{Item}
-use Rattle.link_model.specs.Base.{after_up}
 use Rattle.mobile_end.specs.declared.mobile_end.Place.TheVariants as places
-use Rattle.world_model.specs.Mobiles.{reported_at, left}
-use Rattle.world_model.proofs.Leads.{OfTaken, FromAir}
-use Rattle.world_laws.specs.ComingUp.{of_main, made_of}
-use Rattle.world_laws.specs.GoingDown.{leading_from_air}
-use Rattle.world_laws.specs.Seated.{IsAlone, LinedUp}
-use Rattle.world_laws.specs.Staying.{AreLinedUp}
+use Rattle.world_model.specs.Mobiles.{left}
+use Rattle.world_model.proofs.Leads.{FromAir}
 use Rattle.world_laws.proofs.AirUp.{all_other, own_air_up}
 use Rattle.world_laws.proofs.OwnMobile.{own_upper, own_air_ack}
 use Rattle.world_laws.proofs.OwnMoves.{own_lost, own_heard, own_move, sees_established, own_arrive, own_return}
 use Rattle.world_laws.proofs.Quiet.{ArePlaced, down-with_base, sees_itself, sees_mobiles, sees_told, sees_spot, sees_elsewhere}
 use Rattle.world_laws.proofs.Seeing.{SameTenures, SeesSame, lined_up_same}
 use Rattle.world_laws.proofs.Spots.{tenure-with_base}
-use Rattle.world_model.proofs.Mobility.{control-failure}
 
 -- ---- whose event it is
 

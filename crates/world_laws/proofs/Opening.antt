@@ -1,18 +1,15 @@
 -- A connection is lined up from the row on that puts CR with its initial message.
 use Rattle.world_laws.proofs.Prelude.{◌≡◌, ℕ, ◌+◌, Bool, true, false, not, List, [], ◌∷◌, ◌++◌, refl, sym, ap, ◌∙◌, subst, arith}
-use Rattle.world_laws.proofs.Prelude.{append-nil, WaitConfirm, place_of, to_be_taken, DataLinkState, false≢true}
-use Rattle.world_laws.specs.LineUp.Alive.{Alive}
-use Rattle.world_laws.specs.LineUp.Alive.Condition.{sound}
+use Rattle.world_laws.proofs.Prelude.{append-nil, WaitConfirm, place_of, to_be_taken, DataLinkState, false≢true, Alive, sound, remains}
+use Rattle.world_laws.proofs.Prelude.{fresh, flow, messages_in, with_items, controls_of, controls_in, on_serving, serving_tenure, assembled}
+use Rattle.world_laws.proofs.Prelude.{OpeningLinesUp}
 use Rattle.world_laws.specs.LineUp.Alive.Follows.{goes_on}
 use Rattle.world_laws.specs.LineUp.Alive.Stands.{rests}
-use Rattle.world_laws.specs.LineUp.Alive.Stays.{remains}
-use Rattle.world_laws.specs.LineUp.Places.{Item, fresh, flow, messages_in, with_items, controls_of, controls_in}
-use Rattle.world_laws.specs.LineUp.Places.Seat.{on_serving}
+use Rattle.world_laws.specs.LineUp.Places.{Item}
 use Rattle.world_laws.proofs.LineUp.Following.{follows_line}
 use Rattle.world_laws.proofs.LineUp.Lines.{flow-cons}
 use Rattle.mobile_end.specs.GoesOn.{GoesOn}
-use Rattle.world_laws.specs.LineUps.{serving_tenure, assembled}
-use Rattle.world_laws.specs.OwnRow.{over, OpeningLinesUp}
+use Rattle.world_laws.specs.OwnRow.{over}
 use Rattle.world_laws.proofs.Cutting.{Cuts, cuts_itself, alive_cut}
 use Rattle.world_laws.proofs.Cutting.Cuts.{breaks}
 use Rattle.world_laws.proofs.OwnRow.{flow-twice}

@@ -1,29 +1,24 @@
 -- What the controller hears of a channel by an item of the inbox.
 use Rattle.world_laws.proofs.Prelude.{◌≡◌, ◌≢◌, inl, inr, ℕ, ◌==◌, ◌&&◌, ◌≤◌, not, Bool, true, false, cond, if◌then◌else◌, List, [], ◌∷◌}
-use Rattle.world_laws.proofs.Prelude.{option_to_list, Option, Some, None, Ok, Err, refl, sym, ap, ◌∙◌, subst, true≢false, cases_Bool}
-use Rattle.world_laws.proofs.Prelude.{eqb-true, eq-eqb, ne_eqb, result_ok, Bssap, Management, Transfer, Bssmap, InterfaceFault, Sccp}
-use Rattle.world_laws.proofs.Prelude.{bssap_reading, Place, SWITCH_LINK, Input, is_dtap, free≢release, is_there, state_else, state_here}
-use Rattle.world_laws.proofs.Prelude.{ChannelState, Free, InUse, Releasing, Word, Nothing, Ping, Asks, OnChannel, Reports, OnConnection}
-use Rattle.world_laws.proofs.Prelude.{Controller, channel_state, place_at, body_word, bssap_word, change_word, data_word}
-use Rattle.world_laws.proofs.Prelude.{management_of_link, management_word, of_sapi, report_word, result_word, rr_word, rsl_word, sapi_of}
-use Rattle.world_laws.proofs.Prelude.{station_word, switch_word, radio_signalling, connection_control, link_management, other}
-use Rattle.world_laws.proofs.Prelude.{report_reading, RrMessage, RrFault, Sapi, Zero, Three, Frame, CCM_STREAM, PING, RSL_STREAM}
-use Rattle.world_laws.proofs.Prelude.{SCCP_STREAM, is_bound_of, Item, Rsl, rsl_reading, rsl_text, said_by, acknowledgements, rsl_in}
-use Rattle.world_laws.proofs.Prelude.{IsKnown, heard_of, hear, RequestReference}
-use Rattle.std.proofs.Common.{Result}
+use Rattle.world_laws.proofs.Prelude.{option_to_list, Option, Some, None, Ok, refl, sym, ap, ◌∙◌, subst, true≢false, cases_Bool, eqb-true}
+use Rattle.world_laws.proofs.Prelude.{eq-eqb, ne_eqb, result_ok, Bssap, Management, Bssmap, InterfaceFault, Sccp, bssap_reading, Place}
+use Rattle.world_laws.proofs.Prelude.{SWITCH_LINK, Input, is_dtap, free≢release, is_there, state_else, state_here, ChannelState, Free}
+use Rattle.world_laws.proofs.Prelude.{Releasing, Word, Nothing, Ping, Asks, OnChannel, Reports, Controller, channel_state, place_at}
+use Rattle.world_laws.proofs.Prelude.{body_word, bssap_word, change_word, data_word, management_of_link, management_word, of_sapi}
+use Rattle.world_laws.proofs.Prelude.{report_word, result_word, rr_word, rsl_word, sapi_of, station_word, switch_word, radio_signalling}
+use Rattle.world_laws.proofs.Prelude.{connection_control, link_management, other, report_reading, RrMessage, RrFault, Sapi, Zero, Frame}
+use Rattle.world_laws.proofs.Prelude.{CCM_STREAM, PING, RSL_STREAM, SCCP_STREAM, is_bound_of, Item, Rsl, rsl_reading, rsl_text, said_by}
+use Rattle.world_laws.proofs.Prelude.{acknowledgements, rsl_in, IsKnown, heard_of, hear, RequestReference, Result, sccp_reading, rr_reading}
+use Rattle.world_laws.proofs.Prelude.{frame_of, is_nack}
 use Rattle.bssmap_codec.specs.declared.bssmap.Bssmap.TheVariants as bssmap
 use Rattle.bssmap_codec.specs.declared.sccp.Sccp.TheVariants as sccp
-use Rattle.bssmap_codec.specs.SccpReading.{sccp_reading}
 use Rattle.conn_rules.specs.declared.input.Input.TheVariants as inputs
 use Rattle.controller_model.proofs.LifeLaws.UsingWords.{IsNoNack}
 use Rattle.controller_model.specs.Reading.{word_of}
 use Rattle.dtap_codec.specs.declared.report.Report.{Report}
 use Rattle.dtap_codec.specs.declared.rr.RrMessage.TheVariants as rr
-use Rattle.dtap_codec.specs.RrReading.{rr_reading}
 use Rattle.ruled_relay.specs.declared.item.What.TheVariants as whats
 use Rattle.rsl_codec.specs.declared.rsl.Rsl.TheVariants as rsl
-use Rattle.world_model.specs.Reading.{frame_of}
-use Rattle.world_model.proofs.Soundness.{is_nack}
 use Rattle.world_laws.proofs.OrderTurns.{NoNackWord, freed_by, heard_by}
 
 -- ---- words that free no channel
@@ -38,44 +33,28 @@ pub none_nacks : (word : Word) → FreesNone word → NoNackWord word
 unfolding FreesNone IsNoNack
 none_nacks (OnChannel p (inputs.ReleaseAck q)) none = absurd none
 none_nacks (OnChannel p (inputs.ActivationNack q)) none = absurd none
-none_nacks (OnChannel p _) none = tt
-none_nacks Nothing none = tt
-none_nacks Ping none = tt
-none_nacks (Asks request delay) none = tt
-none_nacks (Reports p of report) none = tt
-none_nacks (OnConnection m input) none = tt
+none_nacks _ none = tt
 
 pub none_frees : (at : Place) (least : 1 ≤ at.station) (word : Word) (c : Controller) → FreesNone word → heard_by at least word c ≡ channel_state c at
 unfolding FreesNone
 none_frees at least (OnChannel p (inputs.ReleaseAck q)) c none = absurd none
 none_frees at least (OnChannel p (inputs.ActivationNack q)) c none = absurd none
-none_frees at least (OnChannel p _) c none = refl
-none_frees at least Nothing c none = refl
-none_frees at least Ping c none = refl
-none_frees at least (Asks request delay) c none = refl
-none_frees at least (Reports p of report) c none = refl
-none_frees at least (OnConnection m input) c none = refl
+none_frees at least _ c none = refl
 
 -- ---- of the switch
 
 management_none : (m : ℕ) (message : Bssmap) → FreesNone (management_word m message)
 unfolding FreesNone
 management_none m (bssmap.AssignmentRequest channel_type) = tt
-management_none m (bssmap.ClearCommand cause) = tt
-management_none m bssmap.CipherModeCommand = tt
 management_none m _ = tt
 
 bssap_none : (m : ℕ) (r : Result Bssap InterfaceFault) → FreesNone (bssap_word m r)
 unfolding FreesNone
 bssap_none m (Ok (Management message)) = management_none m message
-bssap_none m (Ok (Transfer dlci message)) = tt
-bssap_none m (Err fault) = tt
+bssap_none m _ = tt
 
 switch_none : (r : Result Sccp InterfaceFault) → FreesNone (switch_word r)
 unfolding FreesNone
-switch_none (Ok (sccp.ConnectionConfirm destination source)) = tt
-switch_none (Ok (sccp.ConnectionRefused destination)) = tt
-switch_none (Ok (sccp.Released destination source)) = tt
 switch_none (Ok (sccp.DataForm1 destination user)) = bssap_none destination (bssap_reading user)
 switch_none _ = tt
 
@@ -105,20 +84,12 @@ IsPlain word = FreesNone word
 plain_none : (word : Word) → IsPlain word → FreesNone word
 unfolding IsPlain
 plain_none (Asks request delay) plain = absurd plain
-plain_none (OnChannel p input) plain = plain
-plain_none Nothing plain = plain
-plain_none Ping plain = plain
-plain_none (Reports p of report) plain = plain
-plain_none (OnConnection m input) plain = plain
+plain_none _ plain = plain
 
 pub plain_asks : (word : Word) (request : RequestReference) (delay : ℕ) → IsPlain word → word ≡ Asks request delay → ⊥
 unfolding IsPlain
 plain_asks (Asks q d) request delay plain is = plain
-plain_asks (OnChannel p input) request delay plain is = absurd cc
-plain_asks Nothing request delay plain is = absurd cc
-plain_asks Ping request delay plain is = absurd cc
-plain_asks (Reports p of report) request delay plain is = absurd cc
-plain_asks (OnConnection m input) request delay plain is = absurd cc
+plain_asks _ request delay plain is = absurd cc
 
 pub sapi_plain : (p : Place) (o : Option Sapi) (input : Sapi → Input) → ((s : Sapi) → IsPlain (OnChannel p (input s))) → IsPlain (of_sapi p o input)
 unfolding IsPlain FreesNone
@@ -128,16 +99,12 @@ sapi_plain p (Some s) input none = none s
 change_plain : (p : Place) (r : Result RrMessage RrFault) → IsPlain (change_word p r)
 unfolding IsPlain FreesNone
 change_plain p (Ok (rr.AssignmentComplete cause)) = tt
-change_plain p (Ok (rr.HandoverComplete cause)) = tt
-change_plain p (Ok (rr.AssignmentFailure cause)) = tt
-change_plain p (Ok (rr.HandoverFailure cause)) = tt
 change_plain p _ = tt
 
 rr_plain : (p : Place) (o : Option Sapi) (l3 : List ℕ) → IsPlain (rr_word p o l3)
 unfolding IsPlain FreesNone
 rr_plain p (Some Zero) l3 = change_plain p (rr_reading l3)
-rr_plain p (Some Three) l3 = tt
-rr_plain p None l3 = tt
+rr_plain p _ l3 = tt
 
 pub data_plain : (b : Bool) (p : Place) (o : Option Sapi) (l3 : List ℕ) → IsPlain (data_word b p o l3)
 unfolding IsPlain FreesNone
@@ -165,14 +132,11 @@ is_end message = false
 
 message_none : (source : ℕ) (message : Rsl) → is_nack message ≡ false → is_end message ≡ false → FreesNone (rsl_word source message)
 unfolding IsPlain FreesNone is_end
-message_none source (rsl.ChannelRequired r) no_nack no_end = tt
-message_none source (rsl.ChannelActivationAck a) no_nack no_end = tt
 message_none source (rsl.ChannelActivationNack f) no_nack no_end = absurd (true≢false no_nack)
 message_none source (rsl.EstablishIndication e) no_nack no_end = plain_none _ (sapi_plain (place_at source e.channel) (sapi_of e.link) (λ s. inputs.EstablishIndication (place_at source e.channel) s e.l3) (λ s. tt))
 message_none source (rsl.EstablishConfirm l) no_nack no_end = plain_none _ (sapi_plain (place_at source l.channel) (sapi_of l.link) (λ s. inputs.EstablishConfirm (place_at source l.channel) s) (λ s. tt))
 message_none source (rsl.ReleaseIndication l) no_nack no_end = plain_none _ (sapi_plain (place_at source l.channel) (sapi_of l.link) (λ s. inputs.ReleaseIndication (place_at source l.channel) s) (λ s. tt))
 message_none source (rsl.ErrorIndication e) no_nack no_end = plain_none _ (sapi_plain (place_at source e.channel) (sapi_of e.link) (λ s. inputs.ErrorIndication (place_at source e.channel) s) (λ s. tt))
-message_none source (rsl.ConnectionFailure f) no_nack no_end = tt
 message_none source (rsl.DataIndication d) no_nack no_end = plain_none _ (data_plain (is_dtap d.l3) (place_at source d.channel) (sapi_of d.link) d.l3)
 message_none source (rsl.MeasurementResult m) no_nack no_end = plain_none _ (result_plain (place_at source m.channel) m.number.0 m.l3)
 message_none source (rsl.RfChannelReleaseAck channel) no_nack no_end = absurd (true≢false no_end)
@@ -192,14 +156,12 @@ read_known message read = ap result_ok read
 
 -- an RF CHANNEL RELEASE ACK
 freed_heard : (at : Place) (least : 1 ≤ at.station) (c : Controller) (state : ChannelState) → channel_state c at ≡ state → hear (rsl.RfChannelReleaseAck at.number ∷ []) state ≡ freed_by at least state at c
-freed_heard at least c Free is = sym is
-freed_heard at least c (InUse k) is = sym is
 freed_heard at least c (Releasing k) is = sym (state_here c.channels at Free (is_there c.channels at (λ free. free≢release k (sym free ∙ is))))
+freed_heard at least c _ is = sym is
 
 freed_beside : (at : Place) (least : 1 ≤ at.station) (p : Place) (c : Controller) (state : ChannelState) → at ≢ p → channel_state c at ≡ freed_by at least state p c
-freed_beside at least p c Free differ = refl
-freed_beside at least p c (InUse k) differ = refl
 freed_beside at least p c (Releasing k) differ = sym (state_else c.channels p at Free differ)
+freed_beside at least p c _ differ = refl
 
 hear-plain : (m : Rsl) (state : ChannelState) → is_end m ≡ false → hear (m ∷ []) state ≡ state
 unfolding is_end

@@ -1,12 +1,11 @@
 -- On which channel a COMMAND goes, and to which it leads: both are in use by one connection.
 use Rattle.world_laws.proofs.Prelude.{◌≡◌, ℕ, ◌==◌, ◌∷◌, option_map, Option, Some, None, refl, sym, ap, ◌∙◌, subst, inl, inr, cases_Bool}
-use Rattle.world_laws.proofs.Prelude.{eqb-true, AllByRecursion, Channel, Place, Station, Out, outs_of, Active, Preparing, Changing}
-use Rattle.world_laws.proofs.Prelude.{Draining, State, WaitActivation, WaitEstablish, WaitConfirm, Live, Closed, Removed, Connection}
+use Rattle.world_laws.proofs.Prelude.{eqb-true, AllByRecursion, Channel, Place, Station, Out, outs_of, Preparing}
+use Rattle.world_laws.proofs.Prelude.{State, WaitActivation, Live, Connection}
 use Rattle.world_laws.proofs.Prelude.{is_at, target_channels, target_role, Row, IsOpen, assign_immediately, command_to, on_activation_ack}
 use Rattle.world_laws.proofs.Prelude.{AreIn, IsSent, owns_entry, same_channel, Ready, here_of, ChannelState, Free, InUse, Releasing}
 use Rattle.world_laws.proofs.Prelude.{Controller, Entry, channel_state, entry_of, ignoring, place_of, state_in, by_fitting, concerning}
-use Rattle.world_laws.proofs.Prelude.{entry_at, on_state, row_in, DataMessage, rsl_text, asker, said_to, none-some, place-is, if_is}
-use Rattle.conn_messages.specs.Out.{out_of}
+use Rattle.world_laws.proofs.Prelude.{entry_at, on_state, row_in, DataMessage, rsl_text, asker, said_to, none-some, place-is, if_is, out_of}
 use Rattle.conn_rules.specs.declared.input.Input.TheVariants as inputs
 use Rattle.conn_rules.specs.Table.{row_of}
 use Rattle.rsl_codec.specs.declared.common_channel.ImmediateAssignment.{ImmediateAssignment as Assignment}
@@ -67,13 +66,7 @@ ack_row at p c n m (Live reference (Preparing target)) s r is fits used asks =
     let parts = if_is (is_at p target.channel) (command_to reference target s) r fits in
     let all = used tt in
     subst (AllLead at p c n) parts.1 (λ sent. (command_leads at p c n m s.serving _ refl all.0 (ap (state_in c.channels) (place-is p target.channel parts.0) ∙ all.1.0) asks sent.0, tt))
-ack_row at p c n m (Live reference Active) s r is fits used asks = absurd cc
-ack_row at p c n m (Live reference Draining) s r is fits used asks = absurd cc
-ack_row at p c n m (Live reference (Changing target)) s r is fits used asks = absurd cc
-ack_row at p c n m WaitEstablish s r is fits used asks = absurd cc
-ack_row at p c n m WaitConfirm s r is fits used asks = absurd cc
-ack_row at p c n m (Closed clearing) s r is fits used asks = absurd cc
-ack_row at p c n m Removed s r is fits used asks = absurd cc
+ack_row at p c n m _ s r is fits used asks = absurd cc
 
 ack_fitting : (at p : Place) (c : Controller) (k : ℕ) (e : Entry) (o : Option Row) → row_in c e.connection (inputs.ActivationAck p) ≡ o → entry_of c k ≡ Some e → Ready c → AllByRecursion IsSent (by_fitting (ignoring c) e o c).outs → AllByRecursion (LeadsOut at p c) (by_fitting (ignoring c) e o c).outs
 unfolding row_of

@@ -6,11 +6,9 @@ use Rattle.world_laws.proofs.Prelude.{AllByRecursion-filter, Input, Connection, 
 use Rattle.world_laws.proofs.Prelude.{roles_of, those_that_go, goes_on, ends, had_ended, refused, drops, dismisses, Row, IsOpen, OfRow}
 use Rattle.world_laws.proofs.Prelude.{Names, IsSent, InUse, Controller, channel_state, place_of, ChannelDescription, RrMessage, none-some}
 use Rattle.world_laws.proofs.Prelude.{ImmediateAssignment, RrFault, rr_text, Rsl, RequestReference, rsl_text, asker, rsl_in, said_to}
-use Rattle.std.proofs.Common.{Result}
+use Rattle.world_laws.proofs.Prelude.{Result, to_stations, row_of}
 use Rattle.conn_messages.specs.Out.{out_of}
 use Rattle.conn_rules.specs.declared.input.Input.TheVariants as inputs
-use Rattle.conn_rules.specs.Roles.{to_stations}
-use Rattle.conn_rules.specs.Table.{row_of}
 use Rattle.controller_model.proofs.LifeLaws.Naming.{IsNamed, row_named}
 use Rattle.dtap_codec.specs.RrReading.{immediate_assignment_at, pseudo_at, rr_reading, three_at}
 use Rattle.octets.specs.Front.{octet_at}
@@ -38,8 +36,7 @@ NoAssignment _ = Unit {0}
 
 none_named : (at : Place) (c : Controller) (o : Option Rsl) → ((i : Assignment) → o ≡ Some (rsl.ImmediateAssignCommand i) → ⊥) → NamesIn at c o
 none_named at c (Some (rsl.ImmediateAssignCommand i)) none = absurd (none i refl)
-none_named at c None none = tt
-none_named at c (Some _) none = tt
+none_named at c _ none = tt
 
 no_assignment : (at : Place) (c : Controller) (n : ℕ) (m : Message) → 1 ≤ at.station → IsSent (out_of n m) → NoAssignment m → NamesOut at c (out_of n m)
 unfolding out_of
@@ -100,8 +97,7 @@ assignment_read c request delay = record { channel = _; named = _; advance = _; 
 
 named_in : (at : Place) (c : Controller) (o : Option Rsl) → ((i : Assignment) → o ≡ Some (rsl.ImmediateAssignCommand i) → NamesUser at c (rr_reading i.information)) → NamesIn at c o
 named_in at c (Some (rsl.ImmediateAssignCommand i)) names = names i refl
-named_in at c None names = tt
-named_in at c (Some _) names = tt
+named_in at c _ names = tt
 
 station_in : Message → ℕ
 station_in (Station station x) = station

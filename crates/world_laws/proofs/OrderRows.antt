@@ -2,7 +2,7 @@
 -- it.
 use Rattle.world_laws.proofs.Prelude.{◌≡◌, ◌≢◌, ◌⊎◌, inl, inr, ℕ, ◌==◌, ◌&&◌, ◌≤◌, ◌<◌, Bool, true, false, if◌then◌else◌, List, [], ◌∷◌}
 use Rattle.world_laws.proofs.Prelude.{◌++◌, filter, fold, Option, Some, None, refl, sym, ap, ◌∙◌, subst, true≢false, AllByRecursion}
-use Rattle.world_laws.proofs.Prelude.{Change, Assignment, Handover, Channel, Place, Message, Station, Request, Data, ReleaseComplete}
+use Rattle.world_laws.proofs.Prelude.{Change, Assignment, Handover, Channel, Place, Message, Station}
 use Rattle.world_laws.proofs.Prelude.{outs_of, change_activation, rf_channel_release, AllByRecursion-append, Input, Target, Connection}
 use Rattle.world_laws.proofs.Prelude.{ChangesRoles, MayBegin, RoleEnd, RoleStep, Roles, TargetRole, after_step, begin_orders}
 use Rattle.world_laws.proofs.Prelude.{end_messages, is_order, roles_of, step_by, step_orders, target_channels, those_that_go, goes_on}
@@ -10,12 +10,8 @@ use Rattle.world_laws.proofs.Prelude.{ends, had_ended, refused, drops, dismisses
 use Rattle.world_laws.proofs.Prelude.{IsOpen, AreIn, IsSent, Avoids, IsIn, free≢use, is_there, state_else, state_here, ChannelState, Free}
 use Rattle.world_laws.proofs.Prelude.{InUse, Releasing, CHANNEL_NUMBERS, place_of, state_in, Activation, cases_Bool, eqb-true, eq-eqb}
 use Rattle.world_laws.proofs.Prelude.{and_parts, Goes, Runs, runs, first_passes, activates, over, passes, releases, AllByRecursion-filter}
-use Rattle.conn_messages.specs.Out.{out_of}
+use Rattle.world_laws.proofs.Prelude.{out_of, is_to_station, to_stations, from_stations, that_go_avoid, still_there, channels_after}
 use Rattle.conn_rules.specs.declared.input.Input.TheVariants as inputs
-use Rattle.conn_rules.specs.Roles.{is_to_station, to_stations}
-use Rattle.controller_model.proofs.LifeLaws.Keeping.{from_stations, that_go_avoid}
-use Rattle.controller_model.proofs.LifeLaws.Places.{still_there}
-use Rattle.controller_model.specs.Controller.{channels_after}
 use Rattle.rsl_codec.specs.declared.rsl.Rsl.TheVariants as rsl
 use Rattle.world_laws.proofs.OrderTexts.{seen_activation, seen_avoids, seen_release}
 
@@ -61,26 +57,18 @@ refiltered P at test (m ∷ ms) (later avoids one) = by (test m) (refiltered P a
 no_order : (at : Place) (m : Message) → is_order m ≡ false → Avoids at m
 no_order at (Station station (rsl.ChannelActivation a)) is = absurd (true≢false is)
 no_order at (Station station (rsl.RfChannelRelease channel)) is = absurd (true≢false is)
-no_order at (Station station _) is = tt
-no_order at (Request message) is = tt
-no_order at (Data destination message) is = tt
-no_order at (ReleaseComplete destination) is = tt
+no_order at _ is = tt
 
 no_station : (at : Place) (m : Message) → is_to_station m ≡ false → Avoids at m
 no_station at (Station station x) is = absurd (true≢false is)
-no_station at (Request message) is = tt
-no_station at (Data destination message) is = tt
-no_station at (ReleaseComplete destination) is = tt
+no_station at _ is = tt
 
 -- ---- the state that they lead to
 
 one_avoids : (n : ℕ) (at : Place) (channels : States) (m : Message) → Avoids at m → state_in (channels_after n channels m) at ≡ state_in channels at
 one_avoids n at channels (Station station (rsl.ChannelActivation a)) differ = state_else channels (record { station = station; number = a.channel }) at (InUse n) (λ same. differ (sym same))
 one_avoids n at channels (Station station (rsl.RfChannelRelease channel)) differ = state_else channels (record { station = station; number = channel }) at (Releasing n) (λ same. differ (sym same))
-one_avoids n at channels (Station station _) differ = refl
-one_avoids n at channels (Request message) differ = refl
-one_avoids n at channels (Data destination message) differ = refl
-one_avoids n at channels (ReleaseComplete destination) differ = refl
+one_avoids n at channels _ differ = refl
 
 all_avoid : (n : ℕ) (at : Place) (channels : States) (ms : List Message) → AllByRecursion (Avoids at) ms → state_in (fold (channels_after n) channels ms) at ≡ state_in channels at
 all_avoid n at channels [] all = refl
@@ -102,10 +90,7 @@ pub record IsFreeThere (channels : States) (at : Place) : Type 0 where
 still_in : (n : ℕ) (at : Place) (channels : States) (m : Message) → IsIn channels at → IsIn (channels_after n channels m) at
 still_in n at channels (Station station (rsl.ChannelActivation a)) is = still_there channels (record { station = station; number = a.channel }) at (InUse n) is
 still_in n at channels (Station station (rsl.RfChannelRelease channel)) is = still_there channels (record { station = station; number = channel }) at (Releasing n) is
-still_in n at channels (Station station _) is = is
-still_in n at channels (Request message) is = is
-still_in n at channels (Data destination message) is = is
-still_in n at channels (ReleaseComplete destination) is = is
+still_in n at channels _ is = is
 
 one_activates : (n : ℕ) (at : Place) (channels : States) (ms : List Message) → OneOrder (Activates at) at ms → IsIn channels at → state_in (fold (channels_after n) channels ms) at ≡ InUse n
 one_activates n at channels [] one is_in = elim one [ ]

@@ -1,27 +1,20 @@
 -- The controller serves each channel, by the laws of its life.
 use Rattle.world_laws.proofs.Prelude.{◌≡◌, ◌⊎◌, inl, inr, ℕ, zero, suc, ◌==◌, ◌≤◌, nat_eq, Bool, true, false, cond, if◌then◌else◌, List, []}
-use Rattle.world_laws.proofs.Prelude.{◌∷◌, option_map, set, slice_index_or, Contains, Option, Some, None, Ok, Err, refl, sym, ap, ◌∙◌}
+use Rattle.world_laws.proofs.Prelude.{◌∷◌, option_map, set, slice_index_or, Contains, Option, Some, None, Ok, refl, sym, ap, ◌∙◌}
 use Rattle.world_laws.proofs.Prelude.{subst, arith, true≢false, cases_Bool, eqb-true, AllByRecursion, Place, Out, connection_of}
 use Rattle.world_laws.proofs.Prelude.{NamesItsMobile, SameRequest, is_link_up, AreUsed, links_with, step_goes, find_above, contains_none}
 use Rattle.world_laws.proofs.Prelude.{Ready, ChannelState, Free, InUse, Releasing, Step, Take, Controller, Entry, channel_state, entry_of}
 use Rattle.world_laws.proofs.Prelude.{hears, step, RrMessage, ImmediateAssignment, RrFault, What, DataMessage, Rsl, Tenure, Agrees, asker}
-use Rattle.world_laws.proofs.Prelude.{tenure_behind, rsl_in, Actors, is_up, entries_to, said_to, Serves, hear}
-use Rattle.std.proofs.Common.{Result}
-use Rattle.std.proofs.lemmas.Option.{unwrap_or-slice_get}
+use Rattle.world_laws.proofs.Prelude.{tenure_behind, rsl_in, Actors, is_up, entries_to, said_to, Serves, hear, Result, unwrap_or-slice_get}
+use Rattle.world_laws.proofs.Prelude.{SendsMessages, used_places, rr_reading, LeadsBy, FitAll, FitsBeside, entry-out}
 use Rattle.controller_model.specs.LifeLaws.Reach.{GoesToUp}
-use Rattle.controller_model.specs.LifeLaws.Sending.{SendsMessages}
-use Rattle.controller_model.specs.LifeLaws.Using.{used_places}
 use Rattle.controller_model.specs.declared.step.Step.TheVariants.{Tick}
-use Rattle.dtap_codec.specs.RrReading.{rr_reading}
 use Rattle.ruled_relay.specs.declared.item.What.TheVariants as whats
 use Rattle.rsl_codec.specs.declared.rsl.Rsl.TheVariants as rsl
 use Rattle.world_model.specs.OwnerLines.{AssignsIn}
 use Rattle.world_model.specs.Relay.{commands, entry_of as outbox_entry}
-use Rattle.world_model.specs.Tickets.{LeadsBy}
-use Rattle.world_model.proofs.OwnerPuts.{FitAll, FitsBeside}
 use Rattle.world_laws.proofs.OrderNames.{NamesIn, NamesOut, NamesUser}
 use Rattle.world_laws.proofs.OrderTurns.{Serving}
-use Rattle.world_laws.proofs.Others.{entry-out}
 
 -- ---- links
 
@@ -29,11 +22,9 @@ is-up-at : (links : List Bool) (link : ℕ) → is_link_up links link ≡ slice_
 is-up-at links link = unwrap_or-slice_get links link false
 
 was_at : (links : List Bool) (source link : ℕ) → slice_index_or (set links source false) link false ≡ true → slice_index_or links link false ≡ true
-was_at [] source link up = up
 was_at (b ∷ links) zero zero up = absurd cc
-was_at (b ∷ links) zero (suc link) up = up
-was_at (b ∷ links) (suc source) zero up = up
 was_at (b ∷ links) (suc source) (suc link) up = was_at links source link up
+was_at _ _ _ up = up
 
 down_at : (links : List Bool) (source : ℕ) → slice_index_or (set links source false) source false ≡ false
 down_at [] source = refl
@@ -45,9 +36,7 @@ broken_down links source = is-up-at (set links source false) source ∙ down_at 
 
 heard_with : (up : Bool) (source : ℕ) (what : What) (c : Controller) (link : ℕ) → is_link_up (links_with up source what c) link ≡ true → is_link_up c.links link ≡ true
 heard_with true source whats.Down c link up = is-up-at c.links link ∙ was_at c.links source link (sym (is-up-at (set c.links source false) link) ∙ up)
-heard_with true source (whats.Frame frame) c link up = up
-heard_with false source whats.Down c link up = up
-heard_with false source (whats.Frame frame) c link up = up
+heard_with _ source _ c link up = up
 
 pub heard_before : (c : Controller) (s : Step) (link : ℕ) → hears (step c s).next link ≡ true → hears c link ≡ true
 heard_before c (Take item) link up = heard_with (hears c item.source) item.source item.what c link (ap (λ (links : List Bool). is_link_up links link) (sym (step_goes c (Take item)).links_are) ∙ up)
@@ -93,11 +82,10 @@ users_of c s at number mobile laws asks used = by number asks (laws.used.using a
 -- ---- what is put fits the tenures
 
 pub use_free : (heard : List Rsl) (state : ChannelState) (number : ℕ) → state ≡ InUse number → hear heard state ≡ Free → ⊥
-use_free [] state number used free = absurd (let both : InUse number ≡ Free = sym used ∙ free in cc)
 use_free (rsl.RfChannelReleaseAck channel ∷ rest) (Releasing m) number used free = absurd cc
 use_free (rsl.RfChannelReleaseAck channel ∷ rest) Free number used free = absurd cc
 use_free (rsl.RfChannelReleaseAck channel ∷ rest) (InUse m) number used free = absurd cc
-use_free (_ ∷ rest) state number used free = absurd (let both : InUse number ≡ Free = sym used ∙ free in cc)
+use_free _ state number used free = absurd (let both : InUse number ≡ Free = sym used ∙ free in cc)
 
 -- a command leads to a tenure of the mobile whose connection uses the channel
 abbrev pub LeadsOwn : (Tenure → ℕ) → Actors → Place → Option Tenure → Out → Type 0
@@ -116,14 +104,12 @@ module _ (owner : Tenure → ℕ) (w : Actors) (at : Place) (heard : List Rsl) (
     by : (n : ℕ) × (state ≡ InUse n) × (asker w.controller n ≡ Some (slice_index_or request 0 0)) → Which number → owner (record { at = at; number = number }) ≡ slice_index_or request 0 0
     by (n, used, asks) (inl same) = ap (λ (k : ℕ). owner (record { at = at; number = k })) same ∙ agrees.own n (slice_index_or request 0 0) hearing used asks (λ down silent. true≢false (sym up ∙ down))
     by (n, used, asks) (inr free) = absurd (use_free heard state n used free)
-  assigns_fit number which (Ok _) names = tt
-  assigns_fit number which (Err fault) names = tt
+  assigns_fit number which _ names = tt
 
   beside_fits : (number : ℕ) → Which number → (target : Option Tenure) (o : Option Rsl) → NamesIn at w.controller o → ((d : DataMessage) → o ≡ Some (rsl.DataRequest d) → d.channel ≡ at.number → LeadsBy owner (record { at = at; number = number }) target) → FitsBeside owner at number target o
   beside_fits number which target (Some (rsl.ImmediateAssignCommand i)) names leads = assigns_fit number which (rr_reading i.information) names
   beside_fits number which target (Some (rsl.DataRequest d)) names leads = leads d refl
-  beside_fits number which target None names leads = tt
-  beside_fits number which target (Some _) names leads = tt
+  beside_fits number which target _ names leads = tt
 
   out_leads : (number : ℕ) → Which number → (target : Option Tenure) (out : Out) → LeadsOwn owner w at target out → (d : DataMessage) → said_to at out ≡ Some (rsl.DataRequest d) → d.channel ≡ at.number → LeadsBy owner (record { at = at; number = number }) (outbox_entry target out).target
   out_leads number which None out leads d is same = tt

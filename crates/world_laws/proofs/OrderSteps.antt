@@ -5,14 +5,10 @@ use Rattle.world_laws.proofs.Prelude.{AllByRecursion-append, Input, Connection, 
 use Rattle.world_laws.proofs.Prelude.{break_shut, timer_shut, Holds, changes_of, owns_entry, IsHere, Ready, ChannelState, Free}
 use Rattle.world_laws.proofs.Prelude.{request_offer, Controller, Entry, Turn, turn, each, channel_state, entry_of, freed_station, state_in}
 use Rattle.world_laws.proofs.Prelude.{with_down, all_aged, break_of, by_fitting, expiry, on_break, row_in, timed, Goes, Runs, runs, over}
-use Rattle.world_laws.proofs.Prelude.{passes, releases}
-use Rattle.std.proofs.lemmas.List.{get_or-set_other}
-use Rattle.conn_rules.specs.Table.{row_of}
-use Rattle.controller_model.proofs.LifeLaws.OwningLife.{expiry_holds, told_holds}
-use Rattle.controller_model.proofs.LifeLaws.Turns.{IsDue, all_found, expiry_own, told_tame, timed_tame}
-use Rattle.controller_model.proofs.LifeLaws.UsingLife.{aged_ready, all_here, expiry_numbers, still_here, told_numbers}
-use Rattle.controller_model.specs.Controller.{free_channels}
-use Rattle.controller_model.specs.Life.{on_expiry as expires, tick, told}
+use Rattle.world_laws.proofs.Prelude.{passes, releases, get_or-set_other, row_of, expiry_holds, told_holds, IsDue, all_found, expiry_own}
+use Rattle.world_laws.proofs.Prelude.{told_tame, timed_tame, aged_ready, all_here, expiry_numbers, still_here, told_numbers, free_channels}
+use Rattle.world_laws.proofs.Prelude.{expires, told}
+use Rattle.controller_model.specs.Life.{tick}
 use Rattle.world_laws.proofs.OrderNames.{NamesOut, no_assignments, shut_assigns}
 use Rattle.world_laws.proofs.OrderRows.{States, ends_run, row_ends}
 use Rattle.world_laws.proofs.OrderTurns.{Serving, of_owns}

@@ -25,17 +25,14 @@ unfolding is_of_kind
 activation_is (rsl.ChannelActivation a) is = (a, refl)
 activation_is _ is = absurd (true≢false (sym is))
 
-activation_known : (a : Activation) → is_of_kind 0x08 0x21 (rsl.ChannelActivation a) ≡ true
-unfolding is_of_kind
-activation_known a = refl
-
 activation_channel : (a b : Activation) → rsl_text (rsl.ChannelActivation a) ≡ rsl_text (rsl.ChannelActivation b) → a.channel ≡ b.channel
 unfolding rsl_element_text
 activation_channel a b same = ap (λ (xs : List ℕ). slice_index_or xs 3 0) same
 
 pub activation_back : (x : Rsl) (b : Activation) → rsl_text x ≡ rsl_text (rsl.ChannelActivation b) → (a : Activation) × (x ≡ rsl.ChannelActivation a) × (a.channel ≡ b.channel)
+unfolding is_of_kind
 activation_back x b same =
-    let found = activation_is x (same_kind 0x08 0x21 x (rsl.ChannelActivation b) same ∙ activation_known b) in
+    let found = activation_is x (same_kind 0x08 0x21 x (rsl.ChannelActivation b) same) in
     (found.0, found.1, activation_channel found.0 b (ap rsl_text (sym found.1) ∙ same))
 
 release_is : (x : Rsl) → is_of_kind 0x08 0x2e x ≡ true → (channel : ℕ) × (x ≡ rsl.RfChannelRelease channel)
@@ -43,17 +40,14 @@ unfolding is_of_kind
 release_is (rsl.RfChannelRelease channel) is = (channel, refl)
 release_is _ is = absurd (true≢false (sym is))
 
-release_known : (channel : ℕ) → is_of_kind 0x08 0x2e (rsl.RfChannelRelease channel) ≡ true
-unfolding is_of_kind
-release_known channel = refl
-
 release_channel : (a b : ℕ) → rsl_text (rsl.RfChannelRelease a) ≡ rsl_text (rsl.RfChannelRelease b) → a ≡ b
 unfolding rsl_element_text
 release_channel a b same = ap (λ (xs : List ℕ). slice_index_or xs 3 0) same
 
 pub release_back : (x : Rsl) (channel : ℕ) → rsl_text x ≡ rsl_text (rsl.RfChannelRelease channel) → x ≡ rsl.RfChannelRelease channel
+unfolding is_of_kind
 release_back x channel same =
-    let found = release_is x (same_kind 0x08 0x2e x (rsl.RfChannelRelease channel) same ∙ release_known channel) in
+    let found = release_is x (same_kind 0x08 0x2e x (rsl.RfChannelRelease channel) same) in
     found.1 ∙ ap (λ (k : ℕ). rsl.RfChannelRelease k) (release_channel found.0 channel (ap rsl_text (sym found.1) ∙ same))
 
 assignment_is : (x : Rsl) → is_of_kind 0x0c 0x16 x ≡ true → (i : Assignment) × (x ≡ rsl.ImmediateAssignCommand i)
@@ -61,23 +55,20 @@ unfolding is_of_kind
 assignment_is (rsl.ImmediateAssignCommand i) is = (i, refl)
 assignment_is _ is = absurd (true≢false (sym is))
 
-assignment_known : (i : Assignment) → is_of_kind 0x0c 0x16 (rsl.ImmediateAssignCommand i) ≡ true
-unfolding is_of_kind
-assignment_known i = refl
-
 assignment_information : (i j : Assignment) → rsl_text (rsl.ImmediateAssignCommand i) ≡ rsl_text (rsl.ImmediateAssignCommand j) → i.information ≡ j.information
 unfolding rsl_element_text
 assignment_information i j same = sym (append-nil i.information) ∙ ap (drop 6) same ∙ append-nil j.information
 
 pub assignment_back : (x : Rsl) (j : Assignment) → rsl_text x ≡ rsl_text (rsl.ImmediateAssignCommand j) → (i : Assignment) × (x ≡ rsl.ImmediateAssignCommand i) × (i.information ≡ j.information)
+unfolding is_of_kind
 assignment_back x j same =
-    let found = assignment_is x (same_kind 0x0c 0x16 x (rsl.ImmediateAssignCommand j) same ∙ assignment_known j) in
+    let found = assignment_is x (same_kind 0x0c 0x16 x (rsl.ImmediateAssignCommand j) same) in
     (found.0, found.1, assignment_information found.0 j (ap rsl_text (sym found.1) ∙ same))
 
 -- an assignment is no DATA REQUEST
 pub assignment_apart : (i : Assignment) (d : DataMessage) → rsl_text (rsl.ImmediateAssignCommand i) ≡ rsl_text (rsl.DataRequest d) → ⊥
 unfolding is_of_kind
-assignment_apart i d same = true≢false (sym (assignment_known i) ∙ same_kind 0x0c 0x16 (rsl.ImmediateAssignCommand i) (rsl.DataRequest d) same)
+assignment_apart i d same = true≢false (same_kind 0x0c 0x16 (rsl.ImmediateAssignCommand i) (rsl.DataRequest d) same)
 
 -- ---- what a station reads of a frame for it
 
@@ -88,9 +79,7 @@ pub record ReadAs (x y : Rsl) : Type 0 where
 read_message : (n station : ℕ) (x : Rsl) (m : Message) → out_of n (Station station x) ≡ out_of n m → IsReadOf n m (rsl_text x) → (y : Rsl) × ReadAs x y
 unfolding out_of
 read_message n station x (Station station' y) same read = (y, record { text = ap (λ (o : Out). o.frame.body) same; reading = read })
-read_message n station x (Request message) same read = absurd (apart 0 0xfd refl (ap (λ (o : Out). o.frame.stream) same))
-read_message n station x (Data d message) same read = absurd (apart 0 0xfd refl (ap (λ (o : Out). o.frame.stream) same))
-read_message n station x (ReleaseComplete d) same read = absurd (apart 0 0xfd refl (ap (λ (o : Out). o.frame.stream) same))
+read_message n station x _ same read = absurd (apart 0 0xfd refl (ap (λ (o : Out). o.frame.stream) same))
 
 pub read_of : (n station : ℕ) (x : Rsl) → IsSent (out_of n (Station station x)) → (y : Rsl) × ReadAs x y
 unfolding out_of

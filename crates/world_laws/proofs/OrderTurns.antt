@@ -8,15 +8,11 @@ use Rattle.world_laws.proofs.Prelude.{OnChannel, Reports, OnConnection, access_c
 use Rattle.world_laws.proofs.Prelude.{Turn, turn, ignoring, channel_state, entry_of, freed, place_of, state_in, with_entry, with_state}
 use Rattle.world_laws.proofs.Prelude.{by_fitting, concerning, concerning_too, entry_at, given, may_open, measured, measures, on_decision}
 use Rattle.world_laws.proofs.Prelude.{on_report, on_state, on_word, pong, row_in, with_report, decision_over, Decision, Stay}
-use Rattle.world_laws.proofs.Prelude.{RequestReference, Parameters, asker, rsl_in, Goes, Passes, said_to, runs, over, passes}
+use Rattle.world_laws.proofs.Prelude.{RequestReference, Parameters, asker, rsl_in, Goes, Passes, said_to, runs, over, passes, row_of}
+use Rattle.world_laws.proofs.Prelude.{serving_after, used_in, IsRow, IsShaped, assignment_offers, freed_shaped, all_at, release≢use}
+use Rattle.world_laws.proofs.Prelude.{still_in, kind_of}
 use Rattle.conn_rules.specs.declared.input.Input.TheVariants as inputs
-use Rattle.conn_rules.specs.Table.{row_of, serving_after}
-use Rattle.controller_model.specs.LifeLaws.Owning.{used_in}
-use Rattle.controller_model.proofs.LifeLaws.OwningSteps.{IsRow, IsShaped}
-use Rattle.controller_model.proofs.LifeLaws.OwningWords.{assignment_offers, freed_shaped}
-use Rattle.controller_model.proofs.LifeLaws.Places.{all_at, release≢use, still_in}
 use Rattle.controller_model.proofs.LifeLaws.UsingWords.{IsNoNack}
-use Rattle.controller_model.specs.Channels.{kind_of}
 use Rattle.dtap_codec.specs.declared.report.Report.{Report}
 use Rattle.controller_model.specs.Decision.TheVariants.{Move}
 use Rattle.world_laws.proofs.OrderNames.{NamesIn, NamesOut, no_assignments, row_names}
@@ -132,7 +128,6 @@ module _ (at : Place) (least : 1 ≤ at.station) where
   free_serves : (p : Place) (input : Input) (c : Controller) → IsNoNack input → Serving c (channel_state c at) (on_state Free p input c None)
   unfolding IsNoNack
   free_serves p (inputs.ActivationNack q) c no_nack = absurd no_nack
-  free_serves p (inputs.ReleaseAck q) c no_nack = ignoring_serves c
   free_serves p _ c no_nack = ignoring_serves c
 
   use_serves : (p : Place) (input : Input) (c : Controller) (k : ℕ) (o : Option Entry) → IsNoNack input → entry_of c k ≡ o → Ready c → Serving c (channel_state c at) (on_state (InUse k) p input c o)

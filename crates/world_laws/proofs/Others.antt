@@ -5,17 +5,14 @@ use Rattle.world_laws.proofs.Prelude.{cases_Bool, eqb-true, eqb-false, flat_map-
 use Rattle.world_laws.proofs.Prelude.{Target, Connection, used_channels, Forwarded, Turn, place_of, RelayItem, Parameters, Event}
 use Rattle.world_laws.proofs.Prelude.{AirMessage, OutboxEntry, Tenure, joined_by, with_turn, target_in, after_handle}
 use Rattle.world_laws.proofs.Prelude.{Actors, Link, broken_link, link_of, with_outbox, outbox_of, modulus_in, has_number, is_up}
-use Rattle.world_laws.proofs.Prelude.{base_of, spot_at, handle-leads, after-taken, AllByRecursion-so}
-use Rattle.controller_model.specs.Life.{take, tick}
+use Rattle.world_laws.proofs.Prelude.{base_of, spot_at, handle-leads, after-taken, AllByRecursion-so, take, tick, brings_in, made_of}
+use Rattle.world_laws.proofs.Prelude.{coming_up, leading_from_air, leading_from_outbox, going_down, commanded_target, commanded_channels}
+use Rattle.world_laws.proofs.Prelude.{AreLinedUp, carried_for, IsForOthers, BringsNothing, IsOthers, RelayLeavesOthers, TimeLeavesOthers}
+use Rattle.world_laws.proofs.Prelude.{entry-out}
 use Rattle.controller_model.specs.Views.{forwarded}
 use Rattle.world_laws.specs.LineUp.Places.{Item}
 use Rattle.world_model.specs.Life.{event_after}
 use Rattle.world_model.specs.Relay.{entry_of}
-use Rattle.world_laws.specs.ComingUp.{brings_in, made_of, coming_up}
-use Rattle.world_laws.specs.GoingDown.{leading_from_air, leading_from_outbox, going_down}
-use Rattle.world_laws.specs.LineUps.{commanded_target}
-use Rattle.world_laws.specs.Seated.{commanded_channels}
-use Rattle.world_laws.specs.Staying.{AreLinedUp, carried_for, IsForOthers, BringsNothing, IsOthers, RelayLeavesOthers, TimeLeavesOthers}
 use Rattle.world_laws.proofs.Quiet.{sees_itself}
 use Rattle.world_laws.proofs.Seeing.{SameTenures, SeesSame, lined_up_same}
 use Rattle.world_laws.proofs.Spots.{set-same, set-apart}
@@ -31,10 +28,6 @@ forwarded-append [] more number = refl
 forwarded-append (out ∷ outs) more number =
     forwarded-first out (outs ++ more) number ∙ ap (λ (fs : List Forwarded). forwarded (out ∷ []) number ++ fs) (forwarded-append outs more number)
     ∙ sym (append_assoc (forwarded (out ∷ []) number) (forwarded outs number) (forwarded more number)) ∙ ap (λ (fs : List Forwarded). fs ++ forwarded more number) (sym (forwarded-first out outs number))
-
-pub entry-out : (target : Option Tenure) (out : Out) → (entry_of target out).out ≡ out
-entry-out None out = refl
-entry-out (Some tenure) out = refl
 
 waiting-same : (entries : List OutboxEntry) (target : Option Tenure) (out : Out) (number : ℕ) → carried_for number out ≡ [] → waiting_in (entries ++ entry_of target out ∷ []) number ≡ waiting_in entries number
 waiting-same entries target out number none =

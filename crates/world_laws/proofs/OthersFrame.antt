@@ -1,30 +1,20 @@
 -- What the controller puts by a frame is its connection's alone.
-use Rattle.world_laws.proofs.Prelude.{◌≡◌, ◌≢◌, ℕ, ◌==◌, ◌&&◌, Bool, List, [], ◌∷◌, map, Option, Some, Ok, Err, refl, sym, ap, ◌∙◌, subst}
-use Rattle.world_laws.proofs.Prelude.{inl, inr, AllByRecursion, flat_map, result_ok, cases_Bool, cond-false, eqb-true, ne_eqb, Channel}
-use Rattle.world_laws.proofs.Prelude.{Message, Station, Request, Data, ReleaseComplete, Out, SWITCH_LINK, outs_of, Active, Preparing}
-use Rattle.world_laws.proofs.Prelude.{Changing, Draining, State, WaitActivation, WaitEstablish, WaitConfirm, Live, Closed, Removed}
-use Rattle.world_laws.proofs.Prelude.{Connection, roles_of, target_channels, target_role, connection_of, Owns, OwnsOpen, IsSent, conn_of}
-use Rattle.world_laws.proofs.Prelude.{life_owns, IsNotOn, IsText, life_sends, InUse, Forwarded, Take, Controller, channel_state, place_at}
-use Rattle.world_laws.proofs.Prelude.{place_of, step, concerned, forwarded_by, RelayItem, What, RslFault, DataMessage, Rsl, rsl_reading}
-use Rattle.world_laws.proofs.Prelude.{rsl_text, AreAllowed, Parameters, Event, Tenure, target_in, rsl_in, all_steps}
-use Rattle.world_laws.proofs.Prelude.{Actors, new_actors, LivesByTable-new}
-use Rattle.std.proofs.Common.{Result}
-use Rattle.bssmap_codec.specs.SccpReading.{sccp_reading}
+use Rattle.world_laws.proofs.Prelude.{◌≡◌, ◌≢◌, ℕ, ◌==◌, ◌&&◌, Bool, List, [], ◌∷◌, map, Option, Some, Ok, refl, sym, ap, ◌∙◌, subst, inl}
+use Rattle.world_laws.proofs.Prelude.{inr, AllByRecursion, flat_map, result_ok, cases_Bool, cond-false, eqb-true, ne_eqb, Channel, Message}
+use Rattle.world_laws.proofs.Prelude.{Station, Request, Data, ReleaseComplete, Out, SWITCH_LINK, outs_of, Changing, State, Live, Connection}
+use Rattle.world_laws.proofs.Prelude.{roles_of, target_channels, target_role, connection_of, Owns, OwnsOpen, IsSent, conn_of, life_owns}
+use Rattle.world_laws.proofs.Prelude.{IsNotOn, IsText, life_sends, InUse, Forwarded, Take, Controller, channel_state, place_at, place_of}
+use Rattle.world_laws.proofs.Prelude.{step, concerned, forwarded_by, RelayItem, What, RslFault, DataMessage, Rsl, rsl_reading, rsl_text}
+use Rattle.world_laws.proofs.Prelude.{AreAllowed, Parameters, Event, Tenure, target_in, rsl_in, all_steps, Actors, new_actors}
+use Rattle.world_laws.proofs.Prelude.{LivesByTable-new, Result, sccp_reading, PassesBy, frame_passes, read_request, life, take, word_of}
+use Rattle.world_laws.proofs.Prelude.{leading, leading_by, leading_from_outbox, commanded_target, FramesAreForOthers, commanded_channels}
+use Rattle.world_laws.proofs.Prelude.{IsForOthers, carried_for, entry-out}
 use Rattle.conn_messages.specs.Out.{out_of}
-use Rattle.controller_model.proofs.LifeLaws.Passing.{PassesBy, frame_passes, read_request}
 use Rattle.controller_model.proofs.LifeLaws.SeenFrames.{texts_back, texts_of}
-use Rattle.controller_model.specs.Life.{life, take}
-use Rattle.controller_model.specs.Reading.{word_of}
 use Rattle.controller_model.specs.Views.{forwarded}
 use Rattle.ruled_relay.specs.declared.item.What.TheVariants as whats
 use Rattle.rsl_codec.specs.declared.rsl.Rsl.TheVariants as rsl
 use Rattle.world_model.specs.Relay.{entry_of}
-use Rattle.world_laws.specs.GoingDown.{leading, leading_by, leading_from_outbox}
-use Rattle.world_laws.specs.LineUps.{commanded_target}
-use Rattle.world_laws.specs.OthersFrame.{FramesAreForOthers}
-use Rattle.world_laws.specs.Seated.{commanded_channels}
-use Rattle.world_laws.specs.Staying.{IsForOthers, carried_for}
-use Rattle.world_laws.proofs.Others.{entry-out}
 use Rattle.world_laws.proofs.Events.{world}
 
 -- ---- one output
@@ -47,8 +37,7 @@ none_leads m c target (Station station x) text other to = by (rsl_reading (rsl_t
         let away : place_at station carries.0.channel ≢ place_of c = subst (λ (y : Rsl). IsNotOn (place_of c) (Station station y)) carries.1 other in
         absurd (away (ap (λ (n : ℕ). place_at n carries.0.channel) to ∙ ap (place_at c.station) (carries.2 ∙ eqb-true d.channel c.number hit)))
   ]
-  by (Ok _) read = refl
-  by (Err fault) read = refl
+  by _ read = refl
 none_leads m c target (Request message) text other to = refl
 none_leads m c target (Data destination message) text other to = refl
 none_leads m c target (ReleaseComplete destination) text other to = refl
@@ -80,15 +69,8 @@ all_for_others m target s (message ∷ put) differ texts passed = (
 -- ---- the channels to that its mobile may be commanded are in use by it
 
 commanded_of : (P : Channel → Type 0) (state : State) → AllByRecursion P (target_channels (target_role state)) → AllByRecursion P (commanded_channels (commanded_target state))
-commanded_of P (Live reference Active) all = tt
-commanded_of P (Live reference (Preparing target)) all = tt
 commanded_of P (Live reference (Changing target)) all = all
-commanded_of P (Live reference Draining) all = tt
-commanded_of P WaitActivation all = tt
-commanded_of P WaitEstablish all = tt
-commanded_of P WaitConfirm all = tt
-commanded_of P (Closed clearing) all = tt
-commanded_of P Removed all = tt
+commanded_of P _ all = tt
 
 used_passed : (c : Controller) (n : ℕ) (put : List Message) (cs : List Channel) → ((at : _) → channel_state c at ≡ InUse n → AllByRecursion (IsNotOn at) put) → AllByRecursion (λ (x : Channel). channel_state c (place_of x) ≡ InUse n) cs → AllByRecursion (Passed put) cs
 unfolding Passed

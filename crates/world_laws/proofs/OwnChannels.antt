@@ -2,14 +2,11 @@
 -- is taken and after it.
 use Rattle.world_laws.proofs.Prelude.{◌≡◌, ℕ, ◌&&◌, ◌||◌, not, Bool, true, false, if◌then◌else◌, List, [], ◌∷◌, ◌++◌, refl, sym, ap, ◌∙◌}
 use Rattle.world_laws.proofs.Prelude.{subst, append_assoc, inl, inr, AllByRecursion, cases_Bool, cond-true, cond-false, Channel, Place}
-use Rattle.world_laws.proofs.Prelude.{Input, is_at, Future, IsApart, from_input, place_of, Zero, without_control, Both-empty}
+use Rattle.world_laws.proofs.Prelude.{Input, is_at, Future, IsApart, from_input, place_of, Zero, without_control, Both-empty, messages_in}
+use Rattle.world_laws.proofs.Prelude.{released, is_ended, EndsLast, AreLayer3, mark, texts_of, AsOld, AsServing}
 use Rattle.conn_rules.specs.declared.input.Input.TheVariants as inputs
-use Rattle.world_laws.specs.LineUp.Places.{Item, messages_in}
-use Rattle.world_laws.specs.LineUp.Places.Item.{released}
-use Rattle.world_laws.specs.LineUps.{is_ended}
+use Rattle.world_laws.specs.LineUp.Places.{Item}
 use Rattle.world_laws.specs.OwnItem.{said_by, IsRead, IsBesideTarget}
-use Rattle.world_laws.specs.Staying.{EndsLast}
-use Rattle.world_laws.specs.ToCome.{AreLayer3, mark, texts_of, AsOld, AsServing}
 use Rattle.world_laws.proofs.Framing.{all_right}
 use Rattle.world_laws.proofs.RolesAfter.{both_false}
 use Rattle.world_laws.proofs.OwnFuture.{texts-append, ended-append, from-said, ended_said}

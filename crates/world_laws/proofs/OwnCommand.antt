@@ -1,14 +1,12 @@
 -- The COMMAND that a row puts leads its mobile to the target.
 use Rattle.world_laws.proofs.Prelude.{◌≡◌, ℕ, ◌==◌, Bool, true, if◌then◌else◌, [], ◌∷◌, Option, Some, None, refl, ap, ◌∙◌, result_ok}
-use Rattle.world_laws.proofs.Prelude.{Change, Assignment, Handover, Channel, IsReadOf, rr_text, Rsl, Tenure}
+use Rattle.world_laws.proofs.Prelude.{Change, Assignment, Handover, Channel, IsReadOf, rr_text, Rsl, Tenure, change_command, command}
+use Rattle.world_laws.proofs.Prelude.{leading, leading_by, leading_from_outbox, change_in}
 use Rattle.conn_messages.specs.Out.{out_of}
-use Rattle.conn_messages.specs.StationMessage.{change_command, command}
 use Rattle.dtap_codec.specs.RrReading.{assignment_command_at, handover_command_at, rr_reading, three_at, typed_at}
 use Rattle.dtap_codec.specs.RrType.{rr_type}
 use Rattle.octets.specs.Front.{octet_at}
 use Rattle.world_model.specs.Relay.{commands, entry_of, is_change_command}
-use Rattle.world_laws.specs.GoingDown.{leading, leading_by, leading_from_outbox}
-use Rattle.world_laws.specs.Seated.{change_in}
 
 pub change-read : (change : Change) (c : Channel) → change_in (rr_reading (rr_text (command change c))) ≡ Some change
 unfolding rr_reading octet_at typed_at rr_type assignment_command_at three_at handover_command_at

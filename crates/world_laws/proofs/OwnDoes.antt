@@ -1,18 +1,16 @@
 -- The row that fits an input keeps its connection's line-up: what it does to the channels, by the
 -- step that the input brings.
 use Rattle.world_laws.proofs.Prelude.{◌≡◌, ℕ, suc, ◌+◌, Bool, true, false, if◌then◌else◌, List, [], ◌∷◌, ◌++◌, length, Option, Some, None}
-use Rattle.world_laws.proofs.Prelude.{refl, sym, ap, ◌∙◌, subst, arith, AllByRecursion, Channel, Place, Input, Drain, State, WaitActivation}
-use Rattle.world_laws.proofs.Prelude.{WaitEstablish, WaitConfirm, Live, Closed, Removed, Connection, TargetRole, Roles, RoleStep}
+use Rattle.world_laws.proofs.Prelude.{refl, sym, ap, ◌∙◌, subst, arith, AllByRecursion, Channel, Place, Input, Drain, State}
+use Rattle.world_laws.proofs.Prelude.{WaitConfirm, Live, Closed, Removed, Connection, TargetRole, Roles, RoleStep}
 use Rattle.world_laws.proofs.Prelude.{target_role, roles_of, after_step, target_channels, commanded, completed, roles_stay, role_commands}
 use Rattle.world_laws.proofs.Prelude.{role_completes, role_goes_back, role_leaves, Stands, StandsBy, AreApart, Future, IsApart, from_input}
 use Rattle.world_laws.proofs.Prelude.{undone, used_channels, target_in-role, place_of, Zero, Held, apart_behind, AllByRecursion-so}
-use Rattle.conn_rules.specs.Standing.{IsHeldTenure}
+use Rattle.world_laws.proofs.Prelude.{IsHeldTenure, messages_in, is_ended, EndsLast, AreLayer3, texts_of, AsOld, AsServing, AsTarget}
+use Rattle.world_laws.proofs.Prelude.{AreHeld, StandsFor}
 use Rattle.conn_rules.specs.Streams.{target_in}
-use Rattle.world_laws.specs.LineUp.Places.{Item, messages_in}
-use Rattle.world_laws.specs.LineUps.{is_ended}
+use Rattle.world_laws.specs.LineUp.Places.{Item}
 use Rattle.world_laws.specs.OwnItem.{said_by, IsBesideTarget, Finds}
-use Rattle.world_laws.specs.Staying.{EndsLast}
-use Rattle.world_laws.specs.ToCome.{AreLayer3, texts_of, AsOld, AsServing, AsTarget, AreHeld, StandsFor}
 use Rattle.world_laws.proofs.Apart.{all_both}
 use Rattle.world_laws.proofs.Framing.{all_left, all_right}
 use Rattle.world_laws.proofs.OwnChannels.{passes_target, passes-apart, to_come, IsHeard, MayCome, IsTarget, old_before, old_after}
@@ -47,12 +45,11 @@ are_held s stands = held_all s.draining s.up.tenures (many s.state stands.state)
   none-drains ds n none one = one ∙ ap (λ (xs : List Drain). length xs + 1) (sym none)
 
   many : (state : State) → StandsBy state s.draining s.down s.up.tenures s.link s.waits → length s.up.tenures ≡ length s.draining + 1
-  many WaitActivation by = none-drains s.draining (length s.up.tenures) by.0.none_drains (ap length by.0.one_tenure)
-  many WaitEstablish by = none-drains s.draining (length s.up.tenures) by.0.none_drains (ap length by.0.one_tenure)
   many WaitConfirm by = none-drains s.draining (length s.up.tenures) by.none_drains by.one_tenure
   many (Live reference stage) by = by.a_tenure_each
   many (Closed clearing) by = none-drains s.draining (length s.up.tenures) by.none_drains (ap length by.one_tenure)
   many Removed by = none-drains s.draining (length s.up.tenures) by.none_drains (ap length by.one_tenure)
+  many _ by = none-drains s.draining (length s.up.tenures) by.0.none_drains (ap length by.0.one_tenure)
 
 -- ---- before the row
 

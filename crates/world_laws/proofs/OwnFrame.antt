@@ -1,18 +1,16 @@
 -- What a frame brings is what it says to its connection.
 use Rattle.world_laws.proofs.Prelude.{◌≡◌, ℕ, ◌==◌, ◌&&◌, not, nat_eq, Bool, true, false, if◌then◌else◌, List, [], ◌∷◌, Option, Some, None}
-use Rattle.world_laws.proofs.Prelude.{Ok, Err, refl, ap, ◌∙◌, Place, Input, is_dtap, Word, Nothing, OnChannel, OnConnection, Reports}
+use Rattle.world_laws.proofs.Prelude.{Ok, refl, ap, ◌∙◌, Place, Input, is_dtap, Word, Nothing, OnChannel, OnConnection, Reports}
 use Rattle.world_laws.proofs.Prelude.{place_at, sapi_of, of_sapi, change_word, data_word, report_word, result_word, rsl_word}
 use Rattle.world_laws.proofs.Prelude.{report_reading, RrMessage, AssignmentComplete, HandoverComplete, AssignmentFailure, HandoverFailure}
 use Rattle.world_laws.proofs.Prelude.{MeasurementReport, RrFault, Sapi, Zero, Three, is_control, Establishment, Rsl, Tenure}
-use Rattle.world_laws.proofs.Prelude.{acknowledged_tenure, Actors, tenure_at, same_place}
-use Rattle.std.proofs.Common.{Result}
+use Rattle.world_laws.proofs.Prelude.{acknowledged_tenure, Actors, tenure_at, same_place, Result, rr_reading, released, brings, of_main}
+use Rattle.world_laws.proofs.Prelude.{of_establishment}
 use Rattle.conn_rules.specs.declared.input.Input.TheVariants as inputs
-use Rattle.dtap_codec.specs.RrReading.{rr_reading}
 use Rattle.world_laws.specs.LineUp.Places.{Item}
-use Rattle.world_laws.specs.LineUp.Places.Item.{brought, released}
+use Rattle.world_laws.specs.LineUp.Places.Item.{brought}
 use Rattle.rsl_codec.specs.declared.radio_link.Data.{Data}
 use Rattle.rsl_codec.specs.declared.rsl.Rsl.TheVariants as rsl
-use Rattle.world_laws.specs.ComingUp.{brings, of_main, of_establishment}
 use Rattle.world_laws.specs.OwnItem.{said_by, IsRead}
 use Rattle.world_laws.proofs.Apart.{eqb_sym}
 
@@ -56,8 +54,7 @@ no_items = []
 
 none_there : (b c : Bool) → (if b then (if c then no_items else no_items) else no_items) ≡ no_items
 none_there true true = refl
-none_there true false = refl
-none_there false c = refl
+none_there _ _ = refl
 
 nowhere : (b : Bool) → (if b then no_items else no_items) ≡ no_items
 nowhere true = refl
@@ -109,11 +106,9 @@ change_says station d r is control = by r where
   by (Ok (HandoverComplete cause)) = λ plain. record { text = d.l3; read = control; brings_it = here; acknowledges = λ w. refl }
   by (Ok (AssignmentFailure cause)) = λ plain. record { text = d.l3; read = control; brings_it = here; acknowledges = λ w. refl }
   by (Ok (HandoverFailure cause)) = λ plain. record { text = d.l3; read = control; brings_it = here; acknowledges = λ w. refl }
-  by (Ok _) = tt
-  by (Err fault) = tt
+  by _ = tt
 
 data_says : (station : ℕ) (d : Data) (b : Bool) (sapi : Option Sapi) → is_dtap d.l3 ≡ b → sapi_of d.link ≡ sapi → SaysWord station (rsl.DataIndication d) (data_word b (place_at station d.channel) sapi d.l3)
-data_says station d true None dtap is = tt
 data_says station d true (Some Zero) dtap is = λ plain. record {
   text = [];
   read = control-or d.l3 ∙ ap not dtap;
@@ -126,9 +121,8 @@ data_says station d true (Some Three) dtap is = λ plain. record {
   brings_it = λ place. ap (λ (o : Option Sapi). if station == place.station then (if d.channel == place.number then of_main o d.l3 else []) else []) is ∙ none_there (station == place.station) (d.channel == place.number);
   acknowledges = λ w. refl;
 }
-data_says station d false None dtap is = tt
-data_says station d false (Some Three) dtap is = tt
 data_says station d false (Some Zero) dtap is = change_says station d (rr_reading d.l3) is (control-or d.l3 ∙ ap not dtap)
+data_says station d _ _ dtap is = tt
 
 measured_says : (station : ℕ) (message : Rsl) (place : Place) (number : ℕ) (l3 : Option (List ℕ)) → SaysWord station message (result_word place number l3)
 measured_says station message place number None = tt
@@ -138,8 +132,7 @@ measured_says station message place number (Some l3) = by (rr_reading l3) where
     valid : (b : Bool) → SaysWord station message (if b then Reports place number (report_reading value) else Nothing)
     valid true = tt
     valid false = tt
-  by (Ok _) = tt
-  by (Err fault) = tt
+  by _ = tt
 
 link_says : (station : ℕ) (message : Rsl) (at : Place) (sapi : Option Sapi) (input : Sapi → Input) → ((s : Sapi) → SaysInput station message (input s)) → SaysWord station message (of_sapi at sapi input)
 link_says station message at None input says = tt
@@ -159,5 +152,4 @@ message_says station (rsl.ConnectionFailure f) = λ plain. record { text = []; r
 message_says station (rsl.DataIndication d) = data_says station d (is_dtap d.l3) (sapi_of d.link) refl refl
 message_says station (rsl.MeasurementResult m) = measured_says station (rsl.MeasurementResult m) (place_at station m.channel) m.number.0 m.l3
 message_says station (rsl.RfChannelReleaseAck channel) = λ plain. record { text = []; read = tt; brings_it = λ place. one_place station channel (released ∷ []) place; acknowledges = λ w. refl }
-message_says station (rsl.ChannelRequired r) = tt
 message_says station _ = tt

@@ -7,15 +7,11 @@ use Rattle.world_laws.proofs.Prelude.{awaits_at, changes_by, is_target_at, leave
 use Rattle.world_laws.proofs.Prelude.{role_goes_back, Row, command_to, on_activation_ack, on_establish_indication, row_if, Word, Controller}
 use Rattle.world_laws.proofs.Prelude.{Entry, channel_state, freed, ignoring, turn, by_fitting, concerning, concerning_too, frees}
 use Rattle.world_laws.proofs.Prelude.{on_freed, on_word, on_what, row_in, Zero, Frame, RelayItem, What, Tenure, tenure_in, rsl_in, Actors}
-use Rattle.world_laws.proofs.Prelude.{tenure_at, place-is}
+use Rattle.world_laws.proofs.Prelude.{tenure_at, place-is, brings_by, is_opening, IsRequested, freed_for, IsSaidTo, FrameIsHandled}
+use Rattle.world_laws.proofs.Prelude.{on_channel, on_connection, BeginsTenure}
 use Rattle.conn_rules.specs.declared.input.Input.TheVariants as inputs
 use Rattle.conn_rules.specs.Table.{row_of}
 use Rattle.controller_model.specs.Life.{take}
-use Rattle.world_laws.specs.ComingUp.{brings_by}
-use Rattle.world_laws.specs.LineUps.{is_opening}
-use Rattle.world_laws.specs.OwnFrame.{IsRequested, freed_for, IsSaidTo, FrameIsHandled}
-use Rattle.world_laws.specs.OwnFrame.IsSaidTo.{on_channel, on_connection}
-use Rattle.world_laws.specs.OwnHandle.{BeginsTenure}
 use Rattle.world_laws.proofs.OwnFrame.{IsPlain, TenureOf}
 use Rattle.world_laws.proofs.OwnFrames.{ReadInput, ReadWord, of_frame}
 

@@ -4,14 +4,12 @@ use Rattle.world_laws.proofs.Prelude.{refl, sym, ap, ◌∙◌, result_ok, eqb-t
 use Rattle.world_laws.proofs.Prelude.{bssap_reading, Place, SWITCH_LINK, Input, Word, Nothing, Ping, OnChannel, OnConnection}
 use Rattle.world_laws.proofs.Prelude.{management_word, bssap_word, switch_word, station_word, management_of_link, body_word}
 use Rattle.world_laws.proofs.Prelude.{radio_signalling, connection_control, link_management, other, Frame, RSL_STREAM, SCCP_STREAM}
-use Rattle.world_laws.proofs.Prelude.{CCM_STREAM, PING, RslFault, Rsl, rsl_reading, acknowledged_tenure, rsl_in, Actors, true≢false}
-use Rattle.std.proofs.Common.{Result}
+use Rattle.world_laws.proofs.Prelude.{CCM_STREAM, PING, RslFault, Rsl, rsl_reading, acknowledged_tenure, rsl_in, Actors, true≢false, Result}
+use Rattle.world_laws.proofs.Prelude.{sccp_reading, Carried, brings_if}
 use Rattle.bssmap_codec.specs.declared.bssmap.Bssmap.TheVariants as bssmap
 use Rattle.bssmap_codec.specs.declared.sccp.Sccp.TheVariants as sccp
-use Rattle.bssmap_codec.specs.SccpReading.{sccp_reading}
-use Rattle.controller_model.specs.Reading.{word_of, Carried}
+use Rattle.controller_model.specs.Reading.{word_of}
 use Rattle.world_laws.specs.LineUp.Places.{Item}
-use Rattle.world_laws.specs.ComingUp.{brings_if}
 use Rattle.world_laws.specs.OwnItem.{said_by, IsRead}
 use Rattle.world_laws.proofs.OwnFrame.{IsPlain, TenureOf, SaysWord, message_says}
 
@@ -64,8 +62,7 @@ of_switch source (Ok (sccp.ConnectionConfirm destination number)) = nothing_brou
 of_switch source (Ok (sccp.ConnectionRefused destination)) = nothing_brought source _ tt (λ place. refl) (λ w. refl)
 of_switch source (Ok (sccp.Released destination number)) = nothing_brought source _ tt (λ place. refl) (λ w. refl)
 of_switch source (Ok (sccp.DataForm1 destination user)) = of_bssap source destination (bssap_reading user)
-of_switch source (Ok _) = tt
-of_switch source (Err fault) = tt
+of_switch source _ = tt
 
 of_link : (source : ℕ) (o : Option Rsl) (body : List ℕ) → ReadWord source o (management_of_link body)
 of_link source o [] = tt
@@ -84,9 +81,6 @@ control_only stream is = ap (λ (n : ℕ). n == RSL_STREAM) (eqb-true stream SCC
 pub of_frame : (source : ℕ) (frame : Frame) → ReadWord source (rsl_in frame) (word_of source frame)
 unfolding word_of
 of_frame source frame = by (frame.stream == CCM_STREAM) (source == SWITCH_LINK) (frame.stream == SCCP_STREAM) (frame.stream == RSL_STREAM) refl (control_only frame.stream) where
-  in_stream : Bool → Option Rsl
-  in_stream b = if b then result_ok (rsl_reading frame.body) else None
-
   by : (a b c d : Bool) → (frame.stream == RSL_STREAM) ≡ d → (c ≡ true → (frame.stream == RSL_STREAM) ≡ false) → ReadWord source (if d then result_ok (rsl_reading frame.body) else None) (body_word (carried_by a b c d) source frame.body)
   by true b c d is alone = of_link source (if d then result_ok (rsl_reading frame.body) else None) frame.body
   by false true true true is alone = absurd (true≢false (sym is ∙ alone refl))

@@ -2,14 +2,12 @@
 -- taken, and after it.
 use Rattle.world_laws.proofs.Prelude.{◌≡◌, ℕ, ◌||◌, not, Bool, true, false, if◌then◌else◌, List, [], ◌∷◌, ◌++◌, Some, refl, sym, ap, ◌∙◌}
 use Rattle.world_laws.proofs.Prelude.{cond-true, cond-false, filter-append, Place, Input, Future, from_input, Zero, is_control}
-use Rattle.world_laws.proofs.Prelude.{without_control, same_place}
+use Rattle.world_laws.proofs.Prelude.{without_control, same_place, messages_in, released, is_ended, texts_of}
 use Rattle.conn_rules.specs.declared.input.Input.TheVariants as inputs
-use Rattle.world_laws.specs.LineUp.Places.{Item, messages_in}
-use Rattle.world_laws.specs.LineUp.Places.Item.{brought, released}
+use Rattle.world_laws.specs.LineUp.Places.{Item}
+use Rattle.world_laws.specs.LineUp.Places.Item.{brought}
 use Rattle.world_laws.proofs.LineUp.Lines.{messages_in-append}
-use Rattle.world_laws.specs.LineUps.{is_ended}
 use Rattle.world_laws.specs.OwnItem.{said_by, IsRead}
-use Rattle.world_laws.specs.ToCome.{texts_of}
 
 -- ---- what an input brings
 
@@ -17,9 +15,8 @@ pub texts-append : (xs ys : List Item) → texts_of (xs ++ ys) ≡ texts_of xs +
 texts-append xs ys = ap without_control (messages_in-append xs ys) ∙ filter-append (λ message. not (is_control message)) (messages_in xs) (messages_in ys)
 
 pub ended-append : (xs ys : List Item) → is_ended (xs ++ ys) ≡ is_ended xs || is_ended ys
-ended-append [] ys = refl
 ended-append (brought message ∷ xs) ys = ended-append xs ys
-ended-append (released ∷ xs) ys = refl
+ended-append _ ys = refl
 
 text_stays : (message : List ℕ) → is_control message ≡ false → texts_of (brought message ∷ []) ≡ message ∷ []
 text_stays message is = cond-true (not (is_control message)) (message ∷ []) [] (ap not is)

@@ -6,19 +6,13 @@ use Rattle.world_laws.proofs.Prelude.{drain_at, TargetRole, Roles, RoleStep, tar
 use Rattle.world_laws.proofs.Prelude.{leaves_at, step_by, GoesOn, roles_stay, role_commands, role_completes, role_goes_back, role_leaves}
 use Rattle.world_laws.proofs.Prelude.{Row, AreApart, IsApart, undone, used_channels, Turn, place_of, rr_text, RelayItem, AirMessage, Tenure}
 use Rattle.world_laws.proofs.Prelude.{joined_by, with_turn, tenure_in, Actors, base_of, is_up, outbox_of, with_outbox, tenure_at}
-use Rattle.world_laws.proofs.Prelude.{turn-leads, apart_behind}
+use Rattle.world_laws.proofs.Prelude.{turn-leads, apart_behind, change_command, command, role_commanded, IsCommand, take, brings_in}
+use Rattle.world_laws.proofs.Prelude.{coming_up, made_of, leading_from_outbox, going_down, BeginsTenure, HandlesFor, IsPutAsRead, Leads}
+use Rattle.world_laws.proofs.Prelude.{leads}
 use Rattle.conn_messages.specs.Out.{out_of}
-use Rattle.conn_messages.specs.StationMessage.{change_command, command}
 use Rattle.conn_rules.specs.declared.input.Input.TheVariants as inputs
-use Rattle.conn_rules.specs.Roles.{commanded as role_commanded, IsCommand}
 use Rattle.conn_rules.specs.Streams.{target_in}
-use Rattle.controller_model.specs.Life.{take}
 use Rattle.world_model.specs.Relay.{entry_of}
-use Rattle.world_laws.specs.ComingUp.{brings_in, coming_up, made_of}
-use Rattle.world_laws.specs.GoingDown.{leading_from_outbox, going_down}
-use Rattle.world_laws.specs.OwnHandle.{BeginsTenure, HandlesFor, IsPutAsRead}
-use Rattle.world_laws.specs.Seated.{Leads}
-use Rattle.world_laws.specs.Seated.Leads.{leads}
 use Rattle.world_laws.proofs.Others.{down-joined}
 use Rattle.world_laws.proofs.OwnCommand.{change-read, command-leads}
 use Rattle.world_laws.proofs.OwnInput.{targets_of, Awaits, awaited}
@@ -136,7 +130,5 @@ downs_of {w} {item} items {s} {input} {offer} {r} handles read apart goes = by (
         read = (subst (AllByRecursion (λ m. IsReadOf s.number m (out_of s.number m).frame.body)) puts read.read).0;
         apart = (subst (AllByRecursion (IsApart s.serving)) (targets_of s awaits.t awaits.is) (apart_behind (undone s.draining) (s.serving ∷ target_in s.state) apart).0).0;
       })
-  by roles_stay is none goes = others_down w item items s r.next none
-  by role_completes is none goes = others_down w item items s r.next none
-  by role_goes_back is none goes = others_down w item items s r.next none
   by (role_leaves place) is none goes = others_down w item items s r.next none
+  by _ is none goes = others_down w item items s r.next none

@@ -2,26 +2,18 @@
 use Rattle.world_laws.proofs.Prelude.{◌≡◌, ℕ, ◌+◌, Bool, true, false, if◌then◌else◌, unwrap_or, List, [], ◌∷◌, ◌++◌, find, map, length}
 use Rattle.world_laws.proofs.Prelude.{Option, Some, None, refl, sym, ap, ◌∙◌, subst, arith, AllByRecursion, Channel, Place, Out, Input}
 use Rattle.world_laws.proofs.Prelude.{Target, Connection, RoleStep, TargetRole, after_step, roles_of, step_by, target_channels, GoesOn}
-use Rattle.world_laws.proofs.Prelude.{roles_stay, role_commands, role_completes, role_goes_back, role_leaves, Row, AreApart, relayed}
-use Rattle.world_laws.proofs.Prelude.{used_channels, target_in-role, place_of, Zero, to_be_taken, RelayItem, Parameters, Event}
-use Rattle.world_laws.proofs.Prelude.{handled, tenure_in, Actors, Mobile, has_number, is_station_up, modulus_in}
-use Rattle.world_laws.proofs.Prelude.{tenure_at, turn-leads, AllByRecursion-so}
-use Rattle.conn_rules.specs.Roles.{KeepsChannels}
+use Rattle.world_laws.proofs.Prelude.{role_leaves, Row, AreApart, relayed, used_channels, target_in-role, place_of, Zero, to_be_taken}
+use Rattle.world_laws.proofs.Prelude.{RelayItem, Parameters, Event, handled, tenure_in, Actors, Mobile, has_number, is_station_up}
+use Rattle.world_laws.proofs.Prelude.{modulus_in, tenure_at, turn-leads, AllByRecursion-so, KeepsChannels, take, forwarded, Alive}
+use Rattle.world_laws.proofs.Prelude.{controls_of, flow, coming_up, going_down, commanded_target, seat_from, waiting_of, taken_of, line_up}
+use Rattle.world_laws.proofs.Prelude.{remembered, HandlesFor, AreInOrder, IsPutAsRead, HandleKeepsLineUps, TimeAgesLineUps, DoesRow}
+use Rattle.world_laws.proofs.Prelude.{LinedUp, Leads, AreLinedUp}
 use Rattle.conn_rules.proofs.Channels.{keeps_channels}
-use Rattle.controller_model.specs.Life.{take}
-use Rattle.controller_model.specs.Views.{forwarded}
-use Rattle.world_laws.specs.LineUp.Alive.{Alive}
-use Rattle.world_laws.specs.LineUp.Places.{Item, Seat, controls_of, flow}
+use Rattle.world_laws.specs.LineUp.Places.{Item, Seat}
 use Rattle.world_laws.proofs.LineUp.Lines.{flow-append}
 use Rattle.world_model.specs.Life.{event_after}
-use Rattle.world_laws.specs.ComingUp.{coming_up}
-use Rattle.world_laws.specs.GoingDown.{going_down}
-use Rattle.world_laws.specs.LineUps.{commanded_target, seat_from, waiting_of, taken_of, line_up, remembered}
-use Rattle.world_laws.specs.OwnHandle.{HandlesFor, AreInOrder, IsPutAsRead, HandleKeepsLineUps, TimeAgesLineUps}
 use Rattle.world_laws.specs.OwnItem.{CommandsAfter, TakesInput, seat_after}
-use Rattle.world_laws.specs.OwnRow.{DoesRow, over}
-use Rattle.world_laws.specs.Seated.{LinedUp, Leads}
-use Rattle.world_laws.specs.Staying.{AreLinedUp}
+use Rattle.world_laws.specs.OwnRow.{over}
 use Rattle.world_laws.proofs.Apart.{is_on_target}
 use Rattle.world_laws.proofs.Framing.{lined-same}
 use Rattle.world_laws.proofs.Others.{turn_mobiles, time_leaves_others_new}
@@ -61,11 +53,8 @@ takes_of {w} {item} items {s} {input} stood handles order read apart = record {
   told = none (step_by input (roles_of s));
 } where
   none : (x : RoleStep) → CommandsAfter x 0 0
-  none role_commands = omega arith
-  none roles_stay = omega arith
-  none role_completes = omega arith
-  none role_goes_back = omega arith
   none (role_leaves place) = omega arith
+  none _ = omega arith
 
 -- no COMMAND is on its way on a target
 of_commanded : (P : Channel → Type 0) (o : Option TargetRole) (t : Target) → commanded_of o ≡ Some t → AllByRecursion P (target_channels o) → P t.channel

@@ -6,20 +6,16 @@ use Rattle.world_laws.proofs.Prelude.{Connection, is_at, drain_at, TargetRole, R
 use Rattle.world_laws.proofs.Prelude.{completed, awaits_at, changes_by, is_target_at, leaves_at, step_by, ChangesRoles, ChangesRolesBy}
 use Rattle.world_laws.proofs.Prelude.{GoesOn, roles_stay, role_commands, role_completes, role_goes_back, role_leaves, goes_on, ends}
 use Rattle.world_laws.proofs.Prelude.{had_ended, Stands, Row, done_at, AreApart, IsOpen, OfRow, undone, target_in-role, ChangesRoles-row}
-use Rattle.world_laws.proofs.Prelude.{place_of, is_control, and-left, and-right, same_place, AllByRecursion-so}
+use Rattle.world_laws.proofs.Prelude.{place_of, is_control, and-left, and-right, same_place, AllByRecursion-so, Ends, undone-still_draining}
+use Rattle.world_laws.proofs.Prelude.{Stands-row, messages_in, controls_of, controls_in, texts_in, flow, released, is_ended}
+use Rattle.world_laws.proofs.Prelude.{commanded_target, DoesRow, some_lacks, target_items, OwnStep, AreLayer3, mark, texts_of}
 use Rattle.conn_rules.specs.declared.input.Input.TheVariants as inputs
-use Rattle.conn_rules.specs.Streams.{Ends, target_in}
-use Rattle.conn_rules.proofs.RolesAccount.{undone-still_draining}
-use Rattle.conn_rules.proofs.StandingTable.{Stands-row}
-use Rattle.world_laws.specs.LineUp.Places.{Item, Seat, messages_in, controls_of, controls_in, texts_in, flow}
-use Rattle.world_laws.specs.LineUp.Places.Item.{brought, released}
+use Rattle.conn_rules.specs.Streams.{target_in}
+use Rattle.world_laws.specs.LineUp.Places.{Item, Seat}
+use Rattle.world_laws.specs.LineUp.Places.Item.{brought}
 use Rattle.world_laws.proofs.LineUp.Lines.{controls-append, controls_first, flow-append, messages_in-append}
-use Rattle.world_laws.specs.LineUps.{is_ended, commanded_target}
 use Rattle.world_laws.specs.OwnItem.{said_by, IsBesideTarget, CommandsAfter, seat_after, TakesInput, InputKeepsLineUp}
-use Rattle.world_laws.specs.OwnRow.{DoesRow}
-use Rattle.world_laws.specs.OwnStep.{some_lacks, target_items, OwnStep}
 use Rattle.world_laws.specs.OwnStep.OwnStep.{stays}
-use Rattle.world_laws.specs.ToCome.{AreLayer3, mark, texts_of}
 use Rattle.world_laws.proofs.Apart.{at-itself}
 use Rattle.world_laws.proofs.Framing.{all_left}
 use Rattle.world_laws.proofs.OwnChannels.{passed, to_come, IsHeard, ended-same, goes_on_behind}

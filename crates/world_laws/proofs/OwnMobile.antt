@@ -2,20 +2,14 @@
 use Rattle.world_laws.proofs.Prelude.{◌≡◌, ℕ, ◌&&◌, ◌%◌, not, Bool, true, false, if◌then◌else◌, List, [], ◌∷◌, ◌++◌, length, Some, None}
 use Rattle.world_laws.proofs.Prelude.{refl, sym, subst, inl, inr, is_none, cases_Bool, Connection, Sapi, Zero, Three, is_flow_message}
 use Rattle.world_laws.proofs.Prelude.{with_number, Whereabouts, Stage, New, Connected, is_control, after_acknowledgement, after_number}
-use Rattle.world_laws.proofs.Prelude.{after_queue, refusal_of_send, after_acked, after_acked_at, MobileState, Actors, Mobile}
-use Rattle.world_laws.specs.LineUp.Alive.{Alive}
+use Rattle.world_laws.proofs.Prelude.{after_queue, refusal_of_send, after_acked, after_acked_at, MobileState, Actors, Mobile, Alive}
+use Rattle.world_laws.proofs.Prelude.{BadMessage, waits_in, is_sendable, has_clear_number, is_sendable-clear, IsClear-flow}
+use Rattle.world_laws.proofs.Prelude.{commanded_target, line_up, Sits, LinedUp}
 use Rattle.world_laws.specs.LineUp.MobileStep.MobileStep.{sends_numbered, sends_other, acknowledged}
 use Rattle.world_laws.proofs.LineUp.Moving.{alive_mobile}
-use Rattle.mobile_end.specs.declared.fault.MobileFault.TheVariants.{BadMessage}
 use Rattle.mobile_end.specs.declared.mobile_end.Place.TheVariants as places
-use Rattle.mobile_end.specs.DataLink.{waits as waits_in}
-use Rattle.mobile_end.specs.Lawful.{is_sendable, has_clear_number}
 use Rattle.mobile_end.specs.Mobile.{link_of, with_link, refusal_before_connect}
-use Rattle.mobile_end.proofs.Lives.{is_sendable-clear}
-use Rattle.mobile_end.proofs.Numbering.{IsClear-flow}
 use Rattle.octets.specs.Refusal.{first_refusal}
-use Rattle.world_laws.specs.LineUps.{commanded_target, line_up}
-use Rattle.world_laws.specs.Seated.{Sits, LinedUp}
 
 -- ---- the mobile's end changes where it sits
 
@@ -46,9 +40,7 @@ no_control [] is = refl
 no_control (first ∷ rest) is = by_kind (is_control (first ∷ rest)) refl where
   three : (a b c d : Bool) → a && (b && not c) && d ≡ true → c ≡ true → ⊥
   three true true true d is c = absurd cc
-  three true false true d is c = absurd cc
-  three false b true d is c = absurd cc
-  three a b false d is c = absurd cc
+  three _ _ _ d is c = absurd cc
 
   by_kind : (b : Bool) → is_control (first ∷ rest) ≡ b → is_control (first ∷ rest) ≡ false
   by_kind false other = other

@@ -1,21 +1,21 @@
 -- What the mobile of a connection hears, and where it goes, keeps the connection lined up.
 use Rattle.world_laws.proofs.Prelude.{◌≡◌, ◌≢◌, ℕ, ◌+◌, ◌≤◌, ◌==◌, ◌&&◌, not, Bool, true, false, if◌then◌else◌, List, [], ◌∷◌, ◌++◌, length}
-use Rattle.world_laws.proofs.Prelude.{unwrap_or, Option, Some, None, Ok, Err, refl, sym, ap, ◌∙◌, subst, append_assoc, length-append, arith}
+use Rattle.world_laws.proofs.Prelude.{unwrap_or, Option, Some, None, Ok, refl, sym, ap, ◌∙◌, subst, append_assoc, length-append, arith}
 use Rattle.world_laws.proofs.Prelude.{AllByRecursion, flat_map, Change, Assignment, Handover, Channel, Place, SWITCH_LINK, Target}
 use Rattle.world_laws.proofs.Prelude.{Connection, is_at, is_dtap, undone, used_channels, place_of, RrMessage, AssignmentCommand}
 use Rattle.world_laws.proofs.Prelude.{HandoverCommand, ChannelRelease, RrFault, Zero, after_establish, establish_indication, is_control}
 use Rattle.world_laws.proofs.Prelude.{after_resume, after_leave, after_arrival, AirMessage, Command, MobileSeat, On, Moving, Gone}
 use Rattle.world_laws.proofs.Prelude.{ChannelTenure, remembering, controlled, hearing, seated, Actors, Mobile, Spot, put_back, base_of}
 use Rattle.world_laws.proofs.Prelude.{with_base, is_station_up, outbox_of, spot_at, with_spot, tenure_at, is_reached, reached-up, up-right}
-use Rattle.world_laws.proofs.Prelude.{same_Some, AllByRecursion-so}
-use Rattle.std.proofs.Common.{Result}
+use Rattle.world_laws.proofs.Prelude.{same_Some, AllByRecursion-so, Result, rr_reading, Alive, left_the_cell, LineUp, flow, on_serving}
+use Rattle.world_laws.proofs.Prelude.{on_target, moving, gone, coming_up, leading, leading_from_air, leading_from_outbox, going_down}
+use Rattle.world_laws.proofs.Prelude.{seat_from, remembered, is_intact, old_tenures, serving_hold, serving_tenure, commanded_target}
+use Rattle.world_laws.proofs.Prelude.{target_tenure, waiting_of, taken_of, assembled, lined, line_up, change_in, Remembers, Sits, Leads}
+use Rattle.world_laws.proofs.Prelude.{NoneOn, LinedUp, leads, came, between, is_gone_now}
 use Rattle.conn_rules.specs.Streams.{target_in}
-use Rattle.dtap_codec.specs.RrReading.{rr_reading}
-use Rattle.world_laws.specs.LineUp.Alive.{Alive, Stands}
-use Rattle.world_laws.specs.LineUp.Alive.Condition.{left_the_cell}
+use Rattle.world_laws.specs.LineUp.Alive.{Stands}
 use Rattle.world_laws.specs.LineUp.Alive.Stands.{opens, rests, waits, arrives, returns}
-use Rattle.world_laws.specs.LineUp.Places.{Item, Tenure, Seat, LineUp, flow}
-use Rattle.world_laws.specs.LineUp.Places.Seat.{on_serving, on_target, moving, gone}
+use Rattle.world_laws.specs.LineUp.Places.{Item, Tenure, Seat}
 use Rattle.world_laws.specs.LineUp.MobileStep.MobileStep.{follows_command, arrives as arrives_step, returns as returns_step}
 use Rattle.world_laws.specs.LineUp.MobileStep.MobileStep.{dismissed_from_serving, dismissed_from_target}
 use Rattle.world_laws.proofs.LineUp.Following.{follows_line}
@@ -23,14 +23,8 @@ use Rattle.world_laws.proofs.LineUp.Lines.{parts-tail, last_part}
 use Rattle.world_laws.proofs.LineUp.Moving.{alive_mobile}
 use Rattle.world_laws.proofs.LineUp.Standing.{stands_fewer}
 use Rattle.world_model.specs.Mobiles.{left}
-use Rattle.world_laws.specs.ComingUp.{coming_up}
-use Rattle.world_laws.specs.GoingDown.{leading, leading_from_air, leading_from_outbox, going_down}
-use Rattle.world_laws.specs.LineUps.{seat_from, remembered, is_intact, old_tenures, serving_hold, serving_tenure, commanded_target}
-use Rattle.world_laws.specs.LineUps.{target_tenure, waiting_of, taken_of, assembled, lined, line_up}
-use Rattle.world_laws.specs.Seated.{change_in, Remembers, Sits, Leads, NoneOn, LinedUp}
-use Rattle.world_laws.specs.Seated.Leads.{leads}
 use Rattle.world_laws.specs.Seated.Remembers.{nothing, told}
-use Rattle.world_laws.specs.Seated.Sits.{stays, came, between, gone as is_gone_now}
+use Rattle.world_laws.specs.Seated.Sits.{stays}
 use Rattle.world_laws.proofs.Apart.{is_at_station, target-in, OnServing, OnTarget, is_on_serving, is_on_target, SitsOn, sits_on_tenure, SitsBetween}
 use Rattle.world_laws.proofs.Apart.{sits_between}
 use Rattle.world_laws.proofs.Apart.SitsOn.{serves, arrived}
@@ -300,10 +294,7 @@ own_heard {m} {w} {p} {s} tenure command first others reached seat air kept = by
   by_message (Some target) (Ok (HandoverCommand cell channel reference)) to is =
       let now = remembering-on p Handover target tenure command seat in
       heard_command tenure command first others Handover target (remembering p Handover target p.seat) reached seat air to (ap change_in is) now.0 now.1 kept
-  by_message None (Ok (AssignmentCommand channel)) to is = as_before
-  by_message None (Ok (HandoverCommand cell channel reference)) to is = as_before
-  by_message target (Ok _) to is = as_before
-  by_message target (Err fault) to is = as_before
+  by_message _ _ to is = as_before
 
   by_kind : (b : Bool) → LinedUp m (popped w tenure others) (if b then record p { received = p.received ++ first.message ∷ [] } else controlled p first.target (rr_reading first.message)) s
   by_kind true = lined_up_end (record p { received = p.received ++ first.message ∷ [] }) refl as_before.alive as_before

@@ -1,27 +1,20 @@
 -- What an RF CHANNEL RELEASE ACK leaves of the old channels.
 use Rattle.world_laws.proofs.Prelude.{◌≡◌, ℕ, suc, ◌&&◌, ◌||◌, not, nat_eq, Bool, true, false, if◌then◌else◌, cond, List, [], ◌∷◌, ◌++◌}
 use Rattle.world_laws.proofs.Prelude.{Option, Some, None, option_map, unwrap_or, refl, sym, ap, ◌∙◌, subst, inl, inr, AllByRecursion}
-use Rattle.world_laws.proofs.Prelude.{cases_Bool, eqb-true, Channel, Place, Drain, is_at, drain_at, done_at, AreApart, IsApart, undone}
-use Rattle.world_laws.proofs.Prelude.{place_of, and-left, and-right, same_place}
+use Rattle.world_laws.proofs.Prelude.{cases_Bool, Channel, Place, Drain, is_at, drain_at, done_at, AreApart, IsApart, undone}
+use Rattle.world_laws.proofs.Prelude.{place_of, and-left, same_place, released, is_ended, lacks, some_lacks, away-of}
 use Rattle.conn_rules.specs.declared.input.Input.TheVariants as inputs
 use Rattle.world_laws.specs.LineUp.Places.{Item}
-use Rattle.world_laws.specs.LineUp.Places.Item.{released}
-use Rattle.world_laws.specs.LineUps.{is_ended}
 use Rattle.world_laws.specs.OwnItem.{said_by}
-use Rattle.world_laws.specs.OwnStep.{lacks, some_lacks}
 use Rattle.world_laws.proofs.Apart.{eqb_sym}
 use Rattle.world_laws.proofs.OwnChannels.{and_false, ended-same}
 use Rattle.world_laws.proofs.Quiet.{all_of}
 use Rattle.world_laws.proofs.RolesAfter.{AreReleased}
-use Rattle.conn_rules.proofs.UplinkPlaces.{away-of}
 
 -- ---- places
 
 pub same-at : (at : Place) (c : Channel) → same_place (place_of c) at ≡ is_at at c
 same-at at c = ap (λ (b : Bool). b && nat_eq c.number at.number) (eqb_sym c.station at.station) ∙ ap (λ (b : Bool). nat_eq at.station c.station && b) (eqb_sym c.number at.number)
-
-pub at-number : (at : Place) (c : Channel) → is_at at c ≡ true → at.number ≡ c.number
-at-number at c is = eqb-true at.number c.number (and-right (nat_eq at.station c.station) (nat_eq at.number c.number) is)
 
 pub released_here : (text : List ℕ) (at : Place) (c : Channel) → is_at at c ≡ true → said_by (inputs.ReleaseAck at) text (place_of c) ≡ released ∷ []
 released_here text at c here = ap (λ (b : Bool). if b then released ∷ [] else []) (same-at at c ∙ here)

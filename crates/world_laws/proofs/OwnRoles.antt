@@ -2,11 +2,9 @@
 use Rattle.world_laws.proofs.Prelude.{◌≡◌, ℕ, ◌+◌, ◌≤◌, Bool, true, false, ◌&&◌, ◌||◌, not, if◌then◌else◌, List, [], ◌∷◌, ◌++◌, Option}
 use Rattle.world_laws.proofs.Prelude.{Some, None, refl, sym, ap, ◌∙◌, Channel, Place, Input, Drain, Connection, drain_at, TargetRole}
 use Rattle.world_laws.proofs.Prelude.{target_role, roles_of, commanded, completed, GoesOn, roles_stay, role_commands, role_completes}
-use Rattle.world_laws.proofs.Prelude.{role_goes_back, role_leaves, Row, place_of}
-use Rattle.world_laws.specs.LineUp.ChangeStep.{after_complete}
-use Rattle.world_laws.specs.LineUp.Places.{Item, Seat, messages_in, controls_in, texts_in}
-use Rattle.world_laws.specs.LineUps.{is_ended, commanded_target}
-use Rattle.world_laws.specs.OwnStep.{lacks, some_lacks, target_items, OwnStep}
+use Rattle.world_laws.proofs.Prelude.{role_goes_back, role_leaves, Row, place_of, after_complete, messages_in, controls_in, texts_in}
+use Rattle.world_laws.proofs.Prelude.{is_ended, commanded_target, lacks, some_lacks, target_items, OwnStep}
+use Rattle.world_laws.specs.LineUp.Places.{Item, Seat}
 use Rattle.world_laws.specs.OwnStep.OwnStep.{stays, tells, completes, goes_back}
 use Rattle.world_laws.proofs.RolesAfter.{commanded_of, commanded-role, ChannelsAfter, channels_after, both_false, AreReleased}
 use Rattle.world_laws.proofs.RolesAfter.{leaves_covers}

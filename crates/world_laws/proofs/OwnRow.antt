@@ -2,17 +2,15 @@
 -- and nothing more is missing.
 use Rattle.world_laws.proofs.Prelude.{◌≡◌, ℕ, Bool, true, false, not, if◌then◌else◌, List, [], ◌∷◌, ◌++◌, Option, Some, None, refl, sym, ap}
 use Rattle.world_laws.proofs.Prelude.{◌∙◌, subst, append_assoc, inl, inr, cases_Bool, cond-true, cond-false, Place, Drain, State}
-use Rattle.world_laws.proofs.Prelude.{WaitActivation, WaitEstablish, WaitConfirm, Live, Closed, Removed, Target, Connection, StandsBy}
-use Rattle.world_laws.proofs.Prelude.{place_of, is_flow_message, Held, to_be_taken, DataLinkState, false≢true}
-use Rattle.conn_rules.specs.Standing.{FirstIsEmpty, Stands as StandsAlone}
-use Rattle.world_laws.specs.LineUp.Alive.{Alive, FirstRelays, Follows, Stands, some_lost}
-use Rattle.world_laws.specs.LineUp.Alive.Follows.{rises}
-use Rattle.world_laws.specs.LineUp.ChangeStep.{ended}
-use Rattle.world_laws.specs.LineUp.Places.{Item, Seat, flow, parts_of, controls_of, controls_in, texts_in}
+use Rattle.world_laws.proofs.Prelude.{WaitActivation, WaitEstablish, Live, Target, Connection, StandsBy}
+use Rattle.world_laws.proofs.Prelude.{place_of, is_flow_message, Held, to_be_taken, DataLinkState, false≢true, FirstIsEmpty, StandsAlone}
+use Rattle.world_laws.proofs.Prelude.{Alive, FirstRelays, Follows, some_lost, rises, ended, flow, parts_of, controls_of, controls_in}
+use Rattle.world_laws.proofs.Prelude.{texts_in, draining_tenure, old_tenure, old_tenures, serving_hold, serving_tenure, commanded_target}
+use Rattle.world_laws.proofs.Prelude.{target_tenure, is_changing, is_confirmed, is_intact, is_opening, assembled}
+use Rattle.world_laws.specs.LineUp.Alive.{Stands}
+use Rattle.world_laws.specs.LineUp.Places.{Item, Seat}
 use Rattle.world_laws.proofs.LineUp.Following.{follows_line, follows_rise}
 use Rattle.world_laws.proofs.LineUp.Lines.{flow-append}
-use Rattle.world_laws.specs.LineUps.{draining_tenure, old_tenure, old_tenures, serving_hold, serving_tenure, commanded_target}
-use Rattle.world_laws.specs.LineUps.{target_tenure, is_changing, is_confirmed, is_intact, is_opening, assembled}
 use Rattle.world_laws.proofs.Breaks.{target_came}
 use Rattle.world_laws.proofs.Cutting.{condition_of}
 
@@ -39,10 +37,8 @@ first_relays s coming up stands = by_state s.state stands.state where
   by_state : (state : State) → StandsBy state s.draining s.down s.up.tenures s.link s.waits → FirstRelays (is_confirmed state) (old_tenures coming up s.draining s.up.tenures) (serving_hold s.draining s.up.tenures)
   by_state WaitActivation by = no_drain s.up.tenures coming up s.draining by.0.none_drains
   by_state WaitEstablish by = no_drain s.up.tenures coming up s.draining by.0.none_drains
-  by_state WaitConfirm by = no_drain s.up.tenures coming up s.draining by.none_drains
   by_state (Live reference stage) by = none_held s.draining s.up.tenures coming up by.first
-  by_state (Closed clearing) by = no_drain s.up.tenures coming up s.draining by.none_drains
-  by_state Removed by = no_drain s.up.tenures coming up s.draining by.none_drains
+  by_state _ by = no_drain s.up.tenures coming up s.draining by.none_drains
 
 -- ---- the line
 

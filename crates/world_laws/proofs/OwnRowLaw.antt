@@ -1,13 +1,9 @@
 -- A row of the table keeps its connection's line-up: the steps put together.
 use Rattle.world_laws.proofs.Prelude.{◌≡◌, ℕ, Bool, true, ◌&&◌, not, List, Option, Some, sym, ap, ◌∙◌, subst, Channel, Place, Input}
-use Rattle.world_laws.proofs.Prelude.{Connection, Stands, Row, KeepsUplink, OfRow, relayed, Zero, to_be_taken}
-use Rattle.conn_rules.proofs.StandingTable.{Stands-row}
-use Rattle.conn_rules.proofs.UplinkTable.{row-keeps}
+use Rattle.world_laws.proofs.Prelude.{Connection, Stands, Row, KeepsUplink, OfRow, relayed, Zero, to_be_taken, Stands-row, row-keeps}
+use Rattle.world_laws.proofs.Prelude.{controls_of, old_tenures, serving_hold, serving_tenure, commanded_target, target_tenure, is_gone}
+use Rattle.world_laws.proofs.Prelude.{is_intact, RowKeepsLineUp, some_lacks}
 use Rattle.world_laws.specs.LineUp.Places.{Item, Seat}
-use Rattle.world_laws.specs.LineUp.Places.{controls_of}
-use Rattle.world_laws.specs.LineUps.{old_tenures, serving_hold, serving_tenure, commanded_target, target_tenure, is_gone, is_intact}
-use Rattle.world_laws.specs.OwnRow.{RowKeepsLineUp}
-use Rattle.world_laws.specs.OwnStep.{some_lacks}
 use Rattle.world_laws.proofs.OwnRow.{row_alive}
 use Rattle.world_laws.proofs.OwnSteps.{old-lacks, NoneMissing, none_missing, missing_none, stands_counted, step_stands, step_intact}
 use Rattle.world_laws.proofs.StillToCome.{row_line}

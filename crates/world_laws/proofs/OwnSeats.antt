@@ -1,20 +1,15 @@
 -- Where the mobile of a connection is seen after a row, and which commands are on their way to it.
 use Rattle.world_laws.proofs.Prelude.{◌≡◌, ℕ, ◌+◌, ◌≤◌, Bool, true, false, if◌then◌else◌, List, [], ◌++◌, length, Option, Some, None, refl}
 use Rattle.world_laws.proofs.Prelude.{sym, ap, ◌∙◌, subst, arith, AllByRecursion, append-nil, Channel, Place, Target, Connection, is_at}
-use Rattle.world_laws.proofs.Prelude.{place_of, AirMessage, MobileSeat, Tenure, Actors, tenure_at, none-some, no-length}
-use Rattle.world_laws.specs.LineUp.Alive.{Stands, Stays}
+use Rattle.world_laws.proofs.Prelude.{place_of, AirMessage, MobileSeat, Tenure, Actors, tenure_at, none-some, no-length, Stays, remains}
+use Rattle.world_laws.proofs.Prelude.{left, after_complete, controls_in, on_serving, on_target, moving, going_down, seat_from, remembered}
+use Rattle.world_laws.proofs.Prelude.{is_opening, commanded_target, OwnStep, Sits, Leads, NoneOn, came, between}
+use Rattle.world_laws.specs.LineUp.Alive.{Stands}
 use Rattle.world_laws.specs.LineUp.Alive.Stands.{opens, rests, waits, leaves, arrives, returns}
-use Rattle.world_laws.specs.LineUp.Alive.Stays.{remains, left}
-use Rattle.world_laws.specs.LineUp.ChangeStep.{after_complete}
-use Rattle.world_laws.specs.LineUp.Places.{Item, Seat, controls_in}
-use Rattle.world_laws.specs.LineUp.Places.Seat.{on_serving, on_target, moving}
-use Rattle.world_laws.specs.GoingDown.{going_down}
-use Rattle.world_laws.specs.LineUps.{seat_from, remembered, is_opening, commanded_target}
-use Rattle.world_laws.specs.OwnStep.{OwnStep}
+use Rattle.world_laws.specs.LineUp.Places.{Item, Seat}
 use Rattle.world_laws.specs.OwnStep.OwnStep.{stays as step_stays, tells, completes, goes_back}
-use Rattle.world_laws.specs.Seated.{Sits, Leads, NoneOn}
 use Rattle.world_laws.specs.Seated.Remembers.{nothing, told}
-use Rattle.world_laws.specs.Seated.Sits.{stays, came, between, gone}
+use Rattle.world_laws.specs.Seated.Sits.{stays, gone}
 use Rattle.world_laws.proofs.Apart.{at-itself}
 use Rattle.world_laws.proofs.OwnSteps.{StandsWith}
 

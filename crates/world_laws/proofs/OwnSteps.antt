@@ -1,18 +1,16 @@
 -- How a change of channel stands after a row, by what the row does to the roles of channels.
 use Rattle.world_laws.proofs.Prelude.{◌≡◌, ℕ, Bool, true, false, ◌&&◌, ◌||◌, not, if◌then◌else◌, List, [], ◌∷◌, length, Option, Some, None}
-use Rattle.world_laws.proofs.Prelude.{refl, sym, ap, ◌∙◌, subst, arith, Place, Drain, State, WaitActivation, WaitEstablish, WaitConfirm}
-use Rattle.world_laws.proofs.Prelude.{Live, Closed, Removed, Target, Connection, place_of, Held, none-some}
-use Rattle.world_laws.specs.LineUp.Alive.{Stands, Stays, some_lost}
+use Rattle.world_laws.proofs.Prelude.{refl, sym, ap, ◌∙◌, subst, arith, Place, Drain, State}
+use Rattle.world_laws.proofs.Prelude.{Live, Target, Connection, place_of, Held, none-some, Stays, some_lost, remains, left, after_complete}
+use Rattle.world_laws.proofs.Prelude.{ended, flow, controls_of, controls_in, texts_in, on_serving, on_target, moving, gone, lacks}
+use Rattle.world_laws.proofs.Prelude.{some_lacks, target_items, OwnStep, StillAwaits, is_ended, draining_tenure, old_tenure, old_tenures}
+use Rattle.world_laws.proofs.Prelude.{is_gone, commanded_target, target_tenure, is_changing, is_opening}
+use Rattle.world_laws.specs.LineUp.Alive.{Stands}
 use Rattle.world_laws.specs.LineUp.Alive.Stands.{opens, rests}
-use Rattle.world_laws.specs.LineUp.Alive.Stays.{remains, left}
-use Rattle.world_laws.specs.LineUp.ChangeStep.{after_complete, ended}
-use Rattle.world_laws.specs.LineUp.Places.{Item, Seat, flow, controls_of, controls_in, texts_in}
-use Rattle.world_laws.specs.LineUp.Places.Seat.{on_serving, on_target, moving, gone}
+use Rattle.world_laws.specs.LineUp.Places.{Item, Seat}
 use Rattle.world_laws.proofs.LineUp.Standing.{stands_fewer, stands_commands, stands_completes, stands_goes_back}
-use Rattle.world_laws.specs.OwnStep.{lacks, some_lacks, target_items, OwnStep, StillAwaits}
 use Rattle.world_laws.specs.OwnStep.OwnStep.{stays, tells, completes, goes_back}
-use Rattle.world_laws.specs.LineUps.{is_ended, draining_tenure, old_tenure, old_tenures, came, is_gone, commanded_target, target_tenure}
-use Rattle.world_laws.specs.LineUps.{is_changing, is_opening}
+use Rattle.world_laws.specs.LineUps.{came}
 
 -- ---- whether something is missing, whatever is held
 
@@ -43,12 +41,8 @@ StandsWith opening o commands seat serving coming link = Stands opening (is_chan
 
 -- while the initial message is to come, no change is under way
 pub opening_unchanging : (state : State) → is_opening state ≡ true → commanded_target state ≡ None
-opening_unchanging WaitEstablish is = refl
-opening_unchanging WaitActivation is = refl
-opening_unchanging WaitConfirm is = refl
 opening_unchanging (Live reference stage) is = absurd cc
-opening_unchanging (Closed clearing) is = refl
-opening_unchanging Removed is = refl
+opening_unchanging _ is = refl
 
 some_none : {t : Target} {o : Option Target} → o ≡ None → o ≡ Some t → ⊥
 some_none {t} none is = none-some _ (sym none ∙ is)
@@ -122,10 +116,7 @@ pub none_missing : (seat : Seat) (old serving target : Bool) → not (is_gone se
 none_missing seat old serving target is = by_all (is_gone seat) old serving target refl refl refl refl is where
   by_all : (g a b c : Bool) → is_gone seat ≡ g → old ≡ a → serving ≡ b → target ≡ c → not g && not a && not b && not c ≡ true → NoneMissing seat old serving target
   by_all false false false false e f h i is = record { here = e; old_none = f; serving_none = h; target_none = i }
-  by_all true a b c e f h i is = absurd cc
-  by_all false true b c e f h i is = absurd cc
-  by_all false false true c e f h i is = absurd cc
-  by_all false false false true e f h i is = absurd cc
+  by_all _ _ _ _ e f h i is = absurd cc
 
 pub missing_none : (seat : Seat) (old serving target : Bool) → NoneMissing seat old serving target → not (is_gone seat) && not old && not serving && not target ≡ true
 missing_none seat old serving target none = rw (none.here, none.old_none, none.serving_none, none.target_none) refl

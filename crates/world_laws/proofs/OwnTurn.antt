@@ -4,13 +4,12 @@ use Rattle.world_laws.proofs.Prelude.{Option, Some, None, refl, sym, ap, ◌∙�
 use Rattle.world_laws.proofs.Prelude.{eqb-false, flat_map-append, append-nil, map-append, Channel, Out, SWITCH_LINK, Forwarded, place_of}
 use Rattle.world_laws.proofs.Prelude.{forwarded_by, Rsl, DataRequest, AirMessage, OutboxEntry, Tenure, joined_by, rsl_in, Actors, Link}
 use Rattle.world_laws.proofs.Prelude.{broken_link, link_of, is_up, is_station_up, outbox_of, with_outbox, spot_at, changed_link}
-use Rattle.bssmap_codec.specs.SccpReading.{sccp_reading}
+use Rattle.world_laws.proofs.Prelude.{sccp_reading, leading, leading_by, leading_from_air, leading_from_outbox, going_down, waiting_of}
+use Rattle.world_laws.proofs.Prelude.{entry-out}
 use Rattle.controller_model.specs.Views.{forwarded}
 use Rattle.world_model.specs.Relay.{entry_of}
-use Rattle.world_laws.specs.GoingDown.{leading, leading_by, leading_from_air, leading_from_outbox, going_down}
-use Rattle.world_laws.specs.LineUps.{waiting_of}
 use Rattle.world_laws.proofs.Framing.{AreUp}
-use Rattle.world_laws.proofs.Others.{entry-out, forwarded-append, down-joined}
+use Rattle.world_laws.proofs.Others.{forwarded-append, down-joined}
 use Rattle.world_laws.proofs.Spots.{set-same, set-apart}
 use Rattle.world_laws.proofs.SwitchTakes.{forwarded-first}
 

@@ -2,28 +2,23 @@
 use Rattle.world_laws.proofs.Prelude.{◌≡◌, ◌≢◌, ◌⊎◌, inl, inr, ℕ, ◌+◌, ◌==◌, ◌≤◌, ◌<◌, nat_eq, Bool, true, false, cond, if◌then◌else◌, List}
 use Rattle.world_laws.proofs.Prelude.{[], ◌∷◌, ◌++◌, length, option_to_list, Option, Some, None, refl, sym, ap, ◌∙◌, subst, arith}
 use Rattle.world_laws.proofs.Prelude.{true≢false, cases_Bool, eqb-true, eq-eqb, ne_eqb, AllByRecursion, flat_map, Place, Out, SWITCH_LINK}
-use Rattle.world_laws.proofs.Prelude.{AllByRecursion-append, is_link_up, ComesInOctets, IsSent, links_with, step_goes, life_names}
-use Rattle.world_laws.proofs.Prelude.{is_there, life_sends, life_ready, life_uses, Ready, ChannelState, Free, InUse, Step, Take, Word}
-use Rattle.world_laws.proofs.Prelude.{OnChannel, Controller, channel_state, each, ignoring, hears, new_controller, place_at, on_break}
-use Rattle.world_laws.proofs.Prelude.{on_what, on_word, step, rsl_word, Frame, Item, What, ActivationAck, Rsl, AreAllowed, Parameters}
-use Rattle.world_laws.proofs.Prelude.{Event}
-use Rattle.world_laws.proofs.Prelude.{Handle, Tenure, actors_after, actors_after_all}
-use Rattle.world_laws.proofs.Prelude.{Agrees, AllAgree, acknowledged_in, asker, said, tenure_behind, to_come, owner_in, acknowledgements}
-use Rattle.world_laws.proofs.Prelude.{due, acknowledged_tenure, target_in, rsl_in, all_steps, first_taken, step_at, Actors, base_of}
-use Rattle.world_laws.proofs.Prelude.{is_active_at, is_up, new_actors, outbox_of, spot_at, tenure_at, LivesByTable-new, IsKnown}
-use Rattle.world_laws.proofs.Prelude.{IsKnownItem, known-inbox, runs, over, heard_of, Serves, hear, Both-empty, acks-append, free≢use}
+use Rattle.world_laws.proofs.Prelude.{AllByRecursion-append, is_link_up, ComesInOctets, IsSent, links_with, step_goes, life_names, is_there}
+use Rattle.world_laws.proofs.Prelude.{life_sends, life_ready, life_uses, Ready, ChannelState, Free, InUse, Step, Take, Word, OnChannel}
+use Rattle.world_laws.proofs.Prelude.{Controller, channel_state, each, ignoring, hears, new_controller, place_at, on_break, on_what}
+use Rattle.world_laws.proofs.Prelude.{on_word, step, rsl_word, Frame, Item, What, ActivationAck, Rsl, AreAllowed, Parameters, Event, Handle}
+use Rattle.world_laws.proofs.Prelude.{Tenure, actors_after, actors_after_all, Agrees, AllAgree, acknowledged_in, asker, said, tenure_behind}
+use Rattle.world_laws.proofs.Prelude.{to_come, owner_in, acknowledgements, due, acknowledged_tenure, target_in, rsl_in, all_steps}
+use Rattle.world_laws.proofs.Prelude.{first_taken, step_at, Actors, base_of, is_active_at, is_up, new_actors, outbox_of, spot_at, tenure_at}
+use Rattle.world_laws.proofs.Prelude.{LivesByTable-new, IsKnown, IsKnownItem, known-inbox, runs, over, heard_of, Serves, hear, Both-empty}
+use Rattle.world_laws.proofs.Prelude.{acks-append, free≢use, life_reaches, tick, word_of, one-at-most, none-due, owned-run, AllSitBy-new}
+use Rattle.world_laws.proofs.Prelude.{OneMobileEach-new}
 use Rattle.conn_rules.specs.declared.input.Input.TheVariants as inputs
-use Rattle.controller_model.proofs.LifeLaws.UsingLife.{life_reaches}
 use Rattle.controller_model.specs.declared.step.Step.TheVariants.{Tick}
-use Rattle.controller_model.specs.Life.{life, take, tick}
-use Rattle.controller_model.specs.Reading.{word_of}
+use Rattle.controller_model.specs.Life.{life, take}
 use Rattle.ruled_relay.specs.declared.item.What.TheVariants as whats
 use Rattle.rsl_codec.specs.declared.rsl.Rsl.TheVariants as rsl
 use Rattle.world_model.specs.declared.event.Event.TheVariants as events
-use Rattle.world_model.proofs.OwnerKeeping.{one-at-most}
-use Rattle.world_model.proofs.OwnerLines.{none-due}
-use Rattle.world_model.proofs.OwnerRuns.{ServesAt, ServesThrough, owned-run}
-use Rattle.world_model.proofs.Ticketing.{AllSitBy-new, OneMobileEach-new}
+use Rattle.world_model.proofs.OwnerRuns.{ServesAt, ServesThrough}
 use Rattle.world_laws.specs.Owned.{MobilesSitOnTheirs, OneSendsEach, TenuresAreOwned}
 use Rattle.world_laws.proofs.OrderHeard.{FreesNone, none_frees, none_nacks, other_heard, read_known, station_heard, switch_frees}
 use Rattle.world_laws.proofs.OrderHeard.{word-known}

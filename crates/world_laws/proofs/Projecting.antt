@@ -5,9 +5,8 @@ use Rattle.world_laws.proofs.Prelude.{eqb-false, flat_map-append, append-nil, Sc
 use Rattle.world_laws.proofs.Prelude.{first_message, first_of_messages, messages_behind_first, Item, RslFault, Rsl, rsl_reading, rsl_text}
 use Rattle.world_laws.proofs.Prelude.{station_item, switch_item, with_item, Actors, no_station, is_station_up, base_of, with_base}
 use Rattle.world_laws.proofs.Prelude.{is_active_at, SameEnds, base-elsewhere, base-there, up-right, false≢true, same_Some, none-some}
-use Rattle.std.proofs.Common.{Result}
+use Rattle.world_laws.proofs.Prelude.{Result, brings, brings_if, brings_in, made_of, coming_up}
 use Rattle.world_laws.specs.LineUp.Places.{Item as Brought}
-use Rattle.world_laws.specs.ComingUp.{brings, brings_if, brings_in, made_of, coming_up}
 
 pub made-append : (channel : ℕ) (xs ys : List Rsl) → made_of channel (xs ++ ys) ≡ made_of channel xs ++ made_of channel ys
 made-append channel xs ys = flat_map-append (brings channel) xs ys

@@ -11,35 +11,21 @@ use Rattle.world_laws.proofs.Prelude.{life_after, run_step, IsHere, Ready, here_
 use Rattle.world_laws.proofs.Prelude.{Releasing, Forwarded, Take, Word, request_offer, AreRising, Controller, Entry, Turn, channel_state}
 use Rattle.world_laws.proofs.Prelude.{entry_of, freed, ignoring, place_at, place_of, state_in, turn, by_fitting, concerning, entry_at}
 use Rattle.world_laws.proofs.Prelude.{frees, on_freed, on_what, on_word, row_in, step, keeps_number, Sapi, Zero, Three, Held, Frame}
-use Rattle.world_laws.proofs.Prelude.{AreOctets, RelayItem, What, Parameters, Event, all_steps, Actors, new_actors}
-use Rattle.world_laws.proofs.Prelude.{LivesByTable-new}
+use Rattle.world_laws.proofs.Prelude.{AreOctets, RelayItem, What, Parameters, Event, all_steps, Actors, new_actors, LivesByTable-new}
+use Rattle.world_laws.proofs.Prelude.{out_of, message_again, IsHeldTenure, Ends, first_at, of_prepared, of_target, still_of, still_to_relay}
+use Rattle.world_laws.proofs.Prelude.{row_of, row-keeps, row_found, IsSoundCell, RefersIn, SoundParts, sent_message, word_refers}
+use Rattle.world_laws.proofs.Prelude.{IsSoundChannel, IsSoundRow, row_sound, used_apart, IsAfter, ready_by, ready_uses, AreUsual, life}
+use Rattle.world_laws.proofs.Prelude.{word_of, forwarded, held_up, held_up_for, tenure_messages, flow, IsRequested, IsSaidTo, freed_for}
+use Rattle.world_laws.proofs.Prelude.{is_on_channel, is_on_connection, BringsBesideFlow, IsBesideFlow, SaysBesideFlow}
 use Rattle.std.specs.Option.{option_to_list}
-use Rattle.conn_messages.specs.Out.{IsSound, out_of}
-use Rattle.conn_messages.proofs.Readings.{message_again}
+use Rattle.conn_messages.specs.Out.{IsSound}
 use Rattle.conn_rules.specs.declared.input.Input.TheVariants as inputs
-use Rattle.conn_rules.specs.Standing.{IsHeldTenure}
-use Rattle.conn_rules.specs.Streams.{Ends, first_at, of_prepared, of_target, still_of, still_to_relay}
-use Rattle.conn_rules.specs.Table.{row_of}
-use Rattle.conn_rules.proofs.UplinkTable.{row-keeps}
-use Rattle.controller_model.proofs.LifeLaws.Acting.{row_found}
-use Rattle.controller_model.proofs.LifeLaws.SoundLife.{IsSoundCell, RefersIn, SoundOf, SoundParts, sent_message, word_refers}
-use Rattle.controller_model.proofs.LifeLaws.SoundMessages.{IsSoundChannel}
-use Rattle.controller_model.proofs.LifeLaws.SoundRows.{IsSoundRow, row_sound}
-use Rattle.controller_model.proofs.LifeLaws.UplinkLife.{used_apart}
-use Rattle.controller_model.proofs.LifeLaws.UsingLife.{IsAfter, ready_by, ready_uses}
-use Rattle.controller_model.proofs.LifeLaws.UsualRows.{AreUsual}
+use Rattle.controller_model.proofs.LifeLaws.SoundLife.{SoundOf}
 use Rattle.controller_model.specs.Controller.{is_up}
-use Rattle.controller_model.specs.Life.{life, take}
-use Rattle.controller_model.specs.Reading.{word_of}
-use Rattle.controller_model.specs.Views.{forwarded, held_up, held_up_for}
-use Rattle.hold_queue.specs.ChainState.{tenure_messages}
-use Rattle.world_laws.specs.LineUp.Places.{flow}
+use Rattle.controller_model.specs.Life.{take}
 use Rattle.world_laws.proofs.LineUp.Lines.{flow-apart, flow-cons}
 use Rattle.ruled_relay.specs.declared.item.What.TheVariants as whats
-use Rattle.world_laws.specs.OwnFrame.{IsRequested, IsSaidTo, freed_for}
-use Rattle.world_laws.specs.OwnFrame.IsSaidTo.{on_channel as is_on_channel, on_connection as is_on_connection}
 use Rattle.world_laws.specs.PutAsRead.{AllowedFramesKeepLineUps, FramesArePutAsRead}
-use Rattle.world_laws.specs.SapiThree.{BringsBesideFlow, IsBesideFlow, SaysBesideFlow}
 use Rattle.world_laws.proofs.Handled.{frames_keep_line_ups_new}
 use Rattle.world_laws.proofs.Framing.{all_left, all_right}
 use Rattle.world_laws.proofs.SapiThree.{says_waits}
@@ -98,14 +84,7 @@ module _ (P : List ℕ → Type 0) where
 
   all_of_target : (f : Future) (state : State) → ((at : Place) → AllByRecursion P (f at)) → AllByRecursion P (of_target f state)
   all_of_target f (Live reference (Changing target)) each = each (place_of target.channel)
-  all_of_target f (Live reference Active) each = tt
-  all_of_target f (Live reference (Preparing target)) each = tt
-  all_of_target f (Live reference Draining) each = tt
-  all_of_target f WaitActivation each = tt
-  all_of_target f WaitEstablish each = tt
-  all_of_target f WaitConfirm each = tt
-  all_of_target f (Closed clearing) each = tt
-  all_of_target f Removed each = tt
+  all_of_target f _ each = tt
 
   -- what is relayed was held, or comes with the input
   all_relayed : (sapi : Sapi) (s : Connection) (input : Input) (offer : Option Channel) (r : Row) → Stands s → AreApart (used_channels s) → row_of s input offer ≡ Some r → IsOpen r.next.state
@@ -121,10 +100,7 @@ module _ (P : List ℕ → Type 0) where
 
 brought_whole : (input : Input) → IsCarried input → (at : Place) → AllByRecursion IsLayer3 (from_input Zero input none at)
 brought_whole (inputs.Dtap at Zero message) carried place = first_all IsLayer3 at message carried place
-brought_whole (inputs.Dtap at Three message) carried place = tt
 brought_whole (inputs.EstablishIndication at Zero (Some initial)) carried place = first_all IsLayer3 at initial carried place
-brought_whole (inputs.EstablishIndication at Zero None) carried place = tt
-brought_whole (inputs.EstablishIndication at Three message) carried place = tt
 brought_whole _ carried place = tt
 
 held_whole : (ts : List Held) → AllByRecursion IsHeldTenure ts → AllByRecursion (λ t. AllByRecursion IsLayer3 (tenure_messages t Zero)) ts
@@ -135,7 +111,6 @@ held_whole (t ∷ ts) all = (all.0.0, held_whole ts all.1)
 
 brought_beside : (input : Input) → BringsBesideFlow input → (place : Place) → AllByRecursion IsBesideFlow (from_input Three input none place)
 brought_beside (inputs.Dtap at Three message) says place = first_all IsBesideFlow at message says place
-brought_beside (inputs.Dtap at Zero message) says place = tt
 brought_beside _ says place = tt
 
 held_three : (ts : List Held) → AllByRecursion IsBesideFlow (flat_map (λ tenure. tenure_messages tenure Three) ts) → AllByRecursion (λ t. AllByRecursion IsBesideFlow (tenure_messages t Three)) ts
@@ -172,12 +147,9 @@ found_of {c} {s = s} ready (is_on_connection number input e word_is there is) = 
 
 -- a connection that is open stays there
 pub still_there : (state : State) (s : Connection) → IsOpen state → kept_in state s ≡ Some s
-still_there WaitActivation s is_open = refl
-still_there WaitEstablish s is_open = refl
-still_there WaitConfirm s is_open = refl
-still_there (Live reference stage) s is_open = refl
 still_there (Closed clearing) s is_open = absurd is_open
 still_there Removed s is_open = absurd is_open
+still_there _ s is_open = refl
 
 row-next : (c : Controller) (otherwise : Turn) (e : Entry) (input : Input) (r : Row) → AreRising c.entries → entry_of c e.connection.number ≡ Some e → row_in c e.connection input ≡ Some r → IsOpen r.next.state
     → connection_of (by_fitting otherwise e (row_in c e.connection input) c).next e.connection.number ≡ Some r.next

@@ -2,12 +2,9 @@
 use Rattle.world_laws.proofs.Prelude.{◌≡◌, ◌≢◌, ℕ, true, false, List, [], ◌∷◌, ◌++◌, Some, refl, ap, ◌∙◌, subst, AllByRecursion, flat_map}
 use Rattle.world_laws.proofs.Prelude.{Channel, Place, SWITCH_LINK, Target, Connection, is_at, undone, used_channels, place_of, BaseState}
 use Rattle.world_laws.proofs.Prelude.{Rsl, Actors, Mobile, Spot, is_station_up, base_of, with_base, outbox_of, spot_at, with_spot, SameEnds}
-use Rattle.world_laws.proofs.Prelude.{base-with_spot, spot-with_base}
+use Rattle.world_laws.proofs.Prelude.{base-with_spot, spot-with_base, made_of, coming_up, leading_from_air, leading_from_outbox, going_down}
+use Rattle.world_laws.proofs.Prelude.{commanded_target, IsElsewhere}
 use Rattle.conn_rules.specs.Streams.{target_in}
-use Rattle.world_laws.specs.ComingUp.{made_of, coming_up}
-use Rattle.world_laws.specs.GoingDown.{leading_from_air, leading_from_outbox, going_down}
-use Rattle.world_laws.specs.LineUps.{commanded_target}
-use Rattle.world_laws.specs.Seated.{IsElsewhere}
 use Rattle.world_laws.proofs.Apart.{all_both, target-in}
 use Rattle.world_laws.proofs.Framing.{AreSame, all_right}
 use Rattle.world_laws.proofs.Projecting.{coming-same, coming-quiet}
@@ -117,9 +114,3 @@ sees_elsewhere {w} {u} {s} at spot at_is placed elsewhere tenure sees = record {
   elsewhere_target t is = subst (λ (cs : List Channel). IsElsewhere cs at) (target-in s.state t is) elsewhere_rest.1
 
 -- ---- the switch makes messages
-
-pub sees_switch_made : {w : Actors} {s : Connection} (made : List _) → SeesSame w (record w { switch_made = made }) s
-unfolding SameTenures
-sees_switch_made {w} {s} made =
-    let sees : SeesSame w w s = sees_itself w s in
-    record { coming = sees.coming; up = sees.up; serving = sees.serving; target = sees.target; tenures = sees.tenures; waiting = sees.waiting; taken = sees.taken }

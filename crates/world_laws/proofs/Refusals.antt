@@ -1,6 +1,5 @@
 -- Stations refuse no activation, whatever happened.
-use Rattle.world_laws.proofs.Prelude.{List, Parameters, Event}
-use Rattle.world_laws.specs.Refusals.{NoneRefuse}
+use Rattle.world_laws.proofs.Prelude.{List, Parameters, Event, NoneRefuse}
 use Rattle.world_laws.proofs.SapiThree.{refuses_came, refuses_waits}
 
 pub none_refuse_new : (settings : Parameters) (events : List Event) → NoneRefuse settings events

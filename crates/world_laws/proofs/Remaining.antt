@@ -2,11 +2,10 @@
 use Rattle.world_laws.proofs.Prelude.{◌≡◌, ℕ, ◌==◌, ◌&&◌, ◌||◌, not, Bool, true, false, if◌then◌else◌, List, [], ◌∷◌, ◌++◌, Option, Some}
 use Rattle.world_laws.proofs.Prelude.{None, refl, sym, ap, ◌∙◌, subst, append_assoc, append-nil, Place, Out}
 use Rattle.world_laws.proofs.Prelude.{AllByRecursion-append, ChannelState, Free, InUse, Releasing, activation_ack, Rsl, acknowledgement}
-use Rattle.world_laws.proofs.Prelude.{is_active_then, rsl_in, is_in_use, true≢false}
+use Rattle.world_laws.proofs.Prelude.{is_active_then, rsl_in, is_in_use, true≢false, is_release_ack, NoneReleases, ReleasesLast, Order}
+use Rattle.world_laws.proofs.Prelude.{TakesTurns, Turns, order_by, order_in}
 use Rattle.rsl_codec.specs.declared.rsl.Rsl.TheVariants as rsl
-use Rattle.world_laws.specs.Acknowledged.{is_release_ack, NoneReleases, ReleasesLast}
 use Rattle.world_laws.specs.Remaining.{EndsWithRelease, IsDueIn, KeepsDue, TakingKeepsDue, after_ack, due_for}
-use Rattle.world_laws.specs.TakingTurns.{Order, TakesTurns, Turns, order_by, order_in}
 use Rattle.world_laws.specs.TakingTurns.Order.{activates, releases}
 use Rattle.world_laws.proofs.Framing.{all_left}
 
@@ -39,8 +38,7 @@ due_by k active (Some (rsl.RfChannelRelease number)) = by (number == k) where
       × ((if b then Some releases else None) ≡ Some releases → ((if b then rsl.RfChannelReleaseAck k ∷ [] else []) ≡ rsl.RfChannelReleaseAck k ∷ []) × ((not b && active) ≡ false))
   by true = ((λ is. absurd cc), (λ is off. absurd cc), (λ is. (refl, refl)))
   by false = ((λ is. (refl, refl)), (λ is off. absurd cc), (λ is. absurd cc))
-due_by k active None = ((λ is. (refl, refl)), (λ is off. absurd cc), (λ is. absurd cc))
-due_by k active (Some _) = ((λ is. (refl, refl)), (λ is off. absurd cc), (λ is. absurd cc))
+due_by k active _ = ((λ is. (refl, refl)), (λ is off. absurd cc), (λ is. absurd cc))
 
 record OneDue (at : Place) (before between : ChannelState) (out : Out) (outs : List Out) : Type 0 where
   first : List Rsl

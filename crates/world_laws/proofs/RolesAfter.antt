@@ -3,12 +3,9 @@ use Rattle.world_laws.proofs.Prelude.{◌≡◌, ℕ, suc, Bool, true, false, �
 use Rattle.world_laws.proofs.Prelude.{None, option_map, refl, sym, ap, ◌∙◌, subst, inl, inr, AllByRecursion, cases_Bool, Channel}
 use Rattle.world_laws.proofs.Prelude.{Place, Input, Drain, Preparing, Changing, State, Live, Target, Connection, is_at, drain_at}
 use Rattle.world_laws.proofs.Prelude.{TargetRole, Roles, RoleStep, target_role, after_step, with_target, MayBegin, GoesOn, Row, done_at}
-use Rattle.world_laws.proofs.Prelude.{place_of, same_Some, and-left}
-use Rattle.conn_rules.specs.Roles.{still_draining}
-use Rattle.hold_queue.specs.HoldState.{HoldState}
+use Rattle.world_laws.proofs.Prelude.{place_of, same_Some, and-left, still_draining, HoldState, is_ended, commanded_target, lacks}
+use Rattle.world_laws.proofs.Prelude.{some_lacks}
 use Rattle.world_laws.specs.LineUp.Places.{Item}
-use Rattle.world_laws.specs.LineUps.{is_ended, commanded_target}
-use Rattle.world_laws.specs.OwnStep.{lacks, some_lacks}
 
 -- ---- the roles after a row
 

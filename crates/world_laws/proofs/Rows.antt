@@ -6,28 +6,19 @@ use Rattle.world_laws.proofs.Prelude.{RfChannelReleaseAck, On, station_item, dat
 use Rattle.world_laws.proofs.Prelude.{Draining, Live, Connection, new_connection, Carries, next, Open, ChannelTenure, Empty, Reached}
 use Rattle.world_laws.proofs.Prelude.{Connect, Upper, AirUp, AirAck, AirDown, Move, Arrive, BaseTakes, BasePush, Handle, SwitchTakes}
 use Rattle.world_laws.proofs.Prelude.{SwitchDoes, BaseDown, Assign, Clear, Actors, Mobile, World, mobile_of, new_link, new_spot, new_world}
-use Rattle.world_laws.proofs.Prelude.{outbox_of, opened, after_all}
+use Rattle.world_laws.proofs.Prelude.{outbox_of, opened, after_all, rise_over, again, Alive, remains, sound, LineUp, controls_in, fresh}
+use Rattle.world_laws.proofs.Prelude.{line, released, on_serving, on_target, moving, coming_up, HasEnded, going_down, taken_of, line_up}
+use Rattle.world_laws.proofs.Prelude.{LinedUp, Sits, is_beside_relay, carried_for, IsForOthers}
 use Rattle.mobile_end.specs.declared.mobile_end.Place.TheVariants.{OnChannel}
-use Rattle.dtap_codec.specs.Places.Rise.{over as rise_over, again}
-use Rattle.world_laws.specs.LineUp.Alive.{Alive}
 use Rattle.world_laws.specs.LineUp.Alive.Follows.{goes_on}
-use Rattle.world_laws.specs.LineUp.Alive.Stays.{remains}
 use Rattle.world_laws.specs.LineUp.Alive.Stands.{rests}
-use Rattle.world_laws.specs.LineUp.Alive.Condition.{sound}
 use Rattle.world_laws.proofs.LineUp.Ordering.{is_in_order_alive}
-use Rattle.world_laws.specs.LineUp.Places.{LineUp, Seat, controls_in, Tenure, fresh, line}
-use Rattle.world_laws.specs.LineUp.Places.Item.{brought, released}
-use Rattle.world_laws.specs.LineUp.Places.Seat.{on_serving, on_target, moving}
+use Rattle.world_laws.specs.LineUp.Places.{Seat, Tenure}
+use Rattle.world_laws.specs.LineUp.Places.Item.{brought}
 use Rattle.world_model.proofs.Worlds.{on_literals}
-use Rattle.world_laws.specs.ComingUp.{coming_up}
-use Rattle.world_laws.specs.Ended.{HasEnded}
-use Rattle.world_laws.specs.GoingDown.{going_down}
-use Rattle.world_laws.specs.LineUps.{taken_of, line_up}
 use Rattle.controller_model.specs.Views.{forwarded}
-use Rattle.world_laws.specs.Seated.{LinedUp, Sits}
 use Rattle.world_laws.specs.Seated.Remembers.{nothing}
 use Rattle.world_laws.specs.Seated.Sits.{stays}
-use Rattle.world_laws.specs.Staying.{is_beside_relay, carried_for, IsForOthers}
 use Rattle.world_laws.proofs.Ending.{ended_are_in_order_new}
 use Rattle.world_laws.proofs.Usual.{channel}
 

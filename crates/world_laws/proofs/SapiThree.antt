@@ -2,7 +2,7 @@
 use Rattle.world_laws.proofs.Prelude.{◌≡◌, ℕ, zero, suc, ◌-◌, ◌+◌, ◌==◌, ◌&&◌, not, nat_eq, Bool, true, false, if◌then◌else◌, List, [], ◌∷◌}
 use Rattle.world_laws.proofs.Prelude.{◌++◌, filter, map, get_or, set, Option, Some, None, Ok, Err, option_to_list, refl, sym, ap, ◌∙◌}
 use Rattle.world_laws.proofs.Prelude.{subst, append_assoc, inl, inr, AllByRecursion, cases_Bool, eqb-true, eqb-false, append-nil}
-use Rattle.world_laws.proofs.Prelude.{filter-append, Bssap, Management, Transfer, Bssmap, InterfaceFault, Sccp, bssap_reading, sccp_text}
+use Rattle.world_laws.proofs.Prelude.{filter-append, Bssap, Management, Bssmap, InterfaceFault, Sccp, bssap_reading, sccp_text}
 use Rattle.world_laws.proofs.Prelude.{AllByRecursion-append, Place, SWITCH_LINK, word_by, word_in, is_dtap, Word, Nothing, OnChannel}
 use Rattle.world_laws.proofs.Prelude.{Reports, Input, body_word, bssap_word, change_word, data_word, management_word, of_sapi, report_word}
 use Rattle.world_laws.proofs.Prelude.{result_word, rr_word, rsl_word, sapi_of, station_word, switch_word, connection_control, other}
@@ -14,30 +14,21 @@ use Rattle.world_laws.proofs.Prelude.{rsl_text, CellParameters, Parameters, Even
 use Rattle.world_laws.proofs.Prelude.{actors_after_all, frame_in, all_popped, all_pushed, first_of, pushed, station_item, switch_item}
 use Rattle.world_laws.proofs.Prelude.{all_steps, first_taken, step_at, Actors, Mobile, Spot, base_of, is_up, mobile_of, modulus_in}
 use Rattle.world_laws.proofs.Prelude.{new_actors, no_station, station_of, stations_from, with_base, with_spot, Good, end-of, good-new}
-use Rattle.world_laws.proofs.Prelude.{good-step, IsSound, sound-read, Tells, event-keeps, AllByRecursion-so, Both-empty}
-use Rattle.std.proofs.Common.{Result}
+use Rattle.world_laws.proofs.Prelude.{good-step, IsSound, sound-read, Tells, event-keeps, AllByRecursion-so, Both-empty, Result}
+use Rattle.world_laws.proofs.Prelude.{sccp_reading, valid_word, rr_reading, MobileFault, Call, after_call, after_calls, frame_lent}
+use Rattle.world_laws.proofs.Prelude.{taken_on_three_by_call, taken_on_three_by_calls, all_calls, popped, set-or-not, set-elsewhere}
+use Rattle.world_laws.proofs.Prelude.{inbox-all, MobilesLive-new, IsBesideFlow, SaysBesideFlow, RefusesNone}
 use Rattle.bssmap_codec.specs.declared.bssmap.Bssmap.TheVariants as bssmap
 use Rattle.bssmap_codec.specs.declared.sccp.Sccp.TheVariants as sccp
-use Rattle.bssmap_codec.specs.SccpReading.{sccp_reading}
-use Rattle.controller_model.specs.Reading.{valid_word, word_of}
+use Rattle.controller_model.specs.Reading.{word_of}
 use Rattle.dtap_codec.specs.declared.report.Report.{Report as ReportValue}
-use Rattle.dtap_codec.specs.RrReading.{rr_reading}
-use Rattle.mobile_end.specs.declared.fault.MobileFault.{MobileFault}
-use Rattle.mobile_end.specs.Calls.{Call, after_call, after_calls, frame_lent, taken_on_three_by_call, taken_on_three_by_calls}
 use Rattle.mobile_end.specs.Calls.Call.{frames}
 use Rattle.mobile_end.proofs.OnSapiThree.{takes_no_flow}
 use Rattle.ruled_relay.specs.declared.item.What.TheVariants as whats
 use Rattle.rsl_codec.specs.declared.rsl.Rsl.TheVariants as rsl
-use Rattle.world_model.specs.Calls.{all_calls}
 use Rattle.world_model.specs.Mobiles.{told}
-use Rattle.world_model.specs.Queues.{popped}
 use Rattle.world_model.specs.World.{Station}
-use Rattle.world_model.proofs.Honesty.{set-or-not, set-elsewhere}
-use Rattle.world_model.proofs.Inboxes.{inbox-all}
-use Rattle.world_model.proofs.Mobility.{MobilesLive-new}
 use Rattle.world_laws.proofs.Framing.{all_left, all_right}
-use Rattle.world_laws.specs.SapiThree.{IsBesideFlow, SaysBesideFlow}
-use Rattle.world_laws.specs.Refusals.{RefusesNone}
 use Rattle.world_model.proofs.Footprints.Tells.{answers, brings, detects, establishes, links, opens_with, reports, requires}
 use Rattle.world_laws.proofs.Events.{world}
 
@@ -181,9 +172,8 @@ of_change at (Err fault) = (tt, tt)
 
 of_rr : (at : Place) (o : Option Sapi) (message : List ℕ) → Says (rr_word at o message)
 unfolding Says
-of_rr at None message = (tt, tt)
 of_rr at (Some Zero) message = of_change at (rr_reading message)
-of_rr at (Some Three) message = (tt, tt)
+of_rr at _ message = (tt, tt)
 
 of_data : (b : Bool) (at : Place) (o : Option Sapi) (message : List ℕ) → (o ≡ Some Three → IsBesideFlow message) → Says (data_word b at o message)
 unfolding Says
@@ -200,8 +190,7 @@ of_valid at number report = by report.valid where
 of_report : (at : Place) (number : ℕ) (r : Result RrMessage RrFault) → Says (report_word at number r)
 unfolding Says
 of_report at number (Ok (MeasurementReport value)) = of_valid at number (report_reading value)
-of_report at number (Ok _) = (tt, tt)
-of_report at number (Err fault) = (tt, tt)
+of_report at number _ = (tt, tt)
 
 of_result : (at : Place) (number : ℕ) (o : Option (List ℕ)) → Says (result_word at number o)
 unfolding Says
@@ -215,17 +204,13 @@ on_link at (Some sapi) input each = each sapi
 
 of_message : (station : ℕ) (message : Rsl) → IsShort message → Says (rsl_word station message)
 unfolding IsShort Says
-of_message station (rsl.ChannelRequired r) short = (tt, tt)
-of_message station (rsl.ChannelActivationAck a) short = (tt, tt)
 of_message station (rsl.ChannelActivationNack f) short = absurd short
 of_message station (rsl.EstablishIndication e) short = on_link (place_at station e.channel) (sapi_of e.link) _ (λ sapi. (tt, tt))
 of_message station (rsl.EstablishConfirm l) short = on_link (place_at station l.channel) (sapi_of l.link) _ (λ sapi. (tt, tt))
 of_message station (rsl.ReleaseIndication l) short = on_link (place_at station l.channel) (sapi_of l.link) _ (λ sapi. (tt, tt))
 of_message station (rsl.ErrorIndication e) short = on_link (place_at station e.channel) (sapi_of e.link) _ (λ sapi. (tt, tt))
-of_message station (rsl.ConnectionFailure f) short = (tt, tt)
 of_message station (rsl.DataIndication d) short = of_data (is_dtap d.l3) (place_at station d.channel) (sapi_of d.link) d.l3 short
 of_message station (rsl.MeasurementResult m) short = of_result (place_at station m.channel) m.number.0 m.l3
-of_message station (rsl.RfChannelReleaseAck channel) short = (tt, tt)
 of_message station _ short = (tt, tt)
 
 -- ---- what the switch says is of no channel
@@ -233,24 +218,17 @@ of_message station _ short = (tt, tt)
 of_management : (number : ℕ) (message : Bssmap) → Says (management_word number message)
 unfolding Says
 of_management number (bssmap.AssignmentRequest channel_type) = (tt, tt)
-of_management number (bssmap.ClearCommand cause) = (tt, tt)
-of_management number bssmap.CipherModeCommand = (tt, tt)
 of_management number _ = (tt, tt)
 
 of_bssap : (number : ℕ) (r : Result Bssap InterfaceFault) → Says (bssap_word number r)
 unfolding Says
 of_bssap number (Ok (Management message)) = of_management number message
-of_bssap number (Ok (Transfer dlci message)) = (tt, tt)
-of_bssap number (Err fault) = (tt, tt)
+of_bssap number _ = (tt, tt)
 
 says_of_switch : (r : Result Sccp InterfaceFault) → Says (switch_word r)
 unfolding Says
-says_of_switch (Ok (sccp.ConnectionConfirm destination source)) = (tt, tt)
-says_of_switch (Ok (sccp.ConnectionRefused destination)) = (tt, tt)
-says_of_switch (Ok (sccp.Released destination source)) = (tt, tt)
 says_of_switch (Ok (sccp.DataForm1 destination user)) = of_bssap destination (bssap_reading user)
-says_of_switch (Ok _) = (tt, tt)
-says_of_switch (Err fault) = (tt, tt)
+says_of_switch _ = (tt, tt)
 
 -- ---- frames
 

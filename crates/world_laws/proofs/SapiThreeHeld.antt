@@ -2,16 +2,12 @@
 use Rattle.world_laws.proofs.Prelude.{◌≡◌, ℕ, ◌≤◌, Bool, true, false, if◌then◌else◌, List, [], ◌∷◌, fold, map, Some, sym, subst}
 use Rattle.world_laws.proofs.Prelude.{AllByRecursion, Place, Message, AllByRecursion-append, Input, relayed, IsThere, connection_of}
 use Rattle.world_laws.proofs.Prelude.{word_in, Step, Word, OnChannel, Controller, new_controller, step, Sapi, Zero, Three, AreAllowed}
-use Rattle.world_laws.proofs.Prelude.{Parameters, Event, all_steps, new_actors, LivesByTable-new}
+use Rattle.world_laws.proofs.Prelude.{Parameters, Event, all_steps, new_actors, LivesByTable-new, IsHistory, Moment, all_messages}
+use Rattle.world_laws.proofs.Prelude.{life_conserves_up, life, held_up, BringsBesideFlow, FlowComesOnSapiZero, IsBesideFlow, SaysBesideFlow}
 use Rattle.conn_rules.specs.declared.input.Input.TheVariants as inputs
 use Rattle.controller_model.specs.LifeLaws.Downlink.{requests}
-use Rattle.controller_model.specs.LifeLaws.History.{IsHistory, Moment, all_messages}
 use Rattle.controller_model.specs.LifeLaws.Uplink.{Tenure, after_input, after_moment, after_word, begin_first, begin_next, ended, heard}
 use Rattle.controller_model.specs.LifeLaws.Uplink.{is_on, joined, performs, service, with_message}
-use Rattle.controller_model.proofs.LifeLaws.UplinkLife.{life_conserves_up}
-use Rattle.controller_model.specs.Life.{life}
-use Rattle.controller_model.specs.Views.{held_up}
-use Rattle.world_laws.specs.SapiThree.{BringsBesideFlow, FlowComesOnSapiZero, IsBesideFlow, SaysBesideFlow}
 use Rattle.world_laws.proofs.Framing.{all_right}
 use Rattle.world_laws.proofs.SapiThree.{says_came, says_waits}
 use Rattle.world_laws.proofs.Events.{world}

@@ -1,7 +1,7 @@
 -- Rows: what comes on SAPI 3.
-use Rattle.world_laws.proofs.Prelude.{[], ◌∷◌, Some, refl, Nothing, OnChannel, OnConnection, place_at, Zero, Three}
+use Rattle.world_laws.proofs.Prelude.{[], ◌∷◌, Some, refl, Nothing, OnChannel, OnConnection, place_at, Zero, Three, BringsBesideFlow}
+use Rattle.world_laws.proofs.Prelude.{IsBesideFlow, SaysBesideFlow}
 use Rattle.conn_rules.specs.declared.input.Input.TheVariants as inputs
-use Rattle.world_laws.specs.SapiThree.{BringsBesideFlow, IsBesideFlow, SaysBesideFlow}
 
 -- a short message is beside the flow, and so is one of radio resource management; call control,
 -- mobility management and supplementary services are the flow

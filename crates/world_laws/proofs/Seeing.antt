@@ -1,15 +1,10 @@
 -- A connection stays lined up where an event changes nothing that it is seen by.
 use Rattle.world_laws.proofs.Prelude.{◌≡◌, ℕ, Option, Some, None, refl, sym, ap, ◌∙◌, subst, AllByRecursion, Channel, Place, Target}
 use Rattle.world_laws.proofs.Prelude.{Connection, used_channels, place_of, AirMessage, Command, Seat, Tenure, Actors, Mobile, is_station_up}
-use Rattle.world_laws.proofs.Prelude.{tenure_at, AllByRecursion-so}
-use Rattle.world_laws.specs.LineUp.Alive.{Alive}
-use Rattle.world_laws.specs.ComingUp.{coming_up}
-use Rattle.world_laws.specs.GoingDown.{going_down}
-use Rattle.world_laws.specs.LineUps.{commanded_target, waiting_of, taken_of}
-use Rattle.world_laws.specs.Seated.{Remembers, Sits, Leads, NoneOn, LinedUp}
+use Rattle.world_laws.proofs.Prelude.{tenure_at, AllByRecursion-so, Alive, coming_up, going_down, commanded_target, waiting_of, taken_of}
+use Rattle.world_laws.proofs.Prelude.{Remembers, Sits, Leads, NoneOn, LinedUp, came, between, leads}
 use Rattle.world_laws.specs.Seated.Remembers.{nothing, told}
-use Rattle.world_laws.specs.Seated.Sits.{stays, came, between, gone}
-use Rattle.world_laws.specs.Seated.Leads.{leads}
+use Rattle.world_laws.specs.Seated.Sits.{stays, gone}
 use Rattle.world_laws.proofs.Framing.{AreSame, AreUp, lined-same}
 
 -- ---- the present tenures are the same

@@ -1,13 +1,13 @@
 -- What a mobile's upper layers sent stays sent, and more joins it.
 use Rattle.world_laws.proofs.Prelude.{◌≡◌, ℕ, nat_eq, Bool, true, false, if◌then◌else◌, List, [], ◌∷◌, ◌++◌, find, Some, refl, sym, ap, ◌∙◌}
 use Rattle.world_laws.proofs.Prelude.{append_assoc, eqb-true, eqb-false, append-nil, is_flow_message, Sapi, Zero, Three, Whereabouts, Stage}
-use Rattle.world_laws.proofs.Prelude.{New, Connected, waits, DataLinkState, after_acked, after_acked_at, after_frame, after_frame_at}
+use Rattle.world_laws.proofs.Prelude.{Connected, waits, DataLinkState, after_acked, after_acked_at, after_frame, after_frame_at}
 use Rattle.world_laws.proofs.Prelude.{after_number, after_queue, MobileState, Event, actors_after, connected, Actors, Mobile, has_number}
 use Rattle.world_laws.proofs.Prelude.{mobile_of, put_back, back-found, back-other, found-number, Becomes, event-keeps, hearing-end}
 use Rattle.world_laws.proofs.Prelude.{hearing-number, same_Some, found-front}
 use Rattle.mobile_end.specs.declared.mobile_end.Place.TheVariants as places
 use Rattle.mobile_end.specs.Mobile.{link_of, with_link}
-use Rattle.world_model.proofs.Footprints.Becomes.{arrives, hears, is_acked, leaves, lends, misses, opens, queues as is_queued, returns, sits}
+use Rattle.world_model.proofs.Footprints.Becomes.{hears, is_acked, lends, opens, queues as is_queued}
 
 -- these messages were sent, and perhaps more
 pub record HasSent (mobile : ℕ) (sent : List (List ℕ)) (w : Actors) : Type 0 where
@@ -71,10 +71,8 @@ queues p sapi message = by_flow (is_flow_message message) where
 sent-frame : (end : MobileState) (sapi : Sapi) → (after_frame end sapi).sent ≡ end.sent
 sent-frame end sapi = by_state end.stage end.place where
   by_state : (stage : Stage) (place : Whereabouts) → (after_frame_at stage place end sapi).sent ≡ end.sent
-  by_state New places.OnChannel = refl
-  by_state New places.Moving = refl
   by_state Connected places.OnChannel = sent-with_link end sapi _
-  by_state Connected places.Moving = refl
+  by_state _ _ = refl
 
 sent-acked : (end : MobileState) (sapi : Sapi) → (after_acked end sapi).sent ≡ end.sent
 sent-acked end sapi = by_place end.place where
@@ -90,11 +88,7 @@ grows (opens p tenure frame lent) = same refl (sent-frame p.end Zero)
 grows (lends p tenure frame lent) = same refl (sent-frame p.end Three)
 grows (is_acked sapi p) = same refl (sent-acked p.end sapi)
 grows (hears p tenure command first others seat reached stood) = same (hearing-number p first) (ap (λ (e : MobileState). e.sent) (hearing-end p first))
-grows (misses p) = same refl refl
-grows (leaves p tenure command seat reached) = same refl refl
-grows (arrives p from command seat reached) = same refl refl
-grows (returns p from command seat reached) = same refl refl
-grows (sits station p channel asks) = same refl refl
+grows _ = same refl refl
 
 pub sent_grows : (mobile : ℕ) (w : Actors) (event : Event) (p : Mobile) → mobile_of w mobile ≡ Some p → HasSent mobile p.end.sent (actors_after w event)
 sent_grows mobile w event p found =

@@ -9,18 +9,14 @@ use Rattle.world_model.specs.World.{Station}
 
 -- what doesn't change at a place changes nowhere
 pub set-same : {A X : Type 0} (f : A → X) (xs : List A) (d : A) (k j : ℕ) (a : A) → f a ≡ f (get_or xs k d) → f (get_or (set xs k a) j d) ≡ f (get_or xs j d)
-set-same f [] d k j a same = refl
 set-same f (x ∷ xs) d zero zero a same = same
-set-same f (x ∷ xs) d zero (suc j) a same = refl
-set-same f (x ∷ xs) d (suc k) zero a same = refl
 set-same f (x ∷ xs) d (suc k) (suc j) a same = set-same f xs d k j a same
+set-same f _ d _ _ a same = refl
 
 pub set-apart : {A : Type 0} (xs : List A) (d : A) (k j : ℕ) (a : A) → j ≢ k → get_or (set xs k a) j d ≡ get_or xs j d
-set-apart [] d k j a differs = refl
 set-apart (x ∷ xs) d zero zero a differs = absurd (differs refl)
-set-apart (x ∷ xs) d zero (suc j) a differs = refl
-set-apart (x ∷ xs) d (suc k) zero a differs = refl
 set-apart (x ∷ xs) d (suc k) (suc j) a differs = set-apart xs d k j a (λ is. differs (ap suc is))
+set-apart _ d _ _ a differs = refl
 
 -- a place that doesn't have the value of none is there
 pub set-there : {A X : Type 0} (f : A → X) (xs : List A) (d : A) (k : ℕ) (a : A) → f (get_or xs k d) ≢ f d → get_or (set xs k a) k d ≡ a

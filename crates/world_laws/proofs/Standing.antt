@@ -1,10 +1,8 @@
 -- The connections of the controller stand, whatever happened.
 use Rattle.world_laws.proofs.Prelude.{◌≡◌, List, Option, Some, subst, arith, Connection, Stands, connection_of, life_fits, Step}
-use Rattle.world_laws.proofs.Prelude.{Controller, Parameters, Event, all_steps, new_actors, LivesByTable-new}
+use Rattle.world_laws.proofs.Prelude.{Controller, Parameters, Event, all_steps, new_actors, LivesByTable-new, fine_at, life}
+use Rattle.world_laws.proofs.Prelude.{ConnectionsStand}
 use Rattle.controller_model.proofs.LifeLaws.Fitting.{IsFine}
-use Rattle.controller_model.proofs.LifeLaws.OwningLife.{fine_at}
-use Rattle.controller_model.specs.Life.{life}
-use Rattle.world_laws.specs.FromTheBeginning.{ConnectionsStand}
 
 stands_of : (o : Option Connection) (s : Connection) → o ≡ Some s → IsFine o → Stands s
 unfolding IsFine

@@ -11,21 +11,15 @@ use Rattle.world_laws.proofs.Prelude.{mobile_on, took, after_base_takes, Actors,
 use Rattle.world_laws.proofs.Prelude.{has_number, mobile_of, with_mobile, broken_link, link_of, is_station_up, outbox_of}
 use Rattle.world_laws.proofs.Prelude.{with_outbox, base_of, with_base, spot_at, with_spot, is_active_at, tenure_at, back-other}
 use Rattle.world_laws.proofs.Prelude.{found-number, SameEnds, base-with_spot, up-right, base_takes-leads, assigned-leads, unless_last-leads}
-use Rattle.world_laws.proofs.Prelude.{after-taken, changed_link, same_Some, spot-with_base}
+use Rattle.world_laws.proofs.Prelude.{after-taken, changed_link, same_Some, spot-with_base, forwarded, rr_reading, release_ack, made_of}
+use Rattle.world_laws.proofs.Prelude.{coming_up, leading, leading_from_air, leading_by, leading_from_outbox, going_down, commanded_target}
+use Rattle.world_laws.proofs.Prelude.{waiting_of, Sits, commanded_channels, AreActiveAt, AreLinedUp, StationsKeepLineUps}
 use Rattle.conn_rules.specs.Streams.{target_in}
-use Rattle.controller_model.specs.Views.{forwarded}
-use Rattle.dtap_codec.specs.RrReading.{rr_reading}
 use Rattle.world_laws.specs.LineUp.Places.{Item}
-use Rattle.world_laws.specs.LineUp.Places.Item.{released as release_ack}
 use Rattle.world_model.specs.Life.{event_after}
 use Rattle.world_model.specs.Stations.{released}
 use Rattle.world_model.specs.World.{Station}
 use Rattle.world_model.proofs.Leads.{OfTaken, Seats}
-use Rattle.world_laws.specs.ComingUp.{made_of, coming_up}
-use Rattle.world_laws.specs.GoingDown.{leading, leading_from_air, leading_by, leading_from_outbox, going_down}
-use Rattle.world_laws.specs.LineUps.{commanded_target, waiting_of}
-use Rattle.world_laws.specs.Seated.{Sits, commanded_channels, AreActiveAt}
-use Rattle.world_laws.specs.Staying.{AreLinedUp, StationsKeepLineUps}
 use Rattle.world_laws.proofs.Apart.{all_both, target-in}
 use Rattle.world_laws.proofs.BaseTakes.{Grown, AreGrown, SeesLess, lined_up_less}
 use Rattle.world_laws.proofs.BaseTakes.Grown.{rests, ends}
@@ -313,14 +307,13 @@ took_keeps {m} {w} {mobile} {s} station first others active lined up stood = by_
   airing channel message leads false = stays
 
   by_message : (o : Option Rsl) → rsl_in first.out.frame ≡ o → OfTaken P (took station first.target o u)
-  by_message None is = stays
   by_message (Some (ChannelActivation a)) is = unless_last-leads P ((spot_at u (place_at station a.channel)).tenure == MAX_TENURE) (activated (place_at station a.channel) u) (activating a.channel (refusal_of_activate (base_of u station) a.channel) refl)
   by_message (Some (ImmediateAssignCommand i)) is = assigned-leads P station u (rr_reading i.information) stays (λ q number channel acts asking. seats_other q number (tenure_at u (place_at station channel)) stays acts asking)
   by_message (Some (DataRequest d)) is = airing d.channel d.l3
       (λ n same. ap (leading_by n first.target) is ∙ ap (λ (b : Bool). cond b (leading d.l3 first.target) []) same) (is_active_at u (place_at station d.channel))
   by_message (Some (EstablishRequest l)) is = keeps lined refl (less_answered (is_active_at u (place_at station l.channel) && accepts (mobile_on u (tenure_at u (place_at station l.channel)))) station l.channel placed up (λ k. refl) refl taken_first)
   by_message (Some (RfChannelRelease channel)) is = keeps lined refl (less_released station channel placed up (λ k. refl) refl taken_first)
-  by_message (Some _) is = stays
+  by_message _ is = stays
 
 pub stations_keep_line_ups_new : (settings : Parameters) (events : List Event) (station : ℕ) → StationsKeepLineUps settings events station
 unfolding event_after

@@ -3,21 +3,15 @@ use Rattle.world_laws.proofs.Prelude.{◌≡◌, ℕ, ◌==◌, Bool, true, fals
 use Rattle.world_laws.proofs.Prelude.{Assignment, Channel, Place, Drain, Active, Changing, Draining, State, Live, WaitActivation}
 use Rattle.world_laws.proofs.Prelude.{WaitConfirm, WaitEstablish, Connection, new_connection, place_at, Zero, Three, Carries, next}
 use Rattle.world_laws.proofs.Prelude.{Held, empty_tenure, establish_indication, data_indication, activation_ack, Empty, Given}
-use Rattle.world_laws.proofs.Prelude.{DataLinkState, RfChannelReleaseAck, station_item}
-use Rattle.dtap_codec.specs.RrReading.{rr_reading}
-use Rattle.dtap_codec.specs.Places.Rise.{over as rise_over}
-use Rattle.world_laws.specs.LineUp.Places.{Item, fresh}
-use Rattle.world_laws.specs.LineUp.Places.Item.{brought, released}
-use Rattle.world_laws.specs.LineUp.Places.Seat.{on_serving, on_target, moving, gone}
+use Rattle.world_laws.proofs.Prelude.{DataLinkState, RfChannelReleaseAck, station_item, rr_reading, rise_over, fresh, released, on_serving}
+use Rattle.world_laws.proofs.Prelude.{on_target, moving, gone, brings, brings_in, made_of, is_ended, is_opening, Opens, OwnStep}
+use Rattle.world_laws.proofs.Prelude.{StillAwaits, lacks, change_in, EndsLast, mark, texts_of}
+use Rattle.world_laws.specs.LineUp.Places.{Item}
+use Rattle.world_laws.specs.LineUp.Places.Item.{brought}
 use Rattle.world_model.proofs.Worlds.{on_literals}
-use Rattle.world_laws.specs.ComingUp.{brings, brings_in, made_of}
-use Rattle.world_laws.specs.LineUps.{is_ended, is_opening, came}
-use Rattle.world_laws.specs.OwnRow.{Opens, over}
-use Rattle.world_laws.specs.OwnStep.{OwnStep, StillAwaits, lacks}
+use Rattle.world_laws.specs.LineUps.{came}
+use Rattle.world_laws.specs.OwnRow.{over}
 use Rattle.world_laws.specs.OwnStep.OwnStep.{completes, tells}
-use Rattle.world_laws.specs.Seated.{change_in}
-use Rattle.world_laws.specs.Staying.{EndsLast}
-use Rattle.world_laws.specs.ToCome.{mark, texts_of}
 use Rattle.world_laws.proofs.Usual.{channel, to_0a, opening_sent}
 
 -- ---- what a message brings of a channel

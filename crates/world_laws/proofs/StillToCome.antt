@@ -1,17 +1,14 @@
 -- What is on the line is what the connection has still to relay: what it holds, and what is on its
 -- way up from each channel.
 use Rattle.world_laws.proofs.Prelude.{◌≡◌, ℕ, ◌≤◌, ◌&&◌, not, Bool, true, false, if◌then◌else◌, List, [], ◌∷◌, ◌++◌, refl, sym, ap, ◌∙◌}
-use Rattle.world_laws.proofs.Prelude.{append_assoc, arith, AllByRecursion, append-nil, Channel, Place, Input, Drain, Preparing, Changing}
-use Rattle.world_laws.proofs.Prelude.{State, Live, Connection, Row, Future, IsOpen, KeepsUplink, from_input, relayed, undone, place_of}
-use Rattle.world_laws.proofs.Prelude.{Zero, Held}
-use Rattle.conn_rules.specs.Streams.{of_target, still_of, still_to_relay}
-use Rattle.world_laws.specs.LineUp.ChangeStep.{ended}
-use Rattle.world_laws.specs.LineUp.Places.{Item, Tenure, Seat, flow, messages_in, part_of, parts_of}
+use Rattle.world_laws.proofs.Prelude.{append_assoc, arith, AllByRecursion, append-nil, Channel, Place, Input, Drain, Changing, State, Live}
+use Rattle.world_laws.proofs.Prelude.{Connection, Row, Future, IsOpen, KeepsUplink, from_input, relayed, undone, place_of, Zero, Held}
+use Rattle.world_laws.proofs.Prelude.{of_target, still_of, still_to_relay, ended, flow, messages_in, part_of, parts_of}
+use Rattle.world_laws.proofs.Prelude.{without_control-flow, is_ended, draining_tenure, old_tenure, old_tenures, serving_hold}
+use Rattle.world_laws.proofs.Prelude.{serving_tenure, commanded_target, target_tenure, AreLayer3, mark, texts_of, AsOld, AsServing}
+use Rattle.world_laws.proofs.Prelude.{AsTarget, AreHeld, StandsFor}
+use Rattle.world_laws.specs.LineUp.Places.{Item, Tenure, Seat}
 use Rattle.world_laws.proofs.LineUp.Lines.{flow-append}
-use Rattle.mobile_end.proofs.Resuming.{without_control-flow}
-use Rattle.world_laws.specs.LineUps.{is_ended, draining_tenure, old_tenure, old_tenures, serving_hold, serving_tenure, commanded_target}
-use Rattle.world_laws.specs.LineUps.{target_tenure}
-use Rattle.world_laws.specs.ToCome.{AreLayer3, mark, texts_of, AsOld, AsServing, AsTarget, AreHeld, StandsFor}
 
 -- ---- a list, up to where something is missing
 
@@ -92,8 +89,6 @@ target-part future coming up seat (Live reference (Changing t)) stand =
       either : (b : Bool) → nothing_if b ≡ []
       either true = refl
       either false = refl
-target-part future coming up seat (Live reference (Preparing t)) stand = refl
-target-part future coming up seat (Live reference _) stand = refl
 target-part future coming up seat _ stand = refl
 
 -- The line behind the outbox is what is still to be relayed, up to where something is missing.

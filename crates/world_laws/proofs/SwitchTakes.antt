@@ -5,21 +5,16 @@ use Rattle.world_laws.proofs.Prelude.{map-append, Sccp, Channel, Out, SWITCH_LIN
 use Rattle.world_laws.proofs.Prelude.{forwarded_by, replies, SwitchState, Parameters, Event, OutboxEntry, sccp_in, switch_took}
 use Rattle.world_laws.proofs.Prelude.{after_switch_takes, Actors, Mobile, Link, broken_link, link_of, modulus_in, is_up, is_station_up}
 use Rattle.world_laws.proofs.Prelude.{outbox_of, with_outbox, spot_at, switch_takes-leads, after-taken, changed_link, AllByRecursion-so}
-use Rattle.bssmap_codec.specs.SccpReading.{sccp_reading}
+use Rattle.world_laws.proofs.Prelude.{sccp_reading, to_switch, Alive, LineUp, flow, coming_up, leading_from_air, leading_from_outbox}
+use Rattle.world_laws.proofs.Prelude.{going_down, commanded_target, waiting_of, is_of_peer, taken_in, taken_of, line_up, Leads, LinedUp}
+use Rattle.world_laws.proofs.Prelude.{AreLinedUp, carried_for, DeliversFirst, SwitchKeepsLineUps}
 use Rattle.conn_rules.specs.Streams.{target_in}
-use Rattle.controller_model.specs.Views.{to_switch, forwarded}
-use Rattle.world_laws.specs.LineUp.Alive.{Alive}
-use Rattle.world_laws.specs.LineUp.Places.{LineUp, flow}
+use Rattle.controller_model.specs.Views.{forwarded}
 use Rattle.world_laws.specs.LineUp.RelayStep.RelayStep.{switch_takes}
 use Rattle.world_laws.proofs.LineUp.Lines.{flow-append}
 use Rattle.world_laws.proofs.LineUp.Relaying.{alive_relay}
 use Rattle.msc_end.specs.Switch.{after}
 use Rattle.world_model.specs.Life.{event_after}
-use Rattle.world_laws.specs.ComingUp.{coming_up}
-use Rattle.world_laws.specs.GoingDown.{leading_from_air, leading_from_outbox, going_down}
-use Rattle.world_laws.specs.LineUps.{commanded_target, waiting_of, is_of_peer, taken_in, taken_of, line_up}
-use Rattle.world_laws.specs.Seated.{Leads, LinedUp}
-use Rattle.world_laws.specs.Staying.{AreLinedUp, carried_for, DeliversFirst, SwitchKeepsLineUps}
 use Rattle.world_laws.proofs.Apart.{target-in}
 use Rattle.world_laws.proofs.Framing.{AreUp, all_right, lined-same}
 use Rattle.world_laws.proofs.Quiet.{all_of, ArePlaced}

@@ -1,21 +1,16 @@
 -- What the switch takes at an event.
 use Rattle.world_laws.proofs.Prelude.{◌≡◌, ℕ, nat_eq, Bool, true, false, if◌then◌else◌, List, [], ◌∷◌, ◌++◌, find, map, unwrap_or, Option}
-use Rattle.world_laws.proofs.Prelude.{Some, None, refl, sym, ap, ◌∙◌, eqb-true, append-nil, Bssap, Transfer, Sccp, SWITCH_LINK}
-use Rattle.world_laws.proofs.Prelude.{after_clear, assignment_request, clear_command, data_forms_on, dlci_for, SwitchState, Event}
-use Rattle.world_laws.proofs.Prelude.{BaseTakes, BasePush, Handle, SwitchTakes, SwitchDoes, Tick, BaseDown, SwitchAction, Assign, Clear}
-use Rattle.world_laws.proofs.Prelude.{Dtap, OutboxEntry, actors_after, first_of, taken, target_in, after_base_takes, after_switch_does}
-use Rattle.world_laws.proofs.Prelude.{is_layer_3, may_send_on, sccp_in, sent_on, switch_took, switch_took_first, Actors, is_up, outbox_of}
-use Rattle.world_laws.proofs.Prelude.{with_outbox, after-taken, handle-leads, turn-leads, push-leads, broken-leads, aerial-leads}
-use Rattle.world_laws.proofs.Prelude.{taking-leads}
-use Rattle.std.proofs.Common.{is_some}
-use Rattle.controller_model.specs.Life.{take, tick}
+use Rattle.world_laws.proofs.Prelude.{Some, None, refl, sym, ap, ◌∙◌, eqb-true, append-nil, Bssap, Transfer, Sccp, SWITCH_LINK, after_clear}
+use Rattle.world_laws.proofs.Prelude.{assignment_request, clear_command, data_forms_on, dlci_for, SwitchState, Event, BaseTakes, BasePush}
+use Rattle.world_laws.proofs.Prelude.{Handle, SwitchTakes, SwitchDoes, Tick, BaseDown, SwitchAction, Assign, Clear, Dtap, OutboxEntry}
+use Rattle.world_laws.proofs.Prelude.{actors_after, first_of, taken, target_in, after_base_takes, after_switch_does, is_layer_3}
+use Rattle.world_laws.proofs.Prelude.{may_send_on, sccp_in, sent_on, switch_took, switch_took_first, Actors, is_up, outbox_of, with_outbox}
+use Rattle.world_laws.proofs.Prelude.{after-taken, handle-leads, turn-leads, push-leads, broken-leads, aerial-leads, taking-leads, is_some}
+use Rattle.world_laws.proofs.Prelude.{take, tick, DeliversAt, is_of_peer, taken_in, taken_of, DeliversFirst}
 use Rattle.controller_model.specs.Views.{forwarded}
 use Rattle.msc_end.specs.Switch.{connection_of}
 use Rattle.world_model.specs.Life.{event_after}
 use Rattle.world_model.proofs.Leads.{FromAir, OfTaken}
-use Rattle.world_laws.specs.Ended.{DeliversAt}
-use Rattle.world_laws.specs.LineUps.{is_of_peer, taken_in, taken_of}
-use Rattle.world_laws.specs.Staying.{DeliversFirst}
 use Rattle.world_laws.proofs.BesideRelay.{clear-same}
 
 abbrev pub waiting_in : List OutboxEntry → ℕ → List (List ℕ)

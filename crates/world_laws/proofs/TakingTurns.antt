@@ -2,21 +2,17 @@
 use Rattle.world_laws.proofs.Prelude.{◌≡◌, ◌≢◌, ℕ, ◌==◌, ◌&&◌, not, Bool, true, false, if◌then◌else◌, List, [], ◌∷◌, ◌++◌, filter, fold}
 use Rattle.world_laws.proofs.Prelude.{unwrap_or, Option, Some, None, refl, sym, ap, ◌∙◌, subst, inl, inr, AllByRecursion, result_ok}
 use Rattle.world_laws.proofs.Prelude.{cases_Bool, cond-true, cond-false, eq-eqb, eqb-true, Change, Assignment, Handover, Channel, Place}
-use Rattle.world_laws.proofs.Prelude.{Message, Station, Request, Data, ReleaseComplete, IsReadOf, outs_of, change_activation}
+use Rattle.world_laws.proofs.Prelude.{Message, Station, IsReadOf, outs_of, change_activation}
 use Rattle.world_laws.proofs.Prelude.{rf_channel_release, Input, Target, Connection, ChangesRoles, MayBegin, RoleEnd, Roles, RoleStep}
 use Rattle.world_laws.proofs.Prelude.{TargetRole, after_step, begin_orders, end_messages, is_order, roles_of, step_by, step_orders}
 use Rattle.world_laws.proofs.Prelude.{target_channels, those_that_go, goes_on, ends, had_ended, refused, drops, dismisses, stays, commands}
 use Rattle.world_laws.proofs.Prelude.{completes, goes_back, leaves, Row, IsOpen, AreIn, IsIn, free≢use, is_there, state_else, state_here}
 use Rattle.world_laws.proofs.Prelude.{ChannelState, Free, InUse, Releasing, place_at, place_of, state_in, with_state, Rsl, false≢true}
+use Rattle.world_laws.proofs.Prelude.{channel_release, is_to_station, target_orders, target_releases, goes_to, still_there, channels_after}
+use Rattle.world_laws.proofs.Prelude.{Order, Turns, TakesTurns, order_by, order_in}
 use Rattle.conn_messages.specs.Out.{out_of}
-use Rattle.conn_messages.specs.StationMessage.{channel_release}
 use Rattle.conn_rules.specs.declared.input.Input.TheVariants as inputs
-use Rattle.conn_rules.specs.Roles.{is_to_station, target_orders, target_releases}
-use Rattle.conn_rules.specs.Steps.{goes_to}
-use Rattle.controller_model.proofs.LifeLaws.Places.{still_there}
-use Rattle.controller_model.specs.Controller.{channels_after}
 use Rattle.rsl_codec.specs.declared.rsl.Rsl.TheVariants as rsl
-use Rattle.world_laws.specs.TakingTurns.{Order, Turns, TakesTurns, order_by, order_in}
 use Rattle.world_laws.specs.TakingTurns.Order.{activates, releases}
 use Rattle.world_laws.proofs.OrderRows.{States}
 
@@ -75,9 +71,7 @@ one_turn m at channels (Station station (rsl.RfChannelRelease channel)) read tur
     (m, turn, state_here channels (place_at station channel) (Releasing m) (is_there channels (place_at station channel) (λ free. free≢use m (sym free ∙ turn)))))
 one_turn m at channels (Station station x) read turn =
     subst (λ (o : Option Order). Turns o (state_in channels at) (state_in channels at)) (sym (read_order m at station x read ∙ quiet_order (station == at.station) (order_by at.number (Some x)) refl)) refl
-one_turn m at channels (Request message) read turn = subst (λ (o : Option Order). Turns o (state_in channels at) (state_in channels at)) (sym (quiet_order _ None refl)) refl
-one_turn m at channels (Data destination message) read turn = subst (λ (o : Option Order). Turns o (state_in channels at) (state_in channels at)) (sym (quiet_order _ None refl)) refl
-one_turn m at channels (ReleaseComplete destination) read turn = subst (λ (o : Option Order). Turns o (state_in channels at) (state_in channels at)) (sym (quiet_order _ None refl)) refl
+one_turn m at channels _ read turn = subst (λ (o : Option Order). Turns o (state_in channels at) (state_in channels at)) (sym (quiet_order _ None refl)) refl
 
 -- all messages of a row
 pub all_turns : (m : ℕ) (at : Place) (channels : States) (ms : List Message) → AllByRecursion (λ x. IsReadOf m x (out_of m x).frame.body) ms → AreInTurn m channels ms → TakesTurns at (state_in channels at) (outs_of m ms) (state_in (fold (channels_after m) channels ms) at)
@@ -95,10 +89,7 @@ not_order : (m : ℕ) (channels : States) (message : Message) → is_order messa
 unfolding IsInTurn
 not_order m channels (Station station (rsl.ChannelActivation a)) is = absurd cc
 not_order m channels (Station station (rsl.RfChannelRelease channel)) is = absurd cc
-not_order m channels (Station station _) is = (tt, refl)
-not_order m channels (Request message) is = (tt, refl)
-not_order m channels (Data destination message) is = (tt, refl)
-not_order m channels (ReleaseComplete destination) is = (tt, refl)
+not_order m channels _ is = (tt, refl)
 
 -- a test that all orders pass
 from_some : (m : ℕ) (channels : States) (test : Message → Bool) (ms : List Message) → ((x : Message) → test x ≡ false → is_order x ≡ false) → AreInTurn m channels (filter test ms) → AreInTurn m channels ms
@@ -237,9 +228,7 @@ passes_order x is = is
 
 passes_station : (x : Message) → is_to_station x ≡ false → is_order x ≡ false
 passes_station (Station station message) is = absurd cc
-passes_station (Request message) is = refl
-passes_station (Data destination message) is = refl
-passes_station (ReleaseComplete destination) is = refl
+passes_station _ is = refl
 
 pub row_turns : (m : ℕ) (channels : States) (s : Connection) (input : Input) (offer : Option Channel) (r : Row) → ChangesRoles s input offer r → (IsOpen s.state → IsUsing m channels (roles_of s)) → (IsOpen r.next.state → (c : Channel) → offer ≡ Some c → IsOpenFor channels c) → AreInTurn m channels r.outs
 row_turns m channels s input offer r (goes_on was_open is_open on) using offers =

@@ -1,10 +1,9 @@
 -- Rows: what is ordered of a channel, and in which turn.
 use Rattle.world_laws.proofs.Prelude.{◌≡◌, [], Some, None, refl, Free, InUse, Releasing, Take, Nothing, OnChannel, place_at}
-use Rattle.world_laws.proofs.Prelude.{RfChannelRelease, RfChannelReleaseAck}
+use Rattle.world_laws.proofs.Prelude.{RfChannelRelease, RfChannelReleaseAck, Spares, TakesTurns, Turns, freed_by, order_by}
 use Rattle.conn_rules.specs.declared.input.Input.TheVariants as inputs
 use Rattle.controller_model.specs.declared.step.Step.TheVariants.{Tick}
 use Rattle.ruled_relay.specs.declared.item.What.TheVariants as whats
-use Rattle.world_laws.specs.TakingTurns.{Spares, TakesTurns, Turns, freed_by, order_by}
 use Rattle.world_laws.specs.TakingTurns.Order.{activates, releases}
 
 -- a release of the channel, of another one, and what is no order

@@ -10,26 +10,16 @@ use Rattle.world_laws.proofs.Prelude.{handover_offer, request_offer, Controller,
 use Rattle.world_laws.proofs.Prelude.{place_of, state_in, turn, with_entry, with_state, by_fitting, concerning, concerning_too, entry_at}
 use Rattle.world_laws.proofs.Prelude.{frees, given, measured, measures, on_decision, on_freed, on_report, on_state, on_word, row_in}
 use Rattle.world_laws.proofs.Prelude.{with_report, decision_over, SWITCH_LINK, Decision, Stay, RequestReference, same_place, apart_behind}
+use Rattle.world_laws.proofs.Prelude.{message_again, row_of, serving_after, freed_shaped, use≢release, still_in, RefersIn, offered_sound}
+use Rattle.world_laws.proofs.Prelude.{SoundParts, IsSoundChannel, sound_access, IsSoundRow, row_sound, Tch, first_free, kind_of}
+use Rattle.world_laws.proofs.Prelude.{MAX_CONNECTION_NUMBER, by_row, IsCarriedBy, RefusesNone, Order, TakesTurns, Turns, freed_by}
 use Rattle.std.specs.Option.{option_to_list}
-use Rattle.conn_messages.proofs.Readings.{message_again}
 use Rattle.conn_rules.specs.declared.input.Input.TheVariants as inputs
-use Rattle.conn_rules.specs.Table.{row_of, serving_after}
-use Rattle.controller_model.proofs.LifeLaws.OwningWords.{freed_shaped}
-use Rattle.controller_model.proofs.LifeLaws.Places.{use≢release, still_in}
-use Rattle.controller_model.proofs.LifeLaws.SoundLife.{RefersIn, offered_sound, SoundOf, SoundParts}
-use Rattle.controller_model.proofs.LifeLaws.SoundMessages.{IsSoundChannel, sound_access}
-use Rattle.controller_model.proofs.LifeLaws.SoundRows.{IsSoundRow, row_sound}
+use Rattle.controller_model.proofs.LifeLaws.SoundLife.{SoundOf}
 use Rattle.controller_model.specs.declared.channel_kind.ChannelKind.{ChannelKind}
-use Rattle.controller_model.specs.declared.channel_kind.ChannelKind.TheVariants.{Tch}
-use Rattle.controller_model.specs.Channels.{first_free, kind_of}
 use Rattle.controller_model.specs.Controller.{is_up}
-use Rattle.controller_model.specs.declared.limits.TheConstants.{MAX_CONNECTION_NUMBER}
-use Rattle.controller_model.specs.Life.{by_row}
-use Rattle.controller_model.proofs.LifeLaws.Readings.{IsCarriedBy}
 use Rattle.dtap_codec.specs.declared.report.Report.{Report}
 use Rattle.controller_model.specs.Decision.TheVariants.{Move}
-use Rattle.world_laws.specs.Refusals.{RefusesNone}
-use Rattle.world_laws.specs.TakingTurns.{Order, TakesTurns, Turns, freed_by}
 use Rattle.world_laws.proofs.TakingTurns.{AreInTurn, IsInTurn, IsOpenFor, IsUsing, all_turns, quiet_order, places_differ, places_same}
 use Rattle.world_laws.proofs.TakingTurns.{row_turns}
 use Rattle.world_laws.proofs.PutAsRead.{all_read}
@@ -131,9 +121,7 @@ same_places place at is = places_same place.station place.number at is
 
 pub freed-none : (at place : Place) (input : Input) (state : ChannelState) → ((n : ℕ) → state ≡ Releasing n → same_place place at ≡ false) → freed_by at (OnChannel place input) state ≡ state
 freed-none at place (inputs.ReleaseAck acknowledged) (Releasing n) other = ap (λ (b : Bool). if b then Free else Releasing n) (other n refl)
-freed-none at place (inputs.ReleaseAck acknowledged) Free other = refl
-freed-none at place (inputs.ReleaseAck acknowledged) (InUse n) other = refl
-freed-none at place _ state other = refl
+freed-none at place _ _ other = refl
 
 freed-one : (c : Controller) (at place acknowledged : Place) (k : ℕ) → channel_state c place ≡ Releasing k → freed_by at (OnChannel place (inputs.ReleaseAck acknowledged)) (channel_state c at) ≡ channel_state (freed place c) at
 freed-one c at place acknowledged k is = elim (cases_Bool (same_place place at)) [

@@ -6,24 +6,15 @@ use Rattle.world_laws.proofs.Prelude.{own_carried, pass_stands, break_shut, time
 use Rattle.world_laws.proofs.Prelude.{offer_list, request_sound, RefersBy, word_from, life_ready, IsHere, Ready, ChannelState, Step}
 use Rattle.world_laws.proofs.Prelude.{Take, Word, OnChannel, request_offer, Controller, Entry, Turn, channel_state, each, entry_of}
 use Rattle.world_laws.proofs.Prelude.{turn, with_down, aged, all_aged, break_of, by_fitting, expiry, on_break, on_expiry}
-use Rattle.world_laws.proofs.Prelude.{on_what, row_in, step, timed, Item, What, Parameters, same_place, false≢true}
+use Rattle.world_laws.proofs.Prelude.{on_what, row_in, step, timed, Item, What, Parameters, same_place, false≢true, row_of, IsTimer}
+use Rattle.world_laws.proofs.Prelude.{IsLinkBreak, break_carried, timer_carried, told_holds, word_carried, IsSoundCell, word_refers, IsFrom}
+use Rattle.world_laws.proofs.Prelude.{IsDue, all_found, expiry_own, told_tame, timed_tame, aged_ready, all_here, expiry_numbers, still_here}
+use Rattle.world_laws.proofs.Prelude.{told_numbers, life, told, word_of, RefusesNone, OrdersTakeTurns, Spares, TakesTurns, freed_by}
 use Rattle.conn_rules.specs.declared.input.Input.TheVariants as inputs
-use Rattle.conn_rules.specs.Table.{row_of}
-use Rattle.controller_model.specs.LifeLaws.Acts.{IsTimer}
-use Rattle.controller_model.proofs.LifeLaws.Fitting.{IsLinkBreak, break_carried, timer_carried}
-use Rattle.controller_model.proofs.LifeLaws.OwningLife.{told_holds}
-use Rattle.controller_model.proofs.LifeLaws.Readings.{word_carried}
-use Rattle.controller_model.proofs.LifeLaws.SoundLife.{IsSoundCell, word_refers}
-use Rattle.controller_model.proofs.LifeLaws.Sources.{IsFrom}
-use Rattle.controller_model.proofs.LifeLaws.Turns.{IsDue, all_found, expiry_own, told_tame, timed_tame}
-use Rattle.controller_model.proofs.LifeLaws.UsingLife.{aged_ready, all_here, expiry_numbers, still_here, told_numbers}
 use Rattle.controller_model.specs.declared.step.Step.TheVariants.{Tick}
 use Rattle.controller_model.specs.Controller.{is_up}
-use Rattle.controller_model.specs.Life.{life, take, tick, told}
-use Rattle.controller_model.specs.Reading.{word_of}
+use Rattle.controller_model.specs.Life.{take, tick}
 use Rattle.ruled_relay.specs.declared.item.What.TheVariants as whats
-use Rattle.world_laws.specs.Refusals.{RefusesNone}
-use Rattle.world_laws.specs.TakingTurns.{OrdersTakeTurns, Spares, TakesTurns, freed_by}
 use Rattle.world_laws.proofs.TakingTurns.{turns_append}
 use Rattle.world_laws.proofs.TurnsLife.{IsTold, TurnsFrom, WordTurns, freed-none, row_turn, same_places, told_of, using_of, word_turns}
 use Rattle.world_laws.proofs.OrderSteps.{without_same}

@@ -1,17 +1,14 @@
 -- What is on its way up is whole messages, whatever happened.
 use Rattle.world_laws.proofs.Prelude.{◌≡◌, ℕ, ◌==◌, Bool, true, false, if◌then◌else◌, List, [], ◌∷◌, ◌++◌, Option, Some, None, Ok, Err}
 use Rattle.world_laws.proofs.Prelude.{refl, AllByRecursion, flat_map, result_ok, Place, sapi_of, Sapi}
-use Rattle.world_laws.proofs.Prelude.{Zero, Three, RSL_STREAM, RelayItem, What, RslFault, Rsl, IsL3, rsl_reading, Parameters, Event}
-use Rattle.world_laws.proofs.Prelude.{rsl_in, Actors, base_of, new_actors, end-of, good-all, good-new, IsSound}
-use Rattle.std.proofs.Common.{Result}
-use Rattle.controller_model.proofs.LifeLaws.Readings.{IsFull, rsl_full}
-use Rattle.world_laws.specs.LineUp.Places.{Item, messages_in}
-use Rattle.world_laws.specs.LineUp.Places.Item.{brought, released}
+use Rattle.world_laws.proofs.Prelude.{Zero, RSL_STREAM, RelayItem, What, RslFault, Rsl, IsL3, rsl_reading, Parameters, Event}
+use Rattle.world_laws.proofs.Prelude.{rsl_in, Actors, base_of, new_actors, end-of, good-all, good-new, IsSound, Result, IsFull, rsl_full}
+use Rattle.world_laws.proofs.Prelude.{messages_in, released, of_main, of_establishment, brings, brings_if, brings_by, brings_in, made_of}
+use Rattle.world_laws.proofs.Prelude.{MessagesAreWhole, AreLayer3}
+use Rattle.world_laws.specs.LineUp.Places.{Item}
+use Rattle.world_laws.specs.LineUp.Places.Item.{brought}
 use Rattle.ruled_relay.specs.declared.item.What.TheVariants as whats
 use Rattle.rsl_codec.specs.declared.rsl.Rsl.TheVariants as rsl
-use Rattle.world_laws.specs.ComingUp.{of_main, of_establishment, brings, brings_if, brings_by, brings_in, made_of}
-use Rattle.world_laws.specs.FromTheBeginning.{MessagesAreWhole}
-use Rattle.world_laws.specs.ToCome.{AreLayer3}
 use Rattle.world_laws.proofs.Events.{world}
 
 -- ---- of a station's message
@@ -22,8 +19,7 @@ AreWhole items = AreLayer3 (messages_in items)
 main_whole : (o : Option Sapi) (message : List ℕ) → IsL3 (Some message) → AreWhole (of_main o message)
 unfolding AreWhole
 main_whole (Some Zero) message l3 = (l3, tt)
-main_whole (Some Three) message l3 = tt
-main_whole None message l3 = tt
+main_whole _ message l3 = tt
 
 establishment_whole : (o : Option Sapi) (initial : Option (List ℕ)) → IsL3 initial → AreWhole (of_establishment o initial)
 unfolding AreWhole

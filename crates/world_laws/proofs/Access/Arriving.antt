@@ -6,20 +6,14 @@ use Rattle.world_laws.proofs.Prelude.{Connection, roles_of, connection_of, Owns,
 use Rattle.world_laws.proofs.Prelude.{AreUsed, life_owns, life_uses, Free, InUse, Controller, channel_state, place_at, place_of, AreAllowed}
 use Rattle.world_laws.proofs.Prelude.{Parameters, Event, actors_after, actors_after_all, with_item, all_steps, switch_took_first, Actors}
 use Rattle.world_laws.proofs.Prelude.{Link, base_of, broken_link, is_station_up, is_up, modulus_in, new_actors, outbox_of, spot_at}
-use Rattle.world_laws.proofs.Prelude.{with_link, good-all, good-new, after-taken, broken-leads, LivesByTable-new}
-use Rattle.controller_model.specs.Life.{life}
+use Rattle.world_laws.proofs.Prelude.{with_link, good-all, good-new, after-taken, broken-leads, LivesByTable-new, life, took_first}
+use Rattle.world_laws.proofs.Prelude.{brings_in, coming_up, made_of, leading_from_air, leading_from_outbox, commanded_target, waiting_of}
+use Rattle.world_laws.proofs.Prelude.{IsUnconfirmed, IsHad, AreLinedUp, is_of_others}
 use Rattle.controller_model.specs.Views.{forwarded}
 use Rattle.world_laws.specs.LineUp.Places.{Item}
 use Rattle.ruled_relay.specs.declared.item.What.TheVariants as whats
 use Rattle.world_model.specs.declared.event.Event.TheVariants as events
 use Rattle.world_model.specs.Life.{event_after}
-use Rattle.world_model.specs.Stations.{took_first}
-use Rattle.world_laws.specs.ComingUp.{brings_in, coming_up, made_of}
-use Rattle.world_laws.specs.GoingDown.{leading_from_air, leading_from_outbox}
-use Rattle.world_laws.specs.LineUps.{commanded_target, waiting_of}
-use Rattle.world_laws.specs.Lives.{IsUnconfirmed}
-use Rattle.world_laws.specs.OthersFrame.{IsHad}
-use Rattle.world_laws.specs.Staying.{AreLinedUp}
 use Rattle.world_laws.proofs.BesideRelay.{mobiles_keep_line_ups_new}
 use Rattle.world_laws.proofs.Breaks.{station_breaks_keep_line_ups_new}
 use Rattle.world_laws.proofs.MobileEvents.{quiet_stays}
@@ -27,7 +21,7 @@ use Rattle.world_laws.proofs.Seeing.{SameTenures, SeesSame}
 use Rattle.world_laws.proofs.Spots.{set-apart, set-same}
 use Rattle.world_laws.proofs.Standing.{connections_stand_new}
 use Rattle.world_laws.proofs.SwitchTakes.{switch_keeps_line_ups_new}
-use Rattle.world_laws.specs.Access.Arriving.{IsKnown, is_of_others}
+use Rattle.world_laws.specs.Access.Arriving.{IsKnown}
 use Rattle.world_laws.proofs.Access.Beginning.{bare_of}
 use Rattle.world_laws.proofs.Access.Passes.{Passes, passes_itself}
 use Rattle.world_laws.proofs.Access.Travels.{event_passes}

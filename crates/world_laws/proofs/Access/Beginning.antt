@@ -2,23 +2,16 @@
 -- connection.
 use Rattle.world_laws.proofs.Prelude.{◌≡◌, ◌≢◌, ℕ, ◌&&◌, nat_eq, Bool, true, false, List, [], ◌∷◌, ◌++◌, None, refl, sym, ap, ◌∙◌, subst}
 use Rattle.world_laws.proofs.Prelude.{eq-eqb, SWITCH_LINK, WaitEstablish, Connection, is_at, Stands, StandsBy, place_of, empty_tenure}
-use Rattle.world_laws.proofs.Prelude.{DataLinkState, On, Actors, Mobile, is_station_up, tenure_at}
-use Rattle.world_laws.specs.LineUp.Alive.{Alive}
-use Rattle.world_laws.specs.LineUp.Alive.Condition.{sound}
+use Rattle.world_laws.proofs.Prelude.{DataLinkState, On, Actors, Mobile, is_station_up, tenure_at, Alive, sound, remains, flow, fresh}
+use Rattle.world_laws.proofs.Prelude.{messages_in, on_serving, coming_up, going_down, assembled, line_up, taken_of, waiting_of, LinedUp}
+use Rattle.world_laws.proofs.Prelude.{IsNew}
 use Rattle.world_laws.specs.LineUp.Alive.Follows.{goes_on}
 use Rattle.world_laws.specs.LineUp.Alive.Stands.{opens}
-use Rattle.world_laws.specs.LineUp.Alive.Stays.{remains}
-use Rattle.world_laws.specs.LineUp.Places.{Item, flow, fresh, messages_in}
-use Rattle.world_laws.specs.LineUp.Places.Seat.{on_serving}
+use Rattle.world_laws.specs.LineUp.Places.{Item}
 use Rattle.world_laws.proofs.LineUp.Following.{follows_line}
 use Rattle.mobile_end.specs.GoesOn.{GoesOn}
-use Rattle.world_laws.specs.ComingUp.{coming_up}
-use Rattle.world_laws.specs.GoingDown.{going_down}
-use Rattle.world_laws.specs.LineUps.{assembled, line_up, taken_of, waiting_of}
-use Rattle.world_laws.specs.Seated.{LinedUp}
 use Rattle.world_laws.specs.Seated.Remembers.{nothing}
 use Rattle.world_laws.specs.Seated.Sits.{stays}
-use Rattle.world_laws.specs.Access.Coming.{IsNew}
 
 -- nothing came, and the link of its station is up: the initial message, whatever it is, is to come
 begin_alive : {m : ℕ} (sent : List (List ℕ)) (link : DataLinkState) (items : List Item) → messages_in items ≡ [] → GoesOn m sent [] link

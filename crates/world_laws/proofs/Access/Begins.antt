@@ -5,22 +5,17 @@ use Rattle.world_laws.proofs.Prelude.{Connection, IsOpen, Acts, ActsOn, Brought,
 use Rattle.world_laws.proofs.Prelude.{IsSent, life_acts, life_fits, Step, Take, Controller, Turn, place_of, RelayItem, Rsl, Parameters}
 use Rattle.world_laws.proofs.Prelude.{Event, Tenure, actors_after, actors_after_all, target_in, rsl_in, all_steps, step_at, first_taken}
 use Rattle.world_laws.proofs.Prelude.{Actors, modulus_in, new_actors, outbox_of, LivesByTable-new, OutboxEntry, Station, access_activation}
-use Rattle.world_laws.proofs.Prelude.{Activation, rsl_reading, rsl_text, result_ok, NamesItsMobile, IsNumbered, life_names, same_Some}
+use Rattle.world_laws.proofs.Prelude.{Activation, rsl_reading, rsl_text, result_ok, NamesItsMobile, IsNumbered, life_names, same_Some, take}
+use Rattle.world_laws.proofs.Prelude.{going_down, leading_by, leading_from_outbox, IsForOthers, AssignsBy, AssignsIn, IsComing, AreBeside}
+use Rattle.world_laws.proofs.Prelude.{AssignsAnother, IsBeside, read_request, IsEarlyIn, entry-out}
 use Rattle.conn_messages.specs.Out.{out_of}
 use Rattle.controller_model.specs.LifeLaws.Acts.Acts.{goes as goes_by, opens as begins}
-use Rattle.controller_model.specs.Life.{take}
 use Rattle.rsl_codec.specs.declared.rsl.Rsl.TheVariants as rsl
 use Rattle.world_model.specs.declared.event.Event.TheVariants as events
 use Rattle.world_model.specs.Relay.{entry_of}
-use Rattle.world_laws.specs.GoingDown.{going_down, leading_by, leading_from_outbox}
-use Rattle.world_laws.specs.Staying.{IsForOthers}
-use Rattle.world_laws.proofs.Others.{entry-out}
-use Rattle.world_laws.specs.Access.Coming.{AssignsBy, AssignsIn, IsComing}
 use Rattle.world_laws.specs.Access.Coming.Comes.{asks}
-use Rattle.world_laws.specs.Access.Requested.{AreBeside, AssignsAnother, IsBeside}
 use Rattle.world_laws.proofs.Access.Turning.{all_down, another_assigns, assigned_turn, of_all, own_among}
 use Rattle.world_laws.proofs.Access.Came.{IsLess, behind_less, before, turn_comes, turned, v_controller, v_mobile}
-use Rattle.controller_model.proofs.LifeLaws.Passing.{read_request}
 use Rattle.world_laws.proofs.OrderTexts.{assignment_back, read_of}
 use Rattle.world_laws.specs.Access.Begun.{AwaitsChannel, ConnectionsBeginForTheirMobile, IsQuietAt}
 use Rattle.world_laws.proofs.Access.ForOthers.{item_begins}
@@ -29,7 +24,6 @@ use Rattle.world_laws.proofs.Access.CameLaw.{handled_is, sends_at}
 use Rattle.world_laws.proofs.Apart.{all_both}
 use Rattle.world_laws.proofs.Events.{snoc_steps}
 use Rattle.world_laws.proofs.Framing.{all_left, all_right}
-use Rattle.world_laws.specs.References.Taken.{IsEarlyIn}
 
 -- ---- the activation is neither a command nor an IMMEDIATE ASSIGNMENT
 

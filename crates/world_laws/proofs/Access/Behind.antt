@@ -1,21 +1,18 @@
 -- What a mobile's link still gives, event by event: no more messages of radio resource management.
 use Rattle.world_laws.proofs.Prelude.{◌≡◌, ℕ, ◌+◌, ◌≤◌, ◌%◌, Bool, true, false, if◌then◌else◌, List, [], ◌∷◌, ◌++◌, length, option_to_list}
 use Rattle.world_laws.proofs.Prelude.{Option, Some, sym, ap, ◌∙◌, subst, arith, inl, inr, is_none, cases_Bool, cond-false, Sapi, Zero}
-use Rattle.world_laws.proofs.Prelude.{Three, is_flow_message, with_number, Whereabouts, Stage, New, Connected, is_control}
+use Rattle.world_laws.proofs.Prelude.{Three, is_flow_message, with_number, Whereabouts, Stage, Connected, is_control}
 use Rattle.world_laws.proofs.Prelude.{after_acknowledgement, after_lending, lent_message, to_be_taken, waits, DataLinkState, after_acked}
 use Rattle.world_laws.proofs.Prelude.{after_acked_at, after_frame, after_frame_at, after_number, after_queue, refusal_of_send, MobileState}
-use Rattle.dtap_codec.proofs.Numbers.{is_flow-with_number}
-use Rattle.world_laws.specs.LineUp.Places.{controls_of}
+use Rattle.world_laws.proofs.Prelude.{is_flow-with_number, controls_of, is_sendable, to_be_taken-acknowledged, to_be_taken-lent_message}
+use Rattle.world_laws.proofs.Prelude.{to_be_taken-waits, behind_first}
 use Rattle.world_laws.proofs.LineUp.Lines.{controls-append, controls_behind}
 use Rattle.world_laws.proofs.LineUp.Moving.{controls_waits, flow_no_control}
 use Rattle.mobile_end.specs.declared.mobile_end.Place.TheVariants as places
-use Rattle.mobile_end.specs.Lawful.{is_sendable}
 use Rattle.mobile_end.specs.Mobile.{link_of, with_link}
-use Rattle.mobile_end.proofs.Numbering.{to_be_taken-acknowledged, to_be_taken-lent_message, to_be_taken-waits}
 use Rattle.world_laws.proofs.OwnMobile.{no_control, sendable-of}
 use Rattle.world_laws.proofs.Sublists.{Sub}
 use Rattle.world_laws.proofs.Sublists.Sub.{ends, keeps, drops}
-use Rattle.world_laws.specs.Access.Coming.{behind_first}
 
 -- of messages of which some went as many are of radio resource management, or fewer
 pub controls_sub : {xs ys : List (List ℕ)} → Sub xs ys → controls_of xs ≤ controls_of ys
@@ -88,9 +85,8 @@ acked_gives e sapi = by_place e.place sapi where
 pub frame_gives : (e : MobileState) → GivesNoMore (after_frame e Three).zero e.zero
 frame_gives e = by e.stage e.place where
   by : (stage : Stage) (place : Whereabouts) → GivesNoMore (after_frame_at stage place e Three).zero e.zero
-  by New place = gives_itself e.zero
   by Connected places.Moving = gives_itself e.zero
-  by Connected places.OnChannel = gives_itself e.zero
+  by _ _ = gives_itself e.zero
 
 -- ---- the station takes its first message
 

@@ -1,19 +1,16 @@
 -- A frame that says an ESTABLISH INDICATION with an initial message brings that message.
 use Rattle.world_laws.proofs.Prelude.{◌≡◌, ℕ, ◌==◌, Bool, true, false, if◌then◌else◌, List, [], ◌∷◌, Option, Some, None, Ok, Err, refl}
-use Rattle.world_laws.proofs.Prelude.{sym, ◌∙◌, result_ok, Bssap, Management, Transfer, Bssmap, InterfaceFault, Sccp, bssap_reading}
+use Rattle.world_laws.proofs.Prelude.{sym, ◌∙◌, result_ok, Bssap, Management, Bssmap, InterfaceFault, Sccp, bssap_reading}
 use Rattle.world_laws.proofs.Prelude.{Place, SWITCH_LINK, Input, is_dtap, Word, Nothing, Ping, OnChannel, OnConnection, Reports, place_at}
 use Rattle.world_laws.proofs.Prelude.{sapi_of, of_sapi, change_word, data_word, report_word, result_word, rsl_word, management_word}
 use Rattle.world_laws.proofs.Prelude.{bssap_word, switch_word, station_word, management_of_link, body_word, report_reading, RrMessage}
 use Rattle.world_laws.proofs.Prelude.{AssignmentComplete, HandoverComplete, AssignmentFailure, HandoverFailure, MeasurementReport}
 use Rattle.world_laws.proofs.Prelude.{RrFault, Sapi, Zero, Three, Frame, RSL_STREAM, SCCP_STREAM, CCM_STREAM, PING, RslFault}
-use Rattle.world_laws.proofs.Prelude.{Establishment, Rsl, rsl_reading, rsl_in, true≢false}
-use Rattle.std.proofs.Common.{Result}
+use Rattle.world_laws.proofs.Prelude.{Establishment, Rsl, rsl_reading, rsl_in, true≢false, Result, sccp_reading, rr_reading}
 use Rattle.bssmap_codec.specs.declared.bssmap.Bssmap.TheVariants as bssmap
 use Rattle.bssmap_codec.specs.declared.sccp.Sccp.TheVariants as sccp
-use Rattle.bssmap_codec.specs.SccpReading.{sccp_reading}
 use Rattle.conn_rules.specs.declared.input.Input.TheVariants as inputs
 use Rattle.controller_model.specs.Reading.{word_of}
-use Rattle.dtap_codec.specs.RrReading.{rr_reading}
 use Rattle.rsl_codec.specs.declared.rsl.Rsl.TheVariants as rsl
 use Rattle.world_laws.proofs.OwnFrames.{carried_by, control_only}
 
@@ -57,21 +54,15 @@ measured station m at number (Some l3) = by (rr_reading l3) where
     valid : (b : Bool) → Establishes station (Some m) (if b then Reports at number (report_reading value) else Nothing)
     valid true = tt
     valid false = tt
-  by (Ok _) = tt
-  by (Err fault) = tt
+  by _ = tt
 
 of_message : (station : ℕ) (m : Rsl) → Establishes station (Some m) (rsl_word station m)
-of_message station (rsl.ChannelRequired r) = tt
-of_message station (rsl.ChannelActivationAck a) = tt
-of_message station (rsl.ChannelActivationNack f) = tt
 of_message station (rsl.EstablishIndication e) = establishing station e (sapi_of e.link) e.l3 refl refl
 of_message station (rsl.EstablishConfirm l) = of_link_sapi station (rsl.EstablishConfirm l) (place_at station l.channel) (sapi_of l.link) (λ s. inputs.EstablishConfirm (place_at station l.channel) s) (λ s. tt)
 of_message station (rsl.ReleaseIndication l) = of_link_sapi station (rsl.ReleaseIndication l) (place_at station l.channel) (sapi_of l.link) (λ s. inputs.ReleaseIndication (place_at station l.channel) s) (λ s. tt)
 of_message station (rsl.ErrorIndication e) = of_link_sapi station (rsl.ErrorIndication e) (place_at station e.channel) (sapi_of e.link) (λ s. inputs.ErrorIndication (place_at station e.channel) s) (λ s. tt)
-of_message station (rsl.ConnectionFailure f) = tt
 of_message station (rsl.DataIndication d) = with_data station (rsl.DataIndication d) (is_dtap d.l3) (place_at station d.channel) (sapi_of d.link) d.l3
 of_message station (rsl.MeasurementResult m) = measured station (rsl.MeasurementResult m) (place_at station m.channel) m.number.0 m.l3
-of_message station (rsl.RfChannelReleaseAck channel) = tt
 of_message station _ = tt
 
 of_station : (source : ℕ) (r : Result Rsl RslFault) → Establishes source (result_ok r) (station_word source r)
@@ -80,22 +71,15 @@ of_station source (Err fault) = tt
 
 of_management : (source number : ℕ) (o : Option Rsl) (message : Bssmap) → Establishes source o (management_word number message)
 of_management source number o (bssmap.AssignmentRequest channel_type) = tt
-of_management source number o (bssmap.ClearCommand cause) = tt
-of_management source number o bssmap.CipherModeCommand = tt
 of_management source number o _ = tt
 
 of_bssap : (source number : ℕ) (o : Option Rsl) (r : Result Bssap InterfaceFault) → Establishes source o (bssap_word number r)
 of_bssap source number o (Ok (Management message)) = of_management source number o message
-of_bssap source number o (Ok (Transfer dlci message)) = tt
-of_bssap source number o (Err fault) = tt
+of_bssap source number o _ = tt
 
 of_switch : (source : ℕ) (o : Option Rsl) (r : Result Sccp InterfaceFault) → Establishes source o (switch_word r)
-of_switch source o (Ok (sccp.ConnectionConfirm destination number)) = tt
-of_switch source o (Ok (sccp.ConnectionRefused destination)) = tt
-of_switch source o (Ok (sccp.Released destination number)) = tt
 of_switch source o (Ok (sccp.DataForm1 destination user)) = of_bssap source destination o (bssap_reading user)
-of_switch source o (Ok _) = tt
-of_switch source o (Err fault) = tt
+of_switch source o _ = tt
 
 of_link : (source : ℕ) (o : Option Rsl) (body : List ℕ) → Establishes source o (management_of_link body)
 of_link source o [] = tt

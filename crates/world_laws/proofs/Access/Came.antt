@@ -4,35 +4,25 @@ use Rattle.world_laws.proofs.Prelude.{None, refl, sym, ap, ◌∙◌, subst, app
 use Rattle.world_laws.proofs.Prelude.{Place, SWITCH_LINK, WaitActivation, WaitEstablish, WaitConfirm, Connection, enter, is_at, IsOpen}
 use Rattle.world_laws.proofs.Prelude.{IsAged, connection_of, aged_holds, Controller, Turn, place_of, to_be_taken, RelayItem, Parameters}
 use Rattle.world_laws.proofs.Prelude.{Event, AirMessage, On, Tenure, actors_after_all, with_turn, Actors, Mobile, base_of, has_number}
-use Rattle.world_laws.proofs.Prelude.{is_station_up, mobile_of, modulus_in, new_actors, tenure_at, turn-leads, same_Some}
+use Rattle.world_laws.proofs.Prelude.{is_station_up, mobile_of, modulus_in, new_actors, tenure_at, turn-leads, same_Some, Alive}
+use Rattle.world_laws.proofs.Prelude.{controls_in, controls_of, flow, fresh, messages_in, on_serving, messages_up, read_of, brings_in}
+use Rattle.world_laws.proofs.Prelude.{coming_up, made_of, going_down, assembled, line_up, taken_of, waiting_of, initial_by, initials_up}
+use Rattle.world_laws.proofs.Prelude.{Leads, LinedUp, sits_stays, AreLinedUp, AreAssigned, BeginsOnce, IsComing, data_by, data_up, Came}
+use Rattle.world_laws.proofs.Prelude.{still_comes, IsEarlyIn}
 use Rattle.conn_rules.specs.Timers.{after_pass}
-use Rattle.world_laws.specs.LineUp.Alive.{Alive}
-use Rattle.world_laws.specs.LineUp.Places.{controls_in, controls_of, flow, fresh, messages_in}
 use Rattle.world_laws.specs.LineUp.Places.Item.{brought}
-use Rattle.world_laws.specs.LineUp.Places.Seat.{on_serving}
 use Rattle.world_laws.proofs.LineUp.Lines.{messages_in-append}
-use Rattle.world_laws.specs.Acknowledged.{messages_up, read_of}
-use Rattle.world_laws.specs.ComingUp.{brings_in, coming_up, made_of}
-use Rattle.world_laws.specs.GoingDown.{going_down}
-use Rattle.world_laws.specs.LineUps.{assembled, line_up, taken_of, waiting_of}
-use Rattle.world_laws.specs.Lives.{initial_by, initials_up}
-use Rattle.world_laws.specs.Seated.{Leads, LinedUp}
 use Rattle.world_laws.specs.Seated.Remembers.{nothing}
-use Rattle.world_laws.specs.Seated.Sits.{stays as sits_stays}
-use Rattle.world_laws.specs.Staying.{AreLinedUp}
 use Rattle.world_laws.proofs.Others.{turn_mobiles}
 use Rattle.world_laws.proofs.OwnTurn.{turn_stations}
 use Rattle.world_laws.proofs.Sublists.{Sub, sub_append, sub_behind, sub_flat_map, sub_itself, sub_length, sub_nothing}
-use Rattle.world_laws.specs.Access.Coming.{AreAssigned, BeginsOnce, Comes, IsComing, data_by, data_up}
+use Rattle.world_laws.specs.Access.Coming.{Comes}
 use Rattle.world_laws.specs.Access.Coming.BeginsOnce.{began, to_begin}
 use Rattle.world_laws.specs.Access.Coming.Comes.{arrived, asks}
-use Rattle.world_laws.specs.Access.Requested.{Came}
-use Rattle.world_laws.specs.Access.Requested.Came.{comes as still_comes}
 use Rattle.world_laws.proofs.Access.Arriving.{none_target}
 use Rattle.world_laws.proofs.Access.Beginning.{IsBareOf}
 use Rattle.world_laws.proofs.Access.Behind.{controls_sub}
 use Rattle.world_laws.proofs.Access.Requesting.{of_items, requests_alive}
-use Rattle.world_laws.specs.References.Taken.{IsEarlyIn}
 
 -- ---- time changes nothing of it
 

@@ -7,28 +7,21 @@ use Rattle.world_laws.proofs.Prelude.{kept, kept_in, ages, rests, IsThere, conne
 use Rattle.world_laws.proofs.Prelude.{life_fits, life_sends, Step, Take, Controller, Turn, place_of, step, Zero, RelayItem, AreAllowed}
 use Rattle.world_laws.proofs.Prelude.{Parameters, Event, Tenure, actors_after, actors_after_all, owner_in, handled, target_in, rsl_in}
 use Rattle.world_laws.proofs.Prelude.{all_steps, step_at, first_taken, AllSitBy, Actors, is_up, modulus_in, new_actors, LivesByTable-new}
-use Rattle.world_laws.proofs.Prelude.{FitsNone, NamesItsMobile, IsNumbered, life_names, same_Some}
+use Rattle.world_laws.proofs.Prelude.{FitsNone, NamesItsMobile, IsNumbered, life_names, same_Some, IsTimer, brings_time, take, tick}
+use Rattle.world_laws.proofs.Prelude.{messages_in, coming_up, initials_up, AcksAgree, CameInOctets, AreLinedUp, IsForOthers, IsOthers}
+use Rattle.world_laws.proofs.Prelude.{BringsNothing, IsComing, data_up, AreBeside, AssignsAnother, Came, ControllerBringsComing, IsBeside}
+use Rattle.world_laws.proofs.Prelude.{AreForOthers, AreOneEach, still_comes, IsEarlyIn}
 use Rattle.conn_rules.specs.declared.input.Input.TheVariants as inputs
-use Rattle.controller_model.specs.LifeLaws.Acts.{IsTimer}
-use Rattle.controller_model.specs.LifeLaws.Acts.Brought.{passes as brings_time}
 use Rattle.controller_model.specs.LifeLaws.Acts.Acts.{goes as goes_by, opens as begins}
 use Rattle.controller_model.specs.declared.step.Step.TheVariants.{Tick}
-use Rattle.controller_model.specs.Life.{take, tick}
-use Rattle.world_laws.specs.LineUp.Places.{messages_in}
 use Rattle.world_model.specs.declared.event.Event.TheVariants as events
 use Rattle.world_model.specs.Life.{event_after}
-use Rattle.world_laws.specs.ComingUp.{coming_up}
-use Rattle.world_laws.specs.Lives.{initials_up, AcksAgree}
-use Rattle.world_laws.specs.OthersFrame.{CameInOctets}
-use Rattle.world_laws.specs.Staying.{AreLinedUp, IsForOthers, IsOthers, BringsNothing}
 use Rattle.world_laws.proofs.Others.{relay_leaves_others_new, time_leaves_others_new}
 use Rattle.world_laws.proofs.OwnerRun.{mobiles_sit_on_theirs_new}
 use Rattle.world_laws.proofs.Standing.{connections_stand_new}
 use Rattle.world_laws.proofs.Sublists.{sub_itself}
 use Rattle.world_laws.specs.Access.Arriving.{IsKnown}
-use Rattle.world_laws.specs.Access.Coming.{IsComing, data_up}
-use Rattle.world_laws.specs.Access.Requested.{AreBeside, AssignsAnother, Came, ControllerBringsComing, IsBeside, AreForOthers, AreOneEach}
-use Rattle.world_laws.specs.Access.Requested.Came.{comes as still_comes, goes as is_gone}
+use Rattle.world_laws.specs.Access.Requested.Came.{goes as is_gone}
 use Rattle.world_laws.proofs.Access.Beginning.{IsBareOf, bare_of}
 use Rattle.world_laws.proofs.Access.EarlyRows.{EarlyRow, early_row}
 use Rattle.world_laws.proofs.Access.EarlyRows.EarlyRow.{acked, asked as asks_switch, gone as row_gone}
@@ -40,7 +33,6 @@ use Rattle.world_laws.proofs.Access.Numbered.{step_another}
 use Rattle.world_laws.proofs.Apart.{all_both}
 use Rattle.world_laws.proofs.Events.{snoc_actors, snoc_steps}
 use Rattle.world_laws.proofs.Framing.{all_left, all_right}
-use Rattle.world_laws.specs.References.Taken.{IsEarlyIn}
 
 -- ---- lists of events
 

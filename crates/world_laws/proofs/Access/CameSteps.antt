@@ -1,42 +1,32 @@
 -- What each step of the controller makes of a connection that is coming.
 use Rattle.world_laws.proofs.Prelude.{◌≡◌, ◌≢◌, ℕ, ◌+◌, ◌≤◌, ◌==◌, Bool, true, false, if◌then◌else◌, cond, List, [], ◌∷◌, ◌++◌, length, map}
-use Rattle.world_laws.proofs.Prelude.{option_to_list, Ok, Err, Option, Some, None, refl, sym, ap, ◌∙◌, subst, arith}
-use Rattle.world_laws.proofs.Prelude.{AllByRecursion, flat_map, Channel, Place, Message, Out, SWITCH_LINK, outs_of}
-use Rattle.world_laws.proofs.Prelude.{immediate_assign_command, complete_layer3, Input, WaitActivation, WaitEstablish, WaitConfirm}
-use Rattle.world_laws.proofs.Prelude.{Connection, enter, is_at, relayed, IsAged, IsBrought, brought_by, brought_in, brought_with, if_held}
-use Rattle.world_laws.proofs.Prelude.{connection_of, outs_for, IsSent, messages_on, aged_holds, forwarded_seen, Forwarded, Take, Word}
-use Rattle.world_laws.proofs.Prelude.{Nothing, Ping, Asks, OnChannel, Reports, OnConnection, Controller, Turn, channel_state, holder, hears}
-use Rattle.world_laws.proofs.Prelude.{place_at, place_of, sapi_of, Sapi, Zero, Three, Frame, to_be_taken, RelayItem, What, Establishment}
-use Rattle.world_laws.proofs.Prelude.{Rsl, AreAllowed, Parameters, Event, On, Tenure, actors_after_all, rsl_in, AllSitBy, Actors, base_of}
-use Rattle.world_laws.proofs.Prelude.{is_up, mobile_of, modulus_in, new_actors, outbox_of, tenure_at, and-left, and-right, RrMessage}
-use Rattle.world_laws.proofs.Prelude.{ImmediateAssignment, RrFault, OutboxEntry}
-use Rattle.std.proofs.Common.{Result}
+use Rattle.world_laws.proofs.Prelude.{option_to_list, Ok, Option, Some, None, refl, sym, ap, ◌∙◌, subst, arith, AllByRecursion, flat_map}
+use Rattle.world_laws.proofs.Prelude.{Channel, Place, Message, Out, SWITCH_LINK, outs_of, immediate_assign_command, complete_layer3, Input}
+use Rattle.world_laws.proofs.Prelude.{WaitActivation, WaitEstablish, WaitConfirm, Connection, enter, is_at, relayed, IsAged, IsBrought}
+use Rattle.world_laws.proofs.Prelude.{brought_by, brought_in, brought_with, if_held, connection_of, outs_for, IsSent, messages_on}
+use Rattle.world_laws.proofs.Prelude.{aged_holds, forwarded_seen, Forwarded, Take, Word, OnChannel, Reports, OnConnection, Controller, Turn}
+use Rattle.world_laws.proofs.Prelude.{channel_state, holder, hears, place_at, place_of, sapi_of, Sapi, Zero, Three, Frame, to_be_taken}
+use Rattle.world_laws.proofs.Prelude.{RelayItem, What, Establishment, Rsl, AreAllowed, Parameters, Event, On, Tenure, actors_after_all}
+use Rattle.world_laws.proofs.Prelude.{rsl_in, AllSitBy, Actors, base_of, is_up, mobile_of, modulus_in, new_actors, outbox_of, tenure_at}
+use Rattle.world_laws.proofs.Prelude.{and-left, and-right, RrMessage, ImmediateAssignment, RrFault, OutboxEntry, Result, brings_nothing}
+use Rattle.world_laws.proofs.Prelude.{brings_input, brings_time, word_of, forwarded, controls_in, controls_of, messages_in, read_by}
+use Rattle.world_laws.proofs.Prelude.{read_of, brings_by, brings_if, brings_in, coming_up, made_of, of_establishment, going_down}
+use Rattle.world_laws.proofs.Prelude.{leading_by, leading_from_outbox, taken_in, taken_of, waiting_of, initial_by, initials_up, LinedUp}
+use Rattle.world_laws.proofs.Prelude.{AreLinedUp, IsForOthers, AreAssigned, Assigns, AssignsBy, AssignsIn, BeginsOnce, IsComing, AreBeside}
+use Rattle.world_laws.proofs.Prelude.{Came, IsBeside, has_requested, rr_reading, entry-out}
 use Rattle.conn_messages.specs.Out.{out_of}
 use Rattle.conn_rules.specs.declared.input.Input.TheVariants as inputs
-use Rattle.controller_model.specs.LifeLaws.Acts.Brought.{nothing as brings_nothing, comes as brings_input, passes as brings_time}
-use Rattle.controller_model.specs.Reading.{word_of}
-use Rattle.controller_model.specs.Views.{forwarded}
-use Rattle.world_laws.specs.LineUp.Places.{Item, controls_in, controls_of, messages_in}
+use Rattle.world_laws.specs.LineUp.Places.{Item}
 use Rattle.world_laws.specs.LineUp.Places.Item.{brought}
 use Rattle.ruled_relay.specs.declared.item.What.TheVariants as whats
 use Rattle.rsl_codec.specs.declared.rsl.Rsl.TheVariants as rsl
 use Rattle.world_model.specs.Relay.{entry_of}
-use Rattle.world_laws.specs.Acknowledged.{read_by, read_of}
-use Rattle.world_laws.specs.ComingUp.{brings_by, brings_if, brings_in, coming_up, made_of, of_establishment}
-use Rattle.world_laws.specs.GoingDown.{going_down, leading_by, leading_from_outbox}
-use Rattle.world_laws.specs.LineUps.{taken_in, taken_of, waiting_of}
-use Rattle.world_laws.specs.Lives.{initial_by, initials_up}
-use Rattle.world_laws.specs.Seated.{LinedUp}
-use Rattle.world_laws.specs.Staying.{AreLinedUp, IsForOthers}
-use Rattle.world_laws.proofs.Others.{entry-out}
 use Rattle.world_laws.proofs.OwnTurn.{turn_waiting}
 use Rattle.world_laws.proofs.Standing.{connections_stand_new}
 use Rattle.world_laws.specs.Access.Arriving.{IsKnown}
-use Rattle.world_laws.specs.Access.Coming.{AreAssigned, Assigns, AssignsBy, AssignsIn, BeginsOnce, Comes, IsComing}
+use Rattle.world_laws.specs.Access.Coming.{Comes}
 use Rattle.world_laws.specs.Access.Coming.BeginsOnce.{began, to_begin}
 use Rattle.world_laws.specs.Access.Coming.Comes.{arrived, asks}
-use Rattle.world_laws.specs.Access.Requested.{AreBeside, Came, IsBeside}
-use Rattle.world_laws.specs.Access.Requested.Came.{requests as has_requested}
 use Rattle.world_laws.proofs.Access.Arriving.{serving_placed}
 use Rattle.world_laws.proofs.Access.Beginning.{IsBareOf, bare_of}
 use Rattle.world_laws.proofs.Access.Behind.{controls_sub}
@@ -47,7 +37,6 @@ use Rattle.world_laws.proofs.Access.Turning.{own_among, own_assigns, own_leads}
 use Rattle.world_laws.proofs.Access.Came.{IsLess, IsLike, aged_like, asks_lined, before, stays_came, told_came, told_comes, turn_comes}
 use Rattle.world_laws.proofs.Access.Came.{turned, v_controller, v_initials, v_mobile, v_tenure, v_coming}
 use Rattle.world_laws.proofs.Access.Upcoming.{controls-up}
-use Rattle.dtap_codec.specs.RrReading.{rr_reading}
 use Rattle.world_laws.proofs.Apart.{all_both}
 
 -- ---- a frame that says an ESTABLISH INDICATION to the connection
@@ -74,9 +63,7 @@ by_word c n source frame (OnConnection d input) place initial says brought_it = 
   either true is = absurd (subst (λ (i : Input). Establishes source (rsl_in frame) (OnConnection d i)) (sym is) says)
   either false none = absurd none
 by_word c n source frame (Reports p of report) place initial says brought_it = absurd cc
-by_word c n source frame Nothing place initial says brought_it = absurd brought_it
-by_word c n source frame Ping place initial says brought_it = absurd brought_it
-by_word c n source frame (Asks request delay) place initial says brought_it = absurd brought_it
+by_word c n source frame _ place initial says brought_it = absurd brought_it
 
 pub opening_of : (c : Controller) (n : ℕ) (item : RelayItem) (place : Place) (initial : List ℕ) → IsBrought (brought_in c n (Take item)) (inputs.EstablishIndication place Zero (Some initial)) → SaysOpening item place initial
 opening_of c n item place initial brought_it = by (hears c item.source) item.what refl brought_it where
@@ -94,13 +81,11 @@ opening_of c n item place initial brought_it = by (hears c item.source) item.wha
 -- an IMMEDIATE ASSIGNMENT that was of the channel stays so
 told_in : (mobile : ℕ) (s : Connection) (station : ℕ) (r : Result RrMessage RrFault) → Assigns mobile s station r → Assigns mobile (enter WaitEstablish s) station r
 told_in mobile s station (Ok (ImmediateAssignment channel request advance)) assigns = λ same. ((assigns same).0, refl)
-told_in mobile s station (Ok _) assigns = tt
-told_in mobile s station (Err fault) assigns = tt
+told_in mobile s station _ assigns = tt
 
 told_by : (mobile : ℕ) (s : Connection) (station : ℕ) (o : Option Rsl) → AssignsBy mobile s station o → AssignsBy mobile (enter WaitEstablish s) station o
 told_by mobile s station (Some (rsl.ImmediateAssignCommand i)) assigns = told_in mobile s station (rr_reading i.information) assigns
-told_by mobile s station None assigns = tt
-told_by mobile s station (Some _) assigns = tt
+told_by mobile s station _ assigns = tt
 
 told_all : (mobile : ℕ) (s : Connection) (station : ℕ) (entries : List OutboxEntry) → AllByRecursion (AssignsIn mobile s station) entries → AllByRecursion (AssignsIn mobile (enter WaitEstablish s) station) entries
 told_all mobile s station [] all = tt
@@ -122,10 +107,7 @@ not_time c n item = by (hears c item.source) item.what where
   by_said : (word : Word) → brought_by c n word ≡ brings_time → ⊥
   by_said (OnChannel holds input) is = held (holder (channel_state c holds)) input is
   by_said (OnConnection d input) is = held (Some d) input is
-  by_said (Reports p of report) is = absurd cc
-  by_said Nothing is = absurd cc
-  by_said Ping is = absurd cc
-  by_said (Asks request delay) is = absurd cc
+  by_said _ is = absurd cc
 
   by : (b : Bool) (what : What) → (if b then brought_with c n item.source what else brings_nothing) ≡ brings_time → ⊥
   by false what is = absurd cc

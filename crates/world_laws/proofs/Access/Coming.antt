@@ -1,38 +1,31 @@
 -- A connection that is coming stays so at each event of others.
 use Rattle.world_laws.proofs.Prelude.{◌≡◌, ◌≢◌, ℕ, ◌+◌, ◌==◌, ◌&&◌, nat_eq, not, Bool, true, false, if◌then◌else◌, List, [], ◌∷◌, ◌++◌}
-use Rattle.world_laws.proofs.Prelude.{find, length, Option, Some, None, Ok, Err, refl, sym, ap, ◌∙◌, subst, arith, inl, inr, ◌⊎◌}
+use Rattle.world_laws.proofs.Prelude.{find, length, Option, Some, None, Ok, refl, sym, ap, ◌∙◌, subst, arith, inl, inr, ◌⊎◌}
 use Rattle.world_laws.proofs.Prelude.{AllByRecursion, eqb-true, eqb-false, Change, Assignment, Handover, Channel, Place, SWITCH_LINK}
 use Rattle.world_laws.proofs.Prelude.{WaitEstablish, Connection, is_at, is_dtap, undone, connection_of, Controller, place_at, place_of}
 use Rattle.world_laws.proofs.Prelude.{RrMessage, AssignmentCommand, HandoverCommand, ChannelRelease, RrFault, Zero, after_lending}
 use Rattle.world_laws.proofs.Prelude.{to_be_taken, MobileState, AreAllowed, Parameters, Event, AirMessage, OutboxEntry, Command, Seat}
-use Rattle.world_laws.proofs.Prelude.{Asking, On, Moving, Gone, Tenure, actors_after, actors_after_all, brought, controlled, framed}
+use Rattle.world_laws.proofs.Prelude.{Asking, On, Gone, Tenure, actors_after, actors_after_all, brought, controlled, framed}
 use Rattle.world_laws.proofs.Prelude.{hearing, remembering, signalling_brought, Actors, Link, Mobile, base_of, broken_link, has_number}
 use Rattle.world_laws.proofs.Prelude.{is_reached, is_station_up, link_of, mobile_of, modulus_in, new_actors, put_back, spot_at, tenure_at}
 use Rattle.world_laws.proofs.Prelude.{with_outbox, back-found, back-other, found-number, good-all, good-new, up-right, after-taken}
-use Rattle.world_laws.proofs.Prelude.{air_up-leads, hearing-end, hearing-opens, same_Some}
-use Rattle.std.proofs.Common.{Result}
+use Rattle.world_laws.proofs.Prelude.{air_up-leads, hearing-end, hearing-opens, same_Some, Result, rr_reading, controls_of, messages_in}
+use Rattle.world_laws.proofs.Prelude.{coming_up, going_down, taken_in, taken_of, waiting_of, IsHad, IsElsewhere, LinedUp, Sits, sits_stays}
+use Rattle.world_laws.proofs.Prelude.{sits_gone, AreLinedUp, LetsNoneGo, is_of_others, is_release, AreAssigned, Assigns, AssignsBy}
+use Rattle.world_laws.proofs.Prelude.{AssignsIn, BeginsOnce, IsComing, IsNew, behind_first}
 use Rattle.conn_rules.specs.Streams.{target_in}
-use Rattle.dtap_codec.specs.RrReading.{rr_reading}
-use Rattle.world_laws.specs.LineUp.Places.{controls_of, messages_in}
 use Rattle.world_laws.proofs.LineUp.Lines.{controls-append}
 use Rattle.world_model.specs.declared.event.Event.TheVariants as events
 use Rattle.world_model.specs.Life.{event_after}
-use Rattle.world_laws.specs.ComingUp.{coming_up}
-use Rattle.world_laws.specs.GoingDown.{going_down}
-use Rattle.world_laws.specs.LineUps.{taken_in, taken_of, waiting_of}
-use Rattle.world_laws.specs.OthersFrame.{IsHad}
-use Rattle.world_laws.specs.Seated.{IsElsewhere, LinedUp, Sits}
 use Rattle.world_laws.specs.Seated.Remembers.{nothing}
-use Rattle.world_laws.specs.Seated.Sits.{stays as sits_stays, gone as sits_gone}
-use Rattle.world_laws.specs.Staying.{AreLinedUp}
 use Rattle.world_laws.proofs.AirUp.{Lent, all_other, frame_lent}
 use Rattle.world_laws.proofs.Framing.{all_right}
 use Rattle.world_laws.proofs.Quiet.{down-with_base}
 use Rattle.world_laws.proofs.Spots.{set-same, tenure-with_base}
 use Rattle.world_laws.proofs.Standing.{connections_stand_new}
 use Rattle.world_laws.proofs.Sublists.{Sub, sub_all, sub_length, sub_nothing}
-use Rattle.world_laws.specs.Access.Arriving.{IsKnown, LetsNoneGo, OthersKeepComing, is_of_others, is_release}
-use Rattle.world_laws.specs.Access.Coming.{AreAssigned, Assigns, AssignsBy, AssignsIn, BeginsOnce, Comes, IsComing, IsNew, behind_first}
+use Rattle.world_laws.specs.Access.Arriving.{IsKnown, OthersKeepComing}
+use Rattle.world_laws.specs.Access.Coming.{Comes}
 use Rattle.world_laws.specs.Access.Coming.BeginsOnce.{began, to_begin}
 use Rattle.world_laws.specs.Access.Coming.Comes.{arrived, asks}
 use Rattle.world_laws.proofs.Access.Arriving.{none_target, serving_placed, stays-lined}
@@ -70,18 +63,13 @@ hearing_stays p a {tenure} {command} seat kept = by_kind (is_dtap a.message) ref
 
   by_seat : (change : Change) (target : Tenure) (x : Seat) → x ≡ On tenure command → (remembering p change target x).seat ≡ Gone → ⊥
   by_seat change target (On other remembered) there is = on_gone is
-  by_seat change target Asking there is = absurd cc
-  by_seat change target (Moving from remembered) there is = absurd cc
-  by_seat change target Gone there is = absurd cc
+  by_seat change target _ there is = absurd cc
 
   by_message : (target : Option Tenure) (r : Result RrMessage RrFault) → is_release r ≡ false → (controlled p target r).seat ≡ Gone → ⊥
   by_message target (Ok (ChannelRelease cause)) none is = absurd cc
   by_message (Some target) (Ok (AssignmentCommand channel)) none is = by_seat Assignment target p.seat seat is
   by_message (Some target) (Ok (HandoverCommand cell channel reference)) none is = by_seat Handover target p.seat seat is
-  by_message None (Ok (AssignmentCommand channel)) none is = own is
-  by_message None (Ok (HandoverCommand cell channel reference)) none is = own is
-  by_message target (Ok _) none is = own is
-  by_message target (Err fault) none is = own is
+  by_message _ _ none is = own is
 
   by_kind : (b : Bool) → is_dtap a.message ≡ b → (if b then record p { received = p.received ++ a.message ∷ [] } else controlled p a.target (rr_reading a.message)).seat ≡ Gone → ⊥
   by_kind true dtap is = own is

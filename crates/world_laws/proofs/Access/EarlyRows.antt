@@ -1,11 +1,10 @@
 -- The rows of a connection before its connection request.
 use Rattle.world_laws.proofs.Prelude.{◌≡◌, ℕ, Bool, true, false, if◌then◌else◌, List, [], ◌∷◌, length, nat_le, ◌==◌, Option, Some, None}
 use Rattle.world_laws.proofs.Prelude.{refl, sym, ap, ◌∙◌, subst, Channel, Place, complete_layer3, Input, State, WaitActivation, none-some}
-use Rattle.world_laws.proofs.Prelude.{WaitEstablish, WaitConfirm, Live, Closed, Removed, Connection, enter, is_at, Row, dropping, row}
-use Rattle.world_laws.proofs.Prelude.{without_station, access, assign_immediately, row_if, Zero, INITIAL_LIMIT, same_Some, if_is}
+use Rattle.world_laws.proofs.Prelude.{WaitEstablish, WaitConfirm, Removed, Connection, enter, is_at, Row, dropping, row}
+use Rattle.world_laws.proofs.Prelude.{without_station, access, assign_immediately, row_if, Zero, INITIAL_LIMIT, same_Some, if_is, row_of}
+use Rattle.world_laws.proofs.Prelude.{IsEarlyIn}
 use Rattle.conn_rules.specs.declared.input.Input.TheVariants as inputs
-use Rattle.conn_rules.specs.Table.{row_of}
-use Rattle.world_laws.specs.References.Taken.{IsEarlyIn}
 use Rattle.controller_model.proofs.LifeLaws.FollowingTable.{row_by, row_is_by}
 
 -- the channel is assigned, the switch is asked, or the connection goes
@@ -58,7 +57,4 @@ early_row s input offer r early fits = by s.state refl early where
   by : (state : State) → s.state ≡ state → IsEarlyIn state → EarlyRow s input r
   by WaitActivation is early = activation_row s input offer r is (fits_by WaitActivation is)
   by WaitEstablish is early = establish_row s input offer r is (fits_by WaitEstablish is)
-  by WaitConfirm is early = absurd early
-  by (Live reference stage) is early = absurd early
-  by (Closed clearing) is early = absurd early
-  by Removed is early = absurd early
+  by _ is early = absurd early

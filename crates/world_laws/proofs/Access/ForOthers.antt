@@ -5,22 +5,14 @@ use Rattle.world_laws.proofs.Prelude.{Some, None, refl, sym, ap, ◌∙◌, subs
 use Rattle.world_laws.proofs.Prelude.{Message, Out, outs_of, Connection, connection_of, IsNumbered, ComesInOctets, IsOfOctets, conn_of}
 use Rattle.world_laws.proofs.Prelude.{life_fits, Step, Take, Controller, Entry, hears, step, concerned, Frame, AreOctets, RelayItem, What}
 use Rattle.world_laws.proofs.Prelude.{AreAllowed, Parameters, Event, Tenure, actors_after_all, target_in, rsl_in, all_steps, Actors}
-use Rattle.world_laws.proofs.Prelude.{new_actors, LivesByTable-new}
-use Rattle.controller_model.proofs.LifeLaws.Concerning.{frame_leaves, frame_silent}
-use Rattle.controller_model.proofs.LifeLaws.Passing.{PassesBy, frame_passes}
-use Rattle.controller_model.specs.Life.{life, take}
-use Rattle.controller_model.specs.Reading.{word_of}
+use Rattle.world_laws.proofs.Prelude.{new_actors, LivesByTable-new, frame_leaves, frame_silent, PassesBy, frame_passes, life, word_of}
+use Rattle.world_laws.proofs.Prelude.{leading_by, leading_from_outbox, commanded_target, IsHad, commanded_channels, IsForOthers}
+use Rattle.world_laws.proofs.Prelude.{AreForOthers, entry-out}
+use Rattle.controller_model.specs.Life.{take}
 use Rattle.ruled_relay.specs.declared.item.What.TheVariants as whats
 use Rattle.world_model.specs.Relay.{entry_of}
-use Rattle.world_laws.specs.GoingDown.{leading_by, leading_from_outbox}
-use Rattle.world_laws.specs.LineUps.{commanded_target}
-use Rattle.world_laws.specs.OthersFrame.{IsHad}
-use Rattle.world_laws.specs.Seated.{commanded_channels}
-use Rattle.world_laws.specs.Staying.{IsForOthers}
-use Rattle.world_laws.proofs.Others.{entry-out}
 use Rattle.world_laws.proofs.OthersFrame.{frames_are_for_others_new}
 use Rattle.world_laws.proofs.Quiet.{all_of}
-use Rattle.world_laws.specs.Access.Requested.{AreForOthers}
 use Rattle.world_laws.proofs.Access.Numbered.{IsFrom, step_from}
 use Rattle.world_laws.proofs.Access.Turning.{none_own}
 use Rattle.world_laws.proofs.OwnTurn.{none_leads}

@@ -8,28 +8,19 @@ use Rattle.world_laws.proofs.Prelude.{OnChannel, Controller, holder, hears, plac
 use Rattle.world_laws.proofs.Prelude.{Parameters, Event, actors_after_all, rsl_in, all_steps, Actors, Mobile, base_of, new_actors}
 use Rattle.world_laws.proofs.Prelude.{LivesByTable-new, FitsNone, Owns, OwnsOpen, life_owns, roles_of, target_channels, dropping, access}
 use Rattle.world_laws.proofs.Prelude.{on_dtap, on_establish_indication, row_if, is_control, acknowledgements, IsKnownItem, known-inbox}
+use Rattle.world_laws.proofs.Prelude.{brings_nothing, brings_input, life, word_of, messages_up, read_by, read_of, NoneReleases, brings_if}
+use Rattle.world_laws.proofs.Prelude.{brings_in, brings_by, IsHad, MissesOf, controls_of, IsKnownWhat, AcksAgree, BeginsOnce, data_by}
+use Rattle.world_laws.proofs.Prelude.{data_up}
 use Rattle.conn_rules.specs.declared.input.Input.TheVariants as inputs
 use Rattle.conn_rules.specs.Table.{row_of}
-use Rattle.controller_model.specs.LifeLaws.Acts.Brought.{nothing as brings_nothing, comes as brings_input}
-use Rattle.controller_model.specs.Life.{life}
-use Rattle.controller_model.specs.Reading.{word_of}
 use Rattle.ruled_relay.specs.declared.item.What.TheVariants as whats
 use Rattle.rsl_codec.specs.declared.radio_link.Data.{Data}
 use Rattle.rsl_codec.specs.declared.rsl.Rsl.TheVariants as rsl
-use Rattle.world_laws.specs.Acknowledged.{messages_up, read_by, read_of}
-use Rattle.world_laws.specs.ComingUp.{brings_if, brings_in}
-use Rattle.world_laws.specs.OthersFrame.{IsHad}
 use Rattle.world_laws.proofs.Standing.{connections_stand_new}
 use Rattle.world_laws.proofs.Access.Arriving.{serving_placed}
 use Rattle.world_laws.proofs.Access.Beginning.{bare_of}
-use Rattle.controller_model.specs.LifeLaws.Acts.{MissesOf}
-use Rattle.world_laws.specs.LineUp.Places.{controls_of}
 use Rattle.world_laws.proofs.LineUp.Lines.{controls_first}
-use Rattle.world_model.proofs.OwnerItems.{IsKnown as IsKnownWhat}
-use Rattle.world_laws.specs.Acknowledged.{NoneReleases}
-use Rattle.world_laws.specs.ComingUp.{brings_by}
-use Rattle.world_laws.specs.Lives.{AcksAgree}
-use Rattle.world_laws.specs.Access.Coming.{BeginsOnce, Comes, data_by, data_up}
+use Rattle.world_laws.specs.Access.Coming.{Comes}
 use Rattle.world_laws.specs.Access.Coming.BeginsOnce.{began, to_begin}
 use Rattle.world_laws.specs.Access.Coming.Comes.{arrived, asks}
 use Rattle.world_laws.proofs.Access.Silent.{FirstBrings, first_brings, releases_not}

@@ -1,27 +1,24 @@
 -- What becomes of each mobile at an event, where neither the controller nor a mobile's frame of
 -- SAPI 0 takes part.
 use Rattle.world_laws.proofs.Prelude.{◌≡◌, ℕ, ◌==◌, ◌&&◌, nat_eq, Bool, true, false, if◌then◌else◌, List, [], ◌∷◌, ◌++◌, find}
-use Rattle.world_laws.proofs.Prelude.{slice_index_or, Option, Some, None, Ok, Err, refl, sym, ap, ◌∙◌, subst, inl, inr, ◌⊎◌, is_none}
+use Rattle.world_laws.proofs.Prelude.{slice_index_or, Option, Some, None, Ok, refl, sym, ap, ◌∙◌, subst, inl, inr, ◌⊎◌, is_none}
 use Rattle.world_laws.proofs.Prelude.{eqb-true, eqb-false, SWITCH_LINK, place_at, ChannelDescription, RrMessage, ImmediateAssignment}
-use Rattle.world_laws.proofs.Prelude.{RrFault, Sapi, Zero, Three, LinkFault, refusal_of_activate, after_acked, after_arrival, after_leave}
+use Rattle.world_laws.proofs.Prelude.{RrFault, Sapi, Three, LinkFault, refusal_of_activate, after_acked, after_arrival, after_leave}
 use Rattle.world_laws.proofs.Prelude.{after_queue, refusal_of_send, is_channel, Rsl, Event, MAX_TENURE, AirMessage, OutboxEntry, Command}
-use Rattle.world_laws.proofs.Prelude.{Seat, Asking, On, Moving, Gone, Tenure, complete, connected, failure, framed, hearing, may_send}
+use Rattle.world_laws.proofs.Prelude.{Seat, Asking, On, Moving, Tenure, complete, connected, failure, framed, hearing, may_send}
 use Rattle.world_laws.proofs.Prelude.{sent_by, activated, activated_unless, rsl_in, took, sccp_in, Actors, Mobile, base_of, has_number}
 use Rattle.world_laws.proofs.Prelude.{is_active_at, is_reached, is_station_up, mobile_of, outbox_of, put_back, spot_at, tenure_at}
 use Rattle.world_laws.proofs.Prelude.{with_mobile, with_outbox, with_spot, back-found, back-other, found-number, air_down-leads}
 use Rattle.world_laws.proofs.Prelude.{air_down_lost-leads, air_up-leads, arrive-leads, base_takes-leads, broken-leads, by_mobile-leads}
 use Rattle.world_laws.proofs.Prelude.{connect-leads, does-leads, move-leads, only_if-leads, push-leads, report-leads, return-leads}
 use Rattle.world_laws.proofs.Prelude.{switch_takes-leads, switch_took-leads, touch-leads, unless_last-leads, hearing-number, same_Some}
-use Rattle.world_laws.proofs.Prelude.{and-right, and-left, found-front}
-use Rattle.std.proofs.Common.{Result}
-use Rattle.dtap_codec.specs.RrReading.{rr_reading}
+use Rattle.world_laws.proofs.Prelude.{and-right, and-left, found-front, Result, rr_reading, assigned, assigned_from, assigned_to}
 use Rattle.mobile_end.specs.Mobile.{is_acknowledged}
 use Rattle.rsl_codec.specs.declared.common_channel.ImmediateAssignment.{ImmediateAssignment as AssignCommand}
 use Rattle.rsl_codec.specs.declared.rsl.Rsl.TheVariants as rsl
 use Rattle.world_model.specs.declared.event.Event.TheVariants as events
 use Rattle.world_model.specs.Life.{event_after}
 use Rattle.world_model.specs.Mobiles.{acknowledged}
-use Rattle.world_model.specs.Stations.{assigned, assigned_from, assigned_to}
 use Rattle.world_model.proofs.Leads.{FromAir, OfTaken}
 use Rattle.world_laws.proofs.Access.Behind.{GivesNoMore, acked_gives, frame_gives, queue_gives}
 use Rattle.world_laws.proofs.Access.Travels.{is_passing}
@@ -98,19 +95,15 @@ connect_goes w event u new is = record {
 
 can_send : (seat : Seat) → may_send seat ≡ true → seat ≡ Asking → ⊥
 can_send Asking may is = absurd cc
-can_send (On tenure command) may is = absurd cc
-can_send (Moving from command) may is = absurd cc
-can_send Gone may is = absurd cc
+can_send _ may is = absurd cc
 
 acks_go : (w : Actors) (event : Event) (number : ℕ) (sapi : Sapi) (p : Mobile) → mobile_of w number ≡ Some p → OfTaken (AllGo w event) (acknowledged w sapi p p.seat)
 unfolding OfTaken
 acks_go w event number sapi p found = by_seat p.seat refl where
   by_seat : (seat : Seat) → p.seat ≡ seat → OfTaken (AllGo w event) (acknowledged w sapi p seat)
-  by_seat Asking is = tt
   by_seat (On tenure command) is = only_if-leads (AllGo w event) (is_reached w tenure && is_acknowledged p.end sapi) (with_mobile (record p { end = after_acked p.end sapi }) w)
       (λ _. one_goes w w event number p (record p { end = after_acked p.end sapi }) found refl refl (stays refl refl (not_asking is on_asks) (acked_gives p.end sapi)))
-  by_seat (Moving from command) is = tt
-  by_seat Gone is = tt
+  by_seat _ is = tt
 
 moves_where : (seat : Seat) {tenure : Tenure} {command : Command} → seat ≡ On tenure (Some command) → IsToMove seat
 moves_where seat is = subst IsToMove (sym is) tt
@@ -163,26 +156,22 @@ takes_go w station first others up stood = by_message (rsl_in first.out.frame) r
       after = refl;
       leads = refl;
     }))
-    by_seat (On tenure c) is = quiet u refl
-    by_seat (Moving from c) is = quiet u refl
-    by_seat Gone is = quiet u refl
+    by_seat _ is = quiet u refl
 
   by_reading : (command : AssignCommand) → rsl_in first.out.frame ≡ Some (rsl.ImmediateAssignCommand command) → (r : Result RrMessage RrFault) → rr_reading command.information ≡ r → OfTaken (AllGo w event) (Some (assigned station r u))
   by_reading command reads (Ok (ImmediateAssignment channel request advance)) says = by_number (is_channel channel.channel.0) where
     by_number : (b : Bool) → AllGo w event (if b then assigned_to (mobile_of u (slice_index_or request 0 0)) (tenure_at u (place_at station channel.channel.0)) u else u)
     by_number true = assigning command reads channel request advance says (mobile_of w (slice_index_or request 0 0)) refl
     by_number false = quiet u refl
-  by_reading command reads (Ok _) says = quiet u refl
-  by_reading command reads (Err fault) says = quiet u refl
+  by_reading command reads _ says = quiet u refl
 
   by_message : (o : Option Rsl) → rsl_in first.out.frame ≡ o → OfTaken (AllGo w event) (took station first.target o u)
-  by_message None is = quiet u refl
   by_message (Some (rsl.ChannelActivation a)) is = unless_last-leads (AllGo w event) ((spot_at u (place_at station a.channel)).tenure == MAX_TENURE) (activated (place_at station a.channel) u) (activating a.channel (refusal_of_activate (base_of u station) a.channel))
   by_message (Some (rsl.ImmediateAssignCommand i)) is = by_reading i is (rr_reading i.information) refl
   by_message (Some (rsl.DataRequest d)) is = airing (is_active_at u (place_at station d.channel)) (with_spot (place_at station d.channel) (record (spot_at u (place_at station d.channel)) { air = (spot_at u (place_at station d.channel)).air ++ record { message = d.l3; target = first.target } ∷ [] }) u) refl
   by_message (Some (rsl.EstablishRequest l)) is = quiet _ refl
   by_message (Some (rsl.RfChannelRelease channel)) is = quiet _ refl
-  by_message (Some _) is = quiet u refl
+  by_message _ is = quiet u refl
 
 pub event_goes : (w : Actors) (event : Event) → is_passing event ≡ true → OfTaken (AllGo w event) (event_after w event)
 unfolding event_after FromAir
@@ -190,7 +179,6 @@ event_goes w (events.Upper number sapi message) is = by_mobile-leads (AllGo w (e
     only_if-leads (AllGo w (events.Upper number sapi message)) (may_send p.seat && is_none (refusal_of_send p.end sapi message)) (with_mobile (record p { end = after_queue p.end sapi message }) w)
     (λ may. one_goes w w (events.Upper number sapi message) number p (record p { end = after_queue p.end sapi message }) found refl refl (stays refl refl (can_send p.seat (and-left (may_send p.seat) (is_none (refusal_of_send p.end sapi message)) may)) (queue_gives p.end sapi message (and-right (may_send p.seat) (is_none (refusal_of_send p.end sapi message)) may)))))
 event_goes w (events.Connect number station initial accepts) is = connect-leads (AllGo w _) w number station initial accepts (λ may. connect_goes w _ _ (connected w.modulus number initial accepts) refl)
-event_goes w (events.AirUp number Zero) is = absurd cc
 event_goes w (events.AirUp number Three) is = air_up-leads (AllGo w _) w number Three (λ p tenure command frame found seat lent reached. one_goes w _ _ number p (framed p Three) found refl refl (stays refl refl (not_asking seat on_asks) (frame_gives p.end)))
 event_goes w (events.AirAck number sapi) is = by_mobile-leads (AllGo w _) w number (λ p. acknowledged w sapi p p.seat) (λ p found. acks_go w (events.AirAck number sapi) number sapi p found)
 event_goes w (events.AirDown number) is = air_down-leads (AllGo w _) w number (λ p tenure command found seat reached first others air. one_goes w _ _ number p (hearing p first) found refl (hearing-number p first) (hears tenure command first others seat air refl))
@@ -201,9 +189,8 @@ event_goes w (events.Arrive number) is = arrive-leads (AllGo w _) w number (λ p
 event_goes w (events.Return number) is = return-leads (AllGo w _) w number (λ p from command found seat reached. one_goes w _ _ number p (record p { end = after_arrival p.end (failure command.change); seat = On from None }) found refl refl (moves (moving_where p.seat seat) (inl refl)))
 event_goes w (events.BaseTakes station) is = base_takes-leads (AllGo w _) w station (λ first others up stood. takes_go w station first others up stood)
 event_goes w (events.BasePush source) is = push-leads (AllGo w _) w source (λ first others. all_same w _ _ refl) (λ message first. all_same w _ _ refl)
-event_goes w events.Handle is = absurd cc
 event_goes w events.SwitchTakes is = switch_takes-leads (AllGo w _) w (λ first others up stood. switch_took-leads (AllGo w _) (with_outbox SWITCH_LINK others w) (sccp_in first.out.frame) (all_same w _ _ refl) (λ next made. all_same w _ _ refl))
 event_goes w (events.SwitchDoes action) is = does-leads (AllGo w _) w action (λ next made. all_same w _ _ refl)
-event_goes w (events.Tick ms) is = absurd cc
 event_goes w (events.BaseDown source) is = broken-leads (AllGo w _) w source (λ up switch. all_same w _ _ refl) (λ up station. all_same w _ _ refl)
 event_goes w (events.Report number report) is = report-leads (AllGo w _) w number report (λ tenure reached. all_same w _ _ refl)
+event_goes w _ is = absurd cc

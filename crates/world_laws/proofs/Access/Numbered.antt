@@ -1,27 +1,24 @@
 -- What the controller puts for others names other mobiles.
 use Rattle.world_laws.proofs.Prelude.{◌≡◌, ◌≢◌, ℕ, ◌+◌, ◌≤◌, ◌⊎◌, Bool, true, false, if◌then◌else◌, cond, List, [], ◌∷◌, ◌++◌, find, Option}
 use Rattle.world_laws.proofs.Prelude.{Some, None, refl, sym, ap, ◌∙◌, subst, arith, inl, inr, AllByRecursion, option_and_then, result_ok}
-use Rattle.world_laws.proofs.Prelude.{Channel, Place, Message, Station, Request, Data, ReleaseComplete, Out, outs_of, access_activation}
+use Rattle.world_laws.proofs.Prelude.{Channel, Place, Message, Station, Out, outs_of, access_activation}
 use Rattle.world_laws.proofs.Prelude.{immediate_assignment, Input, Connection, Row, connection_of, Names, NamesItsMobile, IsAbove}
 use Rattle.world_laws.proofs.Prelude.{IsNumbered, IsSent, conn_of, Step, Take, Word, Nothing, Ping, Asks, OnChannel, Reports, OnConnection}
 use Rattle.world_laws.proofs.Prelude.{access_channel, Controller, Entry, Turn, channel_state, each, entry_of, holder, ignoring, hears, turn}
 use Rattle.world_laws.proofs.Prelude.{with_down, all_aged, break_of, by_fitting, concerning, concerning_too, entry_at, expiry, given}
 use Rattle.world_laws.proofs.Prelude.{measured, measures, may_open, on_decision, on_expiry, on_freed, on_report, on_what, on_word, row_in}
 use Rattle.world_laws.proofs.Prelude.{step, timed, rr_text, Decision, Stay, What, Rsl, RequestReference, rsl_text, rsl_in, same_Some}
+use Rattle.world_laws.proofs.Prelude.{NamesOf, told, word_of, rr_reading, AssignsAnother, NamesAnother}
 use Rattle.conn_messages.specs.Out.{out_of}
-use Rattle.controller_model.specs.LifeLaws.Naming.{NamesOf}
 use Rattle.controller_model.specs.declared.step.Step.TheVariants.{Tick}
 use Rattle.controller_model.specs.Controller.{has_number}
-use Rattle.controller_model.specs.Life.{take, tick, told}
-use Rattle.controller_model.specs.Reading.{word_of}
+use Rattle.controller_model.specs.Life.{take, tick}
 use Rattle.dtap_codec.specs.declared.report.Report.{Report}
-use Rattle.dtap_codec.specs.RrReading.{rr_reading}
 use Rattle.controller_model.specs.Decision.TheVariants.{Move}
 use Rattle.ruled_relay.specs.declared.item.What.TheVariants as whats
 use Rattle.rsl_codec.specs.declared.common_channel.ImmediateAssignment.{ImmediateAssignment as Assignment}
 use Rattle.rsl_codec.specs.declared.rsl.Rsl.TheVariants as rsl
 use Rattle.world_laws.proofs.OrderTexts.{assignment_back, read_of}
-use Rattle.world_laws.specs.Access.Requested.{AssignsAnother, NamesAnother}
 use Rattle.world_laws.proofs.Access.Turning.{own_among}
 use Rattle.world_laws.proofs.OrderNames.{information-in, assignment_read}
 use Rattle.world_laws.proofs.References.Numbered.{aged_above}
@@ -162,9 +159,7 @@ module _ (c : Controller) (n mobile : ℕ) (any : Channel) (only : IsOnly c n mo
             let back = assignment_back y j text in
             named_another m (connection_of c m) refl differs station back.0 j.information back.2 (subst (λ (z : Rsl). NamesBy (connection_of c m) (Station station z)) back.1 names)
         by _ text = tt
-  message_another m (Request message) differs sent names = tt
-  message_another m (Data destination message) differs sent names = tt
-  message_another m (ReleaseComplete destination) differs sent names = tt
+  message_another m _ differs sent names = tt
 
   -- by numbers of connections
   pub swap : (Q : ℕ → Out → Type 0) (outs : List Out) → ((m : ℕ) → 1 ≤ m → AllByRecursion (λ out. out.conn ≡ m → Q m out) outs) → AllByRecursion (λ out. 1 ≤ out.conn → Q out.conn out) outs

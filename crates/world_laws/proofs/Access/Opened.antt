@@ -1,24 +1,18 @@
 -- Of a connection that lives no initial message comes again.
 use Rattle.world_laws.proofs.Prelude.{◌≡◌, ◌≢◌, ℕ, ◌≤◌, nat_eq, Bool, true, false, List, [], ◌∷◌, find, Option, Some, None, refl, sym, ap}
 use Rattle.world_laws.proofs.Prelude.{◌∙◌, subst, inl, inr, AllByRecursion, flat_map, eqb-true, eqb-false, Channel, Place, Message}
-use Rattle.world_laws.proofs.Prelude.{SWITCH_LINK, State, WaitActivation, WaitEstablish, WaitConfirm, Live, Closed, Removed, Connection}
+use Rattle.world_laws.proofs.Prelude.{SWITCH_LINK, State, Removed, Connection}
 use Rattle.world_laws.proofs.Prelude.{Stands, IsOpen, used_channels, Acts, ActsOn, Brought, kept_in, ages, goes, rests, connection_of}
 use Rattle.world_laws.proofs.Prelude.{aged_holds, pass_stands, life_acts, Step, Take, Controller, Turn, place_of, step, Zero, Item}
 use Rattle.world_laws.proofs.Prelude.{Parameters, Event, Command, On, Tenure, actors_after, actors_after_all, brought, framed, target_in}
 use Rattle.world_laws.proofs.Prelude.{with_turn, all_steps, Actors, Mobile, base_of, has_number, is_reached, mobile_of, new_actors}
 use Rattle.world_laws.proofs.Prelude.{put_back, back-found, back-other, found-number, good-all, good-new, after-taken, air_up-leads}
-use Rattle.world_laws.proofs.Prelude.{handle-leads, turn-leads, LivesByTable-new, hearing-opens, same_Some}
+use Rattle.world_laws.proofs.Prelude.{handle-leads, turn-leads, LivesByTable-new, hearing-opens, same_Some, life, take, tick, messages_in}
+use Rattle.world_laws.proofs.Prelude.{read_of, coming_up, awaited_in, HasOpened, initial_by, initials_up, IsAlone, IsElsewhere}
 use Rattle.controller_model.specs.LifeLaws.Acts.Acts.{opens as begins}
 use Rattle.controller_model.specs.declared.step.Step.TheVariants.{Tick}
-use Rattle.controller_model.specs.Life.{life, take, tick}
-use Rattle.world_laws.specs.LineUp.Places.{messages_in}
 use Rattle.world_model.specs.declared.event.Event.TheVariants as events
 use Rattle.world_model.specs.Life.{event_after}
-use Rattle.world_laws.specs.Acknowledged.{read_of}
-use Rattle.world_laws.specs.ComingUp.{coming_up}
-use Rattle.world_laws.specs.Handled.{awaited_in}
-use Rattle.world_laws.specs.Lives.{HasOpened, initial_by, initials_up}
-use Rattle.world_laws.specs.Seated.{IsAlone, IsElsewhere}
 use Rattle.world_laws.proofs.Others.{turn_mobiles}
 use Rattle.world_laws.proofs.Standing.{connections_stand_new}
 use Rattle.world_laws.proofs.Sublists.{Sub, sub_append, sub_behind, sub_flat_map, sub_itself, sub_nothing}
@@ -87,11 +81,7 @@ module _ (settings : Parameters) (done : List Event) (mobile : ℕ) (s next : Co
         (row_uses P s1 input offer r stands1 fits (subst (λ (x : Connection). IsOpen x.state) (sym next_is) stays_open) own (subst (λ (x : Connection). AllByRecursion P (awaited_in x.state)) (sym next_is) new)) where
           kept_is : (state : State) (x : Connection) → kept_in state x ≡ Some next → x ≡ next
           kept_is Removed x is = absurd cc
-          kept_is WaitActivation x is = same_Some _ _ is
-          kept_is WaitEstablish x is = same_Some _ _ is
-          kept_is WaitConfirm x is = same_Some _ _ is
-          kept_is (Live reference stage) x is = same_Some _ _ is
-          kept_is (Closed clearing) x is = same_Some _ _ is
+          kept_is _ x is = same_Some _ _ is
 
   turn_uses : (P : Channel → Type 0) (st : Step) (v : Actors) → connection_of world.controller s.number ≡ Some s → 1 ≤ s.number → v.controller ≡ (step world.controller st).next → connection_of v.controller s.number ≡ Some next → IsOpen next.state
       → AllByRecursion P (used_channels s) → AllByRecursion P (awaited_in next.state) → AllByRecursion P (used_channels next)

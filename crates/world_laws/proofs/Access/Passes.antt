@@ -7,14 +7,10 @@ use Rattle.world_laws.proofs.Prelude.{Sccp, Channel, Place, SWITCH_LINK, place_o
 use Rattle.world_laws.proofs.Prelude.{Rsl, rsl_reading, rsl_text, AirMessage, OutboxEntry, after_base_push, pushed_by_station}
 use Rattle.world_laws.proofs.Prelude.{pushed_by_switch, station_item, switch_item, with_item, Actors, Link, Mobile, Spot, base_of}
 use Rattle.world_laws.proofs.Prelude.{broken_link, link_of, no_station, outbox_of, spot_at, station_of, with_base, with_link, with_outbox}
-use Rattle.world_laws.proofs.Prelude.{with_spot, Good, end-of, base-elsewhere, base-with_spot, AllByRecursion-append, ne_eqb}
-use Rattle.std.proofs.Common.{Result}
-use Rattle.world_laws.specs.LineUp.Places.{messages_in}
+use Rattle.world_laws.proofs.Prelude.{with_spot, Good, end-of, base-elsewhere, base-with_spot, AllByRecursion-append, ne_eqb, Result}
+use Rattle.world_laws.proofs.Prelude.{messages_in, messages_up, read_of, brings, going_down, leading_from_air, leading_from_outbox}
 use Rattle.world_model.specs.World.{Station}
 use Rattle.world_model.proofs.Leads.{OfTaken}
-use Rattle.world_laws.specs.Acknowledged.{messages_up, read_of}
-use Rattle.world_laws.specs.ComingUp.{brings}
-use Rattle.world_laws.specs.GoingDown.{going_down, leading_from_air, leading_from_outbox}
 use Rattle.world_laws.proofs.Quiet.{down-with_base}
 use Rattle.world_laws.proofs.Sublists.{Sub, set_related, sub_append, sub_flat_map, sub_front, sub_itself, sub_trans}
 use Rattle.world_laws.proofs.Sublists.Sub.{drops}

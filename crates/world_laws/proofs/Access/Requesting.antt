@@ -1,16 +1,14 @@
 -- The row that puts CR keeps a connection lined up: the initial message moves from its channel to
 -- what waits for the switch, and none of radio resource management is behind it.
 use Rattle.world_laws.proofs.Prelude.{◌≡◌, ℕ, ◌+◌, Bool, true, false, List, [], ◌∷◌, ◌++◌, refl, sym, ap, ◌∙◌, append_assoc, arith}
-use Rattle.world_laws.proofs.Prelude.{WaitConfirm, WaitEstablish, to_be_taken, DataLinkState}
-use Rattle.world_laws.specs.LineUp.Alive.{Alive, Stands}
+use Rattle.world_laws.proofs.Prelude.{WaitConfirm, WaitEstablish, to_be_taken, DataLinkState, Alive, remains, controls_in, controls_of}
+use Rattle.world_laws.proofs.Prelude.{flow, fresh, messages_in, on_serving, assembled}
+use Rattle.world_laws.specs.LineUp.Alive.{Stands}
 use Rattle.world_laws.specs.LineUp.Alive.Stands.{rests}
-use Rattle.world_laws.specs.LineUp.Alive.Stays.{remains}
-use Rattle.world_laws.specs.LineUp.Places.{Item, Tenure, controls_in, controls_of, flow, fresh, messages_in}
+use Rattle.world_laws.specs.LineUp.Places.{Item, Tenure}
 use Rattle.world_laws.specs.LineUp.Places.Item.{brought}
-use Rattle.world_laws.specs.LineUp.Places.Seat.{on_serving}
 use Rattle.world_laws.proofs.LineUp.Following.{follows_line}
 use Rattle.world_laws.proofs.LineUp.Lines.{flow-cons}
-use Rattle.world_laws.specs.LineUps.{assembled}
 use Rattle.world_laws.proofs.OwnRow.{flow-twice}
 
 abbrev pub of_items : List Item → Bool → Tenure

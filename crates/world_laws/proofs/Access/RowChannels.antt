@@ -1,16 +1,12 @@
 -- The channels that a connection uses after a row: those that it used, and one that it awaits.
 use Rattle.world_laws.proofs.Prelude.{◌≡◌, ℕ, zero, suc, Bool, true, false, if◌then◌else◌, List, [], ◌∷◌, ◌++◌, Option, Some, None, refl}
-use Rattle.world_laws.proofs.Prelude.{sym, ap, subst, AllByRecursion, Channel, Input, Drain, Active, Preparing, Changing, Draining, State}
-use Rattle.world_laws.proofs.Prelude.{WaitActivation, WaitEstablish, WaitConfirm, Live, Closed, Removed, Target, Connection, ChangesRoles}
+use Rattle.world_laws.proofs.Prelude.{sym, ap, subst, AllByRecursion, Channel, Input, Drain, Preparing, Changing, State}
+use Rattle.world_laws.proofs.Prelude.{Live, Target, Connection, ChangesRoles}
 use Rattle.world_laws.proofs.Prelude.{ChangesRolesBy, RoleStep, Roles, TargetRole, after_step, completed, commanded, roles_of, step_by}
 use Rattle.world_laws.proofs.Prelude.{target_channels, target_role, with_target, goes_on, ends, had_ended, Stands, Row, done_at, IsOpen}
 use Rattle.world_laws.proofs.Prelude.{undone, used_channels, target_in-role, ChangesRoles-row, same_Some, AllByRecursion-append}
-use Rattle.conn_rules.specs.Roles.{still_draining}
-use Rattle.conn_rules.specs.Roles.RoleStep.{stays as it_stays, commands as it_commands, completes as it_completes}
-use Rattle.conn_rules.specs.Roles.RoleStep.{goes_back as it_goes_back, leaves as it_leaves}
-use Rattle.conn_rules.specs.Table.{row_of}
-use Rattle.controller_model.specs.LifeLaws.Owning.{used_in}
-use Rattle.world_laws.specs.Handled.{awaited_in}
+use Rattle.world_laws.proofs.Prelude.{still_draining, it_stays, it_commands, it_completes, it_goes_back, it_leaves, row_of, used_in}
+use Rattle.world_laws.proofs.Prelude.{awaited_in}
 use Rattle.world_laws.proofs.Framing.{all_left, all_right}
 
 module _ (P : Channel → Type 0) where
@@ -64,13 +60,7 @@ module _ (P : Channel → Type 0) where
   awaited : (state : State) (t : Target) → target_role state ≡ Some (record { target = t; is_commanded = false }) → AllByRecursion P (awaited_in state) → P t.channel
   awaited (Live reference (Preparing target)) t is all = subst (λ (x : TargetRole). P x.target.channel) (same_Some _ _ is) all.0
   awaited (Live reference (Changing target)) t is all = absurd (let both : true ≡ false = ap (λ (x : TargetRole). x.is_commanded) (same_Some _ _ is) in cc)
-  awaited (Live reference Active) t is all = absurd cc
-  awaited (Live reference Draining) t is all = absurd cc
-  awaited WaitActivation t is all = absurd cc
-  awaited WaitEstablish t is all = absurd cc
-  awaited WaitConfirm t is all = absurd cc
-  awaited (Closed clearing) t is all = absurd cc
-  awaited Removed t is all = absurd cc
+  awaited _ t is all = absurd cc
 
   begin_uses : (begun : Option Target) (old : Roles) (next : Connection) → roles_of next ≡ with_target begun old → AllByRecursion P (used_in old) → AllByRecursion P (awaited_in next.state) → AllByRecursion P (used_in (roles_of next))
   begin_uses None old next is all new = subst (λ (r : Roles). AllByRecursion P (used_in r)) (sym is) all

@@ -2,19 +2,14 @@
 use Rattle.world_laws.proofs.Prelude.{◌≡◌, ℕ, true, false, List, [], ◌∷◌, Some, option_map, refl, arith, Place, WaitActivation, WaitConfirm}
 use Rattle.world_laws.proofs.Prelude.{place_at, usual_settings, Zero, Three, Empty, data_indication, establish_indication, AirAck, AirUp}
 use Rattle.world_laws.proofs.Prelude.{BasePush, BaseTakes, Connect, Handle, Upper, connected, station_item, Actors, Mobile, World}
-use Rattle.world_laws.proofs.Prelude.{mobile_of, new_actors, new_world, after_all}
+use Rattle.world_laws.proofs.Prelude.{mobile_of, new_actors, new_world, after_all, is_release, messages_in, coming_up, initial_by}
+use Rattle.world_laws.proofs.Prelude.{initials_up, BeginsOnce, IsNew, behind_first, data_by, data_up, IsEarlyIn}
 use Rattle.dtap_codec.specs.RrReading.{cause_at, rr_reading, typed_at}
 use Rattle.dtap_codec.specs.RrType.{rr_type}
 use Rattle.octets.specs.Front.{octet_at}
-use Rattle.world_laws.specs.Access.Arriving.{is_release}
 use Rattle.dtap_codec.specs.Places.Rise.{over}
-use Rattle.world_laws.specs.LineUp.Places.{messages_in}
 use Rattle.world_model.proofs.Worlds.{on_literals}
-use Rattle.world_laws.specs.ComingUp.{coming_up}
-use Rattle.world_laws.specs.Lives.{initial_by, initials_up}
-use Rattle.world_laws.specs.Access.Coming.{BeginsOnce, IsNew, behind_first, data_by, data_up}
 use Rattle.world_laws.specs.Access.Coming.BeginsOnce.{began, to_begin}
-use Rattle.world_laws.specs.References.Taken.{IsEarlyIn}
 use Rattle.world_laws.proofs.Usual.{paging_response, service_request}
 
 -- CHANNEL RELEASE with a cause

@@ -1,10 +1,8 @@
 -- The mobile on a tenure is the one whose tenure it is.
-use Rattle.world_laws.proofs.Prelude.{◌≡◌, ℕ, ◌==◌, ◌&&◌, Bool, true, false, cond, List, [], ◌∷◌, find, option_map, Some}
-use Rattle.world_laws.proofs.Prelude.{None, refl, sym, ap, ◌∙◌, AllByRecursion, eqb-true, eq-eqb, Seat, Asking, On, Moving, Gone, Tenure}
-use Rattle.world_laws.proofs.Prelude.{mobile_on, AllSitBy, Actors, Mobile, has_number, mobile_of, found-number, and-left, and-right}
-use Rattle.world_laws.proofs.Prelude.{found-all, same_Some}
-use Rattle.world_model.specs.Stations.{is_on, is_same}
-use Rattle.world_model.specs.Tickets.{SitsBy}
+use Rattle.world_laws.proofs.Prelude.{◌≡◌, ℕ, ◌==◌, ◌&&◌, Bool, true, false, cond, List, [], ◌∷◌, find, option_map, Some, None, refl, sym}
+use Rattle.world_laws.proofs.Prelude.{ap, ◌∙◌, AllByRecursion, eqb-true, eq-eqb, Seat, On, Tenure, mobile_on, AllSitBy, Actors, Mobile}
+use Rattle.world_laws.proofs.Prelude.{has_number, mobile_of, found-number, and-left, and-right, found-all, same_Some, is_on, is_same}
+use Rattle.world_laws.proofs.Prelude.{SitsBy}
 
 same-itself : (t : Tenure) → is_same t t ≡ true
 same-itself t =
@@ -24,9 +22,7 @@ same_is t other is =
 owner-of : (owner : Tenure → ℕ) (t : Tenure) (number : ℕ) (seat : Seat) → SitsBy owner number seat → is_on t seat ≡ true → owner t ≡ number
 owner-of owner t number (On other None) sits is = ap owner (sym (same_is t other is)) ∙ sits
 owner-of owner t number (On other (Some command)) sits is = ap owner (sym (same_is t other is)) ∙ sits.0
-owner-of owner t number Asking sits is = absurd cc
-owner-of owner t number (Moving from command) sits is = absurd cc
-owner-of owner t number Gone sits is = absurd cc
+owner-of owner t number _ sits is = absurd cc
 
 on-itself : (t : Tenure) (seat : Seat) → seat ≡ On t None → is_on t seat ≡ true
 on-itself t seat is = ap (is_on t) is ∙ same-itself t

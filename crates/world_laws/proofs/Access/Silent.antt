@@ -2,19 +2,15 @@
 use Rattle.world_laws.proofs.Prelude.{◌≡◌, ◌≢◌, ℕ, ◌==◌, not, nat_eq, Bool, true, false, if◌then◌else◌, cond, List, [], ◌∷◌, Option, Some}
 use Rattle.world_laws.proofs.Prelude.{None, refl, sym, ap, ◌∙◌, subst, eqb-true, eq-eqb, Place, SWITCH_LINK, is_dtap, OnChannel, place_at}
 use Rattle.world_laws.proofs.Prelude.{data_word, of_sapi, rsl_word, sapi_of, Sapi, Zero, Three, Frame, is_control, Establishment, Rsl}
-use Rattle.world_laws.proofs.Prelude.{rsl_reading, rsl_text, Ok, acknowledgements, rsl_in}
+use Rattle.world_laws.proofs.Prelude.{rsl_reading, rsl_text, Ok, acknowledgements, rsl_in, word_of, messages_in, frame_of, NoneReleases}
+use Rattle.world_laws.proofs.Prelude.{brings, brings_by, brings_if, of_establishment, of_main, data_by}
 use Rattle.conn_rules.specs.declared.input.Input.TheVariants as inputs
-use Rattle.controller_model.specs.Reading.{word_of}
-use Rattle.world_laws.specs.LineUp.Places.{Item, messages_in}
+use Rattle.world_laws.specs.LineUp.Places.{Item}
 use Rattle.world_laws.specs.LineUp.Places.Item.{brought}
 use Rattle.ruled_relay.specs.declared.item.What.TheVariants as whats
 use Rattle.rsl_codec.specs.declared.radio_link.Data.{Data}
 use Rattle.rsl_codec.specs.declared.rsl.Rsl.TheVariants as rsl
-use Rattle.world_model.specs.Reading.{frame_of}
-use Rattle.world_laws.specs.Acknowledged.{NoneReleases}
-use Rattle.world_laws.specs.ComingUp.{brings, brings_by, brings_if, of_establishment, of_main}
 use Rattle.world_laws.proofs.OrderHeard.{read_known, word-known}
-use Rattle.world_laws.specs.Access.Coming.{data_by}
 use Rattle.world_laws.proofs.OwnFrame.{control-or}
 
 pub data FirstBrings (at : Place) (source : ℕ) (frame : Frame) (xs : List Item) : Type 0 where
@@ -62,9 +58,8 @@ data_first at source frame xs d station read word is = by (nat_eq d.channel at.n
       (ap (λ (b : Bool). cond b (messages_in (of_main (sapi_of d.link) d.l3)) []) number ∙ ap (λ (o : Option Sapi). messages_in (of_main o d.l3)) link)
 
   by_link : (sapi : Option Sapi) → sapi_of d.link ≡ sapi → (d.channel == at.number) ≡ true → xs ≡ of_main sapi d.l3 → FirstBrings at source frame xs
-  by_link None link number items = brings_none items
-  by_link (Some Three) link number items = brings_none items
   by_link (Some Zero) link number items = by_kind (is_dtap d.l3) refl link number items
+  by_link _ link number items = brings_none items
 
   by : (b : Bool) → nat_eq d.channel at.number ≡ b → FirstBrings at source frame xs
   by false miss = brings_none (none_in (d.channel == at.number) xs (of_main (sapi_of d.link) d.l3) miss is)

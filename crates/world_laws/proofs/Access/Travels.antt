@@ -11,18 +11,15 @@ use Rattle.world_laws.proofs.Prelude.{Actors, Mobile, Spot, base_of, broken_link
 use Rattle.world_laws.proofs.Prelude.{tenure_at, with_base, with_link, with_outbox, with_spot, Good, air_ack-leads, air_down-leads}
 use Rattle.world_laws.proofs.Prelude.{air_down_lost-leads, air_up-leads, arrive-leads, assigned-leads, base_takes-leads, broken-leads}
 use Rattle.world_laws.proofs.Prelude.{connect-leads, does-leads, move-leads, report-leads, return-leads, switch_takes-leads}
-use Rattle.world_laws.proofs.Prelude.{switch_took-leads, touch-leads, unless_last-leads, upper-leads, spot-with_base}
-use Rattle.dtap_codec.specs.RrReading.{rr_reading}
-use Rattle.world_laws.specs.LineUp.Places.{Item as Brought, messages_in}
+use Rattle.world_laws.proofs.Prelude.{switch_took-leads, touch-leads, unless_last-leads, upper-leads, spot-with_base, rr_reading}
+use Rattle.world_laws.proofs.Prelude.{messages_in, of_main, leading, leading_by, leading_from_air, leading_from_outbox, messages_up}
+use Rattle.world_laws.specs.LineUp.Places.{Item as Brought}
 use Rattle.ruled_relay.specs.declared.item.What.TheVariants as whats
 use Rattle.rsl_codec.specs.declared.rsl.Rsl.TheVariants as rsl
 use Rattle.world_model.specs.declared.event.Event.TheVariants as events
 use Rattle.world_model.specs.Life.{event_after}
 use Rattle.world_model.specs.Stations.{released}
 use Rattle.world_model.proofs.Leads.{FromAir, OfTaken, Seats}
-use Rattle.world_laws.specs.ComingUp.{of_main}
-use Rattle.world_laws.specs.GoingDown.{leading, leading_by, leading_from_air, leading_from_outbox}
-use Rattle.world_laws.specs.Acknowledged.{messages_up}
 use Rattle.world_laws.proofs.Sublists.{Sub, sub_behind, sub_itself, sub_none}
 use Rattle.world_laws.proofs.Access.Passes.{IsPlain, Passes, passes_first, passes_item, passes_itself, passes_link, passes_mobiles}
 use Rattle.world_laws.proofs.Access.Passes.{passes_spot, passes_switch, passes_then, passes_told, push_passes, ups_spot}
@@ -123,14 +120,13 @@ takes_passes w station first others up stood = by_message (rsl_in first.out.fram
   airing channel message leads false = taken
 
   by_message : (o : Option Rsl) → rsl_in first.out.frame ≡ o → OfTaken (Passes w) (took station first.target o u)
-  by_message None is = taken
   by_message (Some (rsl.ChannelActivation a)) is = unless_last-leads (Passes w) ((spot_at u (place_at station a.channel)).tenure == MAX_TENURE) (activated (place_at station a.channel) u) (activating a.channel (refusal_of_activate (base_of u station) a.channel) refl)
   by_message (Some (rsl.ImmediateAssignCommand i)) is = assigned-leads (Passes w) station u (rr_reading i.information) taken (λ q number channel acts asking. passes_mobiles _ taken)
   by_message (Some (rsl.DataRequest d)) is = airing d.channel d.l3
       (λ n same. ap (leading_by n first.target) is ∙ ap (λ (b : Bool). cond b (leading d.l3 first.target) []) same) (is_active_at u (place_at station d.channel))
   by_message (Some (rsl.EstablishRequest l)) is = passes_then taken (passes_answered u (is_active_at u (place_at station l.channel) && accepts (mobile_on u (tenure_at u (place_at station l.channel)))) station l.channel)
   by_message (Some (rsl.RfChannelRelease channel)) is = passes_then taken (passes_released u station channel)
-  by_message (Some _) is = taken
+  by_message _ is = taken
 
 -- ---- links
 
@@ -158,7 +154,6 @@ pub event_passes : (w : Actors) (event : Event) → is_passing event ≡ true �
 unfolding event_after FromAir
 event_passes w (events.Upper number sapi message) is good = upper-leads (Passes w) w number sapi message (λ p found. passes_mobiles _ (passes_itself w))
 event_passes w (events.Connect number station initial accepts) is good = connect-leads (Passes w) w number station initial accepts (λ may. passes_then (passes_mobiles (w.mobiles ++ connected w.modulus number initial accepts ∷ []) (passes_itself w)) (passes_tell (record w { mobiles = w.mobiles ++ connected w.modulus number initial accepts ∷ [] }) station (channel_required number) (λ other. refl)))
-event_passes w (events.AirUp number Zero) is good = absurd cc
 event_passes w (events.AirUp number Three) is good = air_up-leads (Passes w) w number Three (λ p tenure command frame found seat lent reached. passes_mobiles _ (passes_short_message w tenure.at (spot_at w tenure.at).sapi_three_up frame))
 event_passes w (events.AirAck number sapi) is good = air_ack-leads (Passes w) w number sapi (λ p found. passes_mobiles _ (passes_itself w))
 event_passes w (events.AirDown number) is good = air_down-leads (Passes w) w number (λ p tenure command found seat reached first others air. heard_passes w _ tenure.at first others air)
@@ -169,13 +164,12 @@ event_passes w (events.Arrive number) is good = arrive-leads (Passes w) w number
 event_passes w (events.Return number) is good = return-leads (Passes w) w number (λ p from command found seat reached. passes_mobiles _ (passes_tell w from.at.station (establish_indication from.at.number Zero None) (plain_established from.at.number Zero)))
 event_passes w (events.BaseTakes station) is good = base_takes-leads (Passes w) w station (λ first others up stood. takes_passes w station first others up stood)
 event_passes w (events.BasePush source) is good = push_passes w source good
-event_passes w events.Handle is good = absurd cc
 event_passes w events.SwitchTakes is good = switch_takes-leads (Passes w) w (λ first others up stood.
     switch_took-leads (Passes w) (with_outbox SWITCH_LINK others w) (sccp_in first.out.frame) (passes_first w SWITCH_LINK first others stood) (λ next made. passes_switch next made (passes_first w SWITCH_LINK first others stood)))
 event_passes w (events.SwitchDoes action) is good = does-leads (Passes w) w action (λ next made. passes_switch next made (passes_itself w))
-event_passes w (events.Tick ms) is good = absurd cc
 event_passes w (events.BaseDown source) is good = broken-leads (Passes w) w source
     (λ up switch. passes_then (passes_switch w.switch [] (passes_link w source broken_link (sub_none _))) (passes_item (record (with_link source broken_link w) { switch_made = [] }) (record { source = source; what = whats.Down }) (λ n is. refl)))
     (λ up station. passes_broken w source)
 event_passes w (events.Report number report) is good = report-leads (Passes w) w number report (λ tenure reached.
     passes_then (passes_spot w tenure.at (record (spot_at w tenure.at) { reports = _ }) (sub_itself _)) (passes_tell _ tenure.at.station (measurement_result tenure.at.number (spot_at w tenure.at).reports report) (λ other. refl)))
+event_passes w _ is good = absurd cc

@@ -1,23 +1,18 @@
 -- What a turn of the controller leaves of a world, and whose its outputs are.
 use Rattle.world_laws.proofs.Prelude.{◌≡◌, ◌≢◌, ℕ, nat_eq, Bool, true, false, if◌then◌else◌, cond, List, [], ◌∷◌, ◌++◌, fold, map, Option}
-use Rattle.world_laws.proofs.Prelude.{Some, None, Ok, Err, refl, sym, ap, ◌∙◌, subst, AllByRecursion, result_ok, eqb-true, eqb-false}
+use Rattle.world_laws.proofs.Prelude.{Some, Ok, refl, sym, ap, ◌∙◌, subst, AllByRecursion, result_ok, eqb-true, eqb-false}
 use Rattle.world_laws.proofs.Prelude.{Channel, Message, Out, outs_of, immediate_assign_command, immediate_assignment, WaitEstablish}
 use Rattle.world_laws.proofs.Prelude.{Connection, outs_for, IsSent, Forwarded, place_at, place_of, messages_on, RrMessage}
 use Rattle.world_laws.proofs.Prelude.{ImmediateAssignment, RrFault, Sapi, Zero, Three, rr_text, Rsl, RequestReference, rsl_text, Tenure}
 use Rattle.world_laws.proofs.Prelude.{to_link, joined_by, rsl_in, Actors, is_up, outbox_of, with_outbox, all_join, AllByRecursion-append}
-use Rattle.std.proofs.Common.{Result}
+use Rattle.world_laws.proofs.Prelude.{Result, is_same_sapi, rr_reading, PCH_AND_AGCH, going_down, leading_by, leading_from_outbox}
+use Rattle.world_laws.proofs.Prelude.{AreAssigned, Assigns, AssignsBy, AssignsIn, AssignsAnother, NamesAnother, entry-out}
 use Rattle.conn_messages.specs.Out.{out_of}
-use Rattle.controller_model.specs.LifeLaws.Seen.{is_same_sapi}
-use Rattle.dtap_codec.specs.RrReading.{rr_reading}
 use Rattle.rsl_codec.specs.declared.common_channel.ImmediateAssignment.{ImmediateAssignment as Assignment}
 use Rattle.rsl_codec.specs.declared.rsl.Rsl.TheVariants as rsl
-use Rattle.rsl_codec.specs.declared.channel_number.TheConstants.{PCH_AND_AGCH}
 use Rattle.world_model.specs.Relay.{entry_of}
-use Rattle.world_laws.specs.GoingDown.{going_down, leading_by, leading_from_outbox}
-use Rattle.world_laws.proofs.Others.{down-joined, entry-out}
+use Rattle.world_laws.proofs.Others.{down-joined}
 use Rattle.world_laws.proofs.OrderTexts.{assignment_apart, assignment_back, read_of}
-use Rattle.world_laws.specs.Access.Coming.{AreAssigned, Assigns, AssignsBy, AssignsIn}
-use Rattle.world_laws.specs.Access.Requested.{AssignsAnother, NamesAnother}
 use Rattle.world_laws.proofs.OrderNames.{assignment_read}
 
 -- ---- whose an output is
@@ -81,13 +76,11 @@ assigned_turn mobile next target outs u assigned all station =
 
 pub another_names : (mobile : ℕ) (next : Connection) (station : ℕ) (r : Result RrMessage RrFault) → NamesAnother mobile r → Assigns mobile next station r
 another_names mobile next station (Ok (ImmediateAssignment channel request advance)) names = λ same. absurd (names same)
-another_names mobile next station (Ok _) names = tt
-another_names mobile next station (Err fault) names = tt
+another_names mobile next station _ names = tt
 
 pub another_assigns : (mobile : ℕ) (next : Connection) (station : ℕ) (o : Option Rsl) → AssignsAnother mobile o → AssignsBy mobile next station o
 another_assigns mobile next station (Some (rsl.ImmediateAssignCommand i)) names = another_names mobile next station (rr_reading i.information) names
-another_assigns mobile next station None names = tt
-another_assigns mobile next station (Some _) names = tt
+another_assigns mobile next station _ names = tt
 
 -- the connection's own
 abbrev pub command_of : Channel → RequestReference → ℕ → Assignment

@@ -4,17 +4,13 @@ use Rattle.world_laws.proofs.Prelude.{◌++◌, length, Some, refl, sym, ap, ◌
 use Rattle.world_laws.proofs.Prelude.{length-append, AllByRecursion, flat_map, eqb-false, flat_map-append, append-nil, Channel, Place}
 use Rattle.world_laws.proofs.Prelude.{SWITCH_LINK, is_at, place_of, sapi_of, Zero, BaseState, data_indication, establish_indication}
 use Rattle.world_laws.proofs.Prelude.{Rsl, Tenure, brought, signalling_brought, Actors, Mobile, base_of, is_reached}
-use Rattle.world_laws.proofs.Prelude.{no_station, station_of, base-elsewhere, reached-up, up-right}
-use Rattle.world_laws.specs.LineUp.Places.{controls_in, controls_of, messages_in}
-use Rattle.world_laws.specs.LineUp.Places.Item.{released}
+use Rattle.world_laws.proofs.Prelude.{no_station, station_of, base-elsewhere, reached-up, up-right, controls_in, controls_of, messages_in}
+use Rattle.world_laws.proofs.Prelude.{released, messages_up, read_of, brings, coming_up, of_establishment, of_main, initial_by, initials_up}
+use Rattle.world_laws.proofs.Prelude.{data_by, data_up}
 use Rattle.world_laws.proofs.LineUp.Lines.{controls-append, messages_in-append}
 use Rattle.rsl_codec.specs.declared.rsl.Rsl.TheVariants as rsl
 use Rattle.world_model.specs.World.{Station}
-use Rattle.world_laws.specs.Acknowledged.{messages_up, read_of}
-use Rattle.world_laws.specs.ComingUp.{brings, coming_up, of_establishment, of_main}
-use Rattle.world_laws.specs.Lives.{initial_by, initials_up}
 use Rattle.world_laws.proofs.Sublists.{Sub, set_related, sub_append, sub_flat_map, sub_front, sub_itself, sub_length, sub_none, sub_nothing}
-use Rattle.world_laws.specs.Access.Coming.{data_by, data_up}
 use Rattle.world_laws.proofs.Access.Behind.{controls_sub}
 use Rattle.world_laws.proofs.Access.Passes.{IsPlain, Passes}
 use Rattle.world_laws.proofs.Acknowledged.{coming-read}

@@ -4,9 +4,8 @@ use Rattle.world_laws.proofs.Prelude.{◌≡◌, ◌≢◌, ℕ, ◌≤◌, Bool
 use Rattle.world_laws.proofs.Prelude.{Place, Connection, roles_of, IsOpen, connection_of, Owns, OwnsOpen, AreUsed}
 use Rattle.world_laws.proofs.Prelude.{life_owns, life_ready, life_uses, Ready, Free, Controller, channel_state, hears, place_at}
 use Rattle.world_laws.proofs.Prelude.{AreAllowed, Parameters, Event, Tenure, actors_after, actors_after_all, owner_in, all_steps, Actors}
-use Rattle.world_laws.proofs.Prelude.{new_actors, LivesByTable-new, Right, right-step, right-new}
+use Rattle.world_laws.proofs.Prelude.{new_actors, LivesByTable-new, Right, right-step, right-new, CameInOctets}
 use Rattle.world_model.proofs.OwnerRuns.{ServesThrough}
-use Rattle.world_laws.specs.OthersFrame.{CameInOctets}
 use Rattle.world_laws.proofs.OwnerRun.{life-settings, serves_through, within_settings, not_zero}
 use Rattle.world_laws.proofs.Events.{world}
 

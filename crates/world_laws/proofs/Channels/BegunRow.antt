@@ -1,18 +1,16 @@
 -- Which channels a row begins: those whose ACTIVATION ACK the input is.
 use Rattle.world_laws.proofs.Prelude.{◌≡◌, ◌⊎◌, ℕ, Bool, true, false, ◌&&◌, not, if◌then◌else◌, List, [], ◌∷◌, Option, Some, None, refl}
-use Rattle.world_laws.proofs.Prelude.{sym, ap, ◌∙◌, subst, inl, inr, cases_Bool, AllByRecursion, Channel, Place, Input, Active, Preparing}
-use Rattle.world_laws.proofs.Prelude.{Changing, Draining, State, WaitActivation, WaitEstablish, WaitConfirm, Live, Closed, Removed, Target}
-use Rattle.world_laws.proofs.Prelude.{Connection, drain_at, is_at, ChangesRoles, GoesOn, Roles, TargetRole, after_step, awaits_at}
-use Rattle.world_laws.proofs.Prelude.{changes_by, commanded, is_target_at, leaves_at, roles_of, step_by, target_channels, target_role}
-use Rattle.world_laws.proofs.Prelude.{with_target, goes_on, ends, had_ended, stays, commands, completes, goes_back, Stands, Row, IsOpen}
-use Rattle.world_laws.proofs.Prelude.{on_activation_ack, on_activation_nack, on_establish_indication, on_establish_confirm}
-use Rattle.world_laws.proofs.Prelude.{on_release_indication, on_error_indication, on_connection_failure, on_dtap, on_complete, on_failure}
-use Rattle.world_laws.proofs.Prelude.{on_release_ack, on_move, on_confirm, on_refused, on_released, on_downlink, on_assignment_request}
-use Rattle.world_laws.proofs.Prelude.{on_cipher_mode_command, on_clear_command, on_drain_expiry, on_station_down, on_switch_down, row_if}
-use Rattle.world_laws.proofs.Prelude.{same_change, changes_of}
+use Rattle.world_laws.proofs.Prelude.{sym, ap, ◌∙◌, subst, inl, inr, cases_Bool, AllByRecursion, Channel, Place, Input, Changing, State}
+use Rattle.world_laws.proofs.Prelude.{WaitActivation, Live, Closed, Removed, Target, Connection, drain_at, is_at, ChangesRoles, GoesOn}
+use Rattle.world_laws.proofs.Prelude.{Roles, TargetRole, after_step, awaits_at, changes_by, commanded, is_target_at, leaves_at, roles_of}
+use Rattle.world_laws.proofs.Prelude.{step_by, target_channels, target_role, with_target, goes_on, ends, had_ended, stays, commands}
+use Rattle.world_laws.proofs.Prelude.{completes, goes_back, Stands, Row, IsOpen, on_activation_ack, on_activation_nack}
+use Rattle.world_laws.proofs.Prelude.{on_establish_indication, on_establish_confirm, on_release_indication, on_error_indication}
+use Rattle.world_laws.proofs.Prelude.{on_connection_failure, on_dtap, on_complete, on_failure, on_release_ack, on_move, on_confirm}
+use Rattle.world_laws.proofs.Prelude.{on_refused, on_released, on_downlink, on_assignment_request, on_cipher_mode_command, on_clear_command}
+use Rattle.world_laws.proofs.Prelude.{on_drain_expiry, on_station_down, on_switch_down, row_if, same_change, changes_of, if_is}
 use Rattle.conn_rules.specs.declared.input.Input.TheVariants as inputs
 use Rattle.conn_rules.specs.Table.{on_expiry, row_of}
-use Rattle.controller_model.proofs.LifeLaws.OwningWords.{if_is}
 use Rattle.world_laws.specs.Channels.Begun.{begun_in}
 
 -- ---- the channels that began, by the roles
@@ -29,14 +27,10 @@ record Begins (P : Channel → Type 0) (roles : Roles) : Type 0 where
 begins_begun : (P : Channel → Type 0) (state : State) (serving : Channel) → P serving → AllByRecursion P (commanded_of (target_role state)) → AllByRecursion P (begun_in state serving)
 unfolding commanded_of
 begins_begun P WaitActivation serving one all = tt
-begins_begun P WaitEstablish serving one all = (one, tt)
-begins_begun P WaitConfirm serving one all = (one, tt)
-begins_begun P (Live reference Active) serving one all = (one, tt)
-begins_begun P (Live reference (Preparing target)) serving one all = (one, tt)
 begins_begun P (Live reference (Changing target)) serving one all = (one, all)
-begins_begun P (Live reference Draining) serving one all = (one, tt)
 begins_begun P (Closed clearing) serving one all = tt
 begins_begun P Removed serving one all = tt
+begins_begun P _ serving one all = (one, tt)
 
 -- a connection that waits for its serving channel
 IsFirst : State → Type 0
@@ -46,34 +40,23 @@ IsFirst _ = ⊥
 begun_begins : (P : Channel → Type 0) (state : State) (serving : Channel) → IsOpen state → (IsFirst state → ⊥) → AllByRecursion P (begun_in state serving) → P serving × AllByRecursion P (commanded_of (target_role state))
 unfolding commanded_of IsFirst
 begun_begins P WaitActivation serving opened later all = absurd (later tt)
-begun_begins P WaitEstablish serving opened later all = (all.0, tt)
-begun_begins P WaitConfirm serving opened later all = (all.0, tt)
-begun_begins P (Live reference Active) serving opened later all = (all.0, tt)
-begun_begins P (Live reference (Preparing target)) serving opened later all = (all.0, tt)
 begun_begins P (Live reference (Changing target)) serving opened later all = (all.0, all.1)
-begun_begins P (Live reference Draining) serving opened later all = (all.0, tt)
 begun_begins P (Closed clearing) serving opened later all = absurd opened
 begun_begins P Removed serving opened later all = absurd opened
+begun_begins P _ serving opened later all = (all.0, tt)
 
 none_begun : (state : State) (serving : Channel) → (IsOpen state → ⊥) → begun_in state serving ≡ []
 none_begun (Closed clearing) serving shut = refl
 none_begun Removed serving shut = refl
-none_begun WaitActivation serving shut = absurd (shut tt)
-none_begun WaitEstablish serving shut = absurd (shut tt)
-none_begun WaitConfirm serving shut = absurd (shut tt)
-none_begun (Live reference stage) serving shut = absurd (shut tt)
+none_begun _ serving shut = absurd (shut tt)
 
 -- all channels that began are used, while the connection is open
 pub begun_used : (P : Channel → Type 0) (state : State) (serving : Channel) → (IsOpen state → AllByRecursion P (serving ∷ target_channels (target_role state))) → AllByRecursion P (begun_in state serving)
 begun_used P WaitActivation serving all = tt
-begun_used P WaitEstablish serving all = ((all tt).0, tt)
-begun_used P WaitConfirm serving all = ((all tt).0, tt)
-begun_used P (Live reference Active) serving all = ((all tt).0, tt)
-begun_used P (Live reference (Preparing target)) serving all = ((all tt).0, tt)
 begun_used P (Live reference (Changing target)) serving all = all tt
-begun_used P (Live reference Draining) serving all = ((all tt).0, tt)
 begun_used P (Closed clearing) serving all = tt
 begun_used P Removed serving all = tt
+begun_used P _ serving all = ((all tt).0, tt)
 
 -- ---- a step
 

@@ -1,8 +1,8 @@
 -- In every run no acknowledgement of a channel that began is to come; so it is active where its
 -- station's link is up.
 use Rattle.world_laws.proofs.Prelude.{◌≡◌, ◌≢◌, ℕ, ◌≤◌, true, unwrap_or, List, [], ◌∷◌, ◌++◌, length, Option, Some, None, refl, sym, ap}
-use Rattle.world_laws.proofs.Prelude.{◌∙◌, subst, AllByRecursion, Channel, Place, Message, SWITCH_LINK, Input, State, WaitActivation}
-use Rattle.world_laws.proofs.Prelude.{WaitEstablish, WaitConfirm, Live, Closed, Removed, Connection, new_connection, target_channels}
+use Rattle.world_laws.proofs.Prelude.{◌∙◌, subst, AllByRecursion, Channel, Place, Message, SWITCH_LINK, Input, State}
+use Rattle.world_laws.proofs.Prelude.{WaitEstablish, WaitConfirm, Live, Removed, Connection, new_connection, target_channels}
 use Rattle.world_laws.proofs.Prelude.{target_role, Stands, IsOpen, Acts, ActsOn, IsBrought, brought_in, kept_in, rests, ages, opens, goes}
 use Rattle.world_laws.proofs.Prelude.{connection_of, ComesInOctets, aged_holds, pass_stands, life_acts, Free, InUse, Step, Controller}
 use Rattle.world_laws.proofs.Prelude.{channel_state, hears, place_at, place_of, step, Item, Rsl, AreAllowed, Parameters, Event, BaseTakes}
@@ -10,19 +10,14 @@ use Rattle.world_laws.proofs.Prelude.{Handle, Tenure, actors_after, actors_after
 use Rattle.world_laws.proofs.Prelude.{owner_in, acknowledgements, due, handled, target_in, with_turn, all_steps, step_at, Actors, base_of}
 use Rattle.world_laws.proofs.Prelude.{is_active_at, is_station_up, is_up, new_actors, outbox_of, up-right, LivesByTable-new, Rests}
 use Rattle.world_laws.proofs.Prelude.{beside-rests, IsKnownItem, known-inbox, Right, handle-turned, heard_of, kinds, there-of}
-use Rattle.world_laws.proofs.Prelude.{tick-turned, beside-step, Serves, Turned, Both-empty, place-is, same_Some, kept-controller}
+use Rattle.world_laws.proofs.Prelude.{tick-turned, beside-step, Serves, Turned, Both-empty, place-is, same_Some, kept-controller, take}
+use Rattle.world_laws.proofs.Prelude.{takes-rests, is_beside, CameInOctets, IsHad, commanded_target, IsRequested, AreActiveAt}
+use Rattle.world_laws.proofs.Prelude.{commanded_channels}
 use Rattle.conn_rules.specs.declared.input.Input.TheVariants as inputs
 use Rattle.controller_model.specs.declared.step.Step.TheVariants as steps
-use Rattle.controller_model.specs.Life.{take}
 use Rattle.world_model.specs.declared.event.Event.TheVariants as events
 use Rattle.world_model.specs.Life.{event_after}
 use Rattle.world_model.proofs.OwnerRuns.{ServesAt}
-use Rattle.world_model.proofs.OwnerTakes.{takes-rests}
-use Rattle.world_model.proofs.OwnerTenures.{is_beside}
-use Rattle.world_laws.specs.OthersFrame.{CameInOctets, IsHad}
-use Rattle.world_laws.specs.LineUps.{commanded_target}
-use Rattle.world_laws.specs.OwnFrame.{IsRequested}
-use Rattle.world_laws.specs.Seated.{AreActiveAt, commanded_channels}
 use Rattle.world_laws.proofs.Apart.{all_both}
 use Rattle.world_laws.proofs.OwnerRun.{serves_event, snoc_steps}
 use Rattle.world_laws.proofs.Standing.{connections_stand_new}
@@ -243,10 +238,7 @@ BothBegan serving state = begun_in state serving ≡ serving ∷ commanded_chann
 requested_began : (state : State) (serving : Channel) → IsRequested state → BothBegan serving state
 requested_began WaitConfirm serving requested = refl
 requested_began (Live reference stage) serving requested = refl
-requested_began WaitActivation serving requested = absurd requested
-requested_began WaitEstablish serving requested = absurd requested
-requested_began (Closed clearing) serving requested = absurd requested
-requested_began Removed serving requested = absurd requested
+requested_began _ serving requested = absurd requested
 
 began_active : (settings : Parameters) (events : List Event) (station : ℕ) (s : Connection) → AreAllowed settings → CameInOctets settings events → IsHad (world settings events) s → BothBegan s.serving s.state
     → is_station_up (world settings events) station ≡ true → AreActiveAt station (world settings events) s

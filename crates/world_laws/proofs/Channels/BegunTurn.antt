@@ -2,26 +2,21 @@
 use Rattle.world_laws.proofs.Prelude.{◌≡◌, ◌≢◌, ℕ, ◌==◌, Bool, true, false, cond, if◌then◌else◌, List, [], ◌∷◌, ◌++◌, option_to_list}
 use Rattle.world_laws.proofs.Prelude.{Option, Some, refl, sym, ap, ◌∙◌, subst, append_assoc, eq-eqb, append-nil, Place, SWITCH_LINK, Input}
 use Rattle.world_laws.proofs.Prelude.{IsBrought, brought_by, brought_in, brought_with, if_held, AreUsed, word_from, ChannelState, Free}
-use Rattle.world_laws.proofs.Prelude.{InUse, Releasing, Take, Word, Nothing, Ping, Asks, OnChannel, Reports, OnConnection, Controller, Turn}
+use Rattle.world_laws.proofs.Prelude.{InUse, Releasing, Take, Word, OnChannel, Reports, OnConnection, Controller, Turn}
 use Rattle.world_laws.proofs.Prelude.{channel_state, holder, hears, place_at, rsl_word, Frame, BaseState, is_active, activation_ack, Item}
 use Rattle.world_laws.proofs.Prelude.{What, ActivationAck, Rsl, Event, OutboxEntry, Tenure, actors_after, Agrees, acknowledged_in}
 use Rattle.world_laws.proofs.Prelude.{active_behind, tenure_behind, is_in_use, to_come, begins, acknowledgements, due, taken}
 use Rattle.world_laws.proofs.Prelude.{acknowledged_tenure, rsl_in, Actors, Link, base_of, is_active_at, is_up, outbox_of, tenure_at, Good}
 use Rattle.world_laws.proofs.Prelude.{Rests, IsKnownItem, heard_of, Serves, Turned, hear, Both-empty, outbox-step, OutboxStep, breaks}
-use Rattle.world_laws.proofs.Prelude.{acks-append, pipe-step, PipeStep, flows, stops, same_Some}
+use Rattle.world_laws.proofs.Prelude.{acks-append, pipe-step, PipeStep, flows, stops, same_Some, IsFrom, IsOfSwitch, word_of, Comes}
+use Rattle.world_laws.proofs.Prelude.{one-at-most, goes-put, due-append}
 use Rattle.conn_rules.specs.declared.input.Input.TheVariants as inputs
 use Rattle.controller_model.specs.LifeLaws.Acts.Brought.{comes as comes_in, nothing as none_in}
-use Rattle.controller_model.proofs.LifeLaws.Sources.{IsFrom, IsOfSwitch}
-use Rattle.controller_model.specs.Reading.{word_of}
 use Rattle.ruled_relay.specs.declared.item.What.TheVariants as whats
 use Rattle.rsl_codec.specs.declared.rsl.Rsl.TheVariants as rsl
 use Rattle.world_model.specs.Honest.{given}
-use Rattle.world_model.specs.OwnerLines.{Comes}
 use Rattle.world_model.proofs.OwnerEvents.{IsThere, came, nothing-put}
-use Rattle.world_model.proofs.OwnerKeeping.{one-at-most}
-use Rattle.world_model.proofs.OwnerPuts.{goes-put}
 use Rattle.world_model.proofs.Outboxes.Step.{goes}
-use Rattle.world_model.proofs.Piping.{due-append}
 use Rattle.world_laws.proofs.OrderHeard.{read_known, word-known}
 use Rattle.world_laws.proofs.OwnFrame.{SaysWord, message_says}
 
@@ -57,9 +52,6 @@ rests_silent at w event there good rests silent = by (outbox-step n w event) (pi
   second : made ≡ []
   second = (Both-empty made waits (sym (Both-empty before (made ++ waits) (sym silent)).1)).0
 
-  third : waits ≡ []
-  third = (Both-empty made waits (sym (Both-empty before (made ++ waits) (sym silent)).1)).1
-
   -- what was given and made, before what is due
   grouped : (rest : List Rsl) → acknowledged_in at v.inbox ++ (acknowledgements k (base_of v n).messages ++ rest) ≡ before ++ (acknowledgements k (given n w event ++ (base_of v n).messages) ++ rest)
   grouped rest =
@@ -94,11 +86,8 @@ rests_silent at w event there good rests silent = by (outbox-step n w event) (pi
 -- ---- a turn of the controller
 
 hear-used : (heard : List Rsl) (state : ChannelState) (number : ℕ) → state ≡ InUse number → hear heard state ≡ InUse number
-hear-used [] state number is = is
 hear-used (rsl.RfChannelReleaseAck channel ∷ rest) (Releasing m) number is = absurd cc
-hear-used (rsl.RfChannelReleaseAck channel ∷ rest) Free number is = is
-hear-used (rsl.RfChannelReleaseAck channel ∷ rest) (InUse m) number is = is
-hear-used (_ ∷ rest) state number is = is
+hear-used _ _ number is = is
 
 -- what comes once this was heard, but for what is put now
 abbrev rest_of : Actors → Actors → Place → List Rsl
@@ -175,9 +164,7 @@ acks_on c number source (OnConnection m input) at from brought = by (m == number
   by true same = absurd (subst IsOfSwitch (sym same) from.1)
   by false same = absurd same
 acks_on c number source (Reports p of report) at from brought = absurd cc
-acks_on c number source Nothing at from brought = absurd brought
-acks_on c number source Ping at from brought = absurd brought
-acks_on c number source (Asks request delay) at from brought = absurd brought
+acks_on c number source _ at from brought = absurd brought
 
 -- the message that begins a tenure for the controller
 ack_of : (w : Actors) (source : ℕ) (m : Rsl) (at : Place) → acknowledged_tenure w source (Some m) ≡ Some (tenure_at w at) → (a : ActivationAck) × (m ≡ rsl.ChannelActivationAck a) × (place_at source a.channel ≡ at)

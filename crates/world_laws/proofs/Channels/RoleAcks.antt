@@ -4,18 +4,13 @@ use Rattle.world_laws.proofs.Prelude.{◌∙◌, subst, append_assoc, arith, All
 use Rattle.world_laws.proofs.Prelude.{target_channels, target_role, undone, target_in-role, ChannelState, Free, InUse, Releasing}
 use Rattle.world_laws.proofs.Prelude.{channel_state, hears, place_of, Item, What, Rsl, AreAllowed, Parameters, Event}
 use Rattle.world_laws.proofs.Prelude.{acknowledged_in, said, said_by, to_come, began, begins, begins_and_ends, acknowledgements, due}
-use Rattle.world_laws.proofs.Prelude.{Actors, base_of, is_active_at, outbox_of, Both-empty, acks-append, AllByRecursion-so}
+use Rattle.world_laws.proofs.Prelude.{Actors, base_of, is_active_at, outbox_of, Both-empty, acks-append, AllByRecursion-so, Comes, AcksTell}
+use Rattle.world_laws.proofs.Prelude.{NoneReleases, ReleasesLast, acknowledgements_up, is_release_ack, read_by, read_of, coming_up}
+use Rattle.world_laws.proofs.Prelude.{is_ended, CameInOctets, EndsLast, AcknowledgementsAgree, OldChannelsEnd}
 use Rattle.ruled_relay.specs.declared.item.What.TheVariants as whats
-use Rattle.world_model.specs.OwnerLines.{Comes}
 use Rattle.world_model.specs.OwnerLines.Comes.{nothing, ends}
-use Rattle.world_laws.specs.Acknowledged.{AcksTell, NoneReleases, ReleasesLast, acknowledgements_up, is_release_ack, read_by, read_of}
-use Rattle.world_laws.specs.ComingUp.{coming_up}
-use Rattle.world_laws.specs.LineUps.{is_ended}
-use Rattle.world_laws.specs.OthersFrame.{CameInOctets}
-use Rattle.world_laws.specs.Staying.{EndsLast}
 use Rattle.world_laws.proofs.Acknowledged.{all_acks_tell_new}
 use Rattle.world_laws.proofs.Framing.{all_left}
-use Rattle.world_laws.specs.Channels.Roles.{AcknowledgementsAgree, OldChannelsEnd}
 use Rattle.world_laws.proofs.Channels.Agreeing.{agreed, owns_at, placed_at}
 use Rattle.world_laws.proofs.Events.{world}
 

@@ -3,12 +3,9 @@ use Rattle.world_laws.proofs.Prelude.{◌≡◌, ℕ, true, false, [], ◌∷◌
 use Rattle.world_laws.proofs.Prelude.{WaitActivation, WaitEstablish, WaitConfirm, Live, Closed, Removed, Connection, new_connection}
 use Rattle.world_laws.proofs.Prelude.{place_at, Zero, RfChannelReleaseAck, Connect, Upper, AirUp, AirDown, Move, Arrive, BaseTakes}
 use Rattle.world_laws.proofs.Prelude.{BasePush, Handle, SwitchDoes, Assign, actors_after_all, Actors, opened, after_all}
+use Rattle.world_laws.proofs.Prelude.{acknowledgements_up, AcksAgree, AreActiveAt, ChannelsEnd, IsSilent}
 use Rattle.world_model.proofs.Worlds.{on_literals}
-use Rattle.world_laws.specs.Acknowledged.{acknowledgements_up}
-use Rattle.world_laws.specs.Lives.{AcksAgree}
-use Rattle.world_laws.specs.Seated.{AreActiveAt}
 use Rattle.world_laws.specs.Channels.Begun.{HasBegun, begun_in}
-use Rattle.world_laws.specs.Channels.Roles.{ChannelsEnd, IsSilent}
 use Rattle.world_laws.proofs.Usual.{channel, to_0a, begin}
 
 -- a connection on channel 41

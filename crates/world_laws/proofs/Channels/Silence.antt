@@ -7,23 +7,16 @@ use Rattle.world_laws.proofs.Prelude.{AreAllowed, Parameters, Event, BaseTakes, 
 use Rattle.world_laws.proofs.Prelude.{acknowledged_in, to_come, owner_in, acknowledgements, due, all_popped, first_of, handled, target_in}
 use Rattle.world_laws.proofs.Prelude.{with_turn, all_steps, step_at, Actors, base_of, is_active_at, new_actors, outbox_of, beside-rests}
 use Rattle.world_laws.proofs.Prelude.{Right, handle-turned, heard_of, kinds, there-of, kept-controller}
-use Rattle.world_laws.proofs.Prelude.{tick-turned, beside-step, IsOne, Serves, Turned, hear, Both-empty, acks-append, free≢use}
-use Rattle.controller_model.specs.Life.{take, tick}
+use Rattle.world_laws.proofs.Prelude.{tick-turned, beside-step, IsOne, Serves, Turned, hear, Both-empty, acks-append, free≢use, take, tick}
+use Rattle.world_laws.proofs.Prelude.{Comes, popped, AreHonest-new, is_beside, acknowledgements_taken, messages_up, read_of, coming_up}
+use Rattle.world_laws.proofs.Prelude.{CameInOctets, FreeAreSilent}
 use Rattle.link_model.specs.Tenures.Tenures.{begins, ends}
 use Rattle.rsl_codec.specs.declared.rsl.Rsl.TheVariants as rsl
 use Rattle.world_model.specs.declared.event.Event.TheVariants as events
 use Rattle.world_model.specs.Life.{event_after}
-use Rattle.world_model.specs.OwnerLines.{Comes}
-use Rattle.world_model.specs.Queues.{popped}
-use Rattle.world_model.proofs.Honesty.{AreHonest-new}
 use Rattle.world_model.proofs.OwnerRuns.{ServesAt}
-use Rattle.world_model.proofs.OwnerTenures.{is_beside}
-use Rattle.world_laws.specs.Acknowledged.{acknowledgements_taken, messages_up, read_of}
-use Rattle.world_laws.specs.ComingUp.{coming_up}
-use Rattle.world_laws.specs.OthersFrame.{CameInOctets}
 use Rattle.world_laws.proofs.Acknowledged.{bound, brought_unbound, coming-read, given-read, nothing_outside, unbound}
 use Rattle.world_laws.proofs.OwnerRun.{serves_event, snoc_steps}
-use Rattle.world_laws.specs.Channels.Roles.{FreeAreSilent}
 use Rattle.world_laws.proofs.Channels.Agreeing.{agreed}
 use Rattle.world_laws.proofs.Channels.RoleAcks.{by-said, free_silent, silent_of}
 use Rattle.world_laws.proofs.Targets.FreeQuiet.{goes_free}
@@ -65,11 +58,9 @@ one_end channel [] (inr (m, one)) = (channel, refl)
 one_end channel (x ∷ xs) (inr (m, one)) = absurd cc
 
 heard_free : (heard : List Rsl) (state : ChannelState) → IsOne heard → hear heard state ≡ Free → (state ≡ Free) ⊎ IsEnd heard
-heard_free [] state one is = inl is
 heard_free (rsl.RfChannelReleaseAck channel ∷ rest) (Releasing m) one is = inr (one_end channel rest one)
-heard_free (rsl.RfChannelReleaseAck channel ∷ rest) Free one is = inl is
 heard_free (rsl.RfChannelReleaseAck channel ∷ rest) (InUse m) one is = absurd (free≢use _ (sym is))
-heard_free (_ ∷ rest) state one is = inl is
+heard_free _ _ one is = inl is
 
 -- by a turn: it was free and nothing was heard, or its end was heard
 turn_free : (owner : Tenure → ℕ) (w v : Actors) (at : Place) (target : Option Tenure) (t : Turn) (heard : List Rsl) → Turned w v at target t heard → Serves owner w at target t heard → Agrees owner w at → hears t.next at.station ≡ true → channel_state t.next at ≡ Free → ((channel_state w.controller at ≡ Free) × (heard ≡ [])) ⊎ IsEnd heard

@@ -1,25 +1,18 @@
 -- A step that brings a connection no input of a frame: a report, a break, or time. It goes on in
 -- the same line, or ends.
 use Rattle.world_laws.proofs.Prelude.{◌≡◌, ℕ, ◌≤◌, Bool, true, false, List, [], length, Option, Some, None, refl, sym, ap, ◌∙◌, subst}
-use Rattle.world_laws.proofs.Prelude.{AllByRecursion, Handover, Channel, Message, outs_of, Input, Active, Preparing, Changing, Draining}
-use Rattle.world_laws.proofs.Prelude.{State, WaitActivation, WaitEstablish, WaitConfirm, Live, Closed, Removed, Connection, Row, IsOpen}
+use Rattle.world_laws.proofs.Prelude.{AllByRecursion, Handover, Channel, Message, outs_of, Input, Active, Draining}
+use Rattle.world_laws.proofs.Prelude.{State, WaitConfirm, Live, Connection, Row, IsOpen}
 use Rattle.world_laws.proofs.Prelude.{OfRow, relayed, on_move, row_if, Acts, Brought, IsAged, IsBrought, kept, kept_in, ages, goes, opens}
 use Rattle.world_laws.proofs.Prelude.{rests, nothing, IsThere, connection_of, outs_for, IsSent, aged_holds, break_shut, timer_shut}
-use Rattle.world_laws.proofs.Prelude.{PutsUsual, usual_row, Turn, Sapi, Three, Zero, same_Some, none-some}
-use Rattle.std.proofs.Common.{nat_lt}
-use Rattle.conn_rules.proofs.Closing.{IsFinal-row}
+use Rattle.world_laws.proofs.Prelude.{PutsUsual, usual_row, Turn, Sapi, Three, Zero, same_Some, none-some, nat_lt, IsFinal-row, begin}
+use Rattle.world_laws.proofs.Prelude.{IsFinal, comes, reports, IsLinkBreak, row_is, kept_there, forwarded, commanded_target, is_confirmed}
+use Rattle.world_laws.proofs.Prelude.{is_opening, IsRequested}
 use Rattle.conn_rules.specs.declared.input.Input.TheVariants as inputs
 use Rattle.conn_rules.specs.declared.limits.TheConstants.{DRAIN_LIMIT}
 use Rattle.conn_rules.specs.declared.state.Stage.{Stage}
-use Rattle.conn_rules.specs.Steps.{begin}
-use Rattle.conn_rules.specs.Streams.{IsFinal}
 use Rattle.conn_rules.specs.Table.{row_of}
-use Rattle.controller_model.specs.LifeLaws.Acts.Brought.{breaks, comes, passes, reports}
-use Rattle.controller_model.proofs.LifeLaws.Fitting.{IsLinkBreak, row_is}
-use Rattle.controller_model.proofs.LifeLaws.Silence.{kept_there}
-use Rattle.controller_model.specs.Views.{forwarded}
-use Rattle.world_laws.specs.LineUps.{commanded_target, is_confirmed, is_opening}
-use Rattle.world_laws.specs.OwnFrame.{IsRequested}
+use Rattle.controller_model.specs.LifeLaws.Acts.Brought.{breaks, passes}
 use Rattle.world_laws.proofs.Handling.Finishing.{IsSame}
 use Rattle.world_laws.proofs.Handling.Leaving.{SameLine, line_itself, none_forwarded, silent_forwards}
 
@@ -92,13 +85,7 @@ by_test false s q r is begins = absurd cc
 move_begins : (state : State) (s : Connection) (offer : Option Channel) (r : Row) → s.state ≡ state → on_move state s offer ≡ Some r → Begins s r
 move_begins (Live reference Active) s offer r is fits = by_test true s (begin reference Handover offer s) r fits (begin_keeps reference Active s offer is refl)
 move_begins (Live reference Draining) s offer r is fits = by_test (nat_lt (length s.draining) DRAIN_LIMIT) s (begin reference Handover offer s) r fits (begin_keeps reference Draining s offer is refl)
-move_begins (Live reference (Preparing target)) s offer r is fits = absurd cc
-move_begins (Live reference (Changing target)) s offer r is fits = absurd cc
-move_begins WaitActivation s offer r is fits = absurd cc
-move_begins WaitEstablish s offer r is fits = absurd cc
-move_begins WaitConfirm s offer r is fits = absurd cc
-move_begins (Closed clearing) s offer r is fits = absurd cc
-move_begins Removed s offer r is fits = absurd cc
+move_begins _ s offer r is fits = absurd cc
 
 move_row : (s : Connection) (offer : Option Channel) (r : Row) → row_of s inputs.Move offer ≡ Some r → Begins s r
 unfolding row_of

@@ -2,28 +2,23 @@
 use Rattle.world_laws.proofs.Prelude.{◌≡◌, ℕ, zero, suc, ◌==◌, Bool, true, false, if◌then◌else◌, List, [], Option, Some, None, option_map}
 use Rattle.world_laws.proofs.Prelude.{refl, sym, ap, ◌∙◌, subst, arith, true≢false, AllByRecursion, option_and_then, eqb-true, Channel}
 use Rattle.world_laws.proofs.Prelude.{Place, Out, Connection, used_channels, connection_of, is_link_up, find_above, word_from, ChannelState}
-use Rattle.world_laws.proofs.Prelude.{Free, InUse, Releasing, Word, Asks, Nothing, OnChannel, OnConnection, Ping, Reports, Controller}
+use Rattle.world_laws.proofs.Prelude.{Free, InUse, Releasing, Word, OnChannel, OnConnection, Controller}
 use Rattle.world_laws.proofs.Prelude.{Entry, Turn, channel_state, entry_of, holder, hears, place_at, place_of, entry_at, on_state, on_what}
 use Rattle.world_laws.proofs.Prelude.{on_word, concerned, rsl_word, Frame, IsOfOctets, RelayItem, What, ActivationAck, Rsl, Parameters}
 use Rattle.world_laws.proofs.Prelude.{Event, Handle, Tenure, actors_after, acknowledged_tenure, target_in, all_steps, rsl_in, Actors}
-use Rattle.world_laws.proofs.Prelude.{modulus_in, new_actors, LivesByTable-new, same_place, none-some, AllByRecursion-so}
+use Rattle.world_laws.proofs.Prelude.{modulus_in, new_actors, LivesByTable-new, same_place, none-some, AllByRecursion-so, frame_leaves}
+use Rattle.world_laws.proofs.Prelude.{IsFrom, word_of, forwarded, brings_by, brings_if, brings_in, AreLinedUp, IsForOthers, IsOthers}
+use Rattle.world_laws.proofs.Prelude.{FaresOn}
 use Rattle.conn_rules.specs.declared.input.Input.TheVariants as inputs
 use Rattle.controller_model.specs.LifeLaws.Concern.{IsLeft}
-use Rattle.controller_model.proofs.LifeLaws.Concerning.{frame_leaves}
-use Rattle.controller_model.proofs.LifeLaws.Sources.{IsFrom}
 use Rattle.controller_model.specs.Life.{take}
-use Rattle.controller_model.specs.Reading.{word_of}
-use Rattle.controller_model.specs.Views.{forwarded}
 use Rattle.ruled_relay.specs.declared.item.What.TheVariants as whats
 use Rattle.rsl_codec.specs.declared.rsl.Rsl.TheVariants as rsl
-use Rattle.world_laws.specs.ComingUp.{brings_by, brings_if, brings_in}
 use Rattle.world_laws.specs.OwnItem.{said_by}
-use Rattle.world_laws.specs.Staying.{AreLinedUp, IsForOthers, IsOthers}
 use Rattle.world_laws.proofs.Others.{relay_leaves_others_new}
 use Rattle.world_laws.proofs.OthersFrame.{frames_are_for_others_new}
 use Rattle.world_laws.proofs.Quiet.{all_of}
 use Rattle.world_laws.proofs.TurnsLife.{same_places}
-use Rattle.world_laws.specs.Handling.Faring.{FaresOn}
 use Rattle.world_laws.specs.Handling.Faring.FaresOn.{goes_on}
 use Rattle.world_laws.proofs.Handling.Dropped.{AreBeside, item_drops}
 use Rattle.world_laws.proofs.Handling.Finishing.{controller-is, handle_is, still_lined}
@@ -47,10 +42,7 @@ word_drops c s item frame m (OnChannel at input) known is says on from other =
       by x held true same = absurd (other (ap (λ (p : Place). holder (channel_state c p)) (sym (same_places (place_of x) at same)) ∙ held))
       by x held false differ = subst AreBeside (sym (said-elsewhere input on.text at (place_of x) from.1 differ)) tt
 word_drops c s item frame m (OnConnection number input) known is says on from other = absurd on
-word_drops c s item frame m Nothing known is says quiet from other = all_of (λ x. AreBeside (brings_in (place_of x) item)) (used_channels s) (λ x. subst AreBeside (sym (ap (brings_by (place_of x) item.source) is ∙ ap (λ (o : Option Rsl). brings_read item.source o (place_of x)) says)) (quiet.brings_none (place_of x)))
-word_drops c s item frame m Ping known is says quiet from other = all_of (λ x. AreBeside (brings_in (place_of x) item)) (used_channels s) (λ x. subst AreBeside (sym (ap (brings_by (place_of x) item.source) is ∙ ap (λ (o : Option Rsl). brings_read item.source o (place_of x)) says)) (quiet.brings_none (place_of x)))
-word_drops c s item frame m (Asks request delay) known is says quiet from other = all_of (λ x. AreBeside (brings_in (place_of x) item)) (used_channels s) (λ x. subst AreBeside (sym (ap (brings_by (place_of x) item.source) is ∙ ap (λ (o : Option Rsl). brings_read item.source o (place_of x)) says)) (quiet.brings_none (place_of x)))
-word_drops c s item frame m (Reports at of report) known is says quiet from other = all_of (λ x. AreBeside (brings_in (place_of x) item)) (used_channels s) (λ x. subst AreBeside (sym (ap (brings_by (place_of x) item.source) is ∙ ap (λ (o : Option Rsl). brings_read item.source o (place_of x)) says)) (quiet.brings_none (place_of x)))
+word_drops c s item frame m _ known is says quiet from other = all_of (λ x. AreBeside (brings_in (place_of x) item)) (used_channels s) (λ x. subst AreBeside (sym (ap (brings_by (place_of x) item.source) is ∙ ap (λ (o : Option Rsl). brings_read item.source o (place_of x)) says)) (quiet.brings_none (place_of x)))
 
 pub other_drops : (c : Controller) (s : Connection) (item : RelayItem) (frame : Frame) → IsKnown c s → item.what ≡ whats.Frame frame → Tells item.source frame → (concerned c (word_of item.source frame) ≡ Some s.number → ⊥) → DropsOut s item
 other_drops c s item frame known is (nothing says) other = none_drops s item frame is says
@@ -89,8 +81,7 @@ ack_others {settings} {events} {mobile} {s} {item} {items} frame p target h is t
   by None free = subst (AllByRecursion (IsForOthers target s)) (sym (outs ∙ nobody (channel_state c p) free)) tt where
     nobody : (state : ChannelState) → holder state ≡ None → (on_state state p (inputs.ActivationAck p) c (entry_at c state)).outs ≡ []
     nobody Free is = refl
-    nobody (InUse n) is = absurd cc
-    nobody (Releasing n) is = absurd cc
+    nobody _ is = absurd cc
   by (Some zero) held = subst (AllByRecursion (IsForOthers target s)) (sym (outs ∙ free_outs p c (channel_state c p) 0 held (none_zero c s (known settings events s h.allowed h.lives.had)))) tt
   by (Some (suc k)) held =
       subst (λ (o : Option Tenure). AllByRecursion (IsForOthers o s) (take item c).outs) tenure

@@ -1,19 +1,15 @@
 -- What is beside the flow may drop out of a line-up.
-use Rattle.world_laws.proofs.Prelude.{◌≡◌, ℕ, ◌+◌, ◌≤◌, ◌&&◌, not, Bool, true, false, if◌then◌else◌, List, [], ◌∷◌, ◌++◌, length}
-use Rattle.world_laws.proofs.Prelude.{Some, None, refl, sym, ap, ◌∙◌, subst, append_assoc, arith, AllByRecursion, flat_map, Channel, Place}
-use Rattle.world_laws.proofs.Prelude.{Drain, Active, Preparing, Changing, Draining, State, WaitActivation, WaitEstablish, WaitConfirm, Live}
-use Rattle.world_laws.proofs.Prelude.{Closed, Removed, Connection, undone, used_channels, place_of, is_flow_message, Held}
-use Rattle.world_laws.proofs.Prelude.{RelayItem, Actors, Mobile, base_of, is_station_up, AllByRecursion-so}
+use Rattle.world_laws.proofs.Prelude.{◌≡◌, ℕ, ◌+◌, ◌≤◌, ◌&&◌, not, Bool, true, false, if◌then◌else◌, List, [], ◌∷◌, ◌++◌, length, Some}
+use Rattle.world_laws.proofs.Prelude.{None, refl, sym, ap, ◌∙◌, subst, append_assoc, arith, AllByRecursion, flat_map, Channel, Place, Drain}
+use Rattle.world_laws.proofs.Prelude.{Changing, State, Live, Connection, undone, used_channels, place_of, is_flow_message, Held, RelayItem}
+use Rattle.world_laws.proofs.Prelude.{Actors, Mobile, base_of, is_station_up, AllByRecursion-so, ended, controls_in, controls_of, flow}
+use Rattle.world_laws.proofs.Prelude.{messages_in, released, brings_in, coming_up, made_of, going_down, commanded_target, draining_tenure}
+use Rattle.world_laws.proofs.Prelude.{is_ended, old_tenure, old_tenures, remembered, seat_from, serving_hold, serving_tenure, taken_of}
+use Rattle.world_laws.proofs.Prelude.{target_tenure, waiting_of, Leads, LinedUp}
 use Rattle.conn_rules.specs.Streams.{target_in}
-use Rattle.world_laws.specs.LineUp.ChangeStep.{ended}
-use Rattle.world_laws.specs.LineUp.Places.{Item, Seat, controls_in, controls_of, flow, messages_in}
-use Rattle.world_laws.specs.LineUp.Places.Item.{brought, released}
+use Rattle.world_laws.specs.LineUp.Places.{Item, Seat}
+use Rattle.world_laws.specs.LineUp.Places.Item.{brought}
 use Rattle.world_laws.proofs.LineUp.Lines.{controls-append, flow-apart, messages_in-append}
-use Rattle.world_laws.specs.ComingUp.{brings_in, coming_up, made_of}
-use Rattle.world_laws.specs.GoingDown.{going_down}
-use Rattle.world_laws.specs.LineUps.{commanded_target, draining_tenure, is_ended, old_tenure, old_tenures, remembered, seat_from}
-use Rattle.world_laws.specs.LineUps.{serving_hold, serving_tenure, taken_of, target_tenure, waiting_of}
-use Rattle.world_laws.specs.Seated.{Leads, LinedUp}
 use Rattle.world_laws.proofs.Cutting.{AllCut, alive_cut, Cuts, cuts_itself}
 use Rattle.world_laws.proofs.Cutting.Cuts.{whole}
 use Rattle.world_laws.proofs.Framing.{all_left, all_right}
@@ -83,14 +79,7 @@ target_cut : (f g : Place → List Item) (up : ℕ → Bool) (seat : Seat) (stat
 target_cut f g up seat (Live reference (Changing target)) all =
     subst (λ (items : List Item). Cuts (record (target_tenure f up seat (Some target)) { items = items }) (target_tenure g up seat (Some target))) (sym all.0.is)
     (whole refl (sym (flow-behind all.0.front (g (place_of target.channel)) all.0.beside)) (fewer_controls all.0.front (g (place_of target.channel))) refl)
-target_cut f g up seat (Live reference (Preparing target)) all = cuts_itself (target_tenure f up seat None)
-target_cut f g up seat (Live reference Active) all = cuts_itself (target_tenure f up seat None)
-target_cut f g up seat (Live reference Draining) all = cuts_itself (target_tenure f up seat None)
-target_cut f g up seat WaitActivation all = cuts_itself (target_tenure f up seat None)
-target_cut f g up seat WaitEstablish all = cuts_itself (target_tenure f up seat None)
-target_cut f g up seat WaitConfirm all = cuts_itself (target_tenure f up seat None)
-target_cut f g up seat (Closed clearing) all = cuts_itself (target_tenure f up seat None)
-target_cut f g up seat Removed all = cuts_itself (target_tenure f up seat None)
+target_cut f g up seat _ all = cuts_itself (target_tenure f up seat None)
 
 -- ---- the first item of the inbox goes
 

@@ -5,18 +5,13 @@ use Rattle.world_laws.proofs.Prelude.{Input, Connection, used_channels, brought_
 use Rattle.world_laws.proofs.Prelude.{own_carried, here_of, Word, Asks, Nothing, OnChannel, OnConnection, Ping, Reports, Controller, Turn}
 use Rattle.world_laws.proofs.Prelude.{channel_state, holder, hears, place_of, concerned, Frame, RelayItem, What, Rsl, AreAllowed}
 use Rattle.world_laws.proofs.Prelude.{Parameters, Event, Handle, Tick, actors_after, acknowledged_tenure, target_in, with_turn, rsl_in}
-use Rattle.world_laws.proofs.Prelude.{first_taken, Actors, is_up, modulus_in, false≢true}
-use Rattle.controller_model.specs.LifeLaws.Acts.Brought.{nothing as nothing_brought, passes, reports}
+use Rattle.world_laws.proofs.Prelude.{first_taken, Actors, is_up, modulus_in, false≢true, reports, take, tick, word_of, brings_by}
+use Rattle.world_laws.proofs.Prelude.{brings_in, AcksAgree, Lives, CameInOctets, FaresOn, LiveConnectionsFareOn}
+use Rattle.controller_model.specs.LifeLaws.Acts.Brought.{nothing as nothing_brought, passes}
 use Rattle.controller_model.specs.declared.step.Step.TheVariants as steps
-use Rattle.controller_model.specs.Life.{take, tick}
-use Rattle.controller_model.specs.Reading.{word_of}
 use Rattle.ruled_relay.specs.declared.item.What.TheVariants as whats
-use Rattle.world_laws.specs.ComingUp.{brings_by, brings_in}
-use Rattle.world_laws.specs.Lives.{AcksAgree, Lives}
-use Rattle.world_laws.specs.OthersFrame.{CameInOctets}
 use Rattle.world_laws.proofs.Ending.{line_ups_may_end_new}
 use Rattle.world_laws.proofs.Quiet.{all_of}
-use Rattle.world_laws.specs.Handling.Faring.{FaresOn, LiveConnectionsFareOn}
 use Rattle.world_laws.specs.Handling.Faring.FaresOn.{goes_on}
 use Rattle.world_laws.proofs.Handling.Acting.{IsOwnStep, Outcome, by_acts}
 use Rattle.world_laws.proofs.Handling.Acting.Outcome.{over, same}

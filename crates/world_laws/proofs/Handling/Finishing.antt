@@ -3,16 +3,10 @@
 use Rattle.world_laws.proofs.Prelude.{◌≡◌, ℕ, ◌≤◌, true, unwrap_or, List, [], ◌∷◌, find, Option, Some, None, refl, sym, ap, ◌∙◌, subst}
 use Rattle.world_laws.proofs.Prelude.{SWITCH_LINK, Connection, AreApart, used_channels, IsThere, connection_of, Controller, Turn, RelayItem}
 use Rattle.world_laws.proofs.Prelude.{Handle, Tick, Tenure, actors_after, handled, with_turn, Actors, Mobile, has_number, is_up}
-use Rattle.world_laws.proofs.Prelude.{mobile_of, turn-leads}
-use Rattle.controller_model.specs.Life.{tick}
-use Rattle.controller_model.specs.Views.{forwarded}
+use Rattle.world_laws.proofs.Prelude.{mobile_of, turn-leads, tick, forwarded, HasEnded, IsRequested, LinedUp, FaresOn}
 use Rattle.world_model.specs.Life.{event_after}
-use Rattle.world_laws.specs.Ended.{HasEnded}
-use Rattle.world_laws.specs.OwnFrame.{IsRequested}
-use Rattle.world_laws.specs.Seated.{LinedUp}
 use Rattle.world_laws.proofs.Others.{turn_mobiles}
 use Rattle.world_laws.proofs.Quiet.{ArePlaced}
-use Rattle.world_laws.specs.Handling.Faring.{FaresOn}
 use Rattle.world_laws.specs.Handling.Faring.FaresOn.{goes_on, is_over}
 use Rattle.world_laws.proofs.Handling.Leaving.{NoneDown, SameLine, line_same, turn_ended, turn_lined, turned}
 use Rattle.world_laws.proofs.OwnHandle.{handled_by}

@@ -5,12 +5,8 @@ use Rattle.world_laws.proofs.Prelude.{roles_of, target_channels, target_role, St
 use Rattle.world_laws.proofs.Prelude.{connection_of, SameRequest, Owns, OwnsOpen, is_link_up, ComesInOctets, IsSent, AreUsed, life_acts}
 use Rattle.world_laws.proofs.Prelude.{life_names, life_sends, life_after, run_step, Ready, ChannelState, Free, InUse, Releasing, Step}
 use Rattle.world_laws.proofs.Prelude.{Controller, Entry, channel_state, entry_of, holder, place_at, place_of, state_in, step, AreAllowed}
-use Rattle.world_laws.proofs.Prelude.{Parameters, Event, all_steps, step_at, new_actors, LivesByTable-new}
-use Rattle.controller_model.proofs.LifeLaws.Fitting.{Fits}
-use Rattle.controller_model.proofs.LifeLaws.UplinkLife.{used_apart}
-use Rattle.controller_model.proofs.LifeLaws.UsingLife.{IsAfter, ready_by, ready_uses}
-use Rattle.controller_model.specs.Life.{life}
-use Rattle.world_laws.specs.OthersFrame.{CameInOctets, IsHad}
+use Rattle.world_laws.proofs.Prelude.{Parameters, Event, all_steps, step_at, new_actors, LivesByTable-new, Fits, used_apart, IsAfter}
+use Rattle.world_laws.proofs.Prelude.{ready_by, ready_uses, life, CameInOctets, IsHad}
 use Rattle.world_laws.proofs.Quiet.{ArePlaced}
 use Rattle.world_laws.proofs.Standing.{connections_stand_new}
 use Rattle.world_laws.proofs.Events.{split_steps, world}

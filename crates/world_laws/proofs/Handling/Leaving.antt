@@ -3,20 +3,12 @@
 use Rattle.world_laws.proofs.Prelude.{◌≡◌, ℕ, ◌≤◌, ◌==◌, ◌&&◌, Bool, true, false, cond, List, [], ◌∷◌, ◌++◌, find, fold, map, Option, None}
 use Rattle.world_laws.proofs.Prelude.{refl, sym, ap, ◌∙◌, subst, inl, inr, AllByRecursion, flat_map, cases_Bool, cond-false, cond-true}
 use Rattle.world_laws.proofs.Prelude.{append-nil, Channel, Message, Out, SWITCH_LINK, outs_of, Target, Connection, AreApart, relayed}
-use Rattle.world_laws.proofs.Prelude.{used_channels, is_for, outs_for, IsSent, forwarded_seen, Forwarded, Turn}
-use Rattle.world_laws.proofs.Prelude.{place_of, forwarded_by, Sapi, Tenure, joined_by, with_turn, Actors, Mobile, has_number}
-use Rattle.world_laws.proofs.Prelude.{is_up, tenure_at, turn-leads}
-use Rattle.bssmap_codec.specs.SccpReading.{sccp_reading}
-use Rattle.controller_model.proofs.LifeLaws.UsualRows.{AreUsual}
+use Rattle.world_laws.proofs.Prelude.{used_channels, is_for, outs_for, IsSent, forwarded_seen, Forwarded, Turn, place_of, forwarded_by}
+use Rattle.world_laws.proofs.Prelude.{Sapi, Tenure, joined_by, with_turn, Actors, Mobile, has_number, is_up, tenure_at, turn-leads}
+use Rattle.world_laws.proofs.Prelude.{sccp_reading, AreUsual, Alive, flow, coming_up, HasEnded, going_down, commanded_target, is_confirmed}
+use Rattle.world_laws.proofs.Prelude.{is_opening, line_up, taken_of, waiting_of, Leads, LinedUp, NoneOn, Sits}
 use Rattle.controller_model.specs.Views.{forwarded}
-use Rattle.world_laws.specs.LineUp.Alive.{Alive}
-use Rattle.world_laws.specs.LineUp.Places.{flow}
 use Rattle.world_laws.specs.LineUp.Order.{Ended}
-use Rattle.world_laws.specs.ComingUp.{coming_up}
-use Rattle.world_laws.specs.Ended.{HasEnded}
-use Rattle.world_laws.specs.GoingDown.{going_down}
-use Rattle.world_laws.specs.LineUps.{commanded_target, is_confirmed, is_opening, line_up, taken_of, waiting_of}
-use Rattle.world_laws.specs.Seated.{Leads, LinedUp, NoneOn, Sits}
 use Rattle.world_laws.proofs.Others.{turn_mobiles}
 use Rattle.world_laws.proofs.OwnTurn.{turn_down, turn_stations, turn_waiting}
 use Rattle.world_laws.proofs.Quiet.{ArePlaced, all_of}

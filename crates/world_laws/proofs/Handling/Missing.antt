@@ -1,25 +1,22 @@
 -- An input that no row fits brings nothing of the flow on the channels of its connection.
 use Rattle.world_laws.proofs.Prelude.{◌≡◌, ℕ, zero, suc, Bool, true, false, if◌then◌else◌, List, [], ◌∷◌, ◌++◌, length, Option, Some, None}
 use Rattle.world_laws.proofs.Prelude.{refl, sym, ap, ◌∙◌, subst, AllByRecursion, Channel, Place, AllByRecursion-append, Input, Drain}
-use Rattle.world_laws.proofs.Prelude.{Active, Preparing, Changing, Draining, State, WaitConfirm, Live, Connection, drain_at, is_at, Stands}
+use Rattle.world_laws.proofs.Prelude.{Preparing, Changing, State, WaitConfirm, Live, Connection, drain_at, is_at, Stands}
 use Rattle.world_laws.proofs.Prelude.{StandsBy, undone, used_channels, dtap_in, on_dtap, on_release_ack, release_in, IsAtPlace}
-use Rattle.world_laws.proofs.Prelude.{place_of, Three, Zero, is_control, is_control-apart, same_place, AllByRecursion-so}
+use Rattle.world_laws.proofs.Prelude.{place_of, Three, Zero, is_control, is_control-apart, same_place, AllByRecursion-so, messages_in}
+use Rattle.world_laws.proofs.Prelude.{released, awaited_in, is_ended, IsRequested, none_if}
 use Rattle.conn_rules.specs.declared.input.Input.TheVariants as inputs
 use Rattle.conn_rules.specs.declared.state.Stage.{Stage}
 use Rattle.conn_rules.specs.Connection.{tenure_at}
 use Rattle.conn_rules.specs.Streams.{target_in}
 use Rattle.conn_rules.specs.Table.{dtap_on_target, row_of}
-use Rattle.world_laws.specs.LineUp.Places.{Item, messages_in}
-use Rattle.world_laws.specs.LineUp.Places.Item.{brought, released}
-use Rattle.world_laws.specs.Handled.{awaited_in}
-use Rattle.world_laws.specs.LineUps.{is_ended}
-use Rattle.world_laws.specs.OwnFrame.{IsRequested}
+use Rattle.world_laws.specs.LineUp.Places.{Item}
+use Rattle.world_laws.specs.LineUp.Places.Item.{brought}
 use Rattle.world_laws.specs.OwnItem.{said_by}
 use Rattle.world_laws.proofs.OwnReleases.{same-at, undone_none}
 use Rattle.world_laws.proofs.Quiet.{all_of}
 use Rattle.world_laws.proofs.Handling.Dropped.{AreBeside}
 use Rattle.world_laws.proofs.Handling.Saying.{IsControl}
-use Rattle.controller_model.proofs.LifeLaws.OwningLife.{none_if}
 
 -- ---- on one place
 
@@ -29,10 +26,7 @@ off true items is = absurd cc
 
 pub said-elsewhere : (input : Input) (text : List ℕ) (at place : Place) → IsAtPlace at input → same_place place at ≡ false → said_by input text place ≡ []
 said-elsewhere (inputs.Dtap there Zero message) text at place here other = off (same_place place there) (brought message ∷ []) (ap (same_place place) here ∙ other)
-said-elsewhere (inputs.Dtap there Three message) text at place here other = refl
 said-elsewhere (inputs.EstablishIndication there Zero (Some initial)) text at place here other = off (same_place place there) (brought initial ∷ []) (ap (same_place place) here ∙ other)
-said-elsewhere (inputs.EstablishIndication there Zero None) text at place here other = refl
-said-elsewhere (inputs.EstablishIndication there Three message) text at place here other = refl
 said-elsewhere (inputs.Complete there change cause) text at place here other = off (same_place place there) (brought text ∷ []) (ap (same_place place) here ∙ other)
 said-elsewhere (inputs.Failure there change cause) text at place here other = off (same_place place there) (brought text ∷ []) (ap (same_place place) here ∙ other)
 said-elsewhere (inputs.ReleaseAck there) text at place here other = off (same_place place there) (released ∷ []) (ap (same_place place) here ∙ other)
@@ -75,10 +69,9 @@ no_tenure at serving draining = by (is_at at serving) where
 on_targets : (at : Place) (message : List ℕ) (reference : ℕ) (stage : Stage) (s : Connection) → dtap_on_target reference stage s at Zero ≡ None
     → AllByRecursion (λ c. messages_in (if same_place (place_of c) at then brought message ∷ [] else []) ≡ []) (awaited_in (Live reference stage)) → AllByRecursion (OnSapiZero at message) (target_in (Live reference stage))
 unfolding OnSapiZero
-on_targets at message reference Active s none silent = tt
-on_targets at message reference Draining s none silent = tt
 on_targets at message reference (Preparing target) s none silent = (silent_beside at message target.channel silent.0, tt)
 on_targets at message reference (Changing target) s none silent = (off_beside at (brought message ∷ []) target.channel (none_if (is_at at target.channel) _ none), tt)
+on_targets at message reference _ s none silent = tt
 
 dtap_missed : (state : State) (s : Connection) (at : Place) (message : List ℕ) → s.state ≡ state → IsRequested state → Stands s → on_dtap state s at Zero message ≡ None
     → AllByRecursion (λ c. messages_in (if same_place (place_of c) at then brought message ∷ [] else []) ≡ []) (awaited_in state) → AllByRecursion (OnSapiZero at message) (undone s.draining ++ s.serving ∷ target_in state)

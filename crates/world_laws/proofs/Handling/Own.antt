@@ -2,42 +2,31 @@
 -- ends it; else nothing changes.
 use Rattle.world_laws.proofs.Prelude.{◌≡◌, ◌≢◌, ℕ, ◌≤◌, ◌&&◌, Bool, true, false, if◌then◌else◌, List, [], ◌∷◌, ◌++◌, option_to_list, Option}
 use Rattle.world_laws.proofs.Prelude.{Some, None, refl, sym, ap, ◌∙◌, subst, inl, inr, arith, AllByRecursion, flat_map, cases_Bool, Channel}
-use Rattle.world_laws.proofs.Prelude.{Place, Out, SWITCH_LINK, outs_of, Input, Active, Preparing, Changing, Draining, State, WaitActivation}
+use Rattle.world_laws.proofs.Prelude.{Place, Out, SWITCH_LINK, outs_of, Input, Changing, State, WaitActivation}
 use Rattle.world_laws.proofs.Prelude.{WaitEstablish, WaitConfirm, Live, Closed, Removed, Target, Connection, is_at, IsCarried, Row, IsOpen}
 use Rattle.world_laws.proofs.Prelude.{OfRow, undone, used_channels, on_activation_ack, on_failure, row_if, same_change, kept}
 use Rattle.world_laws.proofs.Prelude.{IsThere, connection_of, outs_for, SameRequest, IsOfOctets, outs_own, IsAtPlace, word_from, PutsUsual}
-use Rattle.world_laws.proofs.Prelude.{usual_row, Take, Controller, Turn, hears, place_of, on_what, on_word, keeps_number, Three, Zero}
+use Rattle.world_laws.proofs.Prelude.{usual_row, Take, Controller, Turn, hears, place_of, on_what, on_word, keeps_number, Zero}
 use Rattle.world_laws.proofs.Prelude.{Frame, is_control, RelayItem, What, Rsl, AreAllowed, Parameters, Event, Handle, actors_after}
 use Rattle.world_laws.proofs.Prelude.{tenure_in, rsl_in, Actors, Mobile, base_of, is_station_up, is_up, modulus_in, IsKnownItem}
-use Rattle.world_laws.proofs.Prelude.{known-inbox, same_place, and-left, AllByRecursion-so}
+use Rattle.world_laws.proofs.Prelude.{known-inbox, same_place, and-left, AllByRecursion-so, IsFinal-row, IsFinal, IsCarriedBy, word_carried}
+use Rattle.world_laws.proofs.Prelude.{kept_there, IsFrom, word_of, forwarded, AliveStands, controls_in, messages_in, released, NoneReleases}
+use Rattle.world_laws.proofs.Prelude.{acknowledgements_up, read_by, read_of, brings_by, brings_in, coming_up, IsReadyFor, awaited_in}
+use Rattle.world_laws.proofs.Prelude.{commanded_target, is_ended, seat_from, target_tenure, AcksAgree, IsLed, Lives, initial_by}
+use Rattle.world_laws.proofs.Prelude.{initials_up, CameInOctets, IsFrameFor, IsRequested, IsSaidTo, on_channel, on_connection, LinedUp}
+use Rattle.world_laws.proofs.Prelude.{commanded_channels, FaresOn, open_or}
 use Rattle.std.proofs.Common.{eq-eqb}
-use Rattle.conn_rules.proofs.Closing.{IsFinal-row}
 use Rattle.conn_rules.specs.declared.input.Input.TheVariants as inputs
-use Rattle.conn_rules.specs.Streams.{IsFinal, target_in}
+use Rattle.conn_rules.specs.Streams.{target_in}
 use Rattle.conn_rules.specs.Table.{row_of}
 use Rattle.controller_model.proofs.LifeLaws.Progress.{Advances, IsLive, Next, advances}
-use Rattle.controller_model.proofs.LifeLaws.Readings.{IsCarriedBy, word_carried}
-use Rattle.controller_model.proofs.LifeLaws.Silence.{kept_there}
-use Rattle.controller_model.proofs.LifeLaws.Sources.{IsFrom}
 use Rattle.controller_model.specs.Life.{take}
-use Rattle.controller_model.specs.Reading.{word_of}
-use Rattle.controller_model.specs.Views.{forwarded}
-use Rattle.world_laws.specs.LineUp.Alive.{Stands as AliveStands}
 use Rattle.world_laws.specs.LineUp.Alive.Stands.{arrives, leaves, opens, rests, returns, waits}
-use Rattle.world_laws.specs.LineUp.Places.{Item, controls_in, messages_in}
-use Rattle.world_laws.specs.LineUp.Places.Item.{brought, released}
+use Rattle.world_laws.specs.LineUp.Places.{Item}
+use Rattle.world_laws.specs.LineUp.Places.Item.{brought}
 use Rattle.world_laws.proofs.LineUp.Lines.{controls_first}
 use Rattle.ruled_relay.specs.declared.item.What.TheVariants as whats
-use Rattle.world_laws.specs.Acknowledged.{NoneReleases, acknowledgements_up, read_by, read_of}
-use Rattle.world_laws.specs.ComingUp.{brings_by, brings_in, coming_up}
-use Rattle.world_laws.specs.Handled.{IsReadyFor, awaited_in}
-use Rattle.world_laws.specs.LineUps.{commanded_target, is_ended, seat_from, target_tenure}
-use Rattle.world_laws.specs.Lives.{AcksAgree, IsLed, Lives, initial_by, initials_up}
-use Rattle.world_laws.specs.OthersFrame.{CameInOctets}
-use Rattle.world_laws.specs.OwnFrame.{IsFrameFor, IsRequested, IsSaidTo}
-use Rattle.world_laws.specs.OwnFrame.IsSaidTo.{on_channel, on_connection}
 use Rattle.world_laws.specs.OwnItem.{IsBesideTarget, IsRead, said_by}
-use Rattle.world_laws.specs.Seated.{LinedUp, commanded_channels}
 use Rattle.world_laws.proofs.Acknowledged.{all_acks_tell_new}
 use Rattle.world_laws.proofs.Apart.{all_both}
 use Rattle.world_laws.proofs.Ending.{line_ups_may_end_new}
@@ -47,7 +36,6 @@ use Rattle.world_laws.proofs.OwnReleases.{same-at}
 use Rattle.world_laws.proofs.PutAsRead.{allowed_frames_keep_line_ups_new, still_there}
 use Rattle.world_laws.proofs.Quiet.{all_of}
 use Rattle.world_laws.proofs.TurnsLife.{same_places}
-use Rattle.world_laws.specs.Handling.Faring.{FaresOn}
 use Rattle.world_laws.specs.Handling.Faring.FaresOn.{goes_on}
 use Rattle.world_laws.proofs.Handling.Dropped.{AreBeside, coming-first, item_drops, without_first}
 use Rattle.world_laws.proofs.Handling.Finishing.{controller-is, ended_before, handle_is, now_ended, still_lined}
@@ -57,7 +45,6 @@ use Rattle.world_laws.proofs.Handling.Missing.{NotInitial, missed_beside}
 use Rattle.world_laws.proofs.Handling.Saying.{IsInitial, SaysOn, SaysUp, Tells, frame_tells, none_read, word_says}
 use Rattle.world_laws.proofs.Handling.Saying.Tells.{message, nothing}
 use Rattle.world_laws.proofs.Handling.Turning.{Turns, next_by, outs_by, word_turns}
-use Rattle.controller_model.proofs.LifeLaws.SeenStations.{open_or}
 use Rattle.world_laws.proofs.OwnFrames.{brings_read}
 use Rattle.world_laws.proofs.Events.{world}
 
@@ -65,11 +52,7 @@ use Rattle.world_laws.proofs.Events.{world}
 
 live_requested : (state : State) → IsLive state → IsRequested state
 live_requested (Live reference stage) live = tt
-live_requested WaitActivation live = absurd live
-live_requested WaitEstablish live = absurd live
-live_requested WaitConfirm live = absurd live
-live_requested (Closed clearing) live = absurd live
-live_requested Removed live = absurd live
+live_requested _ live = absurd live
 
 pub still_requested : (s : Connection) (input : Input) (offer : Option Channel) (r : Row) → IsRequested s.state → row_of s input offer ≡ Some r → IsOpen r.next.state → IsRequested r.next.state
 still_requested s input offer r requested fits is_open = by s.state requested ((subst (OfRow (Advances s.state input)) fits (advances s input offer)) is_open) where
@@ -79,10 +62,7 @@ still_requested s input offer r requested fits is_open = by s.state requested ((
     | inr live ↦ live_requested r.next.state live.0
   ]
   by (Live reference stage) requested next = live_requested r.next.state next
-  by WaitActivation requested next = absurd requested
-  by WaitEstablish requested next = absurd requested
-  by (Closed clearing) requested next = absurd requested
-  by Removed requested next = absurd requested
+  by _ requested next = absurd requested
 
 -- its request stays the same
 pub same_request : (before after : Option Connection) (s next : Connection) → before ≡ Some s → after ≡ Some next → SameRequest before after → next.request ≡ s.request
@@ -96,15 +76,12 @@ row_if_some false r q is = absurd cc
 
 -- ACTIVATION ACK fits where the target is awaited
 ack_awaits : (state : State) (s : Connection) (at : Place) (r : Row) → IsRequested state → on_activation_ack state s at ≡ Some r → target_in state ≡ awaited_in state
-ack_awaits WaitConfirm s at r requested fits = refl
-ack_awaits (Live reference (Preparing target)) s at r requested fits = refl
-ack_awaits (Live reference Active) s at r requested fits = refl
-ack_awaits (Live reference Draining) s at r requested fits = refl
 ack_awaits (Live reference (Changing target)) s at r requested fits = absurd cc
 ack_awaits WaitActivation s at r requested fits = absurd requested
 ack_awaits WaitEstablish s at r requested fits = absurd requested
 ack_awaits (Closed clearing) s at r requested fits = absurd requested
 ack_awaits Removed s at r requested fits = absurd requested
+ack_awaits _ s at r requested fits = refl
 
 -- FAILURE fits where its change is under way, and comes on the serving channel
 record Fails (state : State) (s : Connection) (at : Place) : Type 0 where
@@ -116,14 +93,7 @@ record Fails (state : State) (s : Connection) (at : Place) : Type 0 where
 failure_is : (state : State) (s : Connection) (at : Place) (change : _) (cause : ℕ) (offer : Option Channel) (r : Row) → on_failure state s at change cause offer ≡ Some r → Fails state s at
 failure_is (Live reference (Changing target)) s at change cause offer r fits =
     record { target = target; commanded = refl; targets = refl; here = and-left (is_at at s.serving) (same_change change target.change) (row_if_some (is_at at s.serving && same_change change target.change) _ r fits) }
-failure_is (Live reference Active) s at change cause offer r fits = absurd cc
-failure_is (Live reference (Preparing target)) s at change cause offer r fits = absurd cc
-failure_is (Live reference Draining) s at change cause offer r fits = absurd cc
-failure_is WaitActivation s at change cause offer r fits = absurd cc
-failure_is WaitEstablish s at change cause offer r fits = absurd cc
-failure_is WaitConfirm s at change cause offer r fits = absurd cc
-failure_is (Closed clearing) s at change cause offer r fits = absurd cc
-failure_is Removed s at change cause offer r fits = absurd cc
+failure_is _ s at change cause offer r fits = absurd cc
 
 -- FAILURE is on its way: so no COMPLETE is
 no_complete : {opening changing : Bool} {commands serving texts target link : ℕ} {seat : _} → AliveStands opening changing commands seat serving texts target link → 1 ≤ serving → target ≡ 0
@@ -247,8 +217,6 @@ not_initial w item items frame m at (inputs.EstablishIndication there Zero (Some
           (ap (read_by there.station item.source) is ∙ ap (λ (b : Bool). if b then option_to_list (rsl_in frame) else []) (eq-eqb item.source there.station (sym (ap (λ (p : Place). p.station) here ∙ from))) ∙ ap option_to_list says)
           initials (ap (initials_up w) (sym (same_places (place_of c) there same)) ∙ none))
     ]) cs none_comes
-not_initial w item items frame m at (inputs.EstablishIndication there Zero None) cs stood is says from here initials none_comes = all_of (λ (c : Channel). Unit {0}) cs (λ c. tt)
-not_initial w item items frame m at (inputs.EstablishIndication there Three text) cs stood is says from here initials none_comes = all_of (λ (c : Channel). Unit {0}) cs (λ c. tt)
 not_initial w item items frame m at _ cs stood is says from here initials none_comes = all_of (λ (c : Channel). Unit {0}) cs (λ c. tt)
 
 -- what is on its way tells it of what comes first

@@ -1,7 +1,6 @@
 -- Definitions of this crate, at literal values.
 use Rattle.world_laws.proofs.Prelude.{◌≡◌, ℕ, true, false, [], ◌∷◌, map, refl, Connection, Parameters, BaseDown, BasePush, BaseTakes}
-use Rattle.world_laws.proofs.Prelude.{Handle, SwitchTakes, Tick, new_actors}
-use Rattle.world_laws.specs.Handling.Faring.{FaresOn, is_of_controller}
+use Rattle.world_laws.proofs.Prelude.{Handle, SwitchTakes, Tick, new_actors, FaresOn, is_of_controller}
 use Rattle.world_laws.specs.Handling.Faring.FaresOn.{goes_on, is_over}
 
 steps_of_the_controller : map is_of_controller (Handle ∷ Tick 20 ∷ BaseTakes 1 ∷ BasePush 1 ∷ SwitchTakes ∷ BaseDown 0 ∷ []) ≡ true ∷ true ∷ false ∷ false ∷ false ∷ false ∷ []

@@ -1,22 +1,18 @@
 -- What the message of a station says to the controller, and what it brings of channels.
-use Rattle.world_laws.proofs.Prelude.{◌≡◌, ◌≢◌, ℕ, ◌==◌, not, Bool, true, false, if◌then◌else◌, List, [], ◌∷◌, Option}
-use Rattle.world_laws.proofs.Prelude.{Some, None, Ok, Err, refl, sym, ap, ◌∙◌, subst, inl, inr, Place}
-use Rattle.world_laws.proofs.Prelude.{SWITCH_LINK, Input, is_dtap, Word, Nothing, OnChannel, OnConnection, Reports, place_at, change_word}
-use Rattle.world_laws.proofs.Prelude.{data_word, of_sapi, report_word, result_word, rsl_word, sapi_of, report_reading, RrMessage}
-use Rattle.world_laws.proofs.Prelude.{AssignmentComplete, AssignmentFailure, HandoverComplete, HandoverFailure, MeasurementReport, RrFault}
-use Rattle.world_laws.proofs.Prelude.{Sapi, Three, Zero, Frame, is_control, is_control-apart, Establishment, Rsl, acknowledged_tenure}
-use Rattle.world_laws.proofs.Prelude.{Tenure, rsl_in, Actors, IsKnown, IsKnownItem}
-use Rattle.std.proofs.Common.{Result, eq-eqb}
+use Rattle.world_laws.proofs.Prelude.{◌≡◌, ◌≢◌, ℕ, ◌==◌, not, Bool, true, false, if◌then◌else◌, List, [], ◌∷◌, Option, Some, None, Ok, refl}
+use Rattle.world_laws.proofs.Prelude.{sym, ap, ◌∙◌, subst, inl, inr, Place, SWITCH_LINK, Input, is_dtap, Word, Nothing, OnChannel}
+use Rattle.world_laws.proofs.Prelude.{OnConnection, Reports, place_at, change_word, data_word, of_sapi, report_word, result_word, rsl_word}
+use Rattle.world_laws.proofs.Prelude.{sapi_of, report_reading, RrMessage, AssignmentComplete, AssignmentFailure, HandoverComplete}
+use Rattle.world_laws.proofs.Prelude.{HandoverFailure, MeasurementReport, RrFault, Sapi, Three, Zero, Frame, is_control, is_control-apart}
+use Rattle.world_laws.proofs.Prelude.{Establishment, Rsl, acknowledged_tenure, Tenure, rsl_in, Actors, IsKnown, IsKnownItem, Result}
+use Rattle.world_laws.proofs.Prelude.{word_of, rr_reading, messages_in, brings, of_establishment, of_main, initial_by}
+use Rattle.std.proofs.Common.{eq-eqb}
 use Rattle.conn_rules.specs.declared.input.Input.TheVariants as inputs
-use Rattle.controller_model.specs.Reading.{word_of}
-use Rattle.dtap_codec.specs.RrReading.{rr_reading}
-use Rattle.world_laws.specs.LineUp.Places.{Item, messages_in}
+use Rattle.world_laws.specs.LineUp.Places.{Item}
 use Rattle.world_laws.specs.LineUp.Places.Item.{brought}
 use Rattle.ruled_relay.specs.declared.item.What.TheVariants as whats
 use Rattle.rsl_codec.specs.declared.radio_link.Data.{Data}
 use Rattle.rsl_codec.specs.declared.rsl.Rsl.TheVariants as rsl
-use Rattle.world_laws.specs.ComingUp.{brings, of_establishment, of_main}
-use Rattle.world_laws.specs.Lives.{initial_by}
 use Rattle.world_laws.specs.OwnItem.{said_by}
 use Rattle.world_laws.proofs.OrderHeard.{read_known, word-known}
 use Rattle.world_laws.proofs.OwnFrame.{IsPlain, SaysInput, SaysWord, brings_of, message_says, control-or, one_place}
@@ -96,8 +92,7 @@ establish_up source e (Some Zero) is = by e.l3 refl where
   } where
     nowhere : (a b : Bool) → (if a then (if b then (let xs : List Item = [] in xs) else []) else []) ≡ []
     nowhere true true = refl
-    nowhere true false = refl
-    nowhere false b = refl
+    nowhere _ _ = refl
   by (Some initial) some = record {
     text = [];
     brings_it = λ place. ap (λ (o : Option Sapi). if source == place.station then (if e.channel == place.number then of_establishment o e.l3 else []) else []) is ∙ ap (λ (o : Option (List ℕ)). if source == place.station then (if e.channel == place.number then of_establishment (Some Zero) o else []) else []) some
@@ -109,8 +104,7 @@ establish_up source e (Some Zero) is = by e.l3 refl where
 -- what is so, on SAPI 0
 main_beside : (sapi : Option Sapi) (l3 : List ℕ) → is_control l3 ≡ true → AreBeside (of_main sapi l3)
 main_beside (Some Zero) l3 control = (is_control-apart l3 control, tt)
-main_beside (Some Three) l3 control = tt
-main_beside None l3 control = tt
+main_beside _ l3 control = tt
 
 data_quiet : (source : ℕ) (d : Data) → AreBeside (of_main (sapi_of d.link) d.l3) → IsQuiet source (rsl.DataIndication d)
 data_quiet source d beside = record { brings_none = λ place. if_beside (source == place.station) (d.channel == place.number) (of_main (sapi_of d.link) d.l3) beside; begins = λ w. refl }
@@ -120,8 +114,7 @@ change_up source d (Ok (AssignmentComplete cause)) quiet says = from_says (says 
 change_up source d (Ok (HandoverComplete cause)) quiet says = from_says (says tt) tt
 change_up source d (Ok (AssignmentFailure cause)) quiet says = from_says (says tt) tt
 change_up source d (Ok (HandoverFailure cause)) quiet says = from_says (says tt) tt
-change_up source d (Ok _) quiet says = quiet
-change_up source d (Err fault) quiet says = quiet
+change_up source d _ quiet says = quiet
 
 data_up : (source : ℕ) (d : Data) (b : Bool) (sapi : Option Sapi) → is_dtap d.l3 ≡ b → sapi_of d.link ≡ sapi → SaysWord source (rsl.DataIndication d) (data_word b (place_at source d.channel) sapi d.l3) → SaysUp source (rsl.DataIndication d) (data_word b (place_at source d.channel) sapi d.l3)
 data_up source d true None dtap is says = data_quiet source d (subst (λ (o : Option Sapi). AreBeside (of_main o d.l3)) (sym is) tt)
@@ -139,8 +132,7 @@ measured_up source m place number (Some l3) quiet = by (rr_reading l3) where
     valid : (b : Bool) → SaysUp source m (if b then Reports place number (report_reading value) else Nothing)
     valid true = quiet
     valid false = quiet
-  by (Ok _) = quiet
-  by (Err fault) = quiet
+  by _ = quiet
 
 -- one that brings nothing at all
 silent_quiet : (source : ℕ) (m : Rsl) → ((number : ℕ) → brings number m ≡ []) → ((w : Actors) → acknowledged_tenure w source (Some m) ≡ None) → IsQuiet source m

@@ -3,11 +3,8 @@ use Rattle.world_laws.proofs.Prelude.{◌≡◌, ℕ, true, false, Bool, if◌th
 use Rattle.world_laws.proofs.Prelude.{◌∙◌, subst, option_and_then, Channel, Place, Out, outs_of, Input, Connection, Row, OfRow, kept}
 use Rattle.world_laws.proofs.Prelude.{connection_of, AreRising, Ready, here_of, Word, OnChannel}
 use Rattle.world_laws.proofs.Prelude.{OnConnection, request_offer, Controller, Entry, Turn, channel_state, entry_of, freed, holder}
-use Rattle.world_laws.proofs.Prelude.{ignoring, turn, by_fitting, concerning, entry_at, frees, on_freed, on_word, keeps_number}
-use Rattle.conn_rules.specs.Table.{row_of}
-use Rattle.controller_model.proofs.LifeLaws.Acting.{row_found}
-use Rattle.world_laws.specs.OwnFrame.{IsSaidTo, freed_for}
-use Rattle.world_laws.specs.OwnFrame.IsSaidTo.{on_channel, on_connection}
+use Rattle.world_laws.proofs.Prelude.{ignoring, turn, by_fitting, concerning, entry_at, frees, on_freed, on_word, keeps_number, row_of}
+use Rattle.world_laws.proofs.Prelude.{row_found, IsSaidTo, freed_for, on_channel, on_connection}
 use Rattle.world_laws.proofs.PutAsRead.{number_at}
 
 -- ---- one connection

@@ -1,10 +1,8 @@
 -- What holds while a connection lives is kept by breaks of stations' links.
 use Rattle.world_laws.proofs.Prelude.{◌≡◌, ℕ, Bool, false, List, [], ◌∷◌, ◌++◌, refl, sym, ap, ◌∙◌, subst, append_assoc, DataLinkState}
-use Rattle.world_laws.specs.LineUp.Places.{Tenure, LineUp, flow, parts_of, with_items}
-use Rattle.world_laws.specs.LineUp.Alive.{Alive, Condition, Follows}
-use Rattle.world_laws.specs.LineUp.Alive.Condition.{lost_old, lost_serving, lost_target}
-use Rattle.world_laws.specs.LineUp.BreakStep.{BreakStep, lost}
-use Rattle.world_laws.specs.LineUp.BreakStep.BreakStep.{breaks_serving, breaks_target, breaks_old}
+use Rattle.world_laws.proofs.Prelude.{LineUp, flow, parts_of, with_items, Alive, Condition, Follows, lost_old, lost_serving, lost_target}
+use Rattle.world_laws.proofs.Prelude.{BreakStep, lost, breaks_serving, breaks_target, breaks_old}
+use Rattle.world_laws.specs.LineUp.Places.{Tenure}
 use Rattle.world_laws.proofs.LineUp.Lines.{parts_front, parts_broken, some_lost-here, first_relays_at, controls_front, texts_front}
 use Rattle.world_laws.proofs.LineUp.Standing.{stands_serving, stands_target}
 use Rattle.world_laws.proofs.LineUp.Following.{follows_front}

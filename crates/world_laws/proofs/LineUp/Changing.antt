@@ -1,10 +1,9 @@
 -- What holds while a connection lives is kept by changes of its channels.
 use Rattle.world_laws.proofs.Prelude.{◌≡◌, ℕ, Bool, true, false, List, [], ◌∷◌, ◌++◌, refl, sym, ap, ◌∙◌, subst, append_assoc, cond}
-use Rattle.world_laws.proofs.Prelude.{append-nil, is_control, is_control-apart}
-use Rattle.world_laws.specs.LineUp.Places.{Item, Tenure, LineUp, flow, messages_in, part_of, parts_of, with_items, fresh}
-use Rattle.world_laws.specs.LineUp.Places.Item.{brought, released}
-use Rattle.world_laws.specs.LineUp.Alive.{Alive, Condition}
-use Rattle.world_laws.specs.LineUp.ChangeStep.{ChangeStep, after_complete, done}
+use Rattle.world_laws.proofs.Prelude.{append-nil, is_control, is_control-apart, LineUp, flow, messages_in, part_of, parts_of, with_items}
+use Rattle.world_laws.proofs.Prelude.{fresh, released, Alive, Condition, ChangeStep, after_complete, done}
+use Rattle.world_laws.specs.LineUp.Places.{Item, Tenure}
+use Rattle.world_laws.specs.LineUp.Places.Item.{brought}
 use Rattle.world_laws.specs.LineUp.ChangeStep.ChangeStep.{commands, completes, goes_back, is_released, releases, leaves_to_old}
 use Rattle.world_laws.specs.LineUp.ChangeStep.ChangeStep.{leaves_to_serving}
 use Rattle.world_laws.proofs.LineUp.Lines.{flow-apart, messages_in-append, hold_relayed, parts-within, parts-tail, some_lost-at}

@@ -1,18 +1,12 @@
 -- Why the line is intact, or isn't, step by step.
-use Rattle.world_laws.proofs.Prelude.{◌≡◌, Bool, true, false, ◌||◌, ◌⊎◌, inl, inr, refl}
+use Rattle.world_laws.proofs.Prelude.{◌≡◌, Bool, true, false, ◌||◌, ◌⊎◌, inl, inr, refl, on_serving, on_target, moving, after_complete}
+use Rattle.world_laws.proofs.Prelude.{Stays, Condition, remains, left, sound, left_the_cell, lost_old, lost_serving, lost_target}
 use Rattle.world_laws.specs.LineUp.Places.{Seat}
-use Rattle.world_laws.specs.LineUp.Places.Seat.{on_serving, on_target, moving}
-use Rattle.world_laws.specs.LineUp.ChangeStep.{after_complete}
-use Rattle.world_laws.specs.LineUp.Alive.{Stays, Condition}
-use Rattle.world_laws.specs.LineUp.Alive.Stays.{remains, left}
-use Rattle.world_laws.specs.LineUp.Alive.Condition.{sound, left_the_cell, lost_old, lost_serving, lost_target}
 
 pub condition_intact : {seat : Seat} {o s t ok : Bool} → ok ≡ true → Condition seat o s t ok → (o ≡ false) × (s ≡ false) × (t ≡ false)
 condition_intact is sound = (refl, refl, refl)
-condition_intact is left_the_cell = absurd cc
-condition_intact is lost_old = absurd cc
-condition_intact is lost_serving = absurd cc
 condition_intact is (lost_target here) = absurd cc
+condition_intact is _ = absurd cc
 
 -- while a station takes messages of the mobile, something is missing before its channel alone
 pub condition_on_serving : {o s t ok : Bool} → ok ≡ false → s ≡ false → Condition on_serving o s t ok → o ≡ true

@@ -1,12 +1,8 @@
 -- Where a line ends, and what follows it.
 use Rattle.world_laws.proofs.Prelude.{◌≡◌, ℕ, Bool, true, false, Some, List, [], ◌∷◌, ◌++◌, refl, sym, subst, Rise, lent_message}
-use Rattle.world_laws.proofs.Prelude.{after_lending, to_be_taken, DataLinkState}
-use Rattle.dtap_codec.proofs.Rising.{Rise-front, Rise-grow}
+use Rattle.world_laws.proofs.Prelude.{after_lending, to_be_taken, DataLinkState, Rise-front, Rise-grow, GoesOn-lent, flow, Follows, rises}
 use Rattle.mobile_end.specs.GoesOn.{GoesOn}
-use Rattle.mobile_end.proofs.GoingOn.{GoesOn-lent}
-use Rattle.world_laws.specs.LineUp.Places.{flow}
-use Rattle.world_laws.specs.LineUp.Alive.{Follows}
-use Rattle.world_laws.specs.LineUp.Alive.Follows.{goes_on, rises}
+use Rattle.world_laws.specs.LineUp.Alive.Follows.{goes_on}
 
 -- the same line
 pub follows_line : {m : ℕ} {sent xs ys : List (List ℕ)} {link : DataLinkState} {ok : Bool} → xs ≡ ys → Follows m sent xs link ok → Follows m sent ys link ok

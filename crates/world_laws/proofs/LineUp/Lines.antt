@@ -1,12 +1,10 @@
 -- Equations of the line's parts.
 use Rattle.world_laws.proofs.Prelude.{◌≡◌, ℕ, ◌+◌, ◌≤◌, Bool, true, false, ◌||◌, List, [], ◌∷◌, ◌++◌, length, refl, sym, ap, ◌∙◌}
 use Rattle.world_laws.proofs.Prelude.{append_assoc, cond, arith, length-append, filter, cond-true, cond-false, append-nil, filter-append}
-use Rattle.world_laws.proofs.Prelude.{is_flow_message, is_control, no-length}
-use Rattle.world_laws.specs.LineUp.Places.{Item, Tenure, flow, messages_in, part_of, parts_of, with_items, controls_of, controls_in}
-use Rattle.world_laws.specs.LineUp.Places.{texts_in}
-use Rattle.world_laws.specs.LineUp.Places.Item.{brought, released}
-use Rattle.world_laws.specs.LineUp.BreakStep.{lost}
-use Rattle.world_laws.specs.LineUp.Alive.{some_lost, FirstRelays}
+use Rattle.world_laws.proofs.Prelude.{is_flow_message, is_control, no-length, flow, messages_in, part_of, parts_of, with_items, controls_of}
+use Rattle.world_laws.proofs.Prelude.{controls_in, texts_in, released, lost, some_lost, FirstRelays}
+use Rattle.world_laws.specs.LineUp.Places.{Item, Tenure}
+use Rattle.world_laws.specs.LineUp.Places.Item.{brought}
 
 pub flow-append : (xs ys : List (List ℕ)) → flow (xs ++ ys) ≡ flow xs ++ flow ys
 flow-append xs ys = filter-append is_flow_message xs ys

@@ -3,15 +3,11 @@ use Rattle.world_laws.proofs.Prelude.{◌≡◌, ℕ, ◌+◌, ◌%◌, ◌≤�
 use Rattle.world_laws.proofs.Prelude.{sym, ap, ◌∙◌, append_assoc, cond, arith, inl, inr, filter, not, option_to_list, cases_Bool, cond-true}
 use Rattle.world_laws.proofs.Prelude.{cond-false, is_flow_message, with_number, is_control, without_control, waits, lent_message}
 use Rattle.world_laws.proofs.Prelude.{after_lending, after_resume, to_be_taken, outstanding_messages, DataLinkState, is_control-apart}
-use Rattle.dtap_codec.proofs.Numbers.{is_flow-with_number}
-use Rattle.mobile_end.proofs.GoingOn.{GoesOn-acknowledged, GoesOn-resumed, GoesOn-numbered, GoesOn-unnumbered}
-use Rattle.mobile_end.proofs.Numbering.{to_be_taken-waits, to_be_taken-lent_message, to_be_taken-acknowledged}
-use Rattle.world_laws.specs.LineUp.Places.{Item, Tenure, LineUp, flow, messages_in, part_of, parts_of, with_items, line, controls_of}
-use Rattle.world_laws.specs.LineUp.Places.{controls_in}
+use Rattle.world_laws.proofs.Prelude.{is_flow-with_number, GoesOn-acknowledged, GoesOn-resumed, GoesOn-numbered, GoesOn-unnumbered}
+use Rattle.world_laws.proofs.Prelude.{to_be_taken-waits, to_be_taken-lent_message, to_be_taken-acknowledged, LineUp, flow, messages_in}
+use Rattle.world_laws.proofs.Prelude.{part_of, parts_of, with_items, line, controls_of, controls_in, Alive, some_lost, rises, left_the_cell}
+use Rattle.world_laws.specs.LineUp.Places.{Item, Tenure}
 use Rattle.world_laws.specs.LineUp.Places.Item.{brought}
-use Rattle.world_laws.specs.LineUp.Alive.{Alive, some_lost}
-use Rattle.world_laws.specs.LineUp.Alive.Follows.{rises}
-use Rattle.world_laws.specs.LineUp.Alive.Condition.{left_the_cell}
 use Rattle.world_laws.specs.LineUp.MobileStep.{MobileStep}
 use Rattle.world_laws.specs.LineUp.MobileStep.MobileStep.{sends_numbered, sends_other, taken_on_serving, taken_on_target, acknowledged}
 use Rattle.world_laws.specs.LineUp.MobileStep.MobileStep.{follows_command, loses_command, arrives, returns, dismissed_from_serving}

@@ -1,20 +1,16 @@
 -- What the switch accepts of a line whose places rise.
 use Rattle.world_laws.proofs.Prelude.{◌≡◌, ℕ, ◌+◌, ◌≤◌, List, [], ◌∷◌, ◌++◌, refl, sym, ap, ◌∙◌, subst, append_assoc, arith, append-nil}
-use Rattle.world_laws.proofs.Prelude.{Rise, to_be_taken, DataLinkState}
-use Rattle.dtap_codec.proofs.Rising.{Rise-cut, Rise-front, Rise-grow, Rise-of_flow}
+use Rattle.world_laws.proofs.Prelude.{Rise, to_be_taken, DataLinkState, Rise-cut, Rise-front, Rise-grow, Rise-of_flow}
+use Rattle.world_laws.proofs.Prelude.{accepted_list_from-rise, progress_from-rise, LineUp, flow, messages_in, parts_of, line, controls_in}
+use Rattle.world_laws.proofs.Prelude.{controls_of, Alive, remains, sound, IsInOrder, coming, by_mobile, by_relaying, by_change, by_break}
+use Rattle.world_laws.proofs.Prelude.{none, first}
 use Rattle.mobile_end.specs.GoesOn.{GoesOn}
-use Rattle.world_model.proofs.Accepting.{accepted_list_from-rise, progress_from-rise}
-use Rattle.world_laws.specs.LineUp.Places.{Item, LineUp, flow, messages_in, parts_of, line, controls_in, controls_of}
-use Rattle.world_laws.specs.LineUp.Alive.{Alive}
-use Rattle.world_laws.specs.LineUp.Alive.Stays.{remains}
+use Rattle.world_laws.specs.LineUp.Places.{Item}
 use Rattle.world_laws.specs.LineUp.Alive.Follows.{goes_on}
 use Rattle.world_laws.specs.LineUp.Alive.Stands.{rests}
-use Rattle.world_laws.specs.LineUp.Alive.Condition.{sound}
-use Rattle.world_laws.specs.LineUp.Order.{Ended, IsInOrder, coming}
+use Rattle.world_laws.specs.LineUp.Order.{Ended}
 use Rattle.world_laws.specs.LineUp.Opening.{opened}
 use Rattle.world_laws.specs.LineUp.Steps.{Step, Steps}
-use Rattle.world_laws.specs.LineUp.Steps.Step.{by_mobile, by_relaying, by_change, by_break}
-use Rattle.world_laws.specs.LineUp.Steps.Steps.{none, first}
 use Rattle.world_laws.proofs.LineUp.Lines.{flow-append, flow-cons}
 use Rattle.world_laws.proofs.LineUp.Following.{follows_rise}
 use Rattle.world_laws.proofs.LineUp.Moving.{alive_mobile}

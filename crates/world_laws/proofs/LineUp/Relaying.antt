@@ -1,8 +1,7 @@
 -- What holds while a connection lives is kept by what moves its messages along.
-use Rattle.world_laws.proofs.Prelude.{ℕ, List, [], ◌∷◌, ◌++◌, refl, ap, subst}
-use Rattle.world_laws.specs.LineUp.Places.{LineUp, flow, messages_in, with_items, holding}
+use Rattle.world_laws.proofs.Prelude.{ℕ, List, [], ◌∷◌, ◌++◌, refl, ap, subst, LineUp, flow, messages_in, with_items, holding, Alive}
+use Rattle.world_laws.proofs.Prelude.{Condition}
 use Rattle.world_laws.specs.LineUp.Places.Item.{brought}
-use Rattle.world_laws.specs.LineUp.Alive.{Alive, Condition}
 use Rattle.world_laws.specs.LineUp.RelayStep.{RelayStep}
 use Rattle.world_laws.specs.LineUp.RelayStep.RelayStep.{relays_serving, holds_before_confirm, holds_serving, relays_oldest, holds_old}
 use Rattle.world_laws.specs.LineUp.RelayStep.RelayStep.{ignores_serving, ignores_old, ignores_target, confirms, switch_takes}

@@ -1,26 +1,20 @@
 -- Definitions against literal line-ups.
 use Rattle.world_laws.proofs.Prelude.{◌≡◌, ℕ, ◌+◌, ◌≤◌, true, false, Some, List, [], ◌∷◌, refl, arith, Carries, next, Empty, Given, Reached}
-use Rattle.world_laws.proofs.Prelude.{DataLinkState}
-use Rattle.dtap_codec.specs.Places.Rise.{over, again}
-use Rattle.world_model.specs.AcceptedList.{accepted_list, progress}
-use Rattle.world_laws.specs.LineUp.Places.{Tenure, LineUp, fresh, messages_in, part_of, parts_of, line, controls_of, controls_in, texts_in}
-use Rattle.world_laws.specs.LineUp.Places.Item.{brought, released}
-use Rattle.world_laws.specs.LineUp.Places.Seat.{on_serving, on_target, moving}
-use Rattle.world_laws.specs.LineUp.Alive.{Alive, Stands}
-use Rattle.world_laws.specs.LineUp.Alive.Follows.{goes_on, rises}
-use Rattle.world_laws.specs.LineUp.Alive.Stays.{remains}
+use Rattle.world_laws.proofs.Prelude.{DataLinkState, again, accepted_list, progress, LineUp, fresh, messages_in, part_of, parts_of, line}
+use Rattle.world_laws.proofs.Prelude.{controls_of, controls_in, texts_in, released, on_serving, on_target, moving, Alive, rises, remains}
+use Rattle.world_laws.proofs.Prelude.{sound, lost_serving, coming, breaks_target, by_mobile, by_relaying, by_change, by_break, none, first}
+use Rattle.dtap_codec.specs.Places.Rise.{over}
+use Rattle.world_laws.specs.LineUp.Places.{Tenure}
+use Rattle.world_laws.specs.LineUp.Places.Item.{brought}
+use Rattle.world_laws.specs.LineUp.Alive.{Stands}
+use Rattle.world_laws.specs.LineUp.Alive.Follows.{goes_on}
 use Rattle.world_laws.specs.LineUp.Alive.Stands.{opens, rests, arrives as has_arrived}
-use Rattle.world_laws.specs.LineUp.Alive.Condition.{sound, lost_serving}
-use Rattle.world_laws.specs.LineUp.Order.{coming}
 use Rattle.world_laws.specs.LineUp.Opening.{opened}
 use Rattle.world_laws.specs.LineUp.MobileStep.MobileStep.{taken_on_serving, taken_on_target, acknowledged, follows_command, arrives}
 use Rattle.world_laws.specs.LineUp.MobileStep.MobileStep.{returns}
 use Rattle.world_laws.specs.LineUp.RelayStep.RelayStep.{relays_serving, holds_serving, relays_oldest, confirms}
 use Rattle.world_laws.specs.LineUp.ChangeStep.ChangeStep.{commands, completes, goes_back, is_released, releases, leaves_to_serving}
-use Rattle.world_laws.specs.LineUp.BreakStep.BreakStep.{breaks_target}
 use Rattle.world_laws.specs.LineUp.Steps.{Steps}
-use Rattle.world_laws.specs.LineUp.Steps.Step.{by_mobile, by_relaying, by_change, by_break}
-use Rattle.world_laws.specs.LineUp.Steps.Steps.{none, first}
 use Rattle.world_laws.proofs.LineUp.Ordering.{is_in_order_alive}
 use Rattle.world_laws.proofs.Usual.{paging_response, opening_sent}
 

@@ -1,10 +1,8 @@
 -- How a change of channel stands, step by step.
-use Rattle.world_laws.proofs.Prelude.{◌≡◌, ℕ, ◌+◌, ◌≤◌, Bool, true, false, arith}
+use Rattle.world_laws.proofs.Prelude.{◌≡◌, ℕ, ◌+◌, ◌≤◌, Bool, true, false, arith, on_serving, on_target, moving, gone, after_complete}
+use Rattle.world_laws.proofs.Prelude.{Stays, remains, left}
 use Rattle.world_laws.specs.LineUp.Places.{Seat}
-use Rattle.world_laws.specs.LineUp.Places.Seat.{on_serving, on_target, moving, gone}
-use Rattle.world_laws.specs.LineUp.ChangeStep.{after_complete}
-use Rattle.world_laws.specs.LineUp.Alive.{Stays, Stands}
-use Rattle.world_laws.specs.LineUp.Alive.Stays.{remains, left}
+use Rattle.world_laws.specs.LineUp.Alive.{Stands}
 use Rattle.world_laws.specs.LineUp.Alive.Stands.{opens, rests, waits, leaves, arrives, returns}
 
 -- less on its way

@@ -2,9 +2,8 @@
 use Rattle.world_laws.proofs.Prelude.{◌≡◌, ◌≢◌, inl, inr, ℕ, false, List, [], ◌∷◌, refl, sym, ap, ◌∙◌, subst, cases_Bool, Place}
 use Rattle.world_laws.proofs.Prelude.{SWITCH_LINK, place_at, BaseState, Event, BaseTakes, AirMessage, OutboxEntry, actors_after, Actors}
 use Rattle.world_laws.proofs.Prelude.{Spot, outbox_of, spot_at, with_base, with_spot, up-right, spot-with_base, Respots, event-keeps}
+use Rattle.world_laws.proofs.Prelude.{NoDataEntry, airs, asks_up, counts, goes_down, is_left, short_up}
 use Rattle.world_laws.proofs.Targets.Places.{is_place, same_place, spot-apart, spot_here}
-use Rattle.world_laws.specs.Order.QuietDown.{NoDataEntry}
-use Rattle.world_model.proofs.Footprints.Respots.{airs, asks_up, counts, goes_down, is_left, short_up}
 
 module _ (at : Place) (at_is : at.station ≢ SWITCH_LINK) where
   abbrev Empty : Actors → Type 0

@@ -1,9 +1,8 @@
 -- What the laws' definitions say, at literal events.
 use Rattle.world_laws.proofs.Prelude.{◌≡◌, ℕ, true, List, [], ◌∷◌, option_map, Some, refl, sym, ap, ◌∙◌, arith, connection_of}
-use Rattle.world_laws.proofs.Prelude.{to_be_taken, BasePush, Connect, Handle, actors_after_all, connected, Mobile, mobile_of}
-use Rattle.world_laws.specs.LineUp.Places.{controls_of}
+use Rattle.world_laws.proofs.Prelude.{to_be_taken, BasePush, Connect, Handle, actors_after_all, connected, Mobile, mobile_of, controls_of}
+use Rattle.world_laws.proofs.Prelude.{behind_first, IsNew}
 use Rattle.world_model.proofs.Worlds.{on_literals}
-use Rattle.world_laws.specs.Access.Coming.{behind_first, IsNew}
 use Rattle.world_laws.proofs.Order.Coming.{connected_goes}
 use Rattle.world_laws.proofs.Usual.{begin, service_request}
 

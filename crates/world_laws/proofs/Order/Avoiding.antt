@@ -3,12 +3,10 @@
 use Rattle.world_laws.proofs.Prelude.{◌≡◌, ◌≢◌, ℕ, ◌≤◌, Bool, List, ◌∷◌, Option, Some, None, sym, AllByRecursion, Place, Message, outs_of}
 use Rattle.world_laws.proofs.Prelude.{Connection, roles_of, target_channels, brought_in, connection_of, outs_for, OwnsOpen, step_does}
 use Rattle.world_laws.proofs.Prelude.{life_after, run_step, ChannelState, InUse, Step, Controller, channel_state, state_in, step}
-use Rattle.world_laws.proofs.Prelude.{SWITCH_LINK, AreAllowed, Parameters, IsNotOn}
+use Rattle.world_laws.proofs.Prelude.{SWITCH_LINK, AreAllowed, Parameters, IsNotOn, elsewhere, life}
 use Rattle.controller_model.specs.LifeLaws.Placing.{used_by}
-use Rattle.controller_model.proofs.LifeLaws.Keeping.{elsewhere}
 use Rattle.controller_model.proofs.LifeLaws.Placed.{acts_placed, owned_apart}
 use Rattle.controller_model.specs.Controller.{is_up}
-use Rattle.controller_model.specs.Life.{life}
 use Rattle.controller_model.proofs.LifeLaws.Passing.{UsesElsewhere, acts_pass, unused_by, unused_put}
 
 -- another's channels are elsewhere

@@ -5,16 +5,11 @@ use Rattle.world_laws.proofs.Prelude.{Option, Some, None, refl, sym, ap, ◌∙�
 use Rattle.world_laws.proofs.Prelude.{AllByRecursion, Place, Out, ChannelState, Free, InUse, activation_ack, Rsl, OutboxEntry, Tenure}
 use Rattle.world_laws.proofs.Prelude.{Agrees, to_come, acknowledgement, due, is_active_then, to_link, rsl_in, Actors, is_active_at, is_up}
 use Rattle.world_laws.proofs.Prelude.{outbox_of, Both-empty, Goes, Passes, said_to, first_passes, runs, channel_state, hears, entries_to}
+use Rattle.world_laws.proofs.Prelude.{runs-kept, entry-out, goes_activates, acknowledgements_up, is_ending, Waits, here, later}
 use Rattle.rsl_codec.specs.declared.rsl.Rsl.TheVariants as rsl
 use Rattle.world_model.specs.Relay.{entry_of}
-use Rattle.world_model.proofs.OwnerPuts.{runs-kept}
-use Rattle.world_model.proofs.OwnerPuts.Goes.{activates as goes_activates}
-use Rattle.world_laws.specs.Acknowledged.{acknowledgements_up}
-use Rattle.world_laws.proofs.Others.{entry-out}
-use Rattle.world_laws.specs.Targets.Quiet.{is_ending}
 use Rattle.world_laws.proofs.Targets.Settled.{comes_idle}
-use Rattle.world_laws.specs.Order.QuietDown.{Waits, activates}
-use Rattle.world_laws.specs.Order.QuietDown.Waits.{here, later}
+use Rattle.world_laws.specs.Order.QuietDown.{activates}
 use Rattle.world_laws.proofs.Order.NoData.{NoDataOut, entries_none}
 use Rattle.world_laws.proofs.Order.QuietDown.{stays_inactive}
 use Rattle.world_laws.proofs.Channels.RoleAcks.{up_first}
@@ -26,8 +21,7 @@ entry-says at target out hit = ap (λ (o : Out). rsl_in o.frame) (entry-out targ
 
 passes_none : (k : ℕ) (o : Option Rsl) → Passes k o → activates k o ≡ false
 passes_none k (Some (rsl.ChannelActivation a)) beside = ne_eqb a.channel k beside
-passes_none k None beside = refl
-passes_none k (Some _) beside = refl
+passes_none k _ beside = refl
 
 -- a channel that comes into use by outputs that carry no DATA REQUEST for it is activated by one of
 -- them
@@ -49,8 +43,7 @@ act_none k (Some (rsl.ChannelActivation a)) none = by (a.channel == k) none wher
   by : (b : Bool) → (if b && not false then activation_ack k ∷ [] else []) ≡ [] → b ≡ false
   by true is = absurd cc
   by false is = refl
-act_none k None none = refl
-act_none k (Some _) none = refl
+act_none k _ none = refl
 
 behind_waits : (k : ℕ) (xs ys : List OutboxEntry) → due k false xs ≡ [] → Waits k ys → Waits k (xs ++ ys)
 behind_waits k [] ys none rest = rest

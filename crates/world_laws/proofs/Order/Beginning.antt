@@ -11,44 +11,37 @@ use Rattle.world_laws.proofs.Prelude.{AreAllowed, CellParameters, Parameters, Ev
 use Rattle.world_laws.proofs.Prelude.{said_by, joined_by, target_in, with_turn, rsl_in, all_steps, first_taken, step_at, Actors, Mobile}
 use Rattle.world_laws.proofs.Prelude.{base_of, has_number, is_up, modulus_in, new_actors, outbox_of, with_outbox, good-all, good-new}
 use Rattle.world_laws.proofs.Prelude.{after-taken, air_up-leads, handle-leads, turn-leads, LivesByTable-new, IsKnownItem, known-inbox}
+use Rattle.world_laws.proofs.Prelude.{option_and_then_some, slice_get_within, behind_found, word_asked, IsAskedOf, channel_in}
+use Rattle.world_laws.proofs.Prelude.{channel_of_kind, free_channel, free_in, life, new_entry, take, tick, word_of, messages_in, brings_in}
+use Rattle.world_laws.proofs.Prelude.{coming_up, made_of, going_down, leading_by, leading_from_outbox, Begins, ConnectionsBegin, HasBegun}
+use Rattle.world_laws.proofs.Prelude.{StillAsks, WasNeverAnswered, requests_in, requests_up, said_in, IsQuiet, entry-out}
 use Rattle.std.proofs.Common.{slice_get}
-use Rattle.std.proofs.lemmas.Option.{option_and_then_some, slice_get_within}
 use Rattle.conn_messages.specs.Out.{out_of}
-use Rattle.controller_model.proofs.LifeLaws.Entries.{behind_found}
-use Rattle.controller_model.proofs.LifeLaws.UsingLife.{word_asked}
-use Rattle.controller_model.proofs.LifeLaws.UsingWords.{IsAskedOf}
 use Rattle.controller_model.specs.declared.step.Step.TheVariants as steps
-use Rattle.controller_model.specs.Channels.{channel_in, channel_of_kind, free_channel, free_in}
-use Rattle.controller_model.specs.Life.{life, new_entry, take, tick, with_connection}
-use Rattle.controller_model.specs.Reading.{word_of}
-use Rattle.world_laws.specs.LineUp.Places.{Item as Brought, messages_in}
+use Rattle.controller_model.specs.Life.{with_connection}
+use Rattle.world_laws.specs.LineUp.Places.{Item as Brought}
 use Rattle.world_laws.proofs.LineUp.Lines.{messages_in-append}
 use Rattle.ruled_relay.specs.declared.item.What.TheVariants as whats
 use Rattle.rsl_codec.specs.declared.rsl.Rsl.TheVariants as rsl
 use Rattle.world_model.specs.declared.event.Event.TheVariants as events
 use Rattle.world_model.specs.Life.{event_after}
 use Rattle.world_model.specs.Relay.{entry_of}
-use Rattle.world_laws.specs.ComingUp.{brings_in, coming_up, made_of}
-use Rattle.world_laws.specs.GoingDown.{going_down, leading_by, leading_from_outbox}
-use Rattle.world_laws.proofs.Others.{down-joined, entry-out, turn_mobiles}
+use Rattle.world_laws.proofs.Others.{down-joined, turn_mobiles}
 use Rattle.world_laws.proofs.OrderTexts.{activation_back, read_of}
 use Rattle.world_laws.proofs.OwnerRun.{life-settings, not_zero}
 use Rattle.world_laws.proofs.Sublists.{Sub, sub_behind, sub_nothing}
 use Rattle.world_laws.proofs.Access.Passes.{Passes, passes_itself}
 use Rattle.world_laws.proofs.Access.Travels.{event_passes, is_passing}
 use Rattle.world_laws.proofs.Access.Upcoming.{initials-none}
-use Rattle.world_laws.specs.Order.Beginning.{Begins, ConnectionsBegin, HasBegun}
 use Rattle.world_laws.specs.Order.Beginning.HasBegun.{begins as has_begun, not_yet}
-use Rattle.world_laws.specs.Order.Unanswered.{StillAsks, WasNeverAnswered}
 use Rattle.world_laws.proofs.Order.Naming.{step_names, turn_names}
 use Rattle.world_laws.proofs.Order.Opens.{Opens, take_opens, tick_numbers}
 use Rattle.world_laws.proofs.Order.Opens.Opens.{begins as opens_one, stays as opens_none}
 use Rattle.world_laws.proofs.Order.Unanswered.{unanswered_mobiles_ask_new}
-use Rattle.world_laws.specs.Owners.OneEach.{AsksOnce, requests_in, requests_up, said_in}
+use Rattle.world_laws.specs.Owners.OneEach.{AsksOnce}
 use Rattle.world_laws.proofs.Owners.Asking.{asking_says}
 use Rattle.world_laws.proofs.Owners.Making.{requests-append}
 use Rattle.world_laws.proofs.Owners.OneEach.{none_was_answered_new, requests_come_once_new}
-use Rattle.world_laws.specs.Targets.Quiet.{IsQuiet}
 use Rattle.world_laws.proofs.Targets.FreeQuiet.{free_channels_are_quiet_new}
 use Rattle.world_laws.proofs.Events.{split_steps}
 

@@ -3,35 +3,28 @@ use Rattle.world_laws.proofs.Prelude.{◌≡◌, ◌≢◌, ◌⊎◌, inl, inr,
 use Rattle.world_laws.proofs.Prelude.{◌++◌, Contains, Option, Some, None, refl, sym, ap, ◌∙◌, subst, arith, append_assoc, cases_Bool}
 use Rattle.world_laws.proofs.Prelude.{eqb-true, eqb-false, append-nil, AllByRecursion, flat_map, list_any, Place, Message, Out, SWITCH_LINK}
 use Rattle.world_laws.proofs.Prelude.{outs_of, Connection, AllByRecursion-filter, Acts, brought_in, connection_of, is_for, outs_for}
-use Rattle.world_laws.proofs.Prelude.{ComesInOctets, IsSent, IsNotOn, life_after, contains_none, ChannelState, Free, InUse, Releasing, Step}
+use Rattle.world_laws.proofs.Prelude.{ComesInOctets, IsSent, IsNotOn, life_after, contains_none, ChannelState, Free, InUse, Step}
 use Rattle.world_laws.proofs.Prelude.{Controller, channel_state, hears, place_of, step, RelayItem, Rsl, AreAllowed, Parameters, Event}
 use Rattle.world_laws.proofs.Prelude.{OutboxEntry, Tenure, actors_after, AllAgree, owner_in, is_active, acknowledgements, active_all}
 use Rattle.world_laws.proofs.Prelude.{outputs, outputs_at, put, taken, to_link, target_in, all_steps, first_taken, step_at, Actors, Link}
 use Rattle.world_laws.proofs.Prelude.{base_of, is_active_at, is_up, new_actors, outbox_of, LivesByTable-new, outbox-step, OutboxStep}
 use Rattle.world_laws.proofs.Prelude.{breaks, Goes, first_passes, runs, heard_of, Serves, hear, acks-append, length-stations_from}
-use Rattle.world_laws.proofs.Prelude.{pipe-step, PipeStep, flows, stops, life_ready, Ready, free≢use}
-use Rattle.controller_model.specs.LifeLaws.Using.{used_places}
-use Rattle.controller_model.proofs.LifeLaws.Fitting.{IsFine}
+use Rattle.world_laws.proofs.Prelude.{pipe-step, PipeStep, flows, stops, life_ready, Ready, free≢use, used_places, IsFine, life, take, tick}
+use Rattle.world_laws.proofs.Prelude.{runs-kept, goes_activates, acknowledgements_up, is_release_ack, read_of, CameInOctets, IsHad}
+use Rattle.world_laws.proofs.Prelude.{is_ending, ChannelsBeginQuiet, NoDataEntry, Quiet, Waits, IsEarlyIn, hear_in_use}
 use Rattle.controller_model.specs.declared.step.Step.TheVariants as steps
-use Rattle.controller_model.specs.Life.{life, take, tick}
 use Rattle.rsl_codec.specs.declared.rsl.Rsl.TheVariants as rsl
 use Rattle.world_model.specs.declared.event.Event.TheVariants as events
 use Rattle.world_model.specs.Relay.{entry_of}
 use Rattle.world_model.proofs.Outboxes.Step.{goes}
-use Rattle.world_model.proofs.OwnerPuts.{runs-kept}
-use Rattle.world_model.proofs.OwnerPuts.Goes.{activates as goes_activates}
 use Rattle.world_model.proofs.OwnerRuns.{ServesAt}
-use Rattle.world_laws.specs.Acknowledged.{acknowledgements_up, is_release_ack, read_of}
-use Rattle.world_laws.specs.OthersFrame.{CameInOctets, IsHad}
 use Rattle.world_laws.proofs.OwnerRun.{serves_event}
 use Rattle.world_laws.proofs.Channels.Agreeing.{IsPlaced, owns_at, placed_at, used_at}
 use Rattle.world_laws.proofs.Handling.Finishing.{controller-is, handle_is, tick_is}
 use Rattle.world_laws.proofs.Handling.Knowing.{Steps, octets_came, steps_known}
-use Rattle.world_laws.specs.Targets.Quiet.{is_ending}
 use Rattle.world_laws.proofs.Targets.Calm.{down_active}
 use Rattle.world_laws.proofs.Targets.FreeQuiet.{Known, hear_free, known_new}
 use Rattle.world_laws.proofs.Targets.Ways.{heard_read}
-use Rattle.world_laws.specs.Order.QuietDown.{ChannelsBeginQuiet, NoDataEntry, Quiet, Waits}
 use Rattle.world_laws.specs.Order.QuietDown.Quiet.{begun, waits}
 use Rattle.world_laws.proofs.Order.Avoiding.{OthersPut, others_put}
 use Rattle.world_laws.proofs.Order.Begin.{begins_waiting}
@@ -42,14 +35,6 @@ use Rattle.world_laws.proofs.Order.NoData.{NoDataOut, by_each, entries_none, mes
 use Rattle.world_laws.proofs.Order.QuietDown.{IsIdle, quiet_step}
 use Rattle.world_laws.proofs.Events.{snoc_actors, snoc_steps, world}
 use Rattle.world_laws.proofs.References.Numbered.{outs_of_one}
-use Rattle.world_laws.specs.References.Taken.{IsEarlyIn}
-
-hear_use : (heard : List Rsl) (state : ChannelState) (n : ℕ) → hear heard state ≡ InUse n → state ≡ InUse n
-hear_use [] state n is = is
-hear_use (rsl.RfChannelReleaseAck channel ∷ rest) (Releasing m) n is = absurd cc
-hear_use (rsl.RfChannelReleaseAck channel ∷ rest) Free n is = is
-hear_use (rsl.RfChannelReleaseAck channel ∷ rest) (InUse m) n is = is
-hear_use (_ ∷ rest) state n is = is
 
 hear-used : (heard : List Rsl) (n : ℕ) → hear heard (InUse n) ≡ InUse n
 hear-used [] n = refl
@@ -60,9 +45,6 @@ goes_from : {at : Place} {state end : ChannelState} {outs : List Out} (n : ℕ) 
 goes_from n (runs all) is = inl (runs-kept n all is)
 goes_from n (first_passes beside rest) is = goes_from n rest is
 goes_from n (goes_activates a says channel few rest) is = inr refl
-
-number_is : {a b : ℕ} → InUse a ≡ InUse b → a ≡ b
-number_is both = cc
 
 module _ (settings : Parameters) (done : List Event) (event : Event) (s : Connection) (allowed : AreAllowed settings) (octets : CameInOctets settings (done ++ event ∷ []))
     (new : connection_of (world settings done).controller s.number ≡ None) (has : IsHad (world settings (done ++ event ∷ [])) s) (early_then : IsEarlyIn s.state) where
@@ -142,7 +124,7 @@ module _ (settings : Parameters) (done : List Event) (event : Event) (s : Connec
 
     heard_free : hear heard (channel_state c at) ≡ Free
     heard_free = elim (goes_from s.number (serves.goes hearing_next) end_is) [
-      | inl used ↦ absurd (unused (hear_use heard (channel_state c at) s.number used))
+      | inl used ↦ absurd (unused (hear_in_use heard (channel_state c at) s.number used))
       | inr free ↦ free
     ]
 
@@ -194,7 +176,7 @@ module _ (settings : Parameters) (done : List Event) (event : Event) (s : Connec
 
     waiting : is_up w at.station ≡ true → Waits at.number (outbox_of w at.station ++ put at.station w event)
     waiting up = subst (λ (es : List OutboxEntry). Waits at.number (outbox_of w at.station ++ es)) (sym (ap (λ (b : Bool). if b then to_link at.station (outputs w event) else []) up ∙ ap (to_link at.station) puts))
-        (begins_waiting (owner_in (new_actors settings) done) w at target s.number before.agrees hearing up why inactive (serves.goes hearing_next) end_is (λ used. unused (hear_use heard (channel_state c at) s.number used)) nodata)
+        (begins_waiting (owner_in (new_actors settings) done) w at target s.number before.agrees hearing up why inactive (serves.goes hearing_next) end_is (λ used. unused (hear_in_use heard (channel_state c at) s.number used)) nodata)
 
     up_quiet : is_up w at.station ≡ true → OutboxStep at.station w event v → PipeStep at.station at.number w event v → Quiet v at
     up_quiet up (breaks broken unput gone) p = down_quiet (ap (λ (l : Link). l.up) broken) (ap (λ (l : Link). l.outbox) broken)

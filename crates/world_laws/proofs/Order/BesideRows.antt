@@ -2,9 +2,8 @@
 -- and what is quiet.
 use Rattle.world_laws.proofs.Prelude.{◌≡◌, ℕ, true, false, [], ◌∷◌, Some, None, refl, sym, ap, ◌∙◌, Place, Activation, DataMessage, Rsl}
 use Rattle.world_laws.proofs.Prelude.{ChannelActivation, DataRequest, RfChannelRelease, AirMessage, OutboxEntry, rsl_in, Actors}
-use Rattle.world_laws.proofs.Prelude.{is_active_at, spot_at}
-use Rattle.world_laws.specs.Order.QuietDown.{NoDataOn, Quiet, Waits, activates}
-use Rattle.world_laws.specs.Order.QuietDown.Waits.{here, later}
+use Rattle.world_laws.proofs.Prelude.{is_active_at, spot_at, NoDataOn, Quiet, Waits, here, later}
+use Rattle.world_laws.specs.Order.QuietDown.{activates}
 use Rattle.world_laws.specs.Order.QuietDown.Quiet.{waits, begun}
 
 abbrev activation : Activation → ℕ → Rsl

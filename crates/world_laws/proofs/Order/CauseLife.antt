@@ -5,22 +5,17 @@ use Rattle.world_laws.proofs.Prelude.{drop, slice_index_or, option_map, Option, 
 use Rattle.world_laws.proofs.Prelude.{subst, arith, true≢false, AllByRecursion, result_ok, cases_Bool, eq-eqb, leb-false, leb-true}
 use Rattle.world_laws.proofs.Prelude.{append-nil, none-some, Bssap, Management, Transfer, Bssmap, InterfaceFault, Sccp, bssap_text}
 use Rattle.world_laws.proofs.Prelude.{IsReference, Message, Station, Request, Data, ReleaseComplete, Out, SWITCH_LINK, IsReadOf, outs_of}
-use Rattle.world_laws.proofs.Prelude.{Input, State, WaitActivation, WaitEstablish, WaitConfirm, Live, Closed, Removed, Connection, Row}
-use Rattle.world_laws.proofs.Prelude.{OfRow, Acts, Brought, IsAged, brought_in, kept_in, ages, goes, opens, rests, connection_of, outs_for}
-use Rattle.world_laws.proofs.Prelude.{IsNumbered, ComesInOctets, IsSent, find_below, aged_holds, life_fits, life_sends, life_sound}
-use Rattle.world_laws.proofs.Prelude.{step_does, Step, Controller, Entry, each, new_controller, pong, step, Frame, SCCP_STREAM, Rsl}
-use Rattle.world_laws.proofs.Prelude.{AreAllowed, Parameters, sccp_in, eqb-false}
-use Rattle.std.proofs.Common.{Result}
+use Rattle.world_laws.proofs.Prelude.{Input, State, Removed, Connection, Row, OfRow, Acts, Brought, IsAged, brought_in, kept_in, ages, goes}
+use Rattle.world_laws.proofs.Prelude.{opens, rests, connection_of, outs_for, IsNumbered, ComesInOctets, IsSent, find_below, aged_holds}
+use Rattle.world_laws.proofs.Prelude.{life_fits, life_sends, life_sound, step_does, Step, Controller, Entry, each, new_controller, pong}
+use Rattle.world_laws.proofs.Prelude.{step, Frame, SCCP_STREAM, Rsl, AreAllowed, Parameters, sccp_in, eqb-false, Result, sccp_reading}
+use Rattle.world_laws.proofs.Prelude.{row_of, IsMessage, HasFairCause, IsFair}
 use Rattle.bssmap_codec.specs.declared.bssmap.Bssmap.TheVariants as bssmap
 use Rattle.bssmap_codec.specs.declared.sccp.Sccp.TheVariants as sccp
 use Rattle.bssmap_codec.specs.declared.values.Cause.{Cause}
-use Rattle.bssmap_codec.specs.SccpReading.{sccp_reading}
 use Rattle.conn_messages.specs.Out.{out_of}
-use Rattle.conn_rules.specs.Table.{row_of}
-use Rattle.controller_model.specs.LifeLaws.Sending.{IsMessage}
 use Rattle.controller_model.specs.Controller.{is_up}
 use Rattle.controller_model.specs.Life.{life}
-use Rattle.world_laws.specs.Order.OctetEvents.{HasFairCause, IsFair}
 use Rattle.world_laws.proofs.Order.CauseRows.{HasSmall, IsSmallMessage, IsSmallRow, row_small}
 use Rattle.world_laws.proofs.References.Numbered.{IsOfOne, outs_of_one}
 use Rattle.world_laws.proofs.References.Moving.{each-append}
@@ -34,11 +29,7 @@ HasSmallOf (Some s) = HasSmall s.state
 
 kept_small : (state : State) (s : Connection) → HasSmall s.state → HasSmallOf (kept_in state s)
 kept_small Removed s is = tt
-kept_small WaitActivation s is = is
-kept_small WaitEstablish s is = is
-kept_small WaitConfirm s is = is
-kept_small (Live reference stage) s is = is
-kept_small (Closed clearing) s is = is
+kept_small _ s is = is
 
 aged_small : (old s : Connection) → IsAged old s → HasSmall old.state → HasSmall s.state
 aged_small old s aged is = aged_holds (λ (c : Connection). HasSmall c.state) (λ ms c is. is) old s aged is
@@ -56,9 +47,7 @@ all_fine number [] is all = tt
 all_fine number (m ∷ ms) is all = ((all.0, by m), all_fine number ms is all.1) where
   by : (m : Message) → IsReferred number m
   by (Station station message) = tt
-  by (Request message) = is
-  by (Data destination message) = is
-  by (ReleaseComplete destination) = is
+  by _ = is
 
 row_fine : (old s : Connection) (input : Input) (offer : _) (r : Row) → IsAged old s → row_of s input offer ≡ Some r → HasSmall old.state → IsSmallRow r
 row_fine old s input offer r aged fits small = subst (OfRow IsSmallRow) fits (row_small s input offer (aged_small old s aged small))
@@ -160,46 +149,24 @@ first_of same = ap (λ (xs : List ℕ). slice_index_or xs 0 0) same
 clear_of : (b : Bssmap) (cause : Cause) → bssap_text (Management b) ≡ bssap_text (Management (bssmap.ClearRequest cause)) → HasFairCause (Some (Management b)) → HasFairCause (Some (Management (bssmap.ClearRequest cause)))
 clear_of (bssmap.ClearRequest own) cause same fair =
     (fair.0, fair.1, sym (sym (append-nil own.0) ∙ ap (drop 5) same ∙ append-nil cause.0) ∙ fair.2)
-clear_of (bssmap.AssignmentRequest channel_type) cause same fair = absurd (eqb-false _ _ refl (third same))
-clear_of (bssmap.AssignmentComplete rr_cause) cause same fair = absurd (eqb-false _ _ refl (third same))
-clear_of (bssmap.AssignmentFailure own rr_cause) cause same fair = absurd (eqb-false _ _ refl (third same))
-clear_of (bssmap.HandoverPerformed own cell) cause same fair = absurd (eqb-false _ _ refl (third same))
-clear_of (bssmap.ClearCommand own) cause same fair = absurd (eqb-false _ _ refl (third same))
-clear_of (bssmap.SapiNReject dlci own) cause same fair = absurd (eqb-false _ _ refl (third same))
-clear_of (bssmap.CompleteLayer3Information cell initial) cause same fair = absurd (eqb-false _ _ refl (third same))
-clear_of (bssmap.CipherModeReject own) cause same fair = absurd (eqb-false _ _ refl (third same))
-clear_of bssmap.ClearComplete cause same fair = absurd (eqb-false _ _ refl (third same))
-clear_of bssmap.CipherModeCommand cause same fair = absurd (eqb-false _ _ refl (third same))
+clear_of _ cause same fair = absurd (eqb-false _ _ refl (third same))
 
 text_fair : (b own : Bssap) → bssap_text b ≡ bssap_text own → HasFairCause (Some b) → HasFairCause (Some own)
-text_fair b (Transfer dlci message) same fair = tt
 text_fair (Management b) (Management (bssmap.ClearRequest cause)) same fair = clear_of b cause same fair
 text_fair (Transfer dlci message) (Management (bssmap.ClearRequest cause)) same fair = absurd (eqb-false _ _ refl (first_of same))
-text_fair b (Management (bssmap.AssignmentRequest channel_type)) same fair = tt
-text_fair b (Management (bssmap.AssignmentComplete rr_cause)) same fair = tt
-text_fair b (Management (bssmap.AssignmentFailure own rr_cause)) same fair = tt
-text_fair b (Management (bssmap.HandoverPerformed own cell)) same fair = tt
-text_fair b (Management (bssmap.ClearCommand own)) same fair = tt
-text_fair b (Management (bssmap.SapiNReject dlci own)) same fair = tt
-text_fair b (Management (bssmap.CompleteLayer3Information cell initial)) same fair = tt
-text_fair b (Management (bssmap.CipherModeReject own)) same fair = tt
-text_fair b (Management bssmap.ClearComplete) same fair = tt
-text_fair b (Management bssmap.CipherModeCommand) same fair = tt
+text_fair b _ same fair = tt
 
 -- a frame of a message that is read so, and is that of one that is fine
 data_fair : (conn number destination : ℕ) (own : Bssap) (m : Message) → out_of conn (Data destination own) ≡ out_of number m → IsFine number m → HasFairCause (Some own)
 unfolding out_of
 data_fair conn number destination own (Station station message) same fine = absurd (eqb-false _ _ refl (ap (λ (o : Out). o.frame.stream) same))
-data_fair conn number destination own (Request message) same fine = absurd (eqb-false _ _ refl (first_of (ap (λ (o : Out). o.frame.body) same)))
-data_fair conn number destination own (ReleaseComplete reference) same fine = absurd (eqb-false _ _ refl (first_of (ap (λ (o : Out). o.frame.body) same)))
 data_fair conn number destination own (Data reference message) same fine = text_fair message own (sym (ap (λ (o : Out). drop 7 o.frame.body) same)) fine.0
+data_fair conn number destination own _ same fine = absurd (eqb-false _ _ refl (first_of (ap (λ (o : Out). o.frame.body) same)))
 
 request_fair : (conn number : ℕ) (own : Bssap) (m : Message) → out_of conn (Request own) ≡ out_of number m → IsFine number m → IsReference conn
 unfolding out_of
 request_fair conn number own (Station station message) same fine = absurd (eqb-false _ _ refl (ap (λ (o : Out). o.frame.stream) same))
-request_fair conn number own (Request message) same fine = subst IsReference (sym (ap (λ (o : Out). o.conn) same)) fine.1
-request_fair conn number own (ReleaseComplete reference) same fine = subst IsReference (sym (ap (λ (o : Out). o.conn) same)) fine.1
-request_fair conn number own (Data reference message) same fine = subst IsReference (sym (ap (λ (o : Out). o.conn) same)) fine.1
+request_fair conn number own _ same fine = subst IsReference (sym (ap (λ (o : Out). o.conn) same)) fine.1
 
 station_fair : (conn station : ℕ) (message : Rsl) → IsFair (sccp_in (out_of conn (Station station message)).frame)
 unfolding out_of

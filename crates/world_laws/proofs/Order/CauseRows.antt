@@ -1,9 +1,7 @@
 -- A row that asks the switch to clear does so with a cause of one octet.
 use Rattle.world_laws.proofs.Prelude.{ℕ, Option, Some, ◌<◌, refl, arith, AllByRecursion, Channel, Message, Data, Input, State, Connection, Row}
-use Rattle.world_laws.proofs.Prelude.{OfRow}
-use Rattle.conn_rules.specs.Table.{row_of}
+use Rattle.world_laws.proofs.Prelude.{OfRow, row_of, HasFairCause}
 use Rattle.conn_rules.proofs.RowPuts.{Enters, HasCause, Kinds, Puts, loose, loose_brings, loose_parts, row-puts}
-use Rattle.world_laws.specs.Order.OctetEvents.{HasFairCause}
 
 -- a CLEAR REQUEST has a cause of one octet
 abbrev pub IsSmallMessage : Message → Type 0

@@ -1,23 +1,16 @@
 -- A connection that begins is coming to its mobile.
 use Rattle.world_laws.proofs.Prelude.{◌≡◌, ℕ, Bool, true, false, if◌then◌else◌, List, [], ◌∷◌, Some, refl, sym, ap, subst, AllByRecursion}
 use Rattle.world_laws.proofs.Prelude.{Connection, Zero, is_flow_message, to_be_taken, waits, after_number, new_mobile, Parameters, Event}
-use Rattle.world_laws.proofs.Prelude.{OutboxEntry, actors_after, rsl_in, Actors, Mobile, modulus_in, outbox_of}
-use Rattle.world_laws.specs.LineUp.Places.{controls_of}
+use Rattle.world_laws.proofs.Prelude.{OutboxEntry, actors_after, rsl_in, Actors, Mobile, modulus_in, outbox_of, controls_of, is_initial}
+use Rattle.world_laws.proofs.Prelude.{idle_link, GoesOn-new, GoesOn-numbered, GoesOn-unnumbered, is_initial-clear, IsClear-flow, AssignsIn}
+use Rattle.world_laws.proofs.Prelude.{behind_first, IsComing, IsNew, AssignsAnother, Begins, ConnectionsBeginComing, HasBegun}
+use Rattle.world_laws.proofs.Prelude.{IsAsItConnected, IsEarlyIn}
 use Rattle.mobile_end.specs.GoesOn.{GoesOn}
-use Rattle.mobile_end.specs.Lawful.{is_initial}
-use Rattle.mobile_end.specs.Mobile.{after_connect, connected_mobile, idle_link, link_of, with_link}
-use Rattle.mobile_end.proofs.GoingOn.{GoesOn-new, GoesOn-numbered, GoesOn-unnumbered}
-use Rattle.mobile_end.proofs.Lives.{is_initial-clear}
-use Rattle.mobile_end.proofs.Numbering.{IsClear-flow}
-use Rattle.world_laws.specs.Access.Coming.{AssignsIn, behind_first, IsComing, IsNew}
+use Rattle.mobile_end.specs.Mobile.{after_connect, connected_mobile, link_of, with_link}
 use Rattle.world_laws.specs.Access.Coming.Comes.{asks}
-use Rattle.world_laws.specs.Access.Requested.{AssignsAnother}
-use Rattle.world_laws.specs.Order.Beginning.{Begins, ConnectionsBeginComing, HasBegun}
 use Rattle.world_laws.specs.Order.Beginning.HasBegun.{begins, not_yet}
-use Rattle.world_laws.specs.Order.Unanswered.{IsAsItConnected}
 use Rattle.world_laws.proofs.Order.Beginning.{connections_begin_new}
 use Rattle.world_laws.proofs.Access.Turning.{another_assigns}
-use Rattle.world_laws.specs.References.Taken.{IsEarlyIn}
 use Rattle.world_laws.proofs.Events.{world}
 
 -- ---- a mobile as it connected

@@ -3,9 +3,8 @@ use Rattle.world_laws.proofs.Prelude.{◌≡◌, ℕ, ◌≤◌, ◌<◌, leb, i
 use Rattle.world_laws.proofs.Prelude.{subst, arith, append_assoc, AllByRecursion, cases_Bool, leb-false, leb-true, append-nil, none-some}
 use Rattle.world_laws.proofs.Prelude.{Connection, connection_of, IsNumbered, ComesInOctets, step_goes, find_below, life_fits, Step}
 use Rattle.world_laws.proofs.Prelude.{Controller, Entry, each, new_controller, step, Parameters, Event, actors_after, actors_after_all}
-use Rattle.world_laws.proofs.Prelude.{all_steps, step_at, Actors, new_actors, LivesByTable-new}
+use Rattle.world_laws.proofs.Prelude.{all_steps, step_at, Actors, new_actors, LivesByTable-new, CameInOctets}
 use Rattle.controller_model.specs.Life.{life}
-use Rattle.world_laws.specs.OthersFrame.{CameInOctets}
 use Rattle.world_laws.proofs.References.Moving.{each-append}
 use Rattle.world_laws.proofs.Events.{snoc_actors, snoc_steps, world}
 

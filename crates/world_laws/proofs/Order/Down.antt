@@ -6,20 +6,16 @@ use Rattle.world_laws.proofs.Prelude.{Connection, AllByRecursion-filter, Acts, b
 use Rattle.world_laws.proofs.Prelude.{IsSent, IsNotOn, life_after, Free, InUse, Step, Controller, channel_state, hears, place_of, step}
 use Rattle.world_laws.proofs.Prelude.{RelayItem, AreAllowed, Parameters, Event, OutboxEntry, Tenure, actors_after, actors_after_all}
 use Rattle.world_laws.proofs.Prelude.{outputs, outputs_at, put, to_link, target_in, all_steps, first_taken, step_at, Actors, is_up}
-use Rattle.world_laws.proofs.Prelude.{new_actors, LivesByTable-new, length-stations_from, pipe-step, same_Some}
-use Rattle.controller_model.proofs.LifeLaws.Fitting.{IsFine}
+use Rattle.world_laws.proofs.Prelude.{new_actors, LivesByTable-new, length-stations_from, pipe-step, same_Some, IsFine, life, take, tick}
+use Rattle.world_laws.proofs.Prelude.{CameInOctets, IsHad, LetsNoneGo, ChannelsStayQuiet, NoDataEntry, Quiet, QuietLetsNoneGo, IsEarlyIn}
 use Rattle.controller_model.specs.declared.step.Step.TheVariants as steps
-use Rattle.controller_model.specs.Life.{life, take, tick}
 use Rattle.world_model.specs.declared.event.Event.TheVariants as events
 use Rattle.world_model.specs.Relay.{entry_of}
 use Rattle.world_model.proofs.Counting.{same-stations}
-use Rattle.world_laws.specs.OthersFrame.{CameInOctets, IsHad}
-use Rattle.world_laws.specs.Access.Arriving.{LetsNoneGo}
 use Rattle.world_laws.proofs.Channels.Agreeing.{IsPlaced, owns_at, placed_at}
 use Rattle.world_laws.proofs.Handling.Finishing.{controller-is, handle_is, tick_is}
 use Rattle.world_laws.proofs.Handling.Knowing.{Steps, octets_came, steps_known, known}
 use Rattle.world_laws.proofs.Targets.FreeQuiet.{Known, known_new}
-use Rattle.world_laws.specs.Order.QuietDown.{ChannelsStayQuiet, NoDataEntry, Quiet, QuietLetsNoneGo}
 use Rattle.world_laws.proofs.Order.Avoiding.{OthersPut, others_put}
 use Rattle.world_laws.proofs.Order.Early.{Fate, fate}
 use Rattle.world_laws.proofs.Order.Early.Fate.{begins, stayed}
@@ -27,7 +23,6 @@ use Rattle.world_laws.proofs.Order.NoData.{NoDataOut, by_each, entries_none, mes
 use Rattle.world_laws.proofs.Order.QuietDown.{IsIdle, quiet_air, quiet_step}
 use Rattle.world_laws.proofs.Events.{snoc_actors, snoc_steps, world}
 use Rattle.world_laws.proofs.References.Numbered.{outs_of_one}
-use Rattle.world_laws.specs.References.Taken.{IsEarlyIn}
 
 -- ---- the steps of a run
 

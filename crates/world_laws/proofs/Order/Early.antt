@@ -3,30 +3,21 @@
 use Rattle.world_laws.proofs.Prelude.{◌≡◌, ℕ, Bool, List, [], ◌∷◌, Option, Some, None, refl, sym, ap, ◌∙◌, subst, AllByRecursion, Channel}
 use Rattle.world_laws.proofs.Prelude.{Place, Message, access_activation, Input, State, Closed, Live, Removed, WaitActivation, WaitConfirm}
 use Rattle.world_laws.proofs.Prelude.{WaitEstablish, Connection, ChangesRoles, goes_on, ends, had_ended, Stands, Row, IsOpen, Acts, Brought}
-use Rattle.world_laws.proofs.Prelude.{kept_in, ages, goes, opens, rests, aged_holds, fine_old, changes_of, IsNotOn, same_Some}
-use Rattle.conn_rules.specs.Table.{row_of}
-use Rattle.controller_model.proofs.LifeLaws.Fitting.{IsFine}
-use Rattle.world_laws.specs.OwnFrame.{IsRequested}
+use Rattle.world_laws.proofs.Prelude.{kept_in, ages, goes, opens, rests, aged_holds, fine_old, changes_of, IsNotOn, same_Some, row_of}
+use Rattle.world_laws.proofs.Prelude.{IsFine, IsRequested, IsEarlyIn}
 use Rattle.world_laws.proofs.Access.EarlyRows.{EarlyRow, early_row}
 use Rattle.world_laws.proofs.Access.EarlyRows.EarlyRow.{acked, asked, gone}
 use Rattle.world_laws.proofs.Handling.Own.{still_requested}
-use Rattle.world_laws.specs.References.Taken.{IsEarlyIn}
 
 pub early_open : (state : State) → IsEarlyIn state → IsOpen state
 early_open WaitActivation early = tt
 early_open WaitEstablish early = tt
-early_open WaitConfirm early = absurd early
-early_open (Live reference stage) early = absurd early
-early_open (Closed clearing) early = absurd early
-early_open Removed early = absurd early
+early_open _ early = absurd early
 
 not_requested : (state : State) → IsEarlyIn state → IsRequested state → ⊥
 not_requested WaitActivation early requested = requested
 not_requested WaitEstablish early requested = requested
-not_requested WaitConfirm early requested = early
-not_requested (Live reference stage) early requested = early
-not_requested (Closed clearing) early requested = early
-not_requested Removed early requested = early
+not_requested _ early requested = early
 
 -- no row leads back
 shut_stays : (s : Connection) (input : Input) (offer : Option Channel) (r : Row) → ChangesRoles s input offer r → (IsOpen s.state → ⊥) → IsOpen r.next.state → ⊥
@@ -43,20 +34,15 @@ was_early s input offer r stands fits early = by s.state refl where
   shut closed = shut_stays s input offer r (changes_of s input offer r stands fits) closed (early_open r.next.state early)
 
   by : (state : State) → s.state ≡ state → IsEarlyIn state
-  by WaitActivation is = tt
-  by WaitEstablish is = tt
   by WaitConfirm is = absurd (later (subst IsRequested (sym is) tt))
   by (Live reference stage) is = absurd (later (subst IsRequested (sym is) tt))
   by (Closed clearing) is = absurd (shut (λ there. subst IsOpen is there))
   by Removed is = absurd (shut (λ there. subst IsOpen is there))
+  by _ is = tt
 
 kept_one : (state : State) (x now : Connection) → Some now ≡ kept_in state x → now ≡ x
 kept_one Removed x now is = absurd cc
-kept_one WaitActivation x now is = cc
-kept_one WaitEstablish x now is = cc
-kept_one WaitConfirm x now is = cc
-kept_one (Live reference stage) x now is = cc
-kept_one (Closed clearing) x now is = cc
+kept_one _ x now is = cc
 
 pub data Fate (at : Place) (before : Option Connection) (now : Connection) (put : List Message) : Type 0 where
   stayed : (old : Connection) → before ≡ Some old → IsEarlyIn old.state → old.serving ≡ now.serving → AllByRecursion (IsNotOn at) put → Fate at before now put

@@ -2,11 +2,8 @@
 -- that breaks, or none of these.
 use Rattle.world_laws.proofs.Prelude.{◌≡◌, ◌⊎◌, inl, ℕ, Bool, true, false, if◌then◌else◌, [], refl, sym, ap, subst, SWITCH_LINK}
 use Rattle.world_laws.proofs.Prelude.{AllByRecursion, Event, BaseTakes, Handle, SwitchTakes, Tick, BaseDown, OutboxEntry, actors_after}
-use Rattle.world_laws.proofs.Prelude.{outputs, put, to_link, step_at, Actors, is_up, outbox_of, false≢true}
-use Rattle.world_laws.specs.Ended.{DeliversAt, PutsNoMore}
-use Rattle.world_laws.specs.Lives.{IsUnheard}
-use Rattle.world_laws.specs.Staying.{DeliversFirst, carried_for, is_beside_relay}
-use Rattle.world_laws.specs.Handling.Faring.{is_of_controller}
+use Rattle.world_laws.proofs.Prelude.{outputs, put, to_link, step_at, Actors, is_up, outbox_of, false≢true, DeliversAt, PutsNoMore}
+use Rattle.world_laws.proofs.Prelude.{IsUnheard, DeliversFirst, carried_for, is_beside_relay, is_of_controller}
 
 pub data Kind (w : Actors) (number : ℕ) : Event → Type 0 where
   handles : Kind w number Handle
@@ -34,9 +31,8 @@ pub working : {w : Actors} {number : ℕ} {event : Event} → Kind w number even
 working handles = works refl
 working (ticks ms) = works refl
 working switch_takes = rests false≢true refl refl
-working (station_takes station) = rests false≢true refl refl
-working (breaks source) = rests false≢true refl refl
 working (beside is not none nothing delivers) = rests not none nothing
+working _ = rests false≢true refl refl
 
 -- ---- the switch takes what was put, or what it takes is of a connection that it never hears of
 
@@ -44,17 +40,15 @@ pub delivers_or : {w : Actors} {number : ℕ} {event : Event} → Kind w number 
 delivers_or handles or = inl tt
 delivers_or (ticks ms) or = inl tt
 delivers_or switch_takes or = or
-delivers_or (station_takes station) or = inl tt
-delivers_or (breaks source) or = inl tt
 delivers_or (beside is not none nothing delivers) or = inl delivers
+delivers_or _ or = inl tt
 
 pub delivers_by : {w : Actors} {number : ℕ} {event : Event} → Kind w number event → DeliversFirst w number (outbox_of w SWITCH_LINK) → DeliversAt w number event
 delivers_by handles first = tt
 delivers_by (ticks ms) first = tt
 delivers_by switch_takes first = first
-delivers_by (station_takes station) first = tt
-delivers_by (breaks source) first = tt
 delivers_by (beside is not none nothing delivers) first = delivers
+delivers_by _ first = tt
 
 -- ---- nothing is put
 

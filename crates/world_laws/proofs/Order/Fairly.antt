@@ -3,15 +3,13 @@
 use Rattle.world_laws.proofs.Prelude.{◌==◌, Bool, true, false, if◌then◌else◌, List, [], ◌∷◌, ◌++◌, map, Option, Some, None, sym, subst}
 use Rattle.world_laws.proofs.Prelude.{AllByRecursion, Out, SWITCH_LINK, AllByRecursion-filter, ComesInOctets, Step, Controller, step, Item}
 use Rattle.world_laws.proofs.Prelude.{AreAllowed, Parameters, Event, Tenure, outputs, outputs_at, put, to_link, target_in}
-use Rattle.world_laws.proofs.Prelude.{all_steps, first_taken, step_at, sccp_in, Actors, is_up, new_actors, LivesByTable-new}
+use Rattle.world_laws.proofs.Prelude.{all_steps, first_taken, step_at, sccp_in, Actors, is_up, new_actors, LivesByTable-new, take, tick}
+use Rattle.world_laws.proofs.Prelude.{CameInOctets, ComeInOctets, IsFair, IsFairEntry, PutsFairly}
 use Rattle.controller_model.specs.declared.step.Step.TheVariants as steps
-use Rattle.controller_model.specs.Life.{take, tick}
 use Rattle.world_model.specs.Relay.{entry_of}
-use Rattle.world_laws.specs.OthersFrame.{CameInOctets}
-use Rattle.world_laws.specs.Order.OctetEvents.{ComeInOctets, IsFair, IsFairEntry, PutsFairly}
 use Rattle.world_laws.proofs.Order.CauseLife.{step_fair}
 use Rattle.world_laws.proofs.Order.EventKinds.{Kind, kind}
-use Rattle.world_laws.proofs.Order.EventKinds.Kind.{handles, ticks, switch_takes, station_takes, breaks, beside}
+use Rattle.world_laws.proofs.Order.EventKinds.Kind.{handles, ticks, switch_takes, beside}
 use Rattle.world_laws.proofs.Order.OctetRun.{come_in_fairly_new}
 use Rattle.world_laws.proofs.Events.{snoc_steps, world}
 use Rattle.world_laws.proofs.Framing.{all_left, all_right}
@@ -40,9 +38,8 @@ module _ (settings : Parameters) (allowed : AreAllowed settings) (events : List 
   outputs_fair event handles octets own = handled w.inbox octets own
   outputs_fair event (ticks ms) octets own = entries_fair None (tick ms w.controller).outs (stepped (steps.Tick ms) octets own.0)
   outputs_fair event switch_takes octets own = tt
-  outputs_fair event (station_takes station) octets own = tt
-  outputs_fair event (breaks source) octets own = tt
   outputs_fair event (beside is not none nothing delivers) octets own = subst (AllByRecursion IsFairEntry) (sym nothing) tt
+  outputs_fair event _ octets own = tt
 
   put_fair : (event : Event) → CameInOctets settings (events ++ event ∷ []) → AllByRecursion IsFairEntry (put SWITCH_LINK w event)
   put_fair event octets = by (is_up w SWITCH_LINK) where

@@ -1,14 +1,10 @@
 -- Each number of a run stands.
 use Rattle.world_laws.proofs.Prelude.{◌≡◌, ℕ, ◌≤◌, List, [], ◌∷◌, ◌++◌, get_or, length, replicate, Option, refl, sym, ap, subst}
 use Rattle.world_laws.proofs.Prelude.{append_assoc, option_or, append-nil, SWITCH_LINK, AreAllowed, Parameters, Event}
-use Rattle.world_laws.proofs.Prelude.{actors_after, Actors, broken_link, modulus_in, new_actors, new_link}
+use Rattle.world_laws.proofs.Prelude.{actors_after, Actors, broken_link, modulus_in, new_actors, new_link, CameInOctets, first_served}
+use Rattle.world_laws.proofs.Prelude.{served_by, CutNumbersStay, Facts, NumbersStand, OnceDown, Standing, while_up}
 use Rattle.std.proofs.Math.Numerals.{add-one}
-use Rattle.world_laws.specs.OthersFrame.{CameInOctets}
 use Rattle.world_laws.specs.Order.Facts.{Holds}
-use Rattle.world_laws.specs.Order.Openers.{first_served, served_by}
-use Rattle.world_laws.specs.Order.Order.{CutNumbersStay, Facts, NumbersStand}
-use Rattle.world_laws.specs.Order.Standing.{OnceDown, Standing}
-use Rattle.world_laws.specs.Order.Standing.Standing.{while_up}
 use Rattle.world_laws.specs.Order.Standing.WhileUp.{unborn}
 use Rattle.world_laws.proofs.Order.Controllers.{octets_front}
 use Rattle.world_laws.proofs.Order.Openers.{snoc_served}

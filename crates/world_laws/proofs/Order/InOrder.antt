@@ -2,29 +2,16 @@
 -- gap.
 use Rattle.world_laws.proofs.Prelude.{◌≡◌, ℕ, ◌≤◌, Bool, true, false, if◌then◌else◌, find, drop, List, option_map, Option, Some, None, refl}
 use Rattle.world_laws.proofs.Prelude.{sym, ap, ◌∙◌, subst, arith, option_and_then, none-some, same_Some, Connection, SwitchConnection}
-use Rattle.world_laws.proofs.Prelude.{AreAllowed, Parameters, Event, Actors, Mobile, mobile_of, modulus_in, new_actors}
-use Rattle.std.proofs.Common.{take, IsSome}
-use Rattle.std.proofs.lemmas.List.{take-append-drop}
-use Rattle.controller_model.specs.LifeLaws.History.{connection_of as had_of}
-use Rattle.dtap_codec.specs.declared.number.Modulus.TheVariants.{Four, Two}
-use Rattle.dtap_codec.specs.Number.{count_of}
-use Rattle.world_laws.specs.LineUp.Order.{IsInOrder}
+use Rattle.world_laws.proofs.Prelude.{AreAllowed, Parameters, Event, Actors, Mobile, mobile_of, modulus_in, new_actors, IsSome}
+use Rattle.world_laws.proofs.Prelude.{take-append-drop, had_of, Four, Two, count_of, IsInOrder, accepted_list, progress, IsPrefix, HasEnded}
+use Rattle.world_laws.proofs.Prelude.{is_of_peer, taken_in, taken_of, CameInOctets, AreLinedUp, first_served, Facts, IsBeginningOfSent}
+use Rattle.world_laws.proofs.Prelude.{RunsAreInOrder, Standing, silent, cut, while_up, once_down}
+use Rattle.std.proofs.Common.{take}
 use Rattle.msc_end.specs.Switch.{connection_of}
-use Rattle.world_model.specs.AcceptedList.{accepted_list, progress}
-use Rattle.octets.specs.Lists.{IsPrefix}
 use Rattle.world_model.specs.Views.{accepted, progress_of}
-use Rattle.world_laws.specs.Ended.{HasEnded}
-use Rattle.world_laws.specs.LineUps.{is_of_peer, taken_in, taken_of}
-use Rattle.world_laws.specs.OthersFrame.{CameInOctets}
-use Rattle.world_laws.specs.Staying.{AreLinedUp}
 use Rattle.world_laws.proofs.Ending.{ended_are_in_order_new}
 use Rattle.world_laws.proofs.InOrder.{line_ups_are_in_order_new}
 use Rattle.world_laws.specs.Order.Facts.{Holds, IsAsking}
-use Rattle.world_laws.specs.Order.Openers.{first_served}
-use Rattle.world_laws.specs.Order.Order.{Facts, IsBeginningOfSent, RunsAreInOrder}
-use Rattle.world_laws.specs.Order.Standing.{Standing}
-use Rattle.world_laws.specs.Order.Standing.OnceDown.{silent, cut}
-use Rattle.world_laws.specs.Order.Standing.Standing.{while_up, once_down}
 use Rattle.world_laws.specs.Order.Standing.WhileUp.{unborn, coming, lives, ended, unheard}
 use Rattle.world_laws.proofs.Order.Following.{numbers_stand_new}
 use Rattle.world_laws.proofs.Order.Modulus.{all_numbered, switch_modulus}

@@ -1,24 +1,13 @@
 -- Each number of a run stands, and the places of its messages rise.
 use Rattle.world_laws.proofs.Prelude.{◌≡◌, ◌⊎◌, ℕ, ◌≤◌, Bool, true, false, if◌then◌else◌, length, List, [], ◌∷◌, ◌++◌, Option, Some, inl}
 use Rattle.world_laws.proofs.Prelude.{inr, refl, sym, ap, ◌∙◌, subst, append_assoc, append-nil, none-some, same_Some, SWITCH_LINK, State}
-use Rattle.world_laws.proofs.Prelude.{WaitActivation, WaitEstablish, WaitConfirm, Live, Closed, Removed, Connection, IsThere, connection_of}
-use Rattle.world_laws.proofs.Prelude.{Rise, to_be_taken, outstanding_messages, AreAllowed, Parameters, Event, Actors}
-use Rattle.world_laws.proofs.Prelude.{is_up, modulus_in, new_actors}
-use Rattle.dtap_codec.proofs.Rising.{Rise-cut, Rise-of_flow}
-use Rattle.world_laws.specs.LineUp.Alive.{Follows}
-use Rattle.world_laws.specs.LineUp.Alive.Follows.{goes_on, rises}
-use Rattle.world_laws.specs.LineUp.Places.{LineUp, flow, line, parts_of}
-use Rattle.world_laws.specs.LineUp.Order.{IsInOrder, coming}
-use Rattle.world_model.proofs.Accepting.{accepted_list_from-rise, progress_from-rise}
-use Rattle.world_laws.specs.LineUps.{line_up, taken_of}
-use Rattle.world_laws.specs.Lives.{IsUnheard, Lives}
-use Rattle.world_laws.specs.OthersFrame.{CameInOctets, IsHad}
-use Rattle.world_laws.specs.OwnFrame.{IsRequested}
+use Rattle.world_laws.proofs.Prelude.{WaitConfirm, Live, Connection, IsThere, connection_of, Rise, to_be_taken, outstanding_messages}
+use Rattle.world_laws.proofs.Prelude.{AreAllowed, Parameters, Event, Actors, is_up, modulus_in, new_actors, Rise-cut, Rise-of_flow, Follows}
+use Rattle.world_laws.proofs.Prelude.{rises, LineUp, flow, line, parts_of, IsInOrder, coming, accepted_list_from-rise, progress_from-rise}
+use Rattle.world_laws.proofs.Prelude.{line_up, taken_of, IsUnheard, Lives, CameInOctets, IsHad, IsRequested, AllNumbersStand, AllPlacesRise}
+use Rattle.world_laws.proofs.Prelude.{IsLinedUp, PlacesRise, still_to_come, first_served, has_asked, Standing, while_up, once_down}
+use Rattle.world_laws.specs.LineUp.Alive.Follows.{goes_on}
 use Rattle.world_laws.proofs.OwnRow.{flow-twice}
-use Rattle.world_laws.specs.Order.LineUps.{AllNumbersStand, AllPlacesRise, IsLinedUp, PlacesRise, still_to_come}
-use Rattle.world_laws.specs.Order.Openers.{first_served, has_asked}
-use Rattle.world_laws.specs.Order.Standing.{Standing}
-use Rattle.world_laws.specs.Order.Standing.Standing.{while_up, once_down}
 use Rattle.world_laws.specs.Order.Standing.WhileUp.{unborn, coming as comes, lives, ended, unheard}
 use Rattle.world_laws.proofs.Order.Controllers.{none_given}
 use Rattle.world_laws.proofs.Order.Fairly.{ComeInOctets-new}
@@ -84,12 +73,9 @@ places_of m w mobile s two l =
 
 -- one that asked, and is open, isn't one that hasn't
 requested_asked : (state : State) → IsRequested state → has_asked state ≡ true
-requested_asked WaitActivation of = elim of [ ]
-requested_asked WaitEstablish of = elim of [ ]
 requested_asked WaitConfirm of = refl
 requested_asked (Live reference stage) of = refl
-requested_asked (Closed clearing) of = elim of [ ]
-requested_asked Removed of = elim of [ ]
+requested_asked _ of = elim of [ ]
 
 module _ (settings : Parameters) (events : List Event) (s : Connection) (had : IsHad (world settings events) s) (requested : IsRequested s.state) where
   abbrev w : Actors

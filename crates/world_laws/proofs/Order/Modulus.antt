@@ -2,19 +2,18 @@
 use Rattle.world_laws.proofs.Prelude.{◌≡◌, ℕ, zero, suc, ◌==◌, ◌-◌, nat_le, Bool, true, false, if◌then◌else◌, List, [], ◌∷◌, ◌++◌, length}
 use Rattle.world_laws.proofs.Prelude.{set, unwrap_or, Option, Some, None, refl, sym, ◌∙◌, subst, AllByRecursion, none-some, same_Some}
 use Rattle.world_laws.proofs.Prelude.{Bssap, Management, Transfer, Bssmap, Sccp, ConnectionRequest, DataForm1, SWITCH_LINK}
-use Rattle.world_laws.proofs.Prelude.{AllByRecursion-append, Open, Clearing, Ended, CONNECTION_LIMIT, REFERENCE_BASE, after_clear}
+use Rattle.world_laws.proofs.Prelude.{AllByRecursion-append, Ended, CONNECTION_LIMIT, REFERENCE_BASE, after_clear}
 use Rattle.world_laws.proofs.Prelude.{assignment_request, clear_command, data_forms_on, dlci_for, connection_after, connection_by}
 use Rattle.world_laws.proofs.Prelude.{connections_after, connections_after_clear, connections_by, live_connection_after, message_in}
 use Rattle.world_laws.proofs.Prelude.{with_connection, SwitchState, Parameters, Event, SwitchAction, Assign, Clear, Dtap, OutboxEntry}
 use Rattle.world_laws.proofs.Prelude.{actors_after, actors_after_all, after_switch_does, is_layer_3, may_send_on, sccp_in, sent_on}
 use Rattle.world_laws.proofs.Prelude.{switch_took, switch_took_first, Actors, is_up, modulus_in, new_actors, outbox_of, with_outbox}
+use Rattle.world_laws.proofs.Prelude.{ClearRequest, IsOfModulus, SwitchIsOfModulus}
 use Rattle.std.proofs.Common.{slice_get}
-use Rattle.bssmap_codec.specs.declared.bssmap.Bssmap.TheVariants.{ClearComplete, ClearRequest}
 use Rattle.msc_end.specs.declared.connection.Connection.{Connection}
 use Rattle.msc_end.specs.declared.connection.Stage.{Stage}
 use Rattle.msc_end.specs.Switch.{connection_of}
 use Rattle.world_model.specs.Life.{event_after}
-use Rattle.world_laws.specs.Order.Standing.{IsOfModulus, SwitchIsOfModulus}
 use Rattle.world_laws.proofs.Order.SwitchDown.{SwitchKind, switch_kind}
 use Rattle.world_laws.proofs.Order.SwitchDown.SwitchKind.{takes, does, stays}
 
@@ -44,15 +43,13 @@ live-modulus c (Transfer dlci message) = refl
 live-modulus c (Management message) = by message where
   by : (message : Bssmap) → (live_connection_after c (Management message)).reception.modulus ≡ c.reception.modulus
   by (ClearRequest cause) = refl
-  by ClearComplete = refl
   by _ = refl
 
 after-modulus : (c : Connection) (message : Bssap) → (connection_after c message).reception.modulus ≡ c.reception.modulus
 after-modulus c message = by c.stage where
   by : (stage : Stage) → (connection_by stage c message).reception.modulus ≡ c.reception.modulus
-  by Open = live-modulus c message
-  by Clearing = live-modulus c message
   by Ended = refl
+  by _ = live-modulus c message
 
 abbrev AllOf : ℕ → List Connection → Type 0
 AllOf m cs = AllByRecursion (λ (c : Connection). c.reception.modulus ≡ m) cs

@@ -1,25 +1,18 @@
 -- What a step of the controller assigns: nothing to a mobile that no connection is the answer to.
-use Rattle.world_laws.proofs.Prelude.{◌≡◌, ◌≢◌, inl, inr, ℕ, ◌+◌, ◌≤◌, nat_eq, Bool, true, false, if◌then◌else◌, cond, List, [], ◌∷◌}
-use Rattle.world_laws.proofs.Prelude.{fold, map, Option, Some, None, Ok, refl, sym, ap, ◌∙◌, subst, arith}
-use Rattle.world_laws.proofs.Prelude.{AllByRecursion, result_ok, eqb-false, Channel, Message, Station, Request, Data, ReleaseComplete, Out}
-use Rattle.world_laws.proofs.Prelude.{outs_of, immediate_assign_command, Connection, connection_of, outs_for, Names}
-use Rattle.world_laws.proofs.Prelude.{NamesItsMobile, ComesInOctets, IsSent, life_fits, life_names, life_sends, Step, Controller, pong}
-use Rattle.world_laws.proofs.Prelude.{step, ImmediateAssignment, Rsl, RequestReference, rsl_text, AreAllowed}
-use Rattle.world_laws.proofs.Prelude.{Parameters, Event, Tenure, to_link, joined_by, rsl_in, all_steps, Actors, is_up}
-use Rattle.world_laws.proofs.Prelude.{new_actors, outbox_of, LivesByTable-new, all_join, same_Some, AllByRecursion-append}
+use Rattle.world_laws.proofs.Prelude.{◌≡◌, ◌≢◌, inl, inr, ℕ, ◌+◌, ◌≤◌, nat_eq, Bool, true, false, if◌then◌else◌, cond, List, [], ◌∷◌, fold}
+use Rattle.world_laws.proofs.Prelude.{map, Option, Some, None, Ok, refl, sym, ap, ◌∙◌, subst, arith, AllByRecursion, result_ok, eqb-false}
+use Rattle.world_laws.proofs.Prelude.{Channel, Message, Station, Out, outs_of, immediate_assign_command, Connection, connection_of}
+use Rattle.world_laws.proofs.Prelude.{outs_for, Names, NamesItsMobile, ComesInOctets, IsSent, life_fits, life_names, life_sends, Step}
+use Rattle.world_laws.proofs.Prelude.{Controller, pong, step, ImmediateAssignment, Rsl, RequestReference, rsl_text, AreAllowed, Parameters}
+use Rattle.world_laws.proofs.Prelude.{Event, Tenure, to_link, joined_by, rsl_in, all_steps, Actors, is_up, new_actors, outbox_of}
+use Rattle.world_laws.proofs.Prelude.{LivesByTable-new, all_join, same_Some, AllByRecursion-append, NamesOf, life, rr_reading}
+use Rattle.world_laws.proofs.Prelude.{AssignsAnother, NamesAnother, NoneNames, IsUnanswered, entry-out}
 use Rattle.conn_messages.specs.Out.{out_of}
-use Rattle.controller_model.specs.LifeLaws.Naming.{NamesOf}
-use Rattle.controller_model.specs.Life.{life}
-use Rattle.dtap_codec.specs.RrReading.{rr_reading}
 use Rattle.rsl_codec.specs.declared.common_channel.ImmediateAssignment.{ImmediateAssignment as Assignment}
 use Rattle.rsl_codec.specs.declared.rsl.Rsl.TheVariants as rsl
 use Rattle.world_model.specs.Relay.{entry_of}
-use Rattle.world_laws.proofs.Others.{entry-out}
 use Rattle.world_laws.proofs.OrderTexts.{assignment_back, read_of}
-use Rattle.world_laws.specs.Access.Requested.{AssignsAnother, NamesAnother}
-use Rattle.world_laws.specs.Order.Unanswered.{NoneNames}
 use Rattle.world_laws.proofs.References.Numbered.{AreOfOne, IsOfOne, outs_of_one}
-use Rattle.world_laws.specs.Owners.OneEach.{IsUnanswered}
 use Rattle.world_laws.proofs.OrderNames.{information-in, assignment_read}
 use Rattle.world_laws.proofs.Events.{world}
 
@@ -27,8 +20,7 @@ use Rattle.world_laws.proofs.Events.{world}
 
 another_in : (k : ℕ) (o : Option Rsl) → ((j : Assignment) → o ≡ Some (rsl.ImmediateAssignCommand j) → NamesAnother k (rr_reading j.information)) → AssignsAnother k o
 another_in k (Some (rsl.ImmediateAssignCommand j)) names = names j refl
-another_in k None names = tt
-another_in k (Some _) names = tt
+another_in k _ names = tt
 
 assigns_another : (k station : ℕ) (serving : Channel) (request : RequestReference) (delay : ℕ) (i j : Assignment) → i.information ≡ j.information → Station station (rsl.ImmediateAssignCommand i) ≡ immediate_assign_command serving request delay → request.access ≢ k → NamesAnother k (rr_reading j.information)
 assigns_another k station serving request delay i j same is differs =
@@ -44,9 +36,7 @@ message_another k n serving request (Station station x) sent names differs =
     let back = assignment_back x j (read.1.text ∙ ap rsl_text (same_Some _ _ is)) in
     let assigns : (delay : ℕ) × (Station station (rsl.ImmediateAssignCommand back.0) ≡ immediate_assign_command serving request delay) = subst (λ (z : Rsl). Names serving request (Station station z)) back.1 names in
     assigns_another k station serving request assigns.0 back.0 j back.2 assigns.1 differs))
-message_another k n serving request (Request message) sent names differs = tt
-message_another k n serving request (Data destination message) sent names differs = tt
-message_another k n serving request (ReleaseComplete destination) sent names differs = tt
+message_another k n serving request _ sent names differs = tt
 
 -- ---- what is put for a connection
 
@@ -57,9 +47,6 @@ own_another : (k n : ℕ) (serving : Channel) (request : RequestReference) (outs
 unfolding AssignsNot
 own_another k n serving request [] put differs is names sent = tt
 own_another k n serving request (o ∷ os) put differs is names sent = by (nat_eq o.conn n) refl is (λ more same others. own_another k n serving request os more differs same others sent.1) where
-  Own : Out → Type 0
-  Own out = out.conn ≡ n → AssignsNot k out
-
   Rest : Type 0
   Rest = (more : List Message) → outs_for n os ≡ outs_of n more → AllByRecursion (Names serving request) more → AllByRecursion (λ out. out.conn ≡ n → AssignsNot k out) os
 

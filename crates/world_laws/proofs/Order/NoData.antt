@@ -3,14 +3,11 @@ use Rattle.world_laws.proofs.Prelude.{◌≡◌, ◌≢◌, inl, inr, ℕ, ◌�
 use Rattle.world_laws.proofs.Prelude.{Some, None, refl, sym, ap, ◌∙◌, subst, cases_Bool, cond-false, cond-true, eqb-true, eq-eqb}
 use Rattle.world_laws.proofs.Prelude.{AllByRecursion, Place, Message, Station, Request, Data, ReleaseComplete, Out, outs_of, is_for}
 use Rattle.world_laws.proofs.Prelude.{outs_for, IsSent, IsNotOn, same_channel, place_at, pong, Rsl, rsl_text, OutboxEntry, Tenure, to_link}
-use Rattle.world_laws.proofs.Prelude.{rsl_in, said_to, none-some}
+use Rattle.world_laws.proofs.Prelude.{rsl_in, said_to, none-some, request_is, request_known, same_kind, NoDataEntry, NoDataOn, entry-out}
 use Rattle.conn_messages.specs.Out.{out_of}
-use Rattle.controller_model.proofs.LifeLaws.SeenStations.{request_is, request_known, same_kind}
 use Rattle.rsl_codec.specs.declared.rsl.Rsl.TheVariants as rsl
 use Rattle.world_model.specs.Relay.{entry_of}
-use Rattle.world_laws.proofs.Others.{entry-out}
 use Rattle.world_laws.proofs.OrderTexts.{no_switch, read_of, said-other, said-own}
-use Rattle.world_laws.specs.Order.QuietDown.{NoDataEntry, NoDataOn}
 use Rattle.world_laws.proofs.References.Numbered.{AreOfOne, IsOfOne}
 
 abbrev pub NoDataOut : Place → Out → Type 0

@@ -6,30 +6,25 @@ use Rattle.world_laws.proofs.Prelude.{SWITCH_LINK, AllByRecursion-append, place_
 use Rattle.world_laws.proofs.Prelude.{after_tell, first_message, first_of_messages, messages_behind_first, activation_ack, Whereabouts}
 use Rattle.world_laws.proofs.Prelude.{Stage, New, Connected, lent_message, after_queue, frame_answer, new_mobile, MobileState, Rsl}
 use Rattle.world_laws.proofs.Prelude.{RfChannelReleaseAck, CellParameters, Parameters, Event, BasePush, BaseDown, Tenure, actors_after}
-use Rattle.world_laws.proofs.Prelude.{actors_after_all, complete, connected, failure, frame_in, station_item, switch_item, accepts, Actors}
+use Rattle.world_laws.proofs.Prelude.{complete, connected, failure, frame_in, station_item, switch_item, accepts, Actors}
 use Rattle.world_laws.proofs.Prelude.{Mobile, Spot, base_of, is_up, mobile_of, new_actors, new_spot, no_station, spot_at, station_of}
 use Rattle.world_laws.proofs.Prelude.{stations_from, with_base, with_mobile, with_spot, Good, good-new, good-step, found-all, Sccp}
-use Rattle.world_laws.proofs.Prelude.{all_pushed, first_of, pushed, Becomes, Joins, Lends, Respots, Tells, event-keeps, hearing-end}
+use Rattle.world_laws.proofs.Prelude.{all_pushed, first_of, pushed, Becomes, Joins, Lends, Respots, Tells, event-keeps, hearing-end, Four}
+use Rattle.world_laws.proofs.Prelude.{Two, count_of, frame_answer_at, set-elsewhere, set-or-not, back-all, behind-all, AreOctetEvents}
+use Rattle.world_laws.proofs.Prelude.{IsOctetEvent, IsOctetItem, StationsGiveOctets, acked_holds, arrival_holds, frame_holds, lent_holds}
+use Rattle.world_laws.proofs.Prelude.{link_holds, connects, airs, asks_up, counts, goes_down, is_left, short_up}
 use Rattle.dtap_codec.specs.declared.report.TheConstants.{REPORT_LENGTH}
-use Rattle.dtap_codec.specs.declared.number.Modulus.TheVariants.{Four, Two}
-use Rattle.dtap_codec.specs.Number.{count_of}
 use Rattle.mobile_end.specs.declared.mobile_end.Place.TheVariants as places
-use Rattle.mobile_end.specs.Mobile.{frame_answer_at, link_of}
+use Rattle.mobile_end.specs.Mobile.{link_of}
 use Rattle.world_model.specs.Mobiles.{told}
 use Rattle.world_model.specs.World.{Station}
-use Rattle.world_model.proofs.Honesty.{set-elsewhere, set-or-not}
 use Rattle.world_model.proofs.Lawful.{IsOnChannel}
-use Rattle.world_model.proofs.Mobility.{back-all, behind-all}
 use Rattle.ruled_relay.specs.declared.item.What.TheVariants as whats
-use Rattle.world_laws.specs.Order.OctetEvents.{AreOctetEvents, IsOctetEvent, IsOctetItem, StationsGiveOctets}
 use Rattle.world_laws.proofs.Order.Modulus.{all_set}
-use Rattle.world_laws.proofs.Order.OctetLinks.{HasOctets, acked_octets, arrival_octets, frame_octets, lent_octets, link_octets}
-use Rattle.world_laws.proofs.Order.OctetLinks.{queue_octets}
+use Rattle.world_laws.proofs.Order.OctetLinks.{HasOctets, IsFew, queue_octets}
 use Rattle.world_laws.proofs.Order.OctetTexts.{IsOctetRsl, Octets, OctetsIf, octet_ack, octet_answer, octet_data, octet_detection}
 use Rattle.world_laws.proofs.Order.OctetTexts.{octet_establishment, octet_release, octet_report, octet_request, octets_cons, octets_nil}
-use Rattle.world_model.proofs.Footprints.Becomes.{arrives, hears, is_acked, leaves, lends, misses, opens, queues, returns, sits}
-use Rattle.world_model.proofs.Footprints.Joins.{connects}
-use Rattle.world_model.proofs.Footprints.Respots.{airs, asks_up, counts, goes_down, is_left, short_up}
+use Rattle.world_model.proofs.Footprints.Becomes.{arrives, hears, is_acked, leaves, lends, opens, queues, returns}
 use Rattle.world_model.proofs.Footprints.Tells.{answers, brings, detects, establishes, links, opens_with, reports, requires}
 use Rattle.world_model.proofs.Heard.{lent-l3, lent-lawful, reached-lawful, taken-lawful}
 
@@ -127,15 +122,14 @@ same {w} {u} stations mobiles modulus of = record {
 
 becomes_octets : {w : Actors} {number : ℕ} {event : Event} {p q : Mobile} → IsOctetEvent event → HasOctetEnd p → Becomes w number event p q → HasOctetEnd q
 becomes_octets octets own (queues sapi message p may) = queue_octets p.end sapi message (record { are = octets }) own
-becomes_octets octets own (opens p tenure frame lent) = frame_octets p.end Zero own
-becomes_octets octets own (lends p tenure frame lent) = frame_octets p.end Three own
-becomes_octets octets own (is_acked sapi p) = acked_octets p.end sapi own
+becomes_octets octets own (opens p tenure frame lent) = frame_holds OctetsIf IsFew tt p.end Zero own
+becomes_octets octets own (lends p tenure frame lent) = frame_holds OctetsIf IsFew tt p.end Three own
+becomes_octets octets own (is_acked sapi p) = acked_holds OctetsIf IsFew tt p.end sapi own
 becomes_octets octets own (hears p tenure command first others seat reached stood) = subst HasOctets (sym (hearing-end p first)) own
-becomes_octets octets own (misses p) = own
 becomes_octets octets own (leaves p tenure command seat reached) = record { zero = own.zero; three = own.three; counted = own.counted }
-becomes_octets octets own (arrives p from command seat reached) = arrival_octets p.end (complete command.change) (complete_octets command.change) own
-becomes_octets octets own (returns p from command seat reached) = arrival_octets p.end (failure command.change) (failure_octets command.change) own
-becomes_octets octets own (sits station p channel asks) = own
+becomes_octets octets own (arrives p from command seat reached) = arrival_holds OctetsIf IsFew tt p.end (complete command.change) (complete_octets command.change) own
+becomes_octets octets own (returns p from command seat reached) = arrival_holds OctetsIf IsFew tt p.end (failure command.change) (failure_octets command.change) own
+becomes_octets octets own _ = own
 
 joins_octets : {w : Actors} {event : Event} {number : ℕ} {initial : List ℕ} {accepts : Bool} → IsOctetEvent event → Makers w → Joins w event number initial accepts → HasOctetEnd (connected w.modulus number initial accepts)
 joins_octets {w} octets of (connects number station initial accepts may) =
@@ -145,7 +139,7 @@ joins_octets {w} octets of (connects number station initial accepts may) =
 
 lent_all : {w : Actors} {number : ℕ} {sapi : Sapi} {p : Mobile} {tenure : Tenure} {frame : List ℕ} → Makers w → Lends w number sapi p tenure frame → Octets frame
 lent_all {w} {number} {sapi} {p} {tenure} {frame} of lent =
-    frame_of OctetsIf p.end sapi frame (lent_octets (link_of p.end sapi) (link_octets p.end sapi (of_mobile w number p of lent.found))) lent.lent
+    frame_of OctetsIf p.end sapi frame (lent_holds OctetsIf IsFew tt (link_of p.end sapi) (link_holds OctetsIf IsFew tt p.end sapi (of_mobile w number p of lent.found))) lent.lent
 
 tells_octets : {w : Actors} {event : Event} {n : ℕ} {message : Rsl} → IsOctetEvent event → Good w → Makers w → Tells w event n message → IsOctetRsl message
 unfolding IsOnChannel
@@ -213,10 +207,6 @@ made_new settings = record { stations = λ k. new_stations 1 k settings.cells; m
   by false = (omega arith, omega arith)
 
 -- ---- what they give to the inbox
-
-pub all_made : (w : Actors) (events : List Event) → AreOctetEvents events → Good w → Makers w → Makers (actors_after_all w events)
-all_made w [] octets good of = of
-all_made w (event ∷ events) octets good of = all_made (actors_after w event) events octets.1 (good-step w event good) (made_step w event octets.0 good of)
 
 -- the first message that a station made
 first_made : (source : ℕ) (messages : List Rsl) → AllByRecursion IsOctetRsl messages → AllByRecursion IsOctetItem (map (station_item source) (option_to_list (first_of_messages messages)))

@@ -1,25 +1,22 @@
 -- All that comes to the controller is of octets, where what it puts for the switch is fair.
 use Rattle.world_laws.proofs.Prelude.{◌≡◌, ℕ, ◌==◌, nat_eq, Bool, true, false, if◌then◌else◌, List, [], ◌∷◌, ◌++◌, length, map}
 use Rattle.world_laws.proofs.Prelude.{option_to_list, unwrap_or, Option, Some, None, refl, sym, ap, ◌∙◌, subst, append_assoc, arith, ◌+◌}
-use Rattle.world_laws.proofs.Prelude.{◌≤◌, AllByRecursion, append-nil, Sccp, SWITCH_LINK, AllByRecursion-append, ComesInOctets}
-use Rattle.world_laws.proofs.Prelude.{IsOfOctets, first_message, first_of_messages, replies, CONNECTION_LIMIT, Item, Rsl, Parameters}
-use Rattle.world_laws.proofs.Prelude.{Event, BaseTakes, BasePush, Handle, SwitchTakes, SwitchDoes, Tick, BaseDown, actors_after}
-use Rattle.world_laws.proofs.Prelude.{actors_after_all, all_popped, all_pushed, first_of, pushed, put, taken, after_base_push}
-use Rattle.world_laws.proofs.Prelude.{after_break, after_handle, pushed_by_station, pushed_by_switch, station_item, switch_item}
-use Rattle.world_laws.proofs.Prelude.{target_in, after_base_takes, all_steps, first_taken, step_at, after_switch_takes, sccp_in}
-use Rattle.world_laws.proofs.Prelude.{switch_took, Actors, Link, base_of, is_up, new_actors, outbox_of, with_outbox, Good, good-new}
-use Rattle.world_laws.proofs.Prelude.{good-step, after-taken, handle-leads, turn-leads, switch_takes-leads, broken-leads, new_outbox}
-use Rattle.world_laws.proofs.Prelude.{aerial-leads, taking-leads}
-use Rattle.controller_model.specs.Life.{take, tick}
+use Rattle.world_laws.proofs.Prelude.{◌≤◌, AllByRecursion, append-nil, Sccp, SWITCH_LINK, AllByRecursion-append, ComesInOctets, IsOfOctets}
+use Rattle.world_laws.proofs.Prelude.{first_message, first_of_messages, replies, CONNECTION_LIMIT, Item, Rsl, Parameters, Event, BaseTakes}
+use Rattle.world_laws.proofs.Prelude.{BasePush, Handle, SwitchTakes, SwitchDoes, Tick, BaseDown, actors_after, actors_after_all, all_popped}
+use Rattle.world_laws.proofs.Prelude.{all_pushed, first_of, pushed, put, taken, after_base_push, after_break, after_handle}
+use Rattle.world_laws.proofs.Prelude.{pushed_by_station, pushed_by_switch, station_item, switch_item, target_in, after_base_takes}
+use Rattle.world_laws.proofs.Prelude.{all_steps, first_taken, step_at, after_switch_takes, sccp_in, switch_took, Actors, Link, base_of}
+use Rattle.world_laws.proofs.Prelude.{is_up, new_actors, outbox_of, with_outbox, Good, good-new, good-step, after-taken, handle-leads}
+use Rattle.world_laws.proofs.Prelude.{turn-leads, switch_takes-leads, broken-leads, new_outbox, aerial-leads, taking-leads, take, tick}
+use Rattle.world_laws.proofs.Prelude.{OfTaken, KeepsQueues-new, LinkStep, CameInOctets, AreOctetEvents, IsFair, IsFairEntry, IsOctetEvent}
 use Rattle.ruled_relay.specs.declared.item.What.TheVariants as whats
 use Rattle.world_model.specs.Life.{event_after}
-use Rattle.world_model.proofs.Leads.{FromAir, OfTaken}
-use Rattle.world_model.proofs.Outboxes.{KeepsQueues-new, Step as LinkStep, step}
+use Rattle.world_model.proofs.Leads.{FromAir}
+use Rattle.world_model.proofs.Outboxes.{step}
 use Rattle.world_model.proofs.Outboxes.Step.{goes, breaks as link_breaks}
-use Rattle.world_laws.specs.OthersFrame.{CameInOctets}
-use Rattle.world_laws.specs.Order.OctetEvents.{AreOctetEvents, IsFair, IsFairEntry, IsOctetEvent}
 use Rattle.world_laws.proofs.Order.EventKinds.{Kind, kind}
-use Rattle.world_laws.proofs.Order.EventKinds.Kind.{handles, ticks, switch_takes, station_takes, breaks, beside}
+use Rattle.world_laws.proofs.Order.EventKinds.Kind.{handles, ticks, switch_takes, beside}
 use Rattle.world_laws.proofs.Order.OctetMakers.{Makers, made_new, made_step}
 use Rattle.world_laws.proofs.Order.OctetSwitch.{FairSwitch, IsOctetSccp, Sends, does_octets, replies_octets}
 use Rattle.world_laws.proofs.Order.OctetTexts.{IsOctetRsl}
@@ -119,9 +116,8 @@ step_octets w event handles all = by w.inbox all where
   by (item ∷ items) all = (all.0, tt)
 step_octets w event (ticks ms) all = (tt, tt)
 step_octets w event switch_takes all = tt
-step_octets w event (station_takes station) all = tt
-step_octets w event (breaks source) all = tt
 step_octets w event (beside is not none nothing delivers) all = subst (AllByRecursion ComesInOctets) (sym none) tt
+step_octets w event _ all = tt
 
 append_pushed : (w : Actors) (events : List Event) (event : Event) → all_pushed w (events ++ event ∷ []) ≡ all_pushed w events ++ pushed (actors_after_all w events) event
 append_pushed w [] event = append-nil (pushed w event)

@@ -3,20 +3,17 @@ use Rattle.world_laws.proofs.Prelude.{◌≡◌, ℕ, zero, suc, ◌+◌, ◌-�
 use Rattle.world_laws.proofs.Prelude.{◌++◌, length, option_to_list, set, unwrap_or, inl, inr, Option, Some, None, refl, sym, subst, arith}
 use Rattle.world_laws.proofs.Prelude.{AllByRecursion, cases_Bool, leb-false, leb-true, Bssap, Management, Transfer, Bssmap, InterfaceFault}
 use Rattle.world_laws.proofs.Prelude.{Sccp, ConnectionConfirm, ConnectionRefused, ConnectionRequest, DataForm1, Released, bssap_text}
-use Rattle.world_laws.proofs.Prelude.{bssap_write_fault, IsReference, sccp_text, AllByRecursion-append, Sapi, Zero, Three, Open, Clearing}
+use Rattle.world_laws.proofs.Prelude.{bssap_write_fault, IsReference, sccp_text, AllByRecursion-append, Sapi, Zero, Three}
 use Rattle.world_laws.proofs.Prelude.{Ended, CONNECTION_LIMIT, REFERENCE_BASE, after_clear, assignment_request, clear_command}
 use Rattle.world_laws.proofs.Prelude.{connection_after, connection_by, connections_after_clear, connections_by, data_form_by, data_forms_on}
 use Rattle.world_laws.proofs.Prelude.{dlci_for, live_connection_after, message_in, replies, with_connection, SwitchState, SwitchAction}
 use Rattle.world_laws.proofs.Prelude.{Assign, Clear, Dtap, after_switch_does, is_layer_3, may_send_on, sent_on, Actors, and-right}
+use Rattle.world_laws.proofs.Prelude.{ClearCommand, ClearComplete, ClearRequest, cause_of, reference_text, MESSAGE_LIMIT, HasFairCause}
+use Rattle.world_laws.proofs.Prelude.{IsFair, IsOctetAction}
 use Rattle.std.proofs.lemmas.List.{length-append}
-use Rattle.bssmap_codec.specs.declared.bssmap.Bssmap.TheVariants.{ClearCommand, ClearComplete, ClearRequest}
-use Rattle.bssmap_codec.specs.BssapReading.{cause_of}
-use Rattle.bssmap_codec.specs.Reference.{reference_text}
 use Rattle.msc_end.specs.declared.connection.Connection.{Connection}
 use Rattle.msc_end.specs.declared.connection.Stage.{Stage}
 use Rattle.msc_end.specs.Switch.{after, connection_of, data_form, live_reply_of, replies_by, reply_by, reply_of}
-use Rattle.octets.specs.declared.limits.TheConstants.{MESSAGE_LIMIT}
-use Rattle.world_laws.specs.Order.OctetEvents.{HasFairCause, IsFair, IsOctetAction}
 use Rattle.world_laws.proofs.Order.Modulus.{all_numbered, all_set}
 use Rattle.world_laws.proofs.Order.OctetTexts.{Octets, octets_append, octets_cons, octets_nil}
 
@@ -84,7 +81,6 @@ after_referred : (c : Connection) (message : Bssap) → IsReferred c → IsRefer
 after_referred c message is = by c.stage where
   of_management : (message : Bssmap) → IsReferred (live_connection_after c (Management message))
   of_management (ClearRequest cause) = is
-  of_management ClearComplete = is
   of_management _ = is
 
   of_message : (message : Bssap) → IsReferred (live_connection_after c message)
@@ -92,9 +88,8 @@ after_referred c message is = by c.stage where
   of_message (Management message) = of_management message
 
   by : (stage : Stage) → IsReferred (connection_by stage c message)
-  by Open = of_message message
-  by Clearing = of_message message
   by Ended = is
+  by _ = of_message message
 
 length_set : {X : Type 0} (xs : List X) (i : ℕ) (x : X) (n : ℕ) → length xs ≤ n → length (set xs i x) ≤ n
 length_set [] i x n le = le
@@ -123,9 +118,8 @@ reply_octets c message is fair = by c.stage where
   of_message (Management message) fair = of_management message fair
 
   by : (stage : Stage) → AllByRecursion IsOctetSccp (option_to_list (reply_by stage c message))
-  by Open = of_message message fair
-  by Clearing = of_message message fair
   by Ended = tt
+  by _ = of_message message fair
 
 data_replies : (switch : SwitchState) (n : ℕ) (o : Option Connection) (message : Option Bssap) → connection_of switch.connections n ≡ o → HasFairCause message → FairSwitch switch
     → FairSwitch (record { modulus = switch.modulus; connections = connections_by switch.connections n o message }) × AllByRecursion IsOctetSccp (replies_by o message)

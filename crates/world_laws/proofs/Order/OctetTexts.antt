@@ -3,17 +3,13 @@ use Rattle.world_laws.proofs.Prelude.{◌≡◌, ℕ, zero, suc, ◌%◌, ◌<�
 use Rattle.world_laws.proofs.Prelude.{[], ◌∷◌, ◌++◌, length, Option, Some, None, refl, sym, subst, arith, AllByRecursion, eqb-true}
 use Rattle.world_laws.proofs.Prelude.{leb-true, Sapi, Zero, Three, activation_ack, data_indication, establish_indication, AreOctets}
 use Rattle.world_laws.proofs.Prelude.{is_channel, FIRST_SDCCH, MAIN_LINK_SAPI_3, SACCH_SAPI_3, Rsl, RfChannelReleaseAck, IsL3, rsl_text}
-use Rattle.world_laws.proofs.Prelude.{channel_required, handover_detection, measurement_result, link_answer}
-use Rattle.std.proofs.Common.{◌/◌}
-use Rattle.link_model.specs.Message.{link_on}
+use Rattle.world_laws.proofs.Prelude.{channel_required, handover_detection, measurement_result, link_answer, ◌/◌, link_on, element}
+use Rattle.world_laws.proofs.Prelude.{format_in, FIRST_TCH, LAST_SDCCH, PCH_AND_AGCH, RACH, fields, rsl_field_text, rsl_fields_text}
 use Rattle.octets.specs.declared.element.Format.{Format}
 use Rattle.octets.specs.declared.element.Format.TheVariants.{Tv, Tlv, TlvE}
-use Rattle.octets.specs.Element.{element, format_in}
 use Rattle.octets.specs.Field.{Field, element_text_by}
-use Rattle.rsl_codec.specs.declared.channel_number.TheConstants.{FIRST_TCH, LAST_SDCCH, PCH_AND_AGCH, RACH}
 use Rattle.rsl_codec.specs.declared.identifiers.TheConstants.{ELEMENTS}
-use Rattle.rsl_codec.specs.Rsl.{fields}
-use Rattle.rsl_codec.specs.RslText.{rsl_element_text, rsl_field_text, rsl_fields_text}
+use Rattle.rsl_codec.specs.RslText.{rsl_element_text}
 
 -- ---- lists
 

@@ -2,8 +2,7 @@
 use Rattle.world_laws.proofs.Prelude.{◌≡◌, ℕ, Bool, false, if◌then◌else◌, List, [], ◌∷◌, ◌++◌, option_map, Option, Some, None, refl, sym}
 use Rattle.world_laws.proofs.Prelude.{ap, ◌∙◌, option_and_then, option_or, none-some, same_Some, State, WaitConfirm, Connection}
 use Rattle.world_laws.proofs.Prelude.{connection_of, Entry, entry_of, place_of, Event, actors_after, actors_after_all, mobile_on, Actors}
-use Rattle.world_laws.proofs.Prelude.{tenure_at}
-use Rattle.world_laws.specs.Order.Openers.{first_served, has_asked, served, served_by}
+use Rattle.world_laws.proofs.Prelude.{tenure_at, first_served, has_asked, served, served_by}
 
 -- ---- one world
 

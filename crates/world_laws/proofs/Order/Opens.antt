@@ -1,17 +1,15 @@
 -- By a step of the controller the number of the next connection stays, or one connection begins: by
 -- a word that asks for a channel.
 use Rattle.world_laws.proofs.Prelude.{◌≡◌, ℕ, ◌==◌, Bool, true, false, if◌then◌else◌, List, [], ◌∷◌, Option, Some, None, refl, ap, ◌∙◌}
-use Rattle.world_laws.proofs.Prelude.{Channel, Place, SWITCH_LINK, Input, Row, Word, Nothing, Ping, Asks, OnChannel, Reports, OnConnection}
+use Rattle.world_laws.proofs.Prelude.{Channel, Place, SWITCH_LINK, Input, Row, Word, Asks, OnChannel, Reports, OnConnection}
 use Rattle.world_laws.proofs.Prelude.{access_channel, handover_offer, Controller, Entry, Turn, turn, each, ignoring, entry_of, with_entry}
 use Rattle.world_laws.proofs.Prelude.{channel_state, freed, freed_station, with_down, all_aged, break_of, by_fitting, concerning}
 use Rattle.world_laws.proofs.Prelude.{concerning_too, entry_at, expiry, frees, given, may_open, measured, measures, on_break, on_decision}
 use Rattle.world_laws.proofs.Prelude.{on_expiry, on_freed, on_report, on_what, on_word, row_in, timed, with_report, decision_over, Decision}
-use Rattle.world_laws.proofs.Prelude.{Stay, Frame, Item, What, RequestReference}
+use Rattle.world_laws.proofs.Prelude.{Stay, Frame, Item, What, RequestReference, row_of, told, word_of}
 use Rattle.conn_rules.specs.declared.input.Input.TheVariants as inputs
-use Rattle.conn_rules.specs.Table.{row_of}
 use Rattle.controller_model.specs.Controller.{is_up}
-use Rattle.controller_model.specs.Life.{take, tick, told, with_connection}
-use Rattle.controller_model.specs.Reading.{word_of}
+use Rattle.controller_model.specs.Life.{take, tick, with_connection}
 use Rattle.dtap_codec.specs.declared.report.Report.{Report}
 use Rattle.controller_model.specs.Decision.TheVariants.{Move}
 use Rattle.ruled_relay.specs.declared.item.What.TheVariants as whats
@@ -85,12 +83,11 @@ asks_opens c source request delay true None is = stays refl
 asks_opens c source request delay false o is = stays refl
 
 word_opens : (c : Controller) (source : ℕ) (word : Word) → WordOpens c source word (on_word source word c)
-word_opens c source Nothing = stays refl
-word_opens c source Ping = stays refl
 word_opens c source (Asks request delay) = asks_opens c source request delay (may_open c) (access_channel c source) refl
 word_opens c source (OnChannel at input) = stays (freed_numbers (frees (channel_state c at) (entry_at c (channel_state c at)) input) at input c (entry_at c (channel_state c at)))
 word_opens c source (Reports at of report) = stays (report_numbers at of report c (entry_at c (channel_state c at)))
 word_opens c source (OnConnection number input) = stays (concerning_numbers input c (entry_of c number))
+word_opens c source _ = stays refl
 
 -- it is the next one, and its first channel is activated
 pub data Opens (c : Controller) (item : Item) : Type 0 where

@@ -1,19 +1,17 @@
 -- A channel on which no DATA REQUEST was put since its activation has nothing in its air.
 use Rattle.world_laws.proofs.Prelude.{◌≡◌, ◌≢◌, ◌⊎◌, inl, inr, ℕ, ◌==◌, ◌&&◌, not, Bool, true, false, if◌then◌else◌, List, [], ◌∷◌, ◌++◌}
-use Rattle.world_laws.proofs.Prelude.{Option, Some, None, refl, sym, ap, ◌∙◌, subst, eqb-true, AllByRecursion, Place, SWITCH_LINK}
+use Rattle.world_laws.proofs.Prelude.{Option, Some, refl, sym, ap, ◌∙◌, subst, eqb-true, AllByRecursion, Place, SWITCH_LINK}
 use Rattle.world_laws.proofs.Prelude.{AllByRecursion-append, is_active, Rsl, Event, BaseTakes, SwitchTakes, OutboxEntry, actors_after}
 use Rattle.world_laws.proofs.Prelude.{active_all, is_active_then, first_of, put, taken, rsl_in, Actors, Link, is_active_at, is_up}
-use Rattle.world_laws.proofs.Prelude.{outbox_of, spot_at, outbox-step, OutboxStep, breaks, PipeStep, flows, stops}
-use Rattle.std.proofs.Common.{is_some}
+use Rattle.world_laws.proofs.Prelude.{outbox_of, spot_at, outbox-step, OutboxStep, breaks, PipeStep, flows, stops, is_some, event_after}
+use Rattle.world_laws.proofs.Prelude.{NoDataEntry, NoDataOn, Quiet, Waits, here, later}
 use Rattle.rsl_codec.specs.declared.rsl.Rsl.TheVariants as rsl
-use Rattle.world_model.specs.Life.{event_after}
 use Rattle.world_model.proofs.Outboxes.Step.{goes}
 use Rattle.world_laws.proofs.Framing.{all_right}
 use Rattle.world_laws.proofs.Targets.Calm.{down_active}
 use Rattle.world_laws.proofs.Order.AirDown.{air_step}
-use Rattle.world_laws.specs.Order.QuietDown.{NoDataEntry, NoDataOn, Quiet, Waits, activates}
+use Rattle.world_laws.specs.Order.QuietDown.{activates}
 use Rattle.world_laws.specs.Order.QuietDown.Quiet.{begun, waits}
-use Rattle.world_laws.specs.Order.QuietDown.Waits.{here, later}
 
 abbrev pub IsIdle : Actors → Place → Type 0
 IsIdle w at = is_active_at w at ≡ false → (spot_at w at).air ≡ []
@@ -40,8 +38,7 @@ stays_inactive k (Some (rsl.RfChannelRelease number)) isnt = by (number == k) wh
   by : (b : Bool) → not b && false ≡ false
   by true = refl
   by false = refl
-stays_inactive k None isnt = refl
-stays_inactive k (Some _) isnt = refl
+stays_inactive k _ isnt = refl
 
 no_data : (k : ℕ) (o : Option Rsl) → activates k o ≡ true → NoDataOn k o
 no_data k o is = λ d says same. absurd (let both : true ≡ false = sym is ∙ ap (activates k) says in cc)

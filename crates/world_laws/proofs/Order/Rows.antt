@@ -2,14 +2,10 @@
 -- come of a line-up.
 use Rattle.world_laws.proofs.Prelude.{◌≡◌, ◌<◌, true, false, [], ◌∷◌, map, Some, None, refl, arith, ConnectionRequest, Due, WaitActivation}
 use Rattle.world_laws.proofs.Prelude.{WaitEstablish, WaitConfirm, Closed, Removed, Given, Reached, to_be_taken, outstanding_messages}
-use Rattle.world_laws.proofs.Prelude.{Connect, Move}
-use Rattle.world_laws.specs.LineUp.Places.{LineUp, Tenure, fresh}
-use Rattle.world_laws.specs.LineUp.Places.Item.{brought, released}
-use Rattle.world_laws.specs.LineUp.Places.Seat.{on_serving}
+use Rattle.world_laws.proofs.Prelude.{Connect, Move, LineUp, fresh, released, on_serving, still_to_come, IsFair, IsOctetEvent, has_asked}
+use Rattle.world_laws.specs.LineUp.Places.{Tenure}
+use Rattle.world_laws.specs.LineUp.Places.Item.{brought}
 use Rattle.world_laws.specs.Order.Facts.{IsAsking}
-use Rattle.world_laws.specs.Order.LineUps.{still_to_come}
-use Rattle.world_laws.specs.Order.OctetEvents.{IsFair, IsOctetEvent}
-use Rattle.world_laws.specs.Order.Openers.{has_asked}
 use Rattle.world_laws.proofs.Order.OctetTexts.{octets_cons, octets_nil}
 
 -- from the connection request on

@@ -2,27 +2,18 @@
 use Rattle.world_laws.proofs.Prelude.{◌≡◌, ◌⊎◌, inl, inr, ℕ, ◌≤◌, ◌<◌, nat_eq, Bool, true, false, find, List, [], Option, Some, None, refl}
 use Rattle.world_laws.proofs.Prelude.{sym, ap, ◌∙◌, subst, arith, true≢false, option_or, cases_Bool, eqb-false, eqb-true, SWITCH_LINK}
 use Rattle.world_laws.proofs.Prelude.{Connection, IsThere, connection_of, Controller, SwitchState, Parameters, Event, BaseTakes, BaseDown}
-use Rattle.world_laws.proofs.Prelude.{OutboxEntry, actors_after, Actors, is_station_up, is_up, modulus_in}
-use Rattle.world_laws.proofs.Prelude.{outbox_of, down-after}
+use Rattle.world_laws.proofs.Prelude.{OutboxEntry, actors_after, Actors, is_station_up, is_up, modulus_in, outbox_of, down-after}
+use Rattle.world_laws.proofs.Prelude.{down-outbox, DeliversAt, HasEnded, PutsNoMore, is_of_peer, waiting_of, AcksAgree, IsUnheard, Lives}
+use Rattle.world_laws.proofs.Prelude.{TargetIsFresh, IsHad, IsRequested, IsAlone, AreLinedUp, DeliversFirst, has_asked, served_by, OnceDown}
+use Rattle.world_laws.proofs.Prelude.{Standing, WhileUp, IsComingTo, IsFresh, silent, cut, while_up, once_down, IsUnheardOf, Came, requests}
+use Rattle.world_laws.proofs.Prelude.{HasBegun, FaresOn, is_of_controller}
 use Rattle.controller_model.specs.Views.{forwarded}
-use Rattle.world_model.proofs.Outboxes.{down-outbox}
-use Rattle.world_laws.specs.Ended.{DeliversAt, HasEnded, PutsNoMore}
-use Rattle.world_laws.specs.LineUps.{is_of_peer, waiting_of}
-use Rattle.world_laws.specs.Lives.{AcksAgree, IsUnheard, Lives, TargetIsFresh}
-use Rattle.world_laws.specs.OthersFrame.{IsHad}
-use Rattle.world_laws.specs.OwnFrame.{IsRequested}
-use Rattle.world_laws.specs.Seated.{IsAlone}
-use Rattle.world_laws.specs.Staying.{AreLinedUp, DeliversFirst}
 use Rattle.world_laws.proofs.BesideRelay.{mobiles_keep_line_ups_new}
 use Rattle.world_laws.proofs.Breaks.{station_breaks_keep_line_ups_new}
 use Rattle.world_laws.proofs.Ending.{ended_stay_in_order_new, line_ups_may_end_new}
 use Rattle.world_laws.proofs.SwitchTakes.{switch_keeps_line_ups_new}
 use Rattle.world_laws.proofs.SwitchTook.{waiting_in}
 use Rattle.world_laws.specs.Order.Facts.{Holds, HoldsAt, IsAsking}
-use Rattle.world_laws.specs.Order.Openers.{has_asked, served_by}
-use Rattle.world_laws.specs.Order.Standing.{OnceDown, Standing, WhileUp, IsComingTo, IsFresh}
-use Rattle.world_laws.specs.Order.Standing.OnceDown.{silent, cut}
-use Rattle.world_laws.specs.Order.Standing.Standing.{while_up, once_down}
 use Rattle.world_laws.specs.Order.Standing.WhileUp.{unborn, coming, lives, ended, unheard}
 use Rattle.world_laws.proofs.Order.Controllers.{controller-stays, given_below, next_rises, none_given_then}
 use Rattle.world_laws.proofs.Order.EventKinds.{Kind, Working, kind, working, delivers_by, delivers_or, down_puts, quiet_puts}
@@ -30,12 +21,8 @@ use Rattle.world_laws.proofs.Order.EventKinds.Working.{works, rests}
 use Rattle.world_laws.proofs.Order.EventKinds.Kind.{handles, ticks, switch_takes, station_takes, breaks, beside}
 use Rattle.world_laws.proofs.Order.Openers.{served-absent, served-asking, served-confirming, served-there}
 use Rattle.world_laws.proofs.Order.SwitchDown.{break_cuts, outbox-down, station-idle, switch-down}
-use Rattle.world_laws.specs.References.Taken.{IsUnheardOf}
-use Rattle.world_laws.specs.Access.Requested.{Came}
-use Rattle.world_laws.specs.Access.Requested.Came.{comes, requests, goes}
-use Rattle.world_laws.specs.Order.Beginning.{HasBegun}
+use Rattle.world_laws.specs.Access.Requested.Came.{comes, goes}
 use Rattle.world_laws.specs.Order.Beginning.HasBegun.{not_yet, begins}
-use Rattle.world_laws.specs.Handling.Faring.{FaresOn, is_of_controller}
 use Rattle.world_laws.specs.Handling.Faring.FaresOn.{goes_on, is_over}
 use Rattle.world_laws.proofs.Events.{world}
 

@@ -7,14 +7,12 @@ use Rattle.world_laws.proofs.Prelude.{BaseTakes, BasePush, Handle, SwitchTakes, 
 use Rattle.world_laws.proofs.Prelude.{Dtap, actors_after, actors_after_all, after_base_push, after_break, after_handle, target_in}
 use Rattle.world_laws.proofs.Prelude.{after_base_takes, after_switch_does, is_layer_3, sent_on, switch_took_first, Actors, Link}
 use Rattle.world_laws.proofs.Prelude.{broken_link, is_station_up, is_up, new_actors, outbox_of, after-taken, handle-leads, turn-leads}
-use Rattle.world_laws.proofs.Prelude.{push-leads, broken-leads, changed_link, new_outbox, aerial-leads, taking-leads}
-use Rattle.controller_model.specs.Life.{take, tick}
+use Rattle.world_laws.proofs.Prelude.{push-leads, broken-leads, changed_link, new_outbox, aerial-leads, taking-leads, take, tick}
+use Rattle.world_laws.proofs.Prelude.{took_first, OfTaken, down-outbox}
 use Rattle.msc_end.specs.Switch.{connection_of}
 use Rattle.world_model.specs.Life.{event_after}
 use Rattle.world_model.specs.Relay.{broken}
-use Rattle.world_model.specs.Stations.{took_first}
-use Rattle.world_model.proofs.Leads.{FromAir, OfTaken}
-use Rattle.world_model.proofs.Outboxes.{down-outbox}
+use Rattle.world_model.proofs.Leads.{FromAir}
 use Rattle.world_laws.proofs.Events.{world}
 
 -- ---- the switch stays as it is

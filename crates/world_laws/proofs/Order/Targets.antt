@@ -1,14 +1,9 @@
 -- The target of a connection in a run is fresh: where its number stands tells.
 use Rattle.world_laws.proofs.Prelude.{◌≡◌, ℕ, true, List, Option, Some, sym, ap, ◌∙◌, subst, none-some, same_Some, SWITCH_LINK, Live}
 use Rattle.world_laws.proofs.Prelude.{Connection, IsThere, connection_of, AreAllowed, Parameters, Event, Actors, is_up}
-use Rattle.world_laws.proofs.Prelude.{modulus_in, new_actors}
+use Rattle.world_laws.proofs.Prelude.{modulus_in, new_actors, IsBeyondAsking, IsUnconfirmed, Lives, CameInOctets, IsHad, IsFreshIn}
+use Rattle.world_laws.proofs.Prelude.{first_served, has_asked, Standing, while_up, once_down}
 use Rattle.conn_rules.specs.declared.state.Stage.{Stage}
-use Rattle.world_laws.specs.Lives.{IsBeyondAsking, IsUnconfirmed, Lives}
-use Rattle.world_laws.specs.OthersFrame.{CameInOctets, IsHad}
-use Rattle.world_laws.specs.Targets.Fresh.{IsFreshIn}
-use Rattle.world_laws.specs.Order.Openers.{first_served, has_asked}
-use Rattle.world_laws.specs.Order.Standing.{Standing}
-use Rattle.world_laws.specs.Order.Standing.Standing.{while_up, once_down}
 use Rattle.world_laws.specs.Order.Standing.WhileUp.{unborn, coming, lives, ended, unheard}
 use Rattle.world_laws.specs.Order.Targets.{IsServed, TargetsAreFresh}
 use Rattle.world_laws.proofs.Order.Controllers.{none_given}

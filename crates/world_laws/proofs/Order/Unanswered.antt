@@ -6,27 +6,21 @@ use Rattle.world_laws.proofs.Prelude.{Parameters, Event, OutboxEntry, Command, A
 use Rattle.world_laws.proofs.Prelude.{channel_required, connected, framed, is_new, target_in, with_turn, rsl_in, all_steps, first_taken}
 use Rattle.world_laws.proofs.Prelude.{step_at, Actors, Mobile, has_number, is_station_up, mobile_of, modulus_in, new_actors, outbox_of}
 use Rattle.world_laws.proofs.Prelude.{back-other, found-number, good-all, good-new, after-taken, air_up-leads, and-right, broken-leads}
-use Rattle.world_laws.proofs.Prelude.{connect-leads, handle-leads, push-leads, new_outbox, event-keeps, same_Some, found-front}
+use Rattle.world_laws.proofs.Prelude.{connect-leads, handle-leads, push-leads, new_outbox, event-keeps, same_Some, found-front, take, tick}
+use Rattle.world_laws.proofs.Prelude.{rr_reading, is_initial, MobileFault, BadMessage, AssignsAnother, NamesAnother, IsAsItConnected}
+use Rattle.world_laws.proofs.Prelude.{NoneNames, StillAsks, UnansweredMobilesAsk, WasNeverAnswered, IsUnanswered}
 use Rattle.controller_model.specs.declared.step.Step.TheVariants as steps
-use Rattle.controller_model.specs.Life.{take, tick}
-use Rattle.dtap_codec.specs.RrReading.{rr_reading}
-use Rattle.mobile_end.specs.Lawful.{is_initial}
-use Rattle.mobile_end.specs.declared.fault.MobileFault.{MobileFault}
-use Rattle.mobile_end.specs.declared.fault.MobileFault.TheVariants.{BadMessage}
 use Rattle.world_model.specs.declared.event.Event.TheVariants as events
 use Rattle.world_model.specs.Life.{event_after}
 use Rattle.world_model.specs.Mobiles.{told}
 use Rattle.world_laws.proofs.Others.{turn_mobiles}
 use Rattle.world_laws.proofs.OwnerRun.{snoc_steps}
 use Rattle.world_laws.proofs.Sublists.{sub_all}
-use Rattle.world_laws.specs.Access.Requested.{AssignsAnother, NamesAnother}
 use Rattle.world_laws.proofs.Access.Mobiles.{AllGo, Goes, IsToMove, all_same, event_goes}
 use Rattle.world_laws.proofs.Access.Mobiles.Goes.{comes as gets, hears, moves, same, stays}
 use Rattle.world_laws.proofs.Access.Passes.{Passes, passes_itself}
 use Rattle.world_laws.proofs.Access.Travels.{event_passes, is_passing}
-use Rattle.world_laws.specs.Order.Unanswered.{IsAsItConnected, NoneNames, StillAsks, UnansweredMobilesAsk, WasNeverAnswered}
 use Rattle.world_laws.proofs.Order.Naming.{step_names, turn_names}
-use Rattle.world_laws.specs.Owners.OneEach.{IsUnanswered}
 use Rattle.world_laws.proofs.Owners.Making.{plain_quiet}
 use Rattle.world_laws.proofs.Events.{snoc_actors}
 use Rattle.world_laws.proofs.Framing.{all_left, all_right}

@@ -1,45 +1,35 @@
 -- All that the order of a run rests on holds: what is a law elsewhere, in the form in which it is
 -- used.
 use Rattle.world_laws.proofs.Prelude.{◌≡◌, ℕ, ◌≤◌, Bool, true, false, List, [], ◌∷◌, ◌++◌, Option, Some, None, inl, inr, refl, sym, subst}
-use Rattle.world_laws.proofs.Prelude.{AllByRecursion, SWITCH_LINK, State, WaitActivation, WaitEstablish, WaitConfirm, Live, Closed, Removed}
+use Rattle.world_laws.proofs.Prelude.{AllByRecursion, SWITCH_LINK, State, WaitActivation, WaitEstablish}
 use Rattle.world_laws.proofs.Prelude.{Connection, connection_of, ComesInOctets, AreAllowed, Parameters, Event}
-use Rattle.world_laws.proofs.Prelude.{actors_after, all_steps, step_at, Actors, is_up, modulus_in, new_actors, place_of}
-use Rattle.world_laws.specs.OthersFrame.{CameInOctets, IsHad}
-use Rattle.world_laws.specs.Seated.{IsAlone}
+use Rattle.world_laws.proofs.Prelude.{actors_after, all_steps, step_at, Actors, is_up, modulus_in, new_actors, place_of, CameInOctets}
+use Rattle.world_laws.proofs.Prelude.{IsHad, IsAlone, is_of_others, IsComing, Quiet, HasBegun, TakesOctets, HasNotAsked, IsEarlyIn}
+use Rattle.world_laws.proofs.Prelude.{IsUnheardOf, IsFreshIn, has_asked, AllRunsAreInOrder, Facts, IsComingTo, Came, requests}
 use Rattle.world_laws.proofs.StationTakes.{stations_keep_line_ups_new}
-use Rattle.world_laws.specs.Access.Arriving.{IsKnown, is_of_others}
-use Rattle.world_laws.specs.Access.Coming.{IsComing}
+use Rattle.world_laws.specs.Access.Arriving.{IsKnown}
 use Rattle.world_laws.proofs.Access.CameLaw.{controller_brings_coming_new}
 use Rattle.world_laws.proofs.Access.Coming.{others_keep_coming_new}
 use Rattle.world_laws.proofs.Access.Opened.{opened_stay_opened_new}
 use Rattle.world_laws.proofs.Channels.BegunRun.{established_are_active_new, served_are_active_new}
 use Rattle.world_laws.proofs.Order.Begun.{channels_begin_quiet_new}
-use Rattle.world_laws.specs.Order.QuietDown.{Quiet}
 use Rattle.world_laws.proofs.Order.Down.{channels_stay_quiet_new, quiet_lets_none_go_new}
 use Rattle.world_laws.proofs.References.Always.{peers_differ_new}
 use Rattle.world_laws.proofs.Channels.RoleAcks.{acknowledgements_agree_new, old_channels_end_new}
 use Rattle.world_laws.proofs.Handling.Faring.{live_connections_fare_on_new}
 use Rattle.world_laws.proofs.Owners.Alone.{connections_are_alone_new}
 use Rattle.world_laws.proofs.Owners.OneEach.{connections_are_one_each_new}
-use Rattle.world_laws.specs.Order.Beginning.{HasBegun}
 use Rattle.world_laws.proofs.Order.Coming.{connections_begin_coming_new}
-use Rattle.world_laws.specs.References.Over.{TakesOctets}
-use Rattle.world_laws.specs.References.Taken.{HasNotAsked, IsEarlyIn, IsUnheardOf}
 use Rattle.world_laws.proofs.References.Heard.{dropped_are_unheard_new, switch_delivers_or_refuses_new, unasked_are_unheard_of_new}
 use Rattle.world_laws.proofs.References.Heard.{unheard_stay_unheard_new}
 use Rattle.world_laws.proofs.References.Over.{over_puts_no_more_new}
-use Rattle.world_laws.specs.Targets.Fresh.{IsFreshIn}
 use Rattle.world_laws.proofs.Targets.StaysFresh.{fresh_tells_new, targets_stay_fresh_new}
 use Rattle.world_laws.specs.Order.Facts.{Holds, HoldsAt, IsAsking}
-use Rattle.world_laws.specs.Order.Openers.{has_asked}
-use Rattle.world_laws.specs.Order.Order.{AllRunsAreInOrder, Facts}
 use Rattle.world_laws.proofs.Order.Controllers.{none_given, octets_front}
 use Rattle.world_laws.proofs.Order.Fairly.{ComeInOctets-new}
 use Rattle.world_laws.proofs.Order.InOrder.{runs_are_in_order_new}
 use Rattle.world_laws.proofs.Events.{snoc_actors, snoc_steps, world}
-use Rattle.world_laws.specs.Order.Standing.{IsComingTo}
-use Rattle.world_laws.specs.Access.Requested.{Came}
-use Rattle.world_laws.specs.Access.Requested.Came.{comes, requests, goes}
+use Rattle.world_laws.specs.Access.Requested.Came.{comes, goes}
 use Rattle.world_laws.specs.Order.Beginning.HasBegun.{not_yet, begins}
 use Rattle.world_laws.proofs.Framing.{all_right}
 
@@ -55,10 +45,7 @@ takes_octets settings events event octets =
 early_of : (state : State) → has_asked state ≡ false → IsEarlyIn state
 early_of WaitActivation isnt = tt
 early_of WaitEstablish isnt = tt
-early_of WaitConfirm isnt = absurd (cc isnt)
-early_of (Live reference stage) isnt = absurd (cc isnt)
-early_of (Closed clearing) isnt = absurd (cc isnt)
-early_of Removed isnt = absurd (cc isnt)
+early_of _ isnt = absurd (cc isnt)
 
 asking_has_not_asked : (w : Actors) (number : ℕ) → IsAsking (connection_of w.controller number) → HasNotAsked w number
 asking_has_not_asked w number asking = by (connection_of w.controller number) refl asking where
@@ -69,10 +56,7 @@ asking_has_not_asked w number asking = by (connection_of w.controller number) re
 unasked : (state : State) → IsEarlyIn state → has_asked state ≡ false
 unasked WaitActivation early = refl
 unasked WaitEstablish early = refl
-unasked WaitConfirm early = elim early [ ]
-unasked (Live reference stage) early = elim early [ ]
-unasked (Closed clearing) early = elim early [ ]
-unasked Removed early = elim early [ ]
+unasked _ early = elim early [ ]
 
 coming_unasked : {m : ℕ} {w : Actors} {mobile : ℕ} {s : Connection} → IsComing m w mobile s → HasNotAsked w s.number
 coming_unasked {s = s} coming = record { own = s; there = coming.had.there; is_early = coming.early }

@@ -1,35 +1,24 @@
 -- The channels of an open connection are its mobile's alone.
-use Rattle.world_laws.proofs.Prelude.{◌≡◌, ◌≢◌, ℕ, ◌≤◌, ◌==◌, ◌&&◌, Bool, true, false, List, [], ◌∷◌, ◌++◌, length}
-use Rattle.world_laws.proofs.Prelude.{option_map, unwrap_or, Contains, Option, Some, None, refl, sym, ap, ◌∙◌, subst, inl, inr, arith}
-use Rattle.world_laws.proofs.Prelude.{true≢false, eqb-true, AllByRecursion, Channel, Place}
-use Rattle.world_laws.proofs.Prelude.{AllByRecursion-append, Connection, is_at, roles_of, target_channels, target_role, IsOpen, undone}
-use Rattle.world_laws.proofs.Prelude.{used_channels, brought_in, connection_of, Owns, is_link_up, free≢release, free≢use}
-use Rattle.world_laws.proofs.Prelude.{life_ready, life_uses, ChannelState, Free, InUse, Releasing, Step, Controller, Entry, Turn}
+use Rattle.world_laws.proofs.Prelude.{◌≡◌, ◌≢◌, ℕ, ◌≤◌, ◌==◌, ◌&&◌, Bool, true, false, List, [], ◌∷◌, ◌++◌, length, option_map, unwrap_or}
+use Rattle.world_laws.proofs.Prelude.{Contains, Option, Some, None, refl, sym, ap, ◌∙◌, subst, inl, inr, arith, true≢false, eqb-true}
+use Rattle.world_laws.proofs.Prelude.{AllByRecursion, Channel, Place, AllByRecursion-append, Connection, is_at, roles_of, target_channels}
+use Rattle.world_laws.proofs.Prelude.{target_role, IsOpen, undone, used_channels, brought_in, connection_of, Owns, is_link_up, free≢release}
+use Rattle.world_laws.proofs.Prelude.{free≢use, life_ready, life_uses, ChannelState, Free, InUse, Releasing, Step, Controller, Entry, Turn}
 use Rattle.world_laws.proofs.Prelude.{channel_state, entry_of, hears, place_at, place_of, state_in, step, is_active, Item, Rsl, AreAllowed}
-use Rattle.world_laws.proofs.Prelude.{Parameters, Event, BaseTakes, Handle, Tick, Command, On, Tenure, actors_after, actors_after_all}
-use Rattle.world_laws.proofs.Prelude.{Agrees, active_behind, asker, is_in_use, tenure_behind, owner_in, handled, target_in, with_turn}
-use Rattle.world_laws.proofs.Prelude.{all_steps, Actors, Mobile, is_active_at, is_reached, is_station_up, is_up, new_actors, outbox_of}
-use Rattle.world_laws.proofs.Prelude.{spot_at, tenure_at, reached-up, up-right, and-right, LivesByTable-new, found-all}
-use Rattle.world_laws.proofs.Prelude.{IsKnownItem, known-inbox, Right, handle-turned, heard_of, kinds, right-step, there-of, tick-turned}
-use Rattle.world_laws.proofs.Prelude.{beside-step, Serves, Turned, hear, down-after, place-is, none-some, right-new, found-number}
-use Rattle.conn_rules.proofs.RolesApart.{channels_of-roles}
+use Rattle.world_laws.proofs.Prelude.{Parameters, Event, BaseTakes, Handle, Tick, Tenure, actors_after, actors_after_all, Agrees}
+use Rattle.world_laws.proofs.Prelude.{active_behind, asker, tenure_behind, owner_in, handled, target_in, with_turn, all_steps, Actors}
+use Rattle.world_laws.proofs.Prelude.{Mobile, is_active_at, is_reached, is_station_up, is_up, new_actors, outbox_of, spot_at, tenure_at}
+use Rattle.world_laws.proofs.Prelude.{reached-up, up-right, and-right, LivesByTable-new, found-all, IsKnownItem, known-inbox, Right}
+use Rattle.world_laws.proofs.Prelude.{handle-turned, heard_of, kinds, right-step, there-of, tick-turned, beside-step, Serves, Turned, hear}
+use Rattle.world_laws.proofs.Prelude.{down-after, place-is, none-some, right-new, found-number, channels_of-roles, comes, found_number}
+use Rattle.world_laws.proofs.Prelude.{all_contained, contains_behind, contains_first, life, take, tick, tenure_all, SitsBy, tenure-append}
+use Rattle.world_laws.proofs.Prelude.{goes-put, beside-number, takes-number, CameInOctets, IsHad, IsElsewhere, ChannelsAreMobiles}
+use Rattle.world_laws.proofs.Prelude.{ConnectionsAreAlone, IsMobiles, hear-use, on_own}
 use Rattle.conn_rules.specs.declared.input.Input.TheVariants as inputs
-use Rattle.controller_model.specs.LifeLaws.Acts.Brought.{comes}
-use Rattle.controller_model.proofs.LifeLaws.Entries.{found_number}
-use Rattle.controller_model.proofs.LifeLaws.UsingRows.{all_contained, contains_behind, contains_first}
 use Rattle.controller_model.specs.declared.step.Step.TheVariants as steps
-use Rattle.controller_model.specs.Life.{life, take, tick}
-use Rattle.rsl_codec.specs.declared.rsl.Rsl.TheVariants as rsl
 use Rattle.world_model.specs.Life.{event_after}
-use Rattle.world_model.specs.OwnerLines.{tenure_all}
-use Rattle.world_model.specs.Tickets.{SitsBy}
-use Rattle.world_model.proofs.OwnerLines.{tenure-append}
-use Rattle.world_model.proofs.OwnerPuts.{goes-put}
-use Rattle.world_model.proofs.OwnerRuns.{ServesAt, ServesThrough, beside-number, takes-number}
-use Rattle.world_laws.specs.OthersFrame.{CameInOctets, IsHad}
-use Rattle.world_laws.specs.Seated.{IsElsewhere}
+use Rattle.world_model.proofs.OwnerRuns.{ServesAt, ServesThrough}
 use Rattle.world_laws.proofs.OwnerRun.{mobiles_sit_on_theirs_new, life-settings, serves_through, within_settings, not_zero}
-use Rattle.world_laws.specs.Owners.Alone.{ChannelsAreMobiles, ConnectionsAreAlone, IsMobiles}
 use Rattle.world_laws.proofs.Owners.LinkEnds.{owns_of}
 use Rattle.world_laws.proofs.Owners.Making.{plain_quiet}
 use Rattle.world_laws.proofs.Owners.OldChannels.{ComesFrom, comes_from, freed_brings}
@@ -102,13 +91,6 @@ rests_old settings owner done w event allowed is controller number old s had c h
     ap (λ (n : ℕ). owner (record { at = place_of c; number = n })) (number (place_of c) within.0 within.1 up) ∙ old s before c has (still_up w event c.station up)
 
 -- ---- a turn of the controller
-
-hear-use : (heard : List Rsl) (state : ChannelState) → is_in_use (hear heard state) ≡ is_in_use state
-hear-use [] state = refl
-hear-use (rsl.RfChannelReleaseAck channel ∷ rest) (Releasing number) = refl
-hear-use (rsl.RfChannelReleaseAck channel ∷ rest) Free = refl
-hear-use (rsl.RfChannelReleaseAck channel ∷ rest) (InUse number) = refl
-hear-use (_ ∷ rest) state = refl
 
 -- no tenure begins of a channel that isn't free once the acknowledgement was heard
 same_turn : (owner : Tenure → ℕ) (w v : Actors) (at : Place) (target : Option Tenure) (t : Turn) (heard : List Rsl) → Turned w v at target t heard → Serves owner w at target t heard → Agrees owner w at → hears t.next at.station ≡ true → is_up w at.station ≡ true
@@ -279,11 +261,6 @@ channels_are_mobiles_new settings events s allowed octets had =
         is_mobiles c (λ free. free≢use s.number (sym free ∙ state)) hearing
         (λ agrees up. agrees.own s.number s.request.access hearing state (asks_of w.controller s.number s had.there) (λ down silent. absurd (true≢false (sym up ∙ down))))
 
--- a mobile on a tenure is its owner
-sits_by : (owner : Tenure → ℕ) (number : ℕ) (tenure : Tenure) (command : Option Command) → SitsBy owner number (On tenure command) → owner tenure ≡ number
-sits_by owner number tenure None sits = sits
-sits_by owner number tenure (Some command) sits = sits.0
-
 -- one that is reached is the present one, of a station that is up
 reached_is : (w : Actors) (t : Tenure) → is_reached w t ≡ true → (is_up w t.at.station ≡ true) × (is_active_at w t.at ≡ true) × (tenure_at w t.at ≡ t)
 reached_is w t reached =
@@ -304,7 +281,7 @@ connections_are_alone_new settings events s allowed octets had other q tenure co
     theirs : owner tenure ≡ other
     theirs =
         let sits : SitsBy owner q.number q.seat = found-all (λ (p : Mobile). SitsBy owner p.number p.seat) other w.mobiles q (mobiles_sit_on_theirs_new settings events allowed octets) found in
-        sits_by owner q.number tenure command (subst (SitsBy owner q.number) seat sits) ∙ found-number other w.mobiles q found
+        on_own owner q.number tenure command (subst (SitsBy owner q.number) seat sits) ∙ found-number other w.mobiles q found
 
     never : (c : Channel) → IsMobiles owner w s.request.access c → is_at tenure.at c ≡ true → ⊥
     never c own here =

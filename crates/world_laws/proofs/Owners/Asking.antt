@@ -3,28 +3,23 @@ use Rattle.world_laws.proofs.Prelude.{◌≡◌, ◌≢◌, ℕ, ◌+◌, ◌==�
 use Rattle.world_laws.proofs.Prelude.{option_to_list, Option, Some, None, refl, sym, ap, ◌∙◌, subst, inl, inr, cases_Bool, cond-true}
 use Rattle.world_laws.proofs.Prelude.{cond-false, eqb-true, eq-eqb, Channel, Place, Message, SWITCH_LINK, Input, Connection, Row, is_dtap}
 use Rattle.world_laws.proofs.Prelude.{Acts, Brought, ages, goes, opens, rests, nothing, connection_of, IsNumbered, step_does, Step, Take}
-use Rattle.world_laws.proofs.Prelude.{Word, Nothing, Ping, Asks, OnChannel, Reports, OnConnection, access_channel, handover_offer}
+use Rattle.world_laws.proofs.Prelude.{Word, Asks, OnChannel, Reports, OnConnection, access_channel, handover_offer}
 use Rattle.world_laws.proofs.Prelude.{Controller, Entry, Turn, entry_of, freed, ignoring, turn, with_entry, channel_state, break_of}
 use Rattle.world_laws.proofs.Prelude.{by_fitting, concerning, concerning_too, entry_at, frees, given, may_open, measured, measures}
 use Rattle.world_laws.proofs.Prelude.{on_decision, on_freed, on_report, on_what, on_word, row_in, step, with_report, rsl_word, sapi_of}
 use Rattle.world_laws.proofs.Prelude.{decision_over, Decision, Stay, Frame, Item, What, Rsl, RequestReference, said_by, rsl_in, IsKnownItem}
+use Rattle.world_laws.proofs.Prelude.{row_of, remaining_is, break_does, word_asked, IsAskedOf, entry_after, new_entry, word_of}
+use Rattle.world_laws.proofs.Prelude.{is_request_of, requests_in}
 use Rattle.conn_rules.specs.declared.input.Input.TheVariants as inputs
-use Rattle.conn_rules.specs.Table.{row_of}
 use Rattle.controller_model.specs.LifeLaws.Acts.Brought.{breaks, passes}
-use Rattle.controller_model.proofs.LifeLaws.Entries.{remaining_is}
-use Rattle.controller_model.proofs.LifeLaws.Turns.{break_does}
-use Rattle.controller_model.proofs.LifeLaws.UsingLife.{word_asked}
-use Rattle.controller_model.proofs.LifeLaws.UsingWords.{IsAskedOf}
 use Rattle.controller_model.specs.declared.step.Step.TheVariants.{Tick}
 use Rattle.controller_model.specs.Controller.{has_number, is_up, put_back}
-use Rattle.controller_model.specs.Life.{entry_after, new_entry, take}
-use Rattle.controller_model.specs.Reading.{word_of}
+use Rattle.controller_model.specs.Life.{take}
 use Rattle.dtap_codec.specs.declared.report.Report.{Report}
 use Rattle.controller_model.specs.Decision.TheVariants.{Move}
 use Rattle.ruled_relay.specs.declared.item.What.TheVariants as whats
 use Rattle.rsl_codec.specs.declared.rsl.Rsl.TheVariants as rsl
 use Rattle.world_laws.proofs.OrderHeard.{read_known, word-known, IsPlain, FreesNone, plain_asks, sapi_plain, data_plain, result_plain}
-use Rattle.world_laws.specs.Owners.OneEach.{is_request_of, requests_in}
 
 -- ---- which word asks
 
@@ -158,8 +153,6 @@ asked_begins c station q d n t true none is = given_begins c q d (access_channel
 asked_begins c station q d n t false none is = absurd (absent_none n c t none is)
 
 word_begins : (c : Controller) (source : ℕ) (word : Word) (n : ℕ) (t : Connection) → IsAbsent n c.entries → connection_of (on_word source word c).next n ≡ Some t → BeginsBy c word n t
-word_begins c source Nothing n t none is = absurd (absent_none n c t none is)
-word_begins c source Ping n t none is = absurd (absent_none n c t none is)
 word_begins c source (Asks q d) n t none is = asked_begins c source q d n t (may_open c) none is
 word_begins c source (OnChannel at input) n t none is =
     let e : Option Entry = entry_at c (channel_state c at) in
@@ -168,6 +161,7 @@ word_begins c source (Reports at number report) n t none is =
     absurd (absent_none n (on_word source (Reports at number report) c).next t (absent_report n at number report c (entry_at c (channel_state c at)) none) is)
 word_begins c source (OnConnection m input) n t none is =
     absurd (absent_none n (on_word source (OnConnection m input) c).next t (absent_concerning n input c (entry_of c m) none) is)
+word_begins c source _ n t none is = absurd (absent_none n c t none is)
 
 -- neither a break nor time makes one
 none_acts : (number next : ℕ) (up : Bool) (brought : Brought) (after : Option Connection) (put : List Message) (t : Connection) → (brought ≡ nothing → ⊥) → Acts number next up brought None put after → after ≡ Some t → ⊥

@@ -5,27 +5,19 @@ use Rattle.world_laws.proofs.Prelude.{◌∙◌, subst, inl, inr, true≢false, 
 use Rattle.world_laws.proofs.Prelude.{append-nil, filter-append, AllByRecursion, Sccp, Channel, SWITCH_LINK, AllByRecursion-append}
 use Rattle.world_laws.proofs.Prelude.{Connection, roles_of, used_channels, IsOpen, connection_of, Owns, OwnsOpen, is_link_up, links_with}
 use Rattle.world_laws.proofs.Prelude.{step_goes, life_owns, Step, Controller, Turn, hears, Frame, BaseState, after_take_down, first_message}
-use Rattle.world_laws.proofs.Prelude.{first_of_messages, Item, What, Rsl, AreAllowed, CellParameters, Parameters, Event, Connect}
-use Rattle.world_laws.proofs.Prelude.{BasePush, Handle}
-use Rattle.world_laws.proofs.Prelude.{Tick, BaseDown, Tenure, actors_after, actors_after_all}
-use Rattle.world_laws.proofs.Prelude.{after_connecting, first_of, after_base_push, after_break, handled, pushed_by_station}
-use Rattle.world_laws.proofs.Prelude.{pushed_by_switch, station_item, switch_item, target_in, with_turn, all_steps, Actors, Link, base_of}
-use Rattle.world_laws.proofs.Prelude.{broken_link, is_up, new_actors, with_base, new_link, no_station, stations_from, with_link, Plain}
-use Rattle.world_laws.proofs.Prelude.{base-elsewhere, base-there, as_before, ends_now, inbox-goes, after-taken, broken-leads, connect-leads}
-use Rattle.world_laws.proofs.Prelude.{turn-leads, LivesByTable-new, all_join, changed_link}
-use Rattle.std.proofs.lemmas.Option.{unwrap_or-slice_get}
-use Rattle.conn_rules.proofs.RolesApart.{channels_of-roles}
-use Rattle.controller_model.specs.LifeLaws.Owning.{LinkedOf}
+use Rattle.world_laws.proofs.Prelude.{first_of_messages, Item, What, Rsl, AreAllowed, CellParameters, Parameters, Event, Connect, BasePush}
+use Rattle.world_laws.proofs.Prelude.{Handle, Tick, BaseDown, Tenure, actors_after, actors_after_all, after_connecting, first_of}
+use Rattle.world_laws.proofs.Prelude.{after_base_push, after_break, handled, pushed_by_station, pushed_by_switch, station_item, switch_item}
+use Rattle.world_laws.proofs.Prelude.{target_in, with_turn, all_steps, Actors, Link, base_of, broken_link, is_up, new_actors, with_base}
+use Rattle.world_laws.proofs.Prelude.{new_link, no_station, stations_from, with_link, Plain, base-elsewhere, base-there, as_before}
+use Rattle.world_laws.proofs.Prelude.{ends_now, inbox-goes, after-taken, broken-leads, connect-leads, turn-leads, LivesByTable-new}
+use Rattle.world_laws.proofs.Prelude.{all_join, changed_link, unwrap_or-slice_get, channels_of-roles, LinkedOf, life_linked, life, take}
+use Rattle.world_laws.proofs.Prelude.{tick, made_item, of_source, pushing, link-else}
 use Rattle.controller_model.proofs.LifeLaws.Beside.{other_link}
-use Rattle.controller_model.proofs.LifeLaws.OwningLife.{life_linked}
 use Rattle.controller_model.specs.declared.step.Step.TheVariants as steps
-use Rattle.controller_model.specs.Life.{life, take, tick}
 use Rattle.ruled_relay.specs.declared.item.What.TheVariants as whats
 use Rattle.world_model.specs.Life.{event_after}
-use Rattle.world_model.specs.Queues.{made_item, of_source}
-use Rattle.world_model.proofs.Honesty.{pushing}
 use Rattle.world_model.proofs.Honesty.Plain.{next}
-use Rattle.world_model.proofs.Outboxes.{other_link as link-else}
 use Rattle.world_laws.specs.Owners.LinkEnds.{EndsOnce, EndsWithDown, LinksEndOnce, LinksOfChannelsAreUp, down_of}
 use Rattle.world_laws.proofs.Owners.Making.{connects, is_plain, plain_quiet}
 use Rattle.world_laws.proofs.Owners.OneEach.{inbox-same, plain_pushes}
@@ -324,9 +316,7 @@ what_now true from source whats.Down c now was = elim (cases_Bool (nat_eq from s
   | inl hit ↦ (refl, eqb-true from source hit)
   | inr miss ↦ absurd (true≢false (sym was ∙ sym (other_link c.links from source (λ same. eqb-false from source miss (sym same))) ∙ now))
 ]
-what_now true from source (whats.Frame frame) c now was = absurd (true≢false (sym was ∙ now))
-what_now false from source whats.Down c now was = absurd (true≢false (sym was ∙ now))
-what_now false from source (whats.Frame frame) c now was = absurd (true≢false (sym was ∙ now))
+what_now _ from source _ c now was = absurd (true≢false (sym was ∙ now))
 
 learns : (c : Controller) (item : Item) (source : ℕ) → hears c source ≡ true → hears (take item c).next source ≡ false → item ≡ down_of source
 learns c item source was now =

@@ -10,16 +10,13 @@ use Rattle.world_laws.proofs.Prelude.{is_new, link_answer, after_switch_does, af
 use Rattle.world_laws.proofs.Prelude.{Link, Mobile, Spot, base_of, broken_link, has_number, is_station_up, is_up, mobile_of, no_station}
 use Rattle.world_laws.proofs.Prelude.{put_back, station_of, with_base, with_mobile, with_outbox, with_spot, base-elsewhere}
 use Rattle.world_laws.proofs.Prelude.{base-with_spot, up-right, and-left, and-right, switch_takes-leads, switch_took-leads, does-leads}
-use Rattle.world_laws.proofs.Prelude.{after-taken, Joins, Tells, air-after, is_on_air}
-use Rattle.std.proofs.Common.{nat_lt}
+use Rattle.world_laws.proofs.Prelude.{after-taken, Joins, Tells, air-after, is_on_air, nat_lt, OfTaken, is_request_of, made_by, requests_in}
+use Rattle.world_laws.proofs.Prelude.{joins_by_connecting}
 use Rattle.msc_end.specs.Switch.{connection_of}
 use Rattle.world_model.specs.Life.{event_after}
 use Rattle.world_model.specs.Mobiles.{told}
 use Rattle.world_model.specs.World.{Station}
-use Rattle.world_model.proofs.Leads.{OfTaken}
-use Rattle.world_laws.specs.Owners.OneEach.{is_request_of, made_by, requests_in}
-use Rattle.world_model.proofs.Footprints.Joins.{connects as joins_by_connecting}
-use Rattle.world_model.proofs.Footprints.Tells.{answers, brings, detects, establishes, links, opens_with, reports, requires}
+use Rattle.world_model.proofs.Footprints.Tells.{answers, links, requires}
 
 -- ---- counts
 
@@ -196,13 +193,8 @@ is_plain event = true
 
 no_request : {w : Actors} {event : Event} {n : ℕ} {message : Rsl} (k : ℕ) → is_plain event ≡ true → Tells w event n message → is_request_of k message ≡ false
 no_request k is (requires number station initial accepts) = absurd cc
-no_request k is (opens_with number p tenure frame lent) = refl
-no_request k is (brings number sapi p tenure frame lent) = refl
-no_request k is (links number p tenure frame lent) = refl
-no_request k is (detects number tenure reached) = refl
-no_request k is (establishes tenure reached) = refl
 no_request k is (answers station l answer taken) = answer-no k l.channel answer
-no_request k is (reports number report tenure reached long) = refl
+no_request k is _ = refl
 
 none_joins : {w : Actors} {event : Event} {number : ℕ} {initial : List ℕ} {accepts : Bool} → is_plain event ≡ true → Joins w event number initial accepts → ⊥
 none_joins is (joins_by_connecting number station initial accepts may) = absurd cc

@@ -11,16 +11,9 @@ use Rattle.world_laws.proofs.Prelude.{life_fits, life_names, life_owns, changes_
 use Rattle.world_laws.proofs.Prelude.{ChannelState, Free, Releasing, Step, Controller, channel_state, holder, hears, place_of, state_in}
 use Rattle.world_laws.proofs.Prelude.{with_state, step, rsl_word, Frame, is_bound_of, What, Rsl, RequestReference, AreAllowed, Parameters}
 use Rattle.world_laws.proofs.Prelude.{said_by, acknowledgements, rsl_in, IsKnownItem, heard_of, hear, same_Some, same_state}
-use Rattle.conn_rules.proofs.RolesAccount.{KeepsAccount-by}
+use Rattle.world_laws.proofs.Prelude.{KeepsAccount-by, MissesOf, comes, IsFine, acknowledged_owns, all_contained, life, word_of}
 use Rattle.conn_rules.specs.declared.input.Input.TheVariants as inputs
-use Rattle.controller_model.specs.LifeLaws.Acts.{MissesOf}
-use Rattle.controller_model.specs.LifeLaws.Acts.Brought.{comes}
-use Rattle.controller_model.proofs.LifeLaws.Fitting.{IsFine}
-use Rattle.controller_model.proofs.LifeLaws.Owning.{acknowledged_owns}
-use Rattle.controller_model.proofs.LifeLaws.UsingRows.{all_contained}
 use Rattle.controller_model.specs.declared.step.Step.TheVariants as steps
-use Rattle.controller_model.specs.Life.{life}
-use Rattle.controller_model.specs.Reading.{word_of}
 use Rattle.ruled_relay.specs.declared.item.What.TheVariants as whats
 use Rattle.rsl_codec.specs.declared.rsl.Rsl.TheVariants as rsl
 use Rattle.world_laws.proofs.OrderHeard.{read_known, word-known}

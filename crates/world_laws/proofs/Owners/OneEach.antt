@@ -4,22 +4,18 @@ use Rattle.world_laws.proofs.Prelude.{option_map, option_to_list, unwrap_or, Opt
 use Rattle.world_laws.proofs.Prelude.{true≢false, eqb-true, ne_eqb, flat_map-append, append-nil, AllByRecursion, is_none, result_ok}
 use Rattle.world_laws.proofs.Prelude.{Connection, connection_of, SameRequest, find_above, life_fits, life_names, Step, Controller, Entry}
 use Rattle.world_laws.proofs.Prelude.{step, after_next, after_take_down, first_of_messages, messages_behind_first, Item, What, Rsl}
-use Rattle.world_laws.proofs.Prelude.{RequestReference, CellParameters, Parameters, Event, Connect}
-use Rattle.world_laws.proofs.Prelude.{BasePush, Handle, Tick}
-use Rattle.world_laws.proofs.Prelude.{BaseDown, actors_after, actors_after_all, after_connecting, said_by, pushed, after_base_push}
-use Rattle.world_laws.proofs.Prelude.{after_break, handled, station_item, switch_item, target_in, with_turn, all_steps, Actors, Mobile}
-use Rattle.world_laws.proofs.Prelude.{base_of, broken_link, mobile_of, new_actors, station_of, stations_from, with_link, Good, end-of}
-use Rattle.world_laws.proofs.Prelude.{good-all, good-new, inbox-goes, after-taken, broken-leads, connect-leads, push-leads, turn-leads}
-use Rattle.world_laws.proofs.Prelude.{LivesByTable-new, IsKnownItem, known-inbox, IsSound, sound-read}
-use Rattle.controller_model.proofs.LifeLaws.Turns.{step_numbered}
+use Rattle.world_laws.proofs.Prelude.{RequestReference, CellParameters, Parameters, Event, Connect, BasePush, Handle, Tick, BaseDown}
+use Rattle.world_laws.proofs.Prelude.{actors_after, actors_after_all, after_connecting, said_by, pushed, after_base_push, after_break}
+use Rattle.world_laws.proofs.Prelude.{handled, station_item, switch_item, target_in, with_turn, all_steps, Actors, Mobile, base_of}
+use Rattle.world_laws.proofs.Prelude.{broken_link, mobile_of, new_actors, station_of, stations_from, with_link, Good, end-of, good-all}
+use Rattle.world_laws.proofs.Prelude.{good-new, inbox-goes, after-taken, broken-leads, connect-leads, push-leads, turn-leads}
+use Rattle.world_laws.proofs.Prelude.{LivesByTable-new, IsKnownItem, known-inbox, IsSound, sound-read, step_numbered, life, take, tick}
+use Rattle.world_laws.proofs.Prelude.{word_of, popped, made_by, requests_in, requests_up, said_in}
 use Rattle.controller_model.specs.declared.step.Step.TheVariants as steps
-use Rattle.controller_model.specs.Life.{life, take, tick}
-use Rattle.controller_model.specs.Reading.{word_of}
 use Rattle.ruled_relay.specs.declared.item.What.TheVariants as whats
 use Rattle.world_model.specs.Life.{event_after}
-use Rattle.world_model.specs.Queues.{popped}
 use Rattle.world_laws.specs.Owners.OneEach.{ConnectionsAnswerMobiles, ConnectionsAreOneEach, NoneIsAnsweredAgain, NoneWasAnswered}
-use Rattle.world_laws.specs.Owners.OneEach.{RequestsComeOnce, made_by, requests_in, requests_up, said_in}
+use Rattle.world_laws.specs.Owners.OneEach.{RequestsComeOnce}
 use Rattle.world_laws.proofs.Owners.Asking.{Begins, asking_says, step_begins}
 use Rattle.world_laws.proofs.Owners.Making.{Connects, connects, is_plain, made_set, none, plain_quiet, requests-append}
 use Rattle.world_laws.proofs.Events.{snoc_actors, world}

@@ -1,13 +1,11 @@
 -- Of a channel that is active the present tenure is the last one behind all that waits.
 use Rattle.world_laws.proofs.Prelude.{◌≡◌, ◌⊎◌, ℕ, ◌+◌, ◌==◌, ◌&&◌, ◌||◌, not, Bool, true, false, if◌then◌else◌, List, [], ◌∷◌, ◌++◌}
-use Rattle.world_laws.proofs.Prelude.{Option, Some, None, refl, sym, ap, ◌∙◌, inl, inr, append_assoc, append-nil, Place, channel_state}
+use Rattle.world_laws.proofs.Prelude.{Option, Some, refl, sym, ap, ◌∙◌, inl, inr, append_assoc, append-nil, Place, channel_state}
 use Rattle.world_laws.proofs.Prelude.{hears, ChannelState, activation_ack, Rsl, ChannelActivation, RfChannelRelease, RfChannelReleaseAck}
 use Rattle.world_laws.proofs.Prelude.{OutboxEntry, Tenure, Agrees, acknowledged_in, tenure_behind, to_come, began, begins, begins_and_ends}
 use Rattle.world_laws.proofs.Prelude.{acknowledgement, acknowledgements, due, is_active_then, rsl_in, Actors, base_of, is_active_at, is_up}
-use Rattle.world_laws.proofs.Prelude.{outbox_of, spot_at, tenure_at, Both-empty}
-use Rattle.world_model.specs.OwnerLines.{Comes, tenure_all, tenure_then}
+use Rattle.world_laws.proofs.Prelude.{outbox_of, spot_at, tenure_at, Both-empty, Comes, tenure_all, tenure_then, none-due}
 use Rattle.world_model.specs.OwnerLines.Comes.{nothing, ends}
-use Rattle.world_model.proofs.OwnerLines.{none-due}
 
 -- ---- what is due of a channel that is active
 
@@ -28,8 +26,7 @@ one_entry k tenure (Some (RfChannelRelease number)) = by (number == k) where
   by : (b : Bool) → (((if b then RfChannelReleaseAck k ∷ [] else []) ≡ []) × ((not b && true) ≡ true) × (tenure ≡ tenure)) ⊎ (((if b then RfChannelReleaseAck k ∷ [] else []) ≡ RfChannelReleaseAck k ∷ []) × (tenure ≡ tenure))
   by true = inr (refl, refl)
   by false = inl (refl, refl, refl)
-one_entry k tenure None = inl (refl, refl, refl)
-one_entry k tenure (Some _) = inl (refl, refl, refl)
+one_entry k tenure _ = inl (refl, refl, refl)
 
 -- no activation is due first
 never_begins : (k : ℕ) (entries : List OutboxEntry) (rest : List Rsl) → due k true entries ≡ activation_ack k ∷ rest → ⊥

@@ -1,12 +1,11 @@
 -- What the laws' definitions say, at literal events.
 use Rattle.world_laws.proofs.Prelude.{◌≡◌, true, false, List, [], ◌∷◌, ◌++◌, option_map, map, Some, None, refl, Connection}
 use Rattle.world_laws.proofs.Prelude.{new_connection, connection_of, activation_ack, Rsl, Event, Connect, BaseDown}
-use Rattle.world_laws.proofs.Prelude.{BaseTakes, BasePush, Handle, actors_after_all, channel_required, owner_in, station_item}
+use Rattle.world_laws.proofs.Prelude.{BaseTakes, BasePush, Handle, actors_after_all, channel_required, owner_in, station_item, IsMobiles}
+use Rattle.world_laws.proofs.Prelude.{is_request_of, requests_in, requests_up}
 use Rattle.world_model.proofs.Worlds.{on_literals}
-use Rattle.world_laws.specs.Owners.Alone.{IsMobiles}
 use Rattle.world_laws.proofs.Owners.LinkEnds.{frame_down}
 use Rattle.world_laws.specs.Owners.LinkEnds.{EndsWithDown, LinksAreUp, down_of}
-use Rattle.world_laws.specs.Owners.OneEach.{is_request_of, requests_in, requests_up}
 use Rattle.world_laws.proofs.Usual.{begin, channel}
 
 -- ---- requests

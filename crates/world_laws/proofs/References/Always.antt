@@ -5,16 +5,13 @@ use Rattle.world_laws.proofs.Prelude.{life_sound, Step, Controller, Item, AreAll
 use Rattle.world_laws.proofs.Prelude.{SwitchTakes, SwitchDoes, Tick, BaseDown, OutboxEntry, actors_after, actors_after_all, handled}
 use Rattle.world_laws.proofs.Prelude.{target_in, after_base_takes, all_steps, first_taken, step_at, after_switch_takes, sccp_in}
 use Rattle.world_laws.proofs.Prelude.{switch_took, Actors, Link, link_of, new_actors, outbox_of, with_outbox, switch_takes-leads}
-use Rattle.world_laws.proofs.Prelude.{after-taken, LivesByTable-new, new_outbox, aerial-leads, taking-leads, ◌≢◌, up-right}
+use Rattle.world_laws.proofs.Prelude.{after-taken, LivesByTable-new, new_outbox, aerial-leads, taking-leads, ◌≢◌, up-right, OfTaken}
+use Rattle.world_laws.proofs.Prelude.{other_link, is_unasked, TakesOctets, NamesAlwaysAgree, PeersDiffer}
 use Rattle.controller_model.specs.declared.step.Step.TheVariants as steps
 use Rattle.world_model.specs.Life.{event_after}
-use Rattle.world_model.proofs.Leads.{OfTaken, FromAir}
-use Rattle.world_model.proofs.Outboxes.{other_link}
+use Rattle.world_model.proofs.Leads.{FromAir}
 use Rattle.world_laws.specs.References.Agree.{ConfirmsBeing, IsRight, NamesAgree, reads_of}
-use Rattle.world_laws.specs.References.Agree.Agrees.{is_unasked}
-use Rattle.world_laws.specs.References.Over.{TakesOctets}
 use Rattle.world_laws.specs.References.Reads.{AreNothing}
-use Rattle.world_laws.specs.References.Taken.{NamesAlwaysAgree, PeersDiffer}
 use Rattle.world_laws.proofs.References.Events.{IsBeside, Keeps, break_keeps, by_beside, does_keeps, keeps_itself, dropped_same, push_keeps}
 use Rattle.world_laws.proofs.References.FirstTaken.{IsFirst, names_after, peers_after, unheard_after}
 use Rattle.world_laws.proofs.References.Moving.{lived}

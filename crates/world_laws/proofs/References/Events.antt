@@ -3,24 +3,21 @@ use Rattle.world_laws.proofs.Prelude.{◌≡◌, ◌≢◌, ℕ, zero, suc, ◌+
 use Rattle.world_laws.proofs.Prelude.{◌++◌, find, get_or, set, option_to_list, unwrap_or, Option, Some, None, refl, sym, ap, ◌∙◌, subst}
 use Rattle.world_laws.proofs.Prelude.{slice_get, slice_set, is_none, AllByRecursion, eqb-false, and_parts, Bssap, Transfer, InterfaceFault}
 use Rattle.world_laws.proofs.Prelude.{Sccp, DataForm1, bssap_text, bssap_write_fault, SWITCH_LINK, AllByRecursion-append, Due, WasAsked}
-use Rattle.world_laws.proofs.Prelude.{Complete, State, WaitActivation, WaitEstablish, WaitConfirm, Live, Closed, Removed, IsOpen, IsThere}
-use Rattle.world_laws.proofs.Prelude.{controllers, Controller, after_take_down, first_message, Open, Clearing, Ended, REFERENCE_BASE}
+use Rattle.world_laws.proofs.Prelude.{Complete, State, Closed, Removed, IsOpen, IsThere}
+use Rattle.world_laws.proofs.Prelude.{controllers, Controller, after_take_down, first_message, Clearing, Ended, REFERENCE_BASE}
 use Rattle.world_laws.proofs.Prelude.{send_fault, after_clear, assignment_request, clear_command, connections_after_clear, data_form_by}
 use Rattle.world_laws.proofs.Prelude.{data_forms_on, dlci_for, with_stage, SwitchState, Item, Rsl, SwitchAction, Assign, Clear, Dtap}
 use Rattle.world_laws.proofs.Prelude.{OutboxEntry, after_base_push, after_break, pushed_by_station, pushed_by_switch, switch_item}
 use Rattle.world_laws.proofs.Prelude.{with_item, after_switch_does, is_layer_3, may_send_on, sent_on, Actors, Link, base_of, broken_link}
 use Rattle.world_laws.proofs.Prelude.{is_up, outbox_of, with_base, with_link, after-taken, broken-leads, changed_link, same_Some}
+use Rattle.world_laws.proofs.Prelude.{stage_fault, other_link, is_of_peer, is_unasked, is_asking, is_unheard, is_known}
 use Rattle.conn_rules.specs.Connection.{Connection as ControllerConnection}
 use Rattle.msc_end.specs.declared.connection.Connection.{Connection}
 use Rattle.msc_end.specs.declared.connection.Stage.{Stage}
-use Rattle.msc_end.specs.Refusal.{stage_fault}
 use Rattle.msc_end.specs.Switch.{connection_of}
 use Rattle.ruled_relay.specs.declared.item.What.TheVariants as whats
-use Rattle.world_model.proofs.Outboxes.{other_link}
-use Rattle.world_laws.specs.LineUps.{is_of_peer}
 use Rattle.world_laws.specs.References.Agree.{Agrees, AsksOnce, Confirms, ConfirmsBeing, ConfirmsBy, HasAsked, IsRight, IsUnknown, Knows}
 use Rattle.world_laws.specs.References.Agree.{NamesAgree, Never, Only, Runs, StandsAt, is_over, over_after, reads_of}
-use Rattle.world_laws.specs.References.Agree.Agrees.{is_unasked, is_asking, is_unheard, is_known}
 use Rattle.world_laws.specs.References.Naming.{Reach, early, waits, due, named, cleared, gone, reach_in, reach_of}
 use Rattle.world_laws.specs.References.Reads.{AreNothing, Read}
 use Rattle.world_laws.proofs.References.Peers.{Differ, HaveOwnPeers, clear-peers, peers_of}
@@ -49,14 +46,11 @@ pub early_there : (o : Option ControllerConnection) → reach_of o ≡ early →
 early_there None is = absurd cc
 early_there (Some s) is = by s.state is where
   by : (state : State) → reach_in state ≡ early → IsOpen state
-  by WaitActivation is = tt
-  by WaitEstablish is = tt
-  by WaitConfirm is = tt
-  by (Live reference stage) is = tt
   by (Closed (Due cause)) is = absurd cc
   by (Closed (WasAsked reference)) is = absurd cc
   by (Closed Complete) is = absurd cc
   by Removed is = absurd cc
+  by _ is = tt
 
 pub dropped_same : (w v : Actors) (n : ℕ) → v.controller ≡ w.controller → IsEarly w n → (IsThere (controllers v.controller n) → ⊥) → HasAsked v n × IsUnknown v n
 dropped_same w v n is has closed = absurd (closed (subst (λ (c : Controller). IsThere (controllers c n)) (sym is) (early_there (controllers w.controller n) has.is_early)))
@@ -133,11 +127,7 @@ over_last k last [] runs = sym runs
 over_last k last (x ∷ xs) runs = over_last k last xs (subst (λ (b : Bool). Runs k b xs last) (stays x) runs.1) where
   stays : (x : Read) → over_after true x ≡ true
   stays (Read.asks source initial) = refl
-  stays (Read.carries d m) = refl
-  stays (Read.clears d) = refl
-  stays (Read.tells d) = refl
-  stays Read.nothing = refl
-  stays Read.odd = refl
+  stays _ = refl
 
 knows_less : (k : ℕ) (last : Bool) (a : Reach) → Knows k last a → Knows k false a
 knows_less k last waits knows = refl
@@ -219,9 +209,8 @@ stand_itself cs n = record { none = λ none. none; stands = λ place c stands. (
 stage-open : (c : Connection) → is_none (stage_fault c.stage) ≡ true → is_over c.stage ≡ false
 stage-open c is = by c.stage is where
   by : (s : Stage) → is_none (stage_fault s) ≡ true → is_over s ≡ false
-  by Open is = refl
-  by Clearing is = refl
   by Ended is = absurd cc
+  by _ is = refl
 
 clear_stands : (cs : List Connection) (number n : ℕ) → is_none (send_fault (connection_of cs number)) ≡ true → StandSame cs (connections_after_clear cs number (connection_of cs number)) n
 clear_stands cs number n open_is = by_number (nat_eq number 0) open_is where

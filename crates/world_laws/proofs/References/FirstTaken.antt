@@ -2,20 +2,15 @@
 -- connection is refused.
 use Rattle.world_laws.proofs.Prelude.{◌≡◌, ◌≢◌, ◌⊎◌, ℕ, ◌+◌, ◌<◌, ◌≤◌, ◌^◌, ◌==◌, Bool, true, cond, List, [], ◌∷◌, ◌++◌, find, map, Option}
 use Rattle.world_laws.proofs.Prelude.{Some, None, refl, sym, ap, ◌∙◌, subst, arith, inl, inr, AllByRecursion, cases_Bool, eq-eqb, eqb-true}
-use Rattle.world_laws.proofs.Prelude.{eqb-false, ne_eqb, append-nil, Bssap, Management, Transfer, Sccp, ConnectionConfirm}
-use Rattle.world_laws.proofs.Prelude.{ConnectionRefused, ConnectionRequest, DataForm1, Released, SWITCH_LINK, outs_for, REFERENCE_BASE}
-use Rattle.world_laws.proofs.Prelude.{connections_after, message_in, replies, OutboxEntry, sccp_in, switch_took, Actors, is_up, outbox_of}
-use Rattle.world_laws.proofs.Prelude.{with_outbox}
+use Rattle.world_laws.proofs.Prelude.{eqb-false, ne_eqb, append-nil, Bssap, Management, Transfer, Sccp, ConnectionRequest, DataForm1}
+use Rattle.world_laws.proofs.Prelude.{SWITCH_LINK, outs_for, REFERENCE_BASE, connections_after, message_in, replies, OutboxEntry, sccp_in}
+use Rattle.world_laws.proofs.Prelude.{switch_took, Actors, is_up, outbox_of, with_outbox, is_of_peer, taken_in, taken_of, carried_for}
+use Rattle.world_laws.proofs.Prelude.{is_unasked, is_asking, is_unheard, is_known}
 use Rattle.bssmap_codec.specs.declared.bssmap.Bssmap.TheVariants as bssmap
-use Rattle.bssmap_codec.specs.declared.sccp.Sccp.TheVariants.{ReleaseComplete}
 use Rattle.msc_end.specs.declared.connection.Connection.{Connection}
-use Rattle.world_laws.specs.LineUps.{is_of_peer, taken_in, taken_of}
-use Rattle.world_laws.specs.Staying.{carried_for}
 use Rattle.world_laws.specs.References.Agree.{Agrees, AsksOnce, ConfirmsBy, Never, HasAsked, Heeds, IsHeeded, IsKnown, IsOnItsWay, IsRight}
 use Rattle.world_laws.specs.References.Agree.{IsUnknown, NamesAgree, Runs, StandsAt, is_over, over_after, reads, reads_of}
-use Rattle.world_laws.specs.References.Agree.Agrees.{is_unasked, is_asking, is_unheard, is_known}
 use Rattle.world_laws.specs.References.Reads.{AreNothing, IsNothing, Read, asks, carried, data_read, initial_read, nothing, sccp_read}
-use Rattle.world_laws.specs.References.Reads.{carries as read_carries, clears as read_clears, tells as read_tells, odd as read_odd}
 use Rattle.world_laws.proofs.References.OwnTaking.{heeds_data, own_asks, own_data}
 use Rattle.world_laws.proofs.References.Peers.{Differ, HaveOwnPeers, effect_differs, peers_of}
 use Rattle.world_laws.proofs.References.Places.{stands_find}
@@ -36,26 +31,17 @@ first-other n first others differ = ap (λ (b : Bool). map reads (cond b (first.
 nothing_or : (r : Read) → IsNothing r ⊎ (IsNothing r → ⊥)
 nothing_or nothing = inl tt
 nothing_or (asks source initial) = inr (λ is. is)
-nothing_or (read_carries d m) = inr (λ is. is)
-nothing_or (read_clears d) = inr (λ is. is)
-nothing_or (read_tells d) = inr (λ is. is)
-nothing_or read_odd = inr (λ is. is)
+nothing_or _ = inr (λ is. is)
 
 asks_tail : (n : ℕ) (r : Read) (rest : List Read) → IsNothing r → AsksOnce n (r ∷ rest) → AsksOnce n rest
 asks_tail n nothing rest is once = once
 asks_tail n (asks source initial) rest is once = absurd is
-asks_tail n (read_carries d m) rest is once = absurd is
-asks_tail n (read_clears d) rest is once = absurd is
-asks_tail n (read_tells d) rest is once = absurd is
-asks_tail n read_odd rest is once = absurd is
+asks_tail n _ rest is once = absurd is
 
 runs_tail : (k : ℕ) (over last : Bool) (r : Read) (rest : List Read) → IsNothing r → Runs k over (r ∷ rest) last → Runs k over rest last
 runs_tail k over last nothing rest is runs = runs.1
 runs_tail k over last (asks source initial) rest is runs = absurd is
-runs_tail k over last (read_carries d m) rest is runs = absurd is
-runs_tail k over last (read_clears d) rest is runs = absurd is
-runs_tail k over last (read_tells d) rest is runs = absurd is
-runs_tail k over last read_odd rest is runs = absurd is
+runs_tail k over last _ rest is runs = absurd is
 
 -- ---- what the switch doesn't heed
 
@@ -81,14 +67,10 @@ initial_heeds s (Some (Management (bssmap.CompleteLayer3Information cell initial
 initial_heeds s (Some (Management _)) is = is
 
 nothing_same : (m : ℕ) (cs : List Connection) (o : Option Sccp) → IsNothing (sccp_read o) → (took_connections m cs o ≡ cs) × (took_replies cs o ≡ [])
-nothing_same m cs None is = (refl, refl)
 nothing_same m cs (Some (ConnectionRequest s None)) is = absurd is
 nothing_same m cs (Some (ConnectionRequest s (Some user))) is = absurd (initial_heeds s (message_in user) is)
 nothing_same m cs (Some (DataForm1 d user)) is = absurd (data_heeds d (message_in user) is)
-nothing_same m cs (Some (ConnectionConfirm d s)) is = (refl, refl)
-nothing_same m cs (Some (ConnectionRefused d)) is = (refl, refl)
-nothing_same m cs (Some (Released d s)) is = (refl, refl)
-nothing_same m cs (Some (ReleaseComplete d s)) is = (refl, refl)
+nothing_same m cs _ is = (refl, refl)
 
 -- ---- one of the connection's
 
@@ -124,9 +106,7 @@ module _ (w v : Actors) (others : List OutboxEntry) (n : ℕ) (three : n < w.con
       subst (λ (x : ℕ). After w v others (connections_after w.switch.modulus w.switch.connections (ConnectionRequest x (Some user))) (replies w.switch.connections (ConnectionRequest x (Some user)))
       → Took w v n (connections_after w.switch.modulus w.switch.connections (ConnectionRequest x (Some user))) (replies w.switch.connections (ConnectionRequest x (Some user))) (asks x message))
       (sym once.0) (own_asks w v others n (three has.past) has way.none way.unconfirmed once.1 user message cell is) after
-  own_request has way s user None is once after = absurd once
-  own_request has way s user (Some (Transfer dlci message)) is once after = absurd once
-  own_request has way s user (Some (Management _)) is once after = absurd once
+  own_request has way s user _ is once after = absurd once
 
   data_asks : (d : ℕ) (q : Option Bssap) → AsksOnce n (data_read d q ∷ reads_of n others) → ⊥
   data_asks d None once = once
@@ -145,14 +125,10 @@ module _ (w v : Actors) (others : List OutboxEntry) (n : ℕ) (three : n < w.con
 
   own_asking : HasAsked w n → IsOnItsWay w n → (o : Option Sccp) → (IsNothing (sccp_read o) → ⊥) → AsksOnce n (sccp_read o ∷ reads_of n others) → Comes o → Result o
   unfolding Result
-  own_asking has way None heeds once after = absurd (heeds tt)
   own_asking has way (Some (ConnectionRequest s None)) heeds once after = absurd once
   own_asking has way (Some (ConnectionRequest s (Some user))) heeds once after = own_request has way s user (message_in user) refl once after
   own_asking has way (Some (DataForm1 d user)) heeds once after = absurd (data_asks d (message_in user) once)
-  own_asking has way (Some (ConnectionConfirm d s)) heeds once after = absurd (heeds tt)
-  own_asking has way (Some (ConnectionRefused d)) heeds once after = absurd (heeds tt)
-  own_asking has way (Some (Released d s)) heeds once after = absurd (heeds tt)
-  own_asking has way (Some (ReleaseComplete d s)) heeds once after = absurd (heeds tt)
+  own_asking has way _ heeds once after = absurd (heeds tt)
 
   initial_unheeded : (k : ℕ) (over : Bool) (s : ℕ) (q : Option Bssap) → Heeds k over (initial_read s q) → ⊥
   initial_unheeded k over s None heeds = heeds
@@ -174,14 +150,10 @@ module _ (w v : Actors) (others : List OutboxEntry) (n : ℕ) (three : n < w.con
 
   own_known : n < w.controller.next_number → (known : IsKnown w n) (o : Option Sccp) → (IsNothing (sccp_read o) → ⊥) → Runs (REFERENCE_BASE + (known.place + 1)) (is_over known.of.stage) (sccp_read o ∷ reads_of n others) known.last → Comes o → Result o
   unfolding Result
-  own_known past known None heeds runs after = absurd (heeds tt)
   own_known past known (Some (ConnectionRequest s None)) heeds runs after = absurd runs.0
   own_known past known (Some (ConnectionRequest s (Some user))) heeds runs after = absurd (initial_unheeded (REFERENCE_BASE + (known.place + 1)) (is_over known.of.stage) s (message_in user) runs.0)
   own_known past known (Some (DataForm1 d user)) heeds runs after = own_form past known d user (message_in user) refl runs.0 runs.1 after
-  own_known past known (Some (ConnectionConfirm d s)) heeds runs after = absurd (heeds tt)
-  own_known past known (Some (ConnectionRefused d)) heeds runs after = absurd (heeds tt)
-  own_known past known (Some (Released d s)) heeds runs after = absurd (heeds tt)
-  own_known past known (Some (ReleaseComplete d s)) heeds runs after = absurd (heeds tt)
+  own_known past known _ heeds runs after = absurd (heeds tt)
 
   own_agreed : (o : Option Sccp) → reads_of n (outbox_of w SWITCH_LINK) ≡ sccp_read o ∷ reads_of n others → (IsNothing (sccp_read o) → ⊥) → Comes o → Agrees w n → Result o
   own_agreed o stood heeds after (is_unasked un unknown) = absurd (heeds (subst AreNothing stood unknown.quiet).0)

@@ -1,10 +1,8 @@
 -- What a step of the controller does to one connection, by how far that is.
-use Rattle.world_laws.proofs.Prelude.{◌≡◌, ◌⊎◌, ℕ, Bool, List, [], ◌∷◌, fold, Option, None, refl, sym, ap, subst, inl, inr, Message}
-use Rattle.world_laws.proofs.Prelude.{Input, Due, WasAsked, Complete, State, WaitActivation, WaitEstablish, WaitConfirm, Live, Closed}
-use Rattle.world_laws.proofs.Prelude.{Removed, Connection, Row, OfRow, Acts, Brought, IsBrought, kept_in, rests, ages, opens, goes}
-use Rattle.world_laws.proofs.Prelude.{same_state}
+use Rattle.world_laws.proofs.Prelude.{◌≡◌, ◌⊎◌, ℕ, Bool, List, [], ◌∷◌, Option, None, refl, sym, ap, subst, inl, inr, Message, Input, Due}
+use Rattle.world_laws.proofs.Prelude.{WasAsked, Complete, State, WaitConfirm, Live, Closed, Removed, Connection, Row, OfRow, Acts, Brought}
+use Rattle.world_laws.proofs.Prelude.{IsBrought, kept_in, rests, ages, opens, goes, same_state}
 use Rattle.conn_rules.specs.declared.input.Input.TheVariants as inputs
-use Rattle.controller_model.specs.LifeLaws.Acts.{passed}
 use Rattle.world_laws.specs.References.Naming.{AreQuiet, From, FromCleared, FromEarly, FromNamed, FromWaiting, Goes, Reach, early, waits}
 use Rattle.world_laws.specs.References.Naming.{due, named, cleared, reach_in, reach_of}
 use Rattle.world_laws.specs.References.Naming.Goes.{stays, leaves, fails, asks, confirmed, speaks, clears}
@@ -14,12 +12,11 @@ use Rattle.world_laws.proofs.References.NamedRows.{named_row}
 
 module _ (came : ℕ → Type 0) (input : Input) (put : List Message) (comes : (r : ℕ) → input ≡ inputs.ConnectionConfirm r → came r) where
   from_early : (after : State) → FromEarly put after → Goes came put early (reach_in after)
-  from_early WaitActivation from = stays from
-  from_early WaitEstablish from = stays from
   from_early Removed from = leaves from
   from_early WaitConfirm from = asks from
   from_early (Live reference stage) from = absurd from
   from_early (Closed clearing) from = absurd from
+  from_early _ from = stays from
 
   from_waits : (after : State) → FromWaiting input put after → Goes came put waits (reach_in after)
   from_waits WaitConfirm from = stays from
@@ -27,9 +24,7 @@ module _ (came : ℕ → Type 0) (input : Input) (put : List Message) (comes : (
   from_waits Removed from = leaves from
   from_waits (Live reference stage) from = confirmed reference tt (comes reference from.0) from.1
   from_waits (Closed (WasAsked reference)) from = confirmed reference tt (comes reference from.0) from.1
-  from_waits (Closed Complete) from = absurd from
-  from_waits WaitActivation from = absurd from
-  from_waits WaitEstablish from = absurd from
+  from_waits _ from = absurd from
 
   from_due : (after : State) → FromWaiting input put after → Goes came put due (reach_in after)
   from_due WaitConfirm from = fails tt tt from
@@ -37,52 +32,33 @@ module _ (came : ℕ → Type 0) (input : Input) (put : List Message) (comes : (
   from_due Removed from = leaves from
   from_due (Live reference stage) from = confirmed reference tt (comes reference from.0) from.1
   from_due (Closed (WasAsked reference)) from = confirmed reference tt (comes reference from.0) from.1
-  from_due (Closed Complete) from = absurd from
-  from_due WaitActivation from = absurd from
-  from_due WaitEstablish from = absurd from
+  from_due _ from = absurd from
 
   from_named : (k : ℕ) (after : State) → FromNamed k put after → Goes came put (named k) (reach_in after)
   from_named k (Live own stage) from = subst (λ (r : ℕ). Goes came put (named k) (named r)) (sym from.0) (speaks from.1)
   from_named k (Closed (WasAsked own)) from = subst (λ (r : ℕ). Goes came put (named k) (named r)) (sym from.0) (speaks from.1)
   from_named k (Closed Complete) from = clears from
   from_named k Removed from = leaves from
-  from_named k (Closed (Due cause)) from = absurd from
-  from_named k WaitActivation from = absurd from
-  from_named k WaitEstablish from = absurd from
-  from_named k WaitConfirm from = absurd from
+  from_named k _ from = absurd from
 
   from_cleared : (after : State) → FromCleared put after → Goes came put cleared (reach_in after)
   from_cleared (Closed Complete) from = stays from
   from_cleared Removed from = leaves from
-  from_cleared (Closed (Due cause)) from = absurd from
-  from_cleared (Closed (WasAsked own)) from = absurd from
-  from_cleared (Live own stage) from = absurd from
-  from_cleared WaitActivation from = absurd from
-  from_cleared WaitEstablish from = absurd from
-  from_cleared WaitConfirm from = absurd from
+  from_cleared _ from = absurd from
 
   goes_by : (before after : State) → From input put before after → Goes came put (reach_in before) (reach_in after)
-  goes_by WaitActivation after from = from_early after from
-  goes_by WaitEstablish after from = from_early after from
   goes_by WaitConfirm after from = from_waits after from
   goes_by (Live k stage) after from = from_named k after from
   goes_by (Closed (Due cause)) after from = from_due after from
   goes_by (Closed (WasAsked k)) after from = from_named k after from
   goes_by (Closed Complete) after from = from_cleared after from
   goes_by Removed after from = absurd from
+  goes_by _ after from = from_early after from
 
 -- a connection that is removed goes
 kept-reach : (state : State) (s : Connection) → s.state ≡ state → reach_of (kept_in state s) ≡ reach_in state
 kept-reach Removed s is = refl
-kept-reach WaitActivation s is = ap reach_in is
-kept-reach WaitEstablish s is = ap reach_in is
-kept-reach WaitConfirm s is = ap reach_in is
-kept-reach (Live k stage) s is = ap reach_in is
-kept-reach (Closed clearing) s is = ap reach_in is
-
-passed-state : (s : Connection) (times : List ℕ) → (fold passed s times).state ≡ s.state
-passed-state s [] = refl
-passed-state s (ms ∷ times) = passed-state (passed s ms) times
+kept-reach _ s is = ap reach_in is
 
 -- ---- one step
 

@@ -1,26 +1,21 @@
 -- What the switch takes and what it never hears of, from the names that agree.
-use Rattle.world_laws.proofs.Prelude.{◌≡◌, ◌⊎◌, ℕ, ◌+◌, ◌≤◌, ◌<◌, ◌^◌, ◌==◌, Bool, true, if◌then◌else◌, List, [], ◌∷◌, ◌++◌, map}
-use Rattle.world_laws.proofs.Prelude.{unwrap_or, Option, Some, None, refl, sym, ap, ◌∙◌, subst, arith, inl, inr, AllByRecursion, cases_Bool}
-use Rattle.world_laws.proofs.Prelude.{eqb-true, eqb-false, map-append, Out, SWITCH_LINK, Due, WasAsked, Complete, State, WaitActivation}
+use Rattle.world_laws.proofs.Prelude.{◌≡◌, ◌⊎◌, ℕ, ◌+◌, ◌≤◌, ◌<◌, ◌^◌, ◌==◌, Bool, true, if◌then◌else◌, List, [], ◌∷◌, ◌++◌, map, unwrap_or}
+use Rattle.world_laws.proofs.Prelude.{Option, Some, None, refl, sym, ap, ◌∙◌, subst, arith, inl, inr, AllByRecursion, cases_Bool, eqb-true}
+use Rattle.world_laws.proofs.Prelude.{eqb-false, map-append, Out, SWITCH_LINK, Due, WasAsked, Complete, State, WaitActivation}
 use Rattle.world_laws.proofs.Prelude.{WaitEstablish, WaitConfirm, Live, Closed, Removed, Connection, connection_of, Forwarded}
-use Rattle.world_laws.proofs.Prelude.{REFERENCE_BASE, AreAllowed, Parameters, Event, SwitchTakes, OutboxEntry}
-use Rattle.world_laws.proofs.Prelude.{actors_after, sccp_in, switch_took, switch_took_first, Actors, is_up}
-use Rattle.world_laws.proofs.Prelude.{outbox_of, with_outbox, Both-empty, none-some}
+use Rattle.world_laws.proofs.Prelude.{REFERENCE_BASE, AreAllowed, Parameters, Event, SwitchTakes, OutboxEntry, actors_after, sccp_in}
+use Rattle.world_laws.proofs.Prelude.{switch_took, switch_took_first, Actors, is_up, outbox_of, with_outbox, Both-empty, none-some}
+use Rattle.world_laws.proofs.Prelude.{IsBeyondAsking, IsUnconfirmed, IsUnheard, CameInOctets, DeliversFirst, carried_for, is_unasked}
+use Rattle.world_laws.proofs.Prelude.{is_asking, is_unheard, is_known, DroppedAreUnheard, HasNotAsked, IsEarlyIn, IsUnheardOf}
+use Rattle.world_laws.proofs.Prelude.{SwitchDeliversOrRefuses, UnaskedAreUnheardOf, UnheardStayUnheard}
 use Rattle.controller_model.specs.Views.{forwarded}
 use Rattle.controller_model.specs.declared.step.Step.TheVariants as steps
 use Rattle.world_model.specs.Life.{event_after}
-use Rattle.world_laws.specs.Lives.{IsBeyondAsking, IsUnconfirmed, IsUnheard}
-use Rattle.world_laws.specs.OthersFrame.{CameInOctets}
-use Rattle.world_laws.specs.Staying.{DeliversFirst, carried_for}
 use Rattle.world_laws.proofs.SwitchTakes.{forwarded-first}
 use Rattle.world_laws.specs.References.Agree.{Agrees, AsksOnce, HasAsked, IsAsked, IsHeeded, IsRight, IsUnknown, Knows, NamesAgree, reads}
 use Rattle.world_laws.specs.References.Agree.{reads_of}
-use Rattle.world_laws.specs.References.Agree.Agrees.{is_unasked, is_asking, is_unheard, is_known}
 use Rattle.world_laws.specs.References.Naming.{Reach, early, waits, due, named, cleared, gone, reach_in, reach_of}
 use Rattle.world_laws.specs.References.Reads.{AreNothing, Read, asks, carried, nothing}
-use Rattle.world_laws.specs.References.Reads.{carries as read_carries, clears as read_clears, tells as read_tells, odd as read_odd}
-use Rattle.world_laws.specs.References.Taken.{DroppedAreUnheard, HasNotAsked, IsEarlyIn, IsUnheardOf, SwitchDeliversOrRefuses}
-use Rattle.world_laws.specs.References.Taken.{UnaskedAreUnheardOf, UnheardStayUnheard}
 use Rattle.world_laws.proofs.References.Always.{Before, names_always_agree_new, before_of, keeps}
 use Rattle.world_laws.proofs.References.FirstTaken.{IsFirst, delivers_or, first-other, first-own, names_after}
 use Rattle.world_laws.proofs.References.Places.{stands_find}
@@ -59,10 +54,7 @@ no_message_waits n (first ∷ others) from_one rights quiet = waiting-first firs
 asks_carry : (n : ℕ) (r : Read) (rest : List Read) → AsksOnce n (r ∷ rest) → IsHeeded r × ((carried r ≡ [] → ⊥) ⊎ AsksOnce n rest)
 asks_carry n nothing rest once = (tt, inr once)
 asks_carry n (asks source initial) rest once = (tt, inl (λ is. absurd cc))
-asks_carry n (read_carries d m) rest once = absurd once
-asks_carry n (read_clears d) rest once = absurd once
-asks_carry n (read_tells d) rest once = absurd once
-asks_carry n read_odd rest once = absurd once
+asks_carry n _ rest once = absurd once
 
 asks_waits : (n : ℕ) (entries : List OutboxEntry) → 1 ≤ n → AllByRecursion (λ entry. IsRight entry.out) entries → AsksOnce n (reads_of n entries) → waiting_in entries n ≡ [] → ⊥
 asks_waits n [] from_one rights once none = once
@@ -85,12 +77,10 @@ unconfirmed : (o : Option Connection) → IsAsked (reach_of o) → IsUnconfirmed
 unconfirmed None asked = tt
 unconfirmed (Some s) asked = by s.state asked where
   by : (state : State) → IsAsked (reach_in state) → IsBeyondAsking state
-  by WaitConfirm asked = tt
-  by (Closed clearing) asked = tt
-  by Removed asked = tt
   by WaitActivation asked = absurd asked
   by WaitEstablish asked = absurd asked
   by (Live reference stage) asked = absurd asked
+  by _ asked = tt
 
 early_confirmed : (o : Option Connection) → reach_of o ≡ early → IsUnconfirmed o → ⊥
 early_confirmed None is un = absurd cc
@@ -141,10 +131,7 @@ unheard_stay_unheard_new settings events event n allowed octets own from_one unh
 early_in : (state : State) → IsEarlyIn state → reach_in state ≡ early
 early_in WaitActivation is = refl
 early_in WaitEstablish is = refl
-early_in WaitConfirm is = absurd is
-early_in (Live reference stage) is = absurd is
-early_in (Closed clearing) is = absurd is
-early_in Removed is = absurd is
+early_in _ is = absurd is
 
 reach-early : (w : Actors) (n : ℕ) → HasNotAsked w n → reach_of (connection_of w.controller n) ≡ early
 reach-early w n has = ap reach_of has.there ∙ early_in has.own.state has.is_early

@@ -1,41 +1,39 @@
 -- Each row puts what its connection may put for the switch.
 use Rattle.world_laws.proofs.Prelude.{◌≡◌, ℕ, zero, suc, ◌==◌, ◌&&◌, nat_le, Bool, true, false, not, if◌then◌else◌, List, [], ◌∷◌, ◌++◌}
 use Rattle.world_laws.proofs.Prelude.{length, filter, map, Option, Some, None, refl, sym, subst, NORMAL_EVENT, Change, Assignment, Handover}
-use Rattle.world_laws.proofs.Prelude.{Channel, Place, Message, Station, Request, Data, ReleaseComplete, rf_channel_release, complete_layer3}
+use Rattle.world_laws.proofs.Prelude.{Channel, Place, Message, Request, Data, rf_channel_release, complete_layer3}
 use Rattle.world_laws.proofs.Prelude.{AllByRecursion-append, AllByRecursion-filter, AllByRecursion-so, Input, Due, WasAsked, Complete}
-use Rattle.world_laws.proofs.Prelude.{Drain, Active, Preparing, Changing, Draining, State, WaitActivation, WaitEstablish, WaitConfirm, Live}
+use Rattle.world_laws.proofs.Prelude.{Drain, Preparing, Changing, Draining, State, WaitActivation, WaitEstablish, WaitConfirm, Live}
 use Rattle.world_laws.proofs.Prelude.{Closed, Removed, Connection, enter, drain_at, Row, row, dropping, without_station, done_at, OfRow}
 use Rattle.world_laws.proofs.Prelude.{assign_immediately, command_to, access, release_in, dtap_in, on_activation_ack, where_fits}
 use Rattle.world_laws.proofs.Prelude.{on_activation_nack, on_establish_indication, on_establish_confirm, on_release_indication, either}
 use Rattle.world_laws.proofs.Prelude.{on_error_indication, on_connection_failure, on_dtap, on_complete, on_failure, on_release_ack, on_move}
 use Rattle.world_laws.proofs.Prelude.{on_confirm, on_refused, on_released, on_downlink, on_assignment_request, on_cipher_mode_command}
 use Rattle.world_laws.proofs.Prelude.{on_clear_command, on_drain_expiry, on_station_down, on_switch_down, Sapi, Zero, Three, INITIAL_LIMIT}
+use Rattle.world_laws.proofs.Prelude.{handing, goes_to, begin, chain_count, put_in, count, messages, with_messages}
 use Rattle.conn_messages.specs.declared.causes.TheConstants.{ABNORMAL_RELEASE, BSS_NOT_EQUIPPED, EQUIPMENT_FAILURE, PROTOCOL_ERROR}
 use Rattle.conn_messages.specs.declared.causes.TheConstants.{RADIO_INTERFACE_FAILURE, RADIO_INTERFACE_MESSAGE_FAILURE}
-use Rattle.conn_messages.specs.StationMessage.{handing}
 use Rattle.conn_messages.specs.SwitchMessage.{assignment_failure, cipher_mode_reject, change_complete, release_complete, relaying}
 use Rattle.conn_rules.specs.declared.input.Input.TheVariants as inputs
 use Rattle.conn_rules.specs.declared.state.ShortMessageLink.{ShortMessageLink}
 use Rattle.conn_rules.specs.declared.state.ShortMessageLink.TheVariants.{Down, Asked, Up}
 use Rattle.conn_rules.specs.declared.state.Stage.{Stage}
 use Rattle.conn_rules.specs.Connection.{emptied, first_channel, tenure_at}
-use Rattle.conn_rules.specs.Steps.{◌then◌, after_waiting, ask_for_held, end_outs, ending, hand_held, failing, goes_to, link_up, begin}
+use Rattle.conn_rules.specs.Steps.{◌then◌, after_waiting, ask_for_held, end_outs, ending, hand_held, failing, link_up}
 use Rattle.conn_rules.specs.Steps.{begin_outs, begin_waiting, waiting_outs, hold_down, hold_short_message, short_message, request_where}
 use Rattle.conn_rules.specs.Steps.{link_down, hold_up, relay_held, tenure_outs, leave, shifted, settled, settled_stage, resting_stage}
 use Rattle.conn_rules.specs.Steps.{resting, moved, request_for, may_begin, target_release}
 use Rattle.conn_rules.specs.Table.{row_of, refuse, nack_outs, release, complete, failure, failure_outs, speech_request, on_expiry}
-use Rattle.hold_queue.specs.ChainState.{Tenure, chain_count, put_in}
-use Rattle.hold_queue.specs.HoldState.{count, messages, with_messages}
+use Rattle.hold_queue.specs.ChainState.{Tenure}
 use Rattle.world_laws.specs.References.Naming.{ArePlain, AreQuiet, FromNamed, FromWaiting, IsNamedRow, IsPlain, IsQuiet}
 use Rattle.conn_rules.proofs.UplinkSteps.{leave-state}
 
 -- ---- messages
 
 quiet_plain : (k : ℕ) (m : Message) → IsQuiet m → IsPlain k m
-quiet_plain k (Station station message) quiet = tt
-quiet_plain k (ReleaseComplete destination) quiet = tt
 quiet_plain k (Request message) quiet = absurd quiet
 quiet_plain k (Data destination message) quiet = absurd quiet
+quiet_plain k _ quiet = tt
 
 pub are_plain : (k : ℕ) (ms : List Message) → AreQuiet ms → ArePlain k ms
 are_plain k ms quiet = AllByRecursion-so IsQuiet (IsPlain k) (quiet_plain k) ms quiet
@@ -64,8 +62,7 @@ waits false k offer = tt
 
 requests : (k : ℕ) (link : ShortMessageLink) (c : Channel) → ArePlain k (request_where link c)
 requests k Down c = (tt, tt)
-requests k Asked c = tt
-requests k Up c = tt
+requests k _ c = tt
 
 requests_for : (k : ℕ) (ms : List (List ℕ)) (c : Channel) → ArePlain k (request_for ms c)
 requests_for k [] c = tt
@@ -74,13 +71,7 @@ requests_for k (m ∷ ms) c = (tt, tt)
 targets : (state : State) → AreQuiet (target_release state)
 targets (Live reference (Preparing target)) = (tt, tt)
 targets (Live reference (Changing target)) = (tt, tt)
-targets (Live reference Active) = tt
-targets (Live reference Draining) = tt
-targets WaitActivation = tt
-targets WaitEstablish = tt
-targets WaitConfirm = tt
-targets (Closed clearing) = tt
-targets Removed = tt
+targets _ = tt
 
 ends : (state : State) (c : Channel) (cause : ℕ) → AreQuiet (end_outs state c cause)
 ends state c cause = (tt, (tt, targets state))
@@ -94,11 +85,7 @@ IsNamed k _ = ⊥
 named : (k : ℕ) (state : State) (put : List Message) → IsNamed k state → ArePlain k put → FromNamed k put state
 unfolding IsNamed
 named k (Live own stage) put is plain = (is, plain)
-named k WaitActivation put is plain = absurd is
-named k WaitEstablish put is plain = absurd is
-named k WaitConfirm put is plain = absurd is
-named k (Closed clearing) put is plain = absurd is
-named k Removed put is plain = absurd is
+named k _ put is plain = absurd is
 
 after_named : (b : Bool) (k : ℕ) (offer : Option Channel) (s : Connection) → IsNamed k s.state → IsNamed k (after_waiting b k offer s).state
 unfolding IsNamed
@@ -108,11 +95,8 @@ after_named false k offer s is = is
 
 settled_named : (k : ℕ) (stage : Stage) (draining : List Drain) (s : Connection) → IsNamed k s.state → IsNamed k (settled k stage draining s).state
 unfolding IsNamed
-settled_named k Active draining s is = is
-settled_named k (Preparing target) draining s is = is
-settled_named k (Changing target) draining s is = is
 settled_named k Draining [] s is = refl
-settled_named k Draining (d ∷ ds) s is = is
+settled_named k _ _ s is = is
 
 -- ---- of a connection with a reference
 
@@ -140,13 +124,11 @@ of_hold_short_message k stage message s own =
 
 of_short_message : (k : ℕ) (stage : Stage) (link : ShortMessageLink) (message : List ℕ) (s : Connection) → IsNamed k s.state → Goes k (short_message (Live k stage) link message s)
 of_short_message k stage Up message s own = named k s.state (handing s.serving Three message ∷ []) own (tt, tt)
-of_short_message k stage Asked message s own = of_hold_short_message k stage message s own
-of_short_message k stage Down message s own = of_hold_short_message k stage message s own
+of_short_message k stage _ message s own = of_hold_short_message k stage message s own
 
 of_link_down : (k : ℕ) (link : ShortMessageLink) (s : Connection) → IsNamed k s.state → Goes k (link_down link k s)
-of_link_down k Up s own = named k s.state [] own tt
 of_link_down k Asked s own = named k s.state (link_down Asked k s).outs own (refl, tt)
-of_link_down k Down s own = named k s.state [] own tt
+of_link_down k _ s own = named k s.state [] own tt
 
 of_link_up : (k : ℕ) (s : Connection) → IsNamed k s.state → Goes k (link_up s)
 of_link_up k s own = named k s.state (map (handing s.serving Three) (messages s.down Three)) own (all_handed k s.serving Three (messages s.down Three))
@@ -233,10 +215,7 @@ of_dtap_in : (place : Option ℕ) (k : ℕ) (stage : Stage) (s : Connection) (at
 of_dtap_in (Some zero) k stage s at sapi message own = named k s.state (relaying k (first_channel s.draining s.serving) sapi message ∷ []) own (refl, tt)
 of_dtap_in (Some (suc tenure)) k stage s at sapi message own = of_hold_up k stage (suc tenure) sapi message s own
 of_dtap_in None k (Changing target) s at Zero message own = where_fits (Goes k) _ (failing (Live k (Changing target)) s EQUIPMENT_FAILURE) (of_failing k (Changing target) s EQUIPMENT_FAILURE)
-of_dtap_in None k (Changing target) s at Three message own = tt
-of_dtap_in None k Active s at sapi message own = tt
-of_dtap_in None k (Preparing target) s at sapi message own = tt
-of_dtap_in None k Draining s at sapi message own = tt
+of_dtap_in _ k _ s at _ message own = tt
 
 of_release_in : (place : Option ℕ) (k : ℕ) (stage : Stage) (offer : Option Channel) (s : Connection) → IsNamed k s.state → OfRow (Goes k) (release_in place k stage offer s)
 of_release_in (Some place) k stage offer s own = of_release k stage place offer s own
@@ -338,8 +317,6 @@ of_move input _ s offer is = tt
 of_confirm : (state : State) (s : Connection) (source : ℕ) → In (inputs.ConnectionConfirm source) state (on_confirm state s source)
 of_confirm WaitConfirm s source = (refl, all_of_tenure source (first_channel s.draining s.serving) s.up.tenures)
 of_confirm (Closed (Due cause)) s source = (refl, (refl, tt))
-of_confirm (Closed (WasAsked k)) s source = tt
-of_confirm (Closed Complete) s source = tt
 of_confirm _ s source = tt
 
 of_refused : (input : Input) (state : State) (s : Connection) → In input state (on_refused state s)
@@ -377,8 +354,6 @@ of_cipher_mode_command input _ s is = tt
 of_clear_command : (input : Input) (state : State) (s : Connection) → In input state (on_clear_command state s)
 of_clear_command input (Live k stage) s = record { first = end_outs (Live k stage) s.serving NORMAL_EVENT; is = refl; quiet = ends (Live k stage) s.serving NORMAL_EVENT }
 of_clear_command input (Closed (WasAsked k)) s = record { first = []; is = refl; quiet = tt }
-of_clear_command input (Closed (Due cause)) s = tt
-of_clear_command input (Closed Complete) s = tt
 of_clear_command input _ s = tt
 
 of_expiry : (input : Input) (state : State) (s : Connection) → In input state (on_expiry state s)

@@ -6,11 +6,10 @@ use Rattle.world_laws.proofs.Prelude.{Step, Take, Word, Nothing, Ping, Asks, OnC
 use Rattle.world_laws.proofs.Prelude.{Entry, Turn, turn, each, ignoring, entry_of, with_entry, channel_state, freed, with_down, aged}
 use Rattle.world_laws.proofs.Prelude.{all_aged, break_of, by_fitting, concerning, concerning_too, entry_at, expiry, frees, given, may_open}
 use Rattle.world_laws.proofs.Prelude.{measured, measures, on_decision, on_expiry, on_freed, on_report, on_state, on_what, on_word, pong}
-use Rattle.world_laws.proofs.Prelude.{step, timed, with_report, decision_over, Decision, Stay, What, RequestReference}
+use Rattle.world_laws.proofs.Prelude.{step, timed, with_report, decision_over, Decision, Stay, What, RequestReference, told, word_of}
 use Rattle.controller_model.specs.declared.step.Step.TheVariants.{Tick}
 use Rattle.controller_model.specs.Controller.{is_up, has_number}
-use Rattle.controller_model.specs.Life.{take, tick, told}
-use Rattle.controller_model.specs.Reading.{word_of}
+use Rattle.controller_model.specs.Life.{take, tick}
 use Rattle.dtap_codec.specs.declared.report.Report.{Report}
 use Rattle.controller_model.specs.Decision.TheVariants.{Move}
 use Rattle.ruled_relay.specs.declared.item.What.TheVariants as whats

@@ -5,18 +5,12 @@ use Rattle.world_laws.proofs.Prelude.{brought_in, IsThere, connection_of, messag
 use Rattle.world_laws.proofs.Prelude.{forwarded_seen, life_sends, step_does, Forwarded, Step, Controller, each, hears, step, Sapi, Zero}
 use Rattle.world_laws.proofs.Prelude.{Three, Item, AreAllowed, Parameters, Event, Handle, Tick, OutboxEntry, Tenure, actors_after}
 use Rattle.world_laws.proofs.Prelude.{outputs, outputs_at, to_link, target_in, all_steps, first_taken, step_at, Actors}
-use Rattle.world_laws.proofs.Prelude.{is_up, new_actors, LivesByTable-new, Both-empty}
-use Rattle.controller_model.proofs.LifeLaws.Silence.{step_silence}
-use Rattle.controller_model.proofs.LifeLaws.UplinkLife.{acts_usual}
+use Rattle.world_laws.proofs.Prelude.{is_up, new_actors, LivesByTable-new, Both-empty, step_silence, acts_usual, life, take, tick}
+use Rattle.world_laws.proofs.Prelude.{forwarded, IsOver, OverPutsNoMore, TakesOctets, carried_for, entry-out}
 use Rattle.controller_model.specs.declared.step.Step.TheVariants as steps
-use Rattle.controller_model.specs.Life.{life, take, tick}
-use Rattle.controller_model.specs.Views.{forwarded}
 use Rattle.world_model.specs.Relay.{entry_of}
 use Rattle.world_laws.proofs.SwitchTakes.{forwarded-first}
-use Rattle.world_laws.specs.References.Over.{IsOver, OverPutsNoMore, TakesOctets}
-use Rattle.world_laws.specs.Staying.{carried_for}
 use Rattle.world_laws.proofs.References.Moving.{lived, moves}
-use Rattle.world_laws.proofs.Others.{entry-out}
 use Rattle.world_laws.proofs.Events.{world}
 
 -- ---- nothing is forwarded

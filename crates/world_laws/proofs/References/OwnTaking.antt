@@ -2,23 +2,20 @@
 use Rattle.world_laws.proofs.Prelude.{◌≡◌, ℕ, ◌+◌, ◌-◌, ◌<◌, ◌^◌, nat_le, Bool, true, false, if◌then◌else◌, List, [], ◌∷◌, ◌++◌, length}
 use Rattle.world_laws.proofs.Prelude.{find, option_to_list, Option, Some, None, refl, sym, ap, ◌∙◌, subst, arith, inl, inr, true≢false}
 use Rattle.world_laws.proofs.Prelude.{slice_set, AllByRecursion, append-nil, Bssap, Management, Transfer, InterfaceFault, Sccp}
-use Rattle.world_laws.proofs.Prelude.{ConnectionConfirm, ConnectionRefused, ConnectionRequest, DataForm1, Released, bssap_text}
+use Rattle.world_laws.proofs.Prelude.{ConnectionConfirm, ConnectionRefused, ConnectionRequest, DataForm1, bssap_text}
 use Rattle.world_laws.proofs.Prelude.{bssap_write_fault, IsReference, AllByRecursion-so, Input, controllers, word_by, Word, Nothing, Ping}
-use Rattle.world_laws.proofs.Prelude.{Asks, OnChannel, Reports, OnConnection, Item, Controller, Open, Clearing, Ended, CONNECTION_LIMIT}
+use Rattle.world_laws.proofs.Prelude.{Asks, OnChannel, Reports, OnConnection, Item, Controller, Open, Ended, CONNECTION_LIMIT}
 use Rattle.world_laws.proofs.Prelude.{REFERENCE_BASE, connection_after, connection_by, connections_after, connections_by, data_form_by}
-use Rattle.world_laws.proofs.Prelude.{live_connection_after, message_in, replies, with_connection, OutboxEntry, Actors}
+use Rattle.world_laws.proofs.Prelude.{live_connection_after, message_in, replies, with_connection, OutboxEntry, Actors, CellIdentifier}
+use Rattle.world_laws.proofs.Prelude.{is_of_peer, taken_in, taken_of, is_unheard, is_known}
 use Rattle.bssmap_codec.specs.declared.bssmap.Bssmap.TheVariants as bssmap
-use Rattle.bssmap_codec.specs.declared.sccp.Sccp.TheVariants.{ReleaseComplete}
-use Rattle.bssmap_codec.specs.declared.values.CellIdentifier.{CellIdentifier}
 use Rattle.conn_rules.specs.declared.input.Input.TheVariants as inputs
 use Rattle.msc_end.specs.declared.connection.Connection.{Connection}
 use Rattle.msc_end.specs.declared.connection.Stage.{Stage}
 use Rattle.msc_end.specs.Switch.{connection_of, initial_message_of, live_reply_of, replies_by, reply_by, reply_of}
-use Rattle.world_laws.specs.LineUps.{is_of_peer, taken_in, taken_of}
 use Rattle.world_laws.specs.References.Agree.{Confirms, ConfirmsBeing, ConfirmsBy, ConfirmsIn, HasAsked, Heeds, IsAsked, IsHeeded, IsKnown}
 use Rattle.world_laws.specs.References.Agree.{IsUnknown, Knows, Never, Only, Runs, StandsAt, is_over, over_after, reads_of}
-use Rattle.world_laws.specs.References.Agree.Agrees.{is_unheard, is_known}
-use Rattle.world_laws.specs.References.Naming.{Reach, early, waits, due, named, cleared, gone, reach_of}
+use Rattle.world_laws.specs.References.Naming.{Reach, waits, due, named, gone, reach_of}
 use Rattle.world_laws.specs.References.Reads.{AreNothing, Read, asks, carried, data_read}
 use Rattle.world_laws.proofs.References.Places.{push_own, set_own, stands_find, stands_get, stands_peer, stands_slot}
 use Rattle.world_laws.proofs.References.Runs.{quiet_runs}
@@ -38,44 +35,18 @@ asked_knows : (k : ℕ) (a : Reach) → IsAsked a → Knows k false a
 asked_knows k waits asked = refl
 asked_knows k due asked = refl
 asked_knows k gone asked = tt
-asked_knows k early asked = absurd asked
 asked_knows k (named own) asked = absurd asked
-asked_knows k cleared asked = absurd asked
+asked_knows k _ asked = absurd asked
 
 never_only : (k n : ℕ) (message : Sccp) → ConfirmsBy Never n message → ConfirmsBy (Only k) n message
 never_only k n (ConnectionConfirm destination source) never = (never.0, never.1, λ is. absurd (never.2 is))
-never_only k n (ConnectionRequest source user) never = tt
-never_only k n (ConnectionRefused destination) never = tt
-never_only k n (Released destination source) never = tt
-never_only k n (ReleaseComplete destination source) never = tt
-never_only k n (DataForm1 destination user) never = tt
+never_only k n _ never = tt
 
 never_word : (k n : ℕ) (word : Word) → ConfirmsIn Never n word → ConfirmsIn (Only k) n word
 never_word k n (OnConnection destination input) never = by input never where
   by : (input : Input) → ConfirmsIn Never n (OnConnection destination input) → ConfirmsIn (Only k) n (OnConnection destination input)
   by (inputs.ConnectionConfirm source) never = λ is. absurd (never is)
-  by (inputs.ActivationAck at) never = tt
-  by (inputs.ActivationNack at) never = tt
-  by (inputs.EstablishIndication at sapi message) never = tt
-  by (inputs.EstablishConfirm at sapi) never = tt
-  by (inputs.ReleaseIndication at sapi) never = tt
-  by (inputs.ErrorIndication at sapi) never = tt
-  by (inputs.ConnectionFailure at) never = tt
-  by (inputs.Dtap at sapi message) never = tt
-  by (inputs.Complete at change cause) never = tt
-  by (inputs.Failure at change cause) never = tt
-  by (inputs.ReleaseAck at) never = tt
-  by inputs.Move never = tt
-  by inputs.ConnectionRefused never = tt
-  by (inputs.Released source) never = tt
-  by (inputs.Downlink sapi message) never = tt
-  by (inputs.AssignmentRequest is_speech) never = tt
-  by inputs.CipherModeCommand never = tt
-  by inputs.ClearCommand never = tt
-  by inputs.Expiry never = tt
-  by inputs.DrainExpiry never = tt
-  by (inputs.StationDown station) never = tt
-  by inputs.SwitchDown never = tt
+  by _ never = tt
 never_word k n Nothing never = tt
 never_word k n Ping never = tt
 never_word k n (Asks request delay) never = tt
@@ -153,19 +124,11 @@ lived c d (Transfer dlci message) living heeded = record { peer = refl; takes = 
 lived c d (Management (bssmap.CompleteLayer3Information cell initial)) living heeded = absurd heeded
 lived c d (Management bssmap.ClearComplete) living heeded = record { peer = refl; takes = sym (append-nil c.reception.taken); stage = refl; none = (tt, tt) }
 lived c d (Management (bssmap.ClearRequest cause)) living heeded = record { peer = refl; takes = sym (append-nil c.reception.taken); stage = refl; none = form_none (bssap_write_fault (Management (bssmap.ClearCommand cause))) c.peer (bssap_text (Management (bssmap.ClearCommand cause))) }
-lived c d (Management (bssmap.AssignmentRequest channel_type)) living heeded = record { peer = refl; takes = sym (append-nil c.reception.taken); stage = living; none = tt }
-lived c d (Management (bssmap.AssignmentComplete rr_cause)) living heeded = record { peer = refl; takes = sym (append-nil c.reception.taken); stage = living; none = tt }
-lived c d (Management (bssmap.AssignmentFailure cause rr_cause)) living heeded = record { peer = refl; takes = sym (append-nil c.reception.taken); stage = living; none = tt }
-lived c d (Management (bssmap.HandoverPerformed cause cell)) living heeded = record { peer = refl; takes = sym (append-nil c.reception.taken); stage = living; none = tt }
-lived c d (Management (bssmap.ClearCommand cause)) living heeded = record { peer = refl; takes = sym (append-nil c.reception.taken); stage = living; none = tt }
-lived c d (Management (bssmap.SapiNReject dlci cause)) living heeded = record { peer = refl; takes = sym (append-nil c.reception.taken); stage = living; none = tt }
-lived c d (Management bssmap.CipherModeCommand) living heeded = record { peer = refl; takes = sym (append-nil c.reception.taken); stage = living; none = tt }
-lived c d (Management (bssmap.CipherModeReject cause)) living heeded = record { peer = refl; takes = sym (append-nil c.reception.taken); stage = living; none = tt }
+lived c d _ living heeded = record { peer = refl; takes = sym (append-nil c.reception.taken); stage = living; none = tt }
 
 by_stage : (stage : Stage) (c : Connection) (d : ℕ) (q : Bssap) → is_over stage ≡ false → Lived c (live_connection_after c q) (data_read d (Some q)) (live_reply_of c q) → Lived c (connection_by stage c q) (data_read d (Some q)) (reply_by stage c q)
-by_stage Open c d q living is = is
-by_stage Clearing c d q living is = is
 by_stage Ended c d q living is = absurd (true≢false living)
+by_stage _ c d q living is = is
 
 pub record IsHeedful (k d : ℕ) (over : Bool) (r : Read) : Type 0 where
   pub living : over ≡ false
@@ -173,30 +136,13 @@ pub record IsHeedful (k d : ℕ) (over : Bool) (r : Read) : Type 0 where
   pub heeded : IsHeeded r
 
 pub heeds_data : (k d : ℕ) (over : Bool) (q : Bssap) → Heeds k over (data_read d (Some q)) → IsHeedful k d over (data_read d (Some q))
-heeds_data k d over (Transfer dlci message) heeds = record { living = heeds.0; to = heeds.1; heeded = tt }
 heeds_data k d over (Management (bssmap.CompleteLayer3Information cell initial)) heeds = absurd heeds
-heeds_data k d over (Management bssmap.ClearComplete) heeds = record { living = heeds.0; to = heeds.1; heeded = tt }
-heeds_data k d over (Management (bssmap.ClearRequest cause)) heeds = record { living = heeds.0; to = heeds.1; heeded = tt }
-heeds_data k d over (Management (bssmap.AssignmentRequest channel_type)) heeds = record { living = heeds.0; to = heeds.1; heeded = tt }
-heeds_data k d over (Management (bssmap.AssignmentComplete rr_cause)) heeds = record { living = heeds.0; to = heeds.1; heeded = tt }
-heeds_data k d over (Management (bssmap.AssignmentFailure cause rr_cause)) heeds = record { living = heeds.0; to = heeds.1; heeded = tt }
-heeds_data k d over (Management (bssmap.HandoverPerformed cause cell)) heeds = record { living = heeds.0; to = heeds.1; heeded = tt }
-heeds_data k d over (Management (bssmap.ClearCommand cause)) heeds = record { living = heeds.0; to = heeds.1; heeded = tt }
-heeds_data k d over (Management (bssmap.SapiNReject dlci cause)) heeds = record { living = heeds.0; to = heeds.1; heeded = tt }
-heeds_data k d over (Management bssmap.CipherModeCommand) heeds = record { living = heeds.0; to = heeds.1; heeded = tt }
-heeds_data k d over (Management (bssmap.CipherModeReject cause)) heeds = record { living = heeds.0; to = heeds.1; heeded = tt }
+heeds_data k d over _ heeds = record { living = heeds.0; to = heeds.1; heeded = tt }
 
 module _ (w v : Actors) (others : List OutboxEntry) (n : ℕ) (past : n < w.controller.next_number) (known : IsKnown w n) where
-  reference : ℕ
-  reference = REFERENCE_BASE + (known.place + 1)
-
   confirms_no : (P : ℕ → Type 0) (message : Sccp) → IsNoConfirm message → ConfirmsBy P n message
   confirms_no P (ConnectionConfirm destination source) none = absurd none
-  confirms_no P (ConnectionRequest source user) none = tt
-  confirms_no P (ConnectionRefused destination) none = tt
-  confirms_no P (Released destination source) none = tt
-  confirms_no P (ReleaseComplete destination source) none = tt
-  confirms_no P (DataForm1 destination user) none = tt
+  confirms_no P _ none = tt
 
   known_changes : (next : Connection) (r : Read) (o : Option Sccp) → is_over known.of.stage ≡ false → IsHeeded r → Lived known.of next r o → Runs (REFERENCE_BASE + (known.place + 1)) (over_after (is_over known.of.stage) r) (reads_of n others) known.last
       → After w v others (slice_set w.switch.connections known.place next) (option_to_list o) → Took w v n (slice_set w.switch.connections known.place next) (option_to_list o) r

@@ -2,11 +2,9 @@
 use Rattle.world_laws.proofs.Prelude.{◌≡◌, ◌≢◌, ℕ, zero, suc, ◌-◌, ◌≤◌, nat_eq, Bool, true, false, cond, if◌then◌else◌, List, [], ◌∷◌, ◌++◌}
 use Rattle.world_laws.proofs.Prelude.{map, find, Option, Some, None, refl, sym, ap, ◌∙◌, subst, slice_get, slice_set, AllByRecursion}
 use Rattle.world_laws.proofs.Prelude.{eq-eqb, ne_eqb, map-append, Sccp, AllByRecursion-append, Clearing, connections_after_clear}
-use Rattle.world_laws.proofs.Prelude.{with_stage, Actors, same_Some}
+use Rattle.world_laws.proofs.Prelude.{with_stage, Actors, same_Some, is_of_peer, ArePeers}
 use Rattle.msc_end.specs.declared.connection.Connection.{Connection}
 use Rattle.msc_end.specs.Switch.{connection_of}
-use Rattle.world_laws.specs.LineUps.{is_of_peer}
-use Rattle.world_laws.specs.References.Taken.{ArePeers}
 use Rattle.world_laws.proofs.References.Places.{none_first}
 use Rattle.world_laws.proofs.References.Taking.{Effect}
 use Rattle.world_laws.proofs.References.Taking.Effect.{same, refuses, opens, changes}

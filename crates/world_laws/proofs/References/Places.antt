@@ -1,10 +1,9 @@
 -- The switch's connections by place: the first of a peer.
 use Rattle.world_laws.proofs.Prelude.{◌≡◌, ℕ, zero, suc, ◌+◌, ◌-◌, ◌==◌, Bool, true, false, cond, List, [], ◌∷◌, ◌++◌, length, find}
 use Rattle.world_laws.proofs.Prelude.{Option, Some, None, refl, sym, ap, ◌∙◌, subst, arith, slice_get, slice_set, eq-eqb, ne_eqb}
-use Rattle.world_laws.proofs.Prelude.{REFERENCE_BASE, same_Some}
+use Rattle.world_laws.proofs.Prelude.{REFERENCE_BASE, same_Some, is_of_peer}
 use Rattle.msc_end.specs.declared.connection.Connection.{Connection}
 use Rattle.msc_end.specs.Switch.{connection_of}
-use Rattle.world_laws.specs.LineUps.{is_of_peer}
 use Rattle.world_laws.specs.References.Agree.{StandsAt}
 
 pub stands_find : (n place : ℕ) (c : Connection) (cs : List Connection) → StandsAt n place c cs → find (is_of_peer n) cs ≡ Some c

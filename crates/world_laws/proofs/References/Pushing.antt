@@ -1,25 +1,21 @@
 -- CC on its way: what is read of what the switch made, and of what stations gave.
-use Rattle.world_laws.proofs.Prelude.{◌≡◌, ◌≢◌, ℕ, List, [], ◌++◌, Ok, Err, refl, sym, ap, ◌∙◌, subst, Bssap, Management, Transfer, Bssmap}
-use Rattle.world_laws.proofs.Prelude.{InterfaceFault, Sccp, ConnectionConfirm, ConnectionRefused, ConnectionRequest, DataForm1, Released}
-use Rattle.world_laws.proofs.Prelude.{bssap_reading, IsReference, sccp_text, SWITCH_LINK, word_by, word_from, Word, Nothing, Ping, Asks}
-use Rattle.world_laws.proofs.Prelude.{OnChannel, Reports, OnConnection, bssap_word, management_word, switch_word, Rsl, station_item}
-use Rattle.world_laws.proofs.Prelude.{switch_item}
-use Rattle.std.proofs.Common.{Result, append-nil}
+use Rattle.world_laws.proofs.Prelude.{◌≡◌, ◌≢◌, ℕ, List, [], ◌++◌, Ok, refl, sym, ap, ◌∙◌, subst, Bssap, Management, Bssmap, InterfaceFault}
+use Rattle.world_laws.proofs.Prelude.{Sccp, ConnectionConfirm, ConnectionRefused, ConnectionRequest, DataForm1, Released, bssap_reading}
+use Rattle.world_laws.proofs.Prelude.{IsReference, sccp_text, SWITCH_LINK, word_by, word_from, Word, OnConnection, bssap_word}
+use Rattle.world_laws.proofs.Prelude.{management_word, switch_word, Rsl, station_item, switch_item, Result, Short, reference_at}
+use Rattle.world_laws.proofs.Prelude.{references_at, content_at, data_behind_at, fixed_references_at, part_at, user_data_at, content_text}
+use Rattle.world_laws.proofs.Prelude.{IsFrom, bind_ok, ok_is, result_map_ok}
+use Rattle.std.proofs.Common.{append-nil}
 use Rattle.bssmap_codec.specs.declared.bssmap.Bssmap.TheVariants as bssmap
-use Rattle.bssmap_codec.specs.declared.fault.InterfaceFault.TheVariants.{Short}
 use Rattle.bssmap_codec.specs.declared.sccp.Sccp.TheVariants.{ReleaseComplete}
 use Rattle.bssmap_codec.specs.declared.sccp_type.SccpType.{SccpType}
 use Rattle.bssmap_codec.specs.declared.sccp_type.SccpType.TheVariants as kinds
-use Rattle.bssmap_codec.specs.Reference.{reference_at, references_at}
-use Rattle.bssmap_codec.specs.SccpReading.{content_at, data_behind_at, data_form_at, fixed_references_at, part_at, refused_at, request_at}
-use Rattle.bssmap_codec.specs.SccpReading.{sccp_reading, user_data_at}
-use Rattle.bssmap_codec.specs.SccpText.{content_text}
+use Rattle.bssmap_codec.specs.SccpReading.{data_form_at, refused_at, request_at}
+use Rattle.bssmap_codec.specs.SccpReading.{sccp_reading}
 use Rattle.bssmap_codec.specs.SccpType.{sccp_type, type_of}
 use Rattle.bssmap_codec.proofs.Sccps.{sccp_again}
 use Rattle.bssmap_codec.proofs.SccpTexts.{sccp_written}
-use Rattle.controller_model.proofs.LifeLaws.Sources.{IsFrom}
 use Rattle.controller_model.specs.Reading.{word_of}
-use Rattle.octets.proofs.Steps.{bind_ok, ok_is, result_map_ok}
 use Rattle.octets.specs.Front.{counted_at, octet_at}
 use Rattle.world_laws.specs.References.Agree.{ConfirmsBeing, ConfirmsBy, ConfirmsIn}
 
@@ -66,11 +62,7 @@ content_kind kinds.DataForm1 octets m is = form_kind octets m is
 text-content : (message : Sccp) → sccp_reading (sccp_text message) ≡ content_at (type_of message) (content_text message)
 unfolding sccp_reading octet_at sccp_type
 text-content (ConnectionRequest source user) = refl
-text-content (ConnectionConfirm destination source) = refl
-text-content (ConnectionRefused destination) = refl
-text-content (Released destination source) = refl
-text-content (ReleaseComplete destination source) = refl
-text-content (DataForm1 destination user) = refl
+text-content _ = refl
 
 confirm_read : (d s : ℕ) → IsReference d → IsReference s → sccp_reading (sccp_text (ConnectionConfirm d s)) ≡ Ok (ConnectionConfirm d s)
 confirm_read d s first second =
@@ -82,23 +74,16 @@ confirm_read d s first second =
 module _ (P : ℕ → Type 0) (n : ℕ) where
   of_management : (number : ℕ) (message : Bssmap) → ConfirmsIn P n (management_word number message)
   of_management number (bssmap.AssignmentRequest channel_type) = tt
-  of_management number (bssmap.ClearCommand cause) = tt
-  of_management number bssmap.CipherModeCommand = tt
   of_management number _ = tt
 
   of_bssap : (number : ℕ) (r : Result Bssap InterfaceFault) → ConfirmsIn P n (bssap_word number r)
   of_bssap number (Ok (Management message)) = of_management number message
-  of_bssap number (Ok (Transfer dlci message)) = tt
-  of_bssap number (Err fault) = tt
+  of_bssap number _ = tt
 
   of_other : (r : Result Sccp InterfaceFault) → ((m : Sccp) → r ≡ Ok m → type_of m ≡ kinds.ConnectionConfirm → ⊥) → ConfirmsIn P n (switch_word r)
   of_other (Ok (ConnectionConfirm d s)) other = absurd (other (ConnectionConfirm d s) refl refl)
-  of_other (Ok (ConnectionRefused d)) other = tt
-  of_other (Ok (Released d s)) other = tt
   of_other (Ok (DataForm1 d user)) other = of_bssap d (bssap_reading user)
-  of_other (Ok (ConnectionRequest s user)) other = tt
-  of_other (Ok (ReleaseComplete d s)) other = tt
-  of_other (Err fault) other = tt
+  of_other _ other = tt
 
   read_other : (message : Sccp) → (type_of message ≡ kinds.ConnectionConfirm → ⊥) → ConfirmsIn P n (switch_word (sccp_reading (sccp_text message)))
   read_other message other = of_other (sccp_reading (sccp_text message)) (λ m is kind. other (sym (content_kind (type_of message) (content_text message) m (sym (text-content message) ∙ is)) ∙ kind))
@@ -117,11 +102,7 @@ module _ (P : ℕ → Type 0) (n : ℕ) where
 
   of_station : (source : ℕ) (word : Word) → source ≢ SWITCH_LINK → IsFrom source word → ConfirmsIn P n word
   of_station source (OnConnection d input) station from = absurd (station from.0)
-  of_station source Nothing station from = tt
-  of_station source Ping station from = tt
-  of_station source (Asks request delay) station from = tt
-  of_station source (OnChannel at input) station from = tt
-  of_station source (Reports at number report) station from = tt
+  of_station source _ station from = tt
 
   pub station-item : (source : ℕ) (message : Rsl) → source ≢ SWITCH_LINK → ConfirmsBeing P n (station_item source message)
   station-item source message station = of_station source (word_by source (station_item source message).what) station (word_from source _)

@@ -2,18 +2,16 @@
 -- what they carry.
 use Rattle.world_laws.proofs.Prelude.{◌≡◌, ◌≢◌, ℕ, ◌≤◌, ◌==◌, ◌&&◌, Bool, true, false, cond, if◌then◌else◌, List, [], ◌∷◌, ◌++◌, filter}
 use Rattle.world_laws.proofs.Prelude.{map, Option, Some, Ok, refl, sym, ap, ◌∙◌, subst, arith, inl, inr, AllByRecursion, flat_map}
-use Rattle.world_laws.proofs.Prelude.{result_ok, eq-eqb, ne_eqb, append-nil, map-append, filter-append, Bssap, Management, Transfer}
+use Rattle.world_laws.proofs.Prelude.{result_ok, eq-eqb, ne_eqb, append-nil, map-append, filter-append, Bssap, Management}
 use Rattle.world_laws.proofs.Prelude.{InterfaceFault, Sccp, IsReference, Message, Station, Request, Data, ReleaseComplete, Out, SWITCH_LINK}
 use Rattle.world_laws.proofs.Prelude.{IsReadOf, outs_of, relayed, is_for, outs_for, IsSent, outs_own, IsText, forwarded_seen, Forwarded}
-use Rattle.world_laws.proofs.Prelude.{pong, forwarded_by, Sapi, Zero, Three, OutboxEntry, Tenure, to_link}
-use Rattle.std.proofs.Common.{Result}
+use Rattle.world_laws.proofs.Prelude.{pong, forwarded_by, Sapi, Zero, Three, OutboxEntry, Tenure, to_link, Result, sccp_reading}
+use Rattle.world_laws.proofs.Prelude.{forwarded_in, to_switch, carried_for, entry-out}
 use Rattle.bssmap_codec.specs.declared.bssmap.Bssmap.TheVariants as bssmap
-use Rattle.bssmap_codec.specs.SccpReading.{sccp_reading}
 use Rattle.conn_messages.specs.Out.{out_of}
 use Rattle.conn_messages.specs.SwitchMessage.{clear_complete}
-use Rattle.controller_model.specs.Views.{forwarded, forwarded_in, to_switch}
+use Rattle.controller_model.specs.Views.{forwarded}
 use Rattle.world_model.specs.Relay.{entry_of}
-use Rattle.world_laws.specs.Staying.{carried_for}
 use Rattle.world_laws.specs.References.Agree.{IsHeeded, IsRight, reads, reads_of}
 use Rattle.world_laws.specs.References.Naming.{ArePlain, AreQuiet, IsAsking, IsClearing, IsPlain, IsQuiet}
 use Rattle.world_laws.specs.References.Reads.{AreNothing, ArePlainReads, IsNothing, IsPlainRead, Read, asks, carried, clears, data_read}
@@ -21,7 +19,6 @@ use Rattle.world_laws.specs.References.Reads.{initial_read, nothing, sccp_read}
 use Rattle.world_laws.proofs.References.Numbered.{IsOfOne}
 use Rattle.world_laws.proofs.References.Over.{none_forwarded}
 use Rattle.world_laws.proofs.References.Texts.{clear_data, plain_read, released_read, request_read}
-use Rattle.world_laws.proofs.Others.{entry-out}
 use Rattle.world_laws.proofs.OwnTurn.{messages_of}
 
 -- ---- what an entry carries
@@ -44,15 +41,12 @@ other_carries n out differ =
 initial_carries : (n : ℕ) (b : Bssap) → IsHeeded (initial_read n (Some b)) → messages_of (forwarded_in (Ok b)) ≡ carried (initial_read n (Some b))
 unfolding messages_of
 initial_carries n (Management (bssmap.CompleteLayer3Information cell initial)) heeded = refl
-initial_carries n (Management _) heeded = absurd heeded
-initial_carries n (Transfer dlci message) heeded = absurd heeded
+initial_carries n _ heeded = absurd heeded
 
 data_carries : (d : ℕ) (b : Bssap) → IsHeeded (data_read d (Some b)) → messages_of (forwarded_in (Ok b)) ≡ carried (data_read d (Some b))
 unfolding messages_of
-data_carries d (Transfer dlci message) heeded = refl
 data_carries d (Management (bssmap.CompleteLayer3Information cell initial)) heeded = absurd heeded
-data_carries d (Management bssmap.ClearComplete) heeded = refl
-data_carries d (Management _) heeded = refl
+data_carries d _ heeded = refl
 
 none_relayed : (sapi : Sapi) (station : ℕ) (x : _) → relayed sapi (Station station x ∷ []) ≡ []
 none_relayed Zero station x = refl
@@ -143,8 +137,7 @@ quiet_out : (n : ℕ) (m : Message) → IsQuiet m → IsText n (out_of n m) → 
 unfolding out_of
 quiet_out n (Station station x) quiet text = tt
 quiet_out n (ReleaseComplete d) quiet text = subst IsNothing (sym (released_read n d text)) tt
-quiet_out n (Request b) quiet text = absurd quiet
-quiet_out n (Data d b) quiet text = absurd quiet
+quiet_out n _ quiet text = absurd quiet
 
 pub quiet_said : (n : ℕ) (ms : List Message) → AreTexts n ms → AreQuiet ms → AreNothing (said n ms)
 quiet_said n ms texts quiet = all_read n IsNothing IsQuiet (quiet_out n) ms quiet texts

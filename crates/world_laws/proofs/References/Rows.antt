@@ -2,16 +2,14 @@
 use Rattle.world_laws.proofs.Prelude.{◌≡◌, ℕ, true, false, [], ◌∷◌, refl, ap, arith, ConnectionConfirm, connection_of, OnConnection}
 use Rattle.world_laws.proofs.Prelude.{usual_settings, Zero, Clearing, Open, Upper, Connect, AirUp, BaseTakes, BasePush, BaseDown, Handle}
 use Rattle.world_laws.proofs.Prelude.{SwitchTakes, SwitchDoes, Clear, Actors, World, new_world, outbox_of, opened, after_all, same_Some}
+use Rattle.world_laws.proofs.Prelude.{IsUnheard, IsOver, ArePeers, HasNotAsked, IsUnheardOf}
 use Rattle.conn_rules.specs.declared.input.Input.TheVariants as inputs
 use Rattle.controller_model.specs.Views.{forwarded}
 use Rattle.msc_end.specs.declared.connection.Connection.{Connection}
 use Rattle.world_model.proofs.Worlds.{on_literals}
-use Rattle.world_laws.specs.Lives.{IsUnheard}
 use Rattle.world_laws.specs.References.Agree.{AsksOnce, ConfirmsBy, ConfirmsIn, Knows, Only, Runs, StandsAt, reads_of}
 use Rattle.world_laws.specs.References.Naming.{waits, named, cleared, reach_of}
-use Rattle.world_laws.specs.References.Over.{IsOver}
 use Rattle.world_laws.specs.References.Reads.{asks, carries, clears, tells, nothing, odd}
-use Rattle.world_laws.specs.References.Taken.{ArePeers, HasNotAsked, IsUnheardOf}
 
 -- ---- how far a connection is
 

@@ -1,16 +1,15 @@
 -- A step of the controller keeps what a connection and the switch agree on.
 use Rattle.world_laws.proofs.Prelude.{◌≡◌, ◌⊎◌, ℕ, ◌+◌, ◌≤◌, ◌<◌, nat_le, Bool, true, false, List, [], ◌∷◌, ◌++◌, find, None, refl, sym, ap}
 use Rattle.world_laws.proofs.Prelude.{◌∙◌, subst, arith, inl, inr, cases_Bool, leb-true, IsReference, Message, SWITCH_LINK}
-use Rattle.world_laws.proofs.Prelude.{AllByRecursion-append, connection_of, REFERENCE_BASE, SwitchState, Actors, outbox_of}
-use Rattle.world_laws.specs.LineUps.{is_of_peer}
+use Rattle.world_laws.proofs.Prelude.{AllByRecursion-append, connection_of, REFERENCE_BASE, SwitchState, Actors, outbox_of, is_of_peer}
+use Rattle.world_laws.proofs.Prelude.{is_unasked, is_asking, is_unheard, is_known}
 use Rattle.world_laws.specs.References.Agree.{Agrees, AsksOnce, Confirms, HasAsked, IsAsked, IsKnown, IsOnItsWay, IsUnknown, Knows, Never}
 use Rattle.world_laws.specs.References.Agree.{Only, Runs, StandsAt, is_over, over_after, reads_of}
-use Rattle.world_laws.specs.References.Agree.Agrees.{is_unasked, is_asking, is_unheard, is_known}
 use Rattle.world_laws.specs.References.Naming.{ArePlain, AreQuiet, Goes, IsAsking, IsClearing, IsUnnamed, Reach, early, waits, due, named}
 use Rattle.world_laws.specs.References.Naming.{cleared, gone, reach_of}
 use Rattle.world_laws.specs.References.Naming.Goes.{stays, leaves, fails, asks, confirmed, speaks, clears}
 use Rattle.world_laws.specs.References.Reads.{AreNothing, ArePlainReads, IsNothing, Read, asks as read_asks, carries as read_carries}
-use Rattle.world_laws.specs.References.Reads.{clears as read_clears, tells as read_tells, nothing as read_nothing, odd as read_odd}
+use Rattle.world_laws.specs.References.Reads.{clears as read_clears, tells as read_tells, nothing as read_nothing}
 use Rattle.world_laws.proofs.References.Goings.{Begins}
 
 -- ---- what is put behind what waits
@@ -19,49 +18,31 @@ nothing_more : (xs ys : List Read) → AreNothing xs → AreNothing ys → AreNo
 nothing_more xs ys first rest = AllByRecursion-append IsNothing xs ys first rest
 
 asks_more : (n : ℕ) (xs ys : List Read) → AsksOnce n xs → AreNothing ys → AsksOnce n (xs ++ ys)
-asks_more n [] ys once quiet = absurd once
 asks_more n (read_asks source initial ∷ xs) ys once quiet = (once.0, nothing_more xs ys once.1 quiet)
 asks_more n (read_nothing ∷ xs) ys once quiet = asks_more n xs ys once quiet
-asks_more n (read_carries d message ∷ xs) ys once quiet = absurd once
-asks_more n (read_clears d ∷ xs) ys once quiet = absurd once
-asks_more n (read_tells d ∷ xs) ys once quiet = absurd once
-asks_more n (read_odd ∷ xs) ys once quiet = absurd once
+asks_more n _ ys once quiet = absurd once
 
 asks_behind : (n : ℕ) (message : List ℕ) (xs : List Read) → AreNothing xs → AsksOnce n (xs ++ read_asks n message ∷ [])
 asks_behind n message [] quiet = (refl, tt)
 asks_behind n message (read_nothing ∷ xs) quiet = asks_behind n message xs quiet.1
-asks_behind n message (read_asks source initial ∷ xs) quiet = absurd quiet.0
-asks_behind n message (read_carries d m ∷ xs) quiet = absurd quiet.0
-asks_behind n message (read_clears d ∷ xs) quiet = absurd quiet.0
-asks_behind n message (read_tells d ∷ xs) quiet = absurd quiet.0
-asks_behind n message (read_odd ∷ xs) quiet = absurd quiet.0
+asks_behind n message _ quiet = absurd quiet.0
 
 pub quiet_runs : (k : ℕ) (over : Bool) (ys : List Read) → AreNothing ys → Runs k over ys over
 quiet_runs k over [] quiet = refl
 quiet_runs k over (read_nothing ∷ ys) quiet = (tt, quiet_runs k over ys quiet.1)
-quiet_runs k over (read_asks source initial ∷ ys) quiet = absurd quiet.0
-quiet_runs k over (read_carries d m ∷ ys) quiet = absurd quiet.0
-quiet_runs k over (read_clears d ∷ ys) quiet = absurd quiet.0
-quiet_runs k over (read_tells d ∷ ys) quiet = absurd quiet.0
-quiet_runs k over (read_odd ∷ ys) quiet = absurd quiet.0
+quiet_runs k over _ quiet = absurd quiet.0
 
 plain_runs : (k : ℕ) (ys : List Read) → ArePlainReads k ys → Runs k false ys false
 plain_runs k [] plain = refl
 plain_runs k (read_nothing ∷ ys) plain = (tt, plain_runs k ys plain.1)
-plain_runs k (read_asks source initial ∷ ys) plain = absurd plain.0
 plain_runs k (read_carries d m ∷ ys) plain = ((refl, plain.0), plain_runs k ys plain.1)
 plain_runs k (read_tells d ∷ ys) plain = ((refl, plain.0), plain_runs k ys plain.1)
-plain_runs k (read_clears d ∷ ys) plain = absurd plain.0
-plain_runs k (read_odd ∷ ys) plain = absurd plain.0
+plain_runs k _ plain = absurd plain.0
 
 clear_runs : (k : ℕ) (qs : List Read) → AreNothing qs → Runs k false (qs ++ read_clears k ∷ []) true
 clear_runs k [] quiet = ((refl, refl), refl)
 clear_runs k (read_nothing ∷ qs) quiet = (tt, clear_runs k qs quiet.1)
-clear_runs k (read_asks source initial ∷ qs) quiet = absurd quiet.0
-clear_runs k (read_carries d m ∷ qs) quiet = absurd quiet.0
-clear_runs k (read_clears d ∷ qs) quiet = absurd quiet.0
-clear_runs k (read_tells d ∷ qs) quiet = absurd quiet.0
-clear_runs k (read_odd ∷ qs) quiet = absurd quiet.0
+clear_runs k _ quiet = absurd quiet.0
 
 runs_more : (k : ℕ) (over between last : Bool) (xs ys : List Read) → Runs k over xs between → Runs k between ys last → Runs k over (xs ++ ys) last
 runs_more k over between last [] ys first rest = subst (λ (b : Bool). Runs k b ys last) (sym first) rest
@@ -83,9 +64,6 @@ pub record Grows (w v : Actors) (n : ℕ) (more : List Read) : Type 0 where
   pub numbers : w.controller.next_number ≤ v.controller.next_number
   pub there : reach_of (connection_of v.controller n) ≡ early → n < v.controller.next_number
 
-Keeps : Actors → Actors → ℕ → Type 1
-Keeps w v n = (P : ℕ → Type 0) → Confirms P w n → Confirms P v n
-
 early_named : (k : ℕ) → early ≡ named k → ⊥
 early_named k is = absurd cc
 
@@ -95,26 +73,20 @@ early_unnamed a is un = absurd (subst IsUnnamed (sym is) un)
 asked_unnamed : (b : Reach) → IsUnnamed b → IsAsked b
 asked_unnamed waits un = tt
 asked_unnamed due un = tt
-asked_unnamed early un = absurd un
 asked_unnamed (named k) un = absurd un
-asked_unnamed cleared un = absurd un
-asked_unnamed gone un = absurd un
+asked_unnamed _ un = absurd un
 
 knows_unnamed : (k : ℕ) (last : Bool) (a : Reach) → IsUnnamed a → Knows k last a → last ≡ false
 knows_unnamed k last waits un knows = knows
 knows_unnamed k last due un knows = knows
-knows_unnamed k last early un knows = absurd un
 knows_unnamed k last (named own) un knows = absurd un
-knows_unnamed k last cleared un knows = absurd un
-knows_unnamed k last gone un knows = absurd un
+knows_unnamed k last _ un knows = absurd un
 
 unnamed_knows : (k : ℕ) (last : Bool) (a : Reach) → IsUnnamed a → last ≡ false → Knows k last a
 unnamed_knows k last waits un is = is
 unnamed_knows k last due un is = is
-unnamed_knows k last early un is = absurd un
 unnamed_knows k last (named own) un is = absurd un
-unnamed_knows k last cleared un is = absurd un
-unnamed_knows k last gone un is = absurd un
+unnamed_knows k last _ un is = absurd un
 
 module _ (w v : Actors) (n : ℕ) (put : List Message) (more : List Read) (grows : Grows w v n more) (keeps : (P : ℕ → Type 0) → Confirms P w n → Confirms P v n) (says : Says n put more) where
   none_there : find (is_of_peer n) w.switch.connections ≡ None → find (is_of_peer n) v.switch.connections ≡ None

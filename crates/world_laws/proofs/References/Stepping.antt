@@ -2,21 +2,17 @@
 use Rattle.world_laws.proofs.Prelude.{◌≡◌, ◌⊎◌, ℕ, ◌≤◌, ◌<◌, ◌==◌, nat_le, Bool, true, false, if◌then◌else◌, List, [], ◌∷◌, ◌++◌, map}
 use Rattle.world_laws.proofs.Prelude.{option_map, Option, Some, None, refl, sym, ap, ◌∙◌, subst, arith, inl, inr, AllByRecursion}
 use Rattle.world_laws.proofs.Prelude.{cases_Bool, eqb-true, map-append, filter-append, Message, Out, SWITCH_LINK, AllByRecursion-append}
-use Rattle.world_laws.proofs.Prelude.{AllByRecursion-filter, AllByRecursion-so, Input, Due, WasAsked, Complete, State, WaitActivation}
-use Rattle.world_laws.proofs.Prelude.{WaitEstablish, WaitConfirm, Live, Closed, Removed, Connection, IsOpen, ActsOn, IsBrought, brought_by}
+use Rattle.world_laws.proofs.Prelude.{AllByRecursion-filter, AllByRecursion-so, Input, Due, WasAsked, Complete, State}
+use Rattle.world_laws.proofs.Prelude.{Closed, Removed, Connection, IsOpen, ActsOn, IsBrought, brought_by}
 use Rattle.world_laws.proofs.Prelude.{brought_in, brought_with, if_held, IsThere, connection_of, is_for, outs_for, word_by, IsNumbered}
 use Rattle.world_laws.proofs.Prelude.{ComesInOctets, IsSent, step_goes, find_below, life_acts, life_fits, IsText, life_sends, IsAtPlace}
-use Rattle.world_laws.proofs.Prelude.{word_from, Step, Take, Word, Nothing, Ping, Asks, OnChannel, Reports, OnConnection, Controller, Entry}
+use Rattle.world_laws.proofs.Prelude.{word_from, Step, Take, Word, OnChannel, Reports, OnConnection, Controller, Entry}
 use Rattle.world_laws.proofs.Prelude.{channel_state, holder, hears, break_of, step, SwitchState, Item, What, AreAllowed, Parameters}
-use Rattle.world_laws.proofs.Prelude.{OutboxEntry, Tenure, to_link, with_turn, Actors, is_up, outbox_of, turn-leads, all_join}
+use Rattle.world_laws.proofs.Prelude.{OutboxEntry, Tenure, to_link, with_turn, Actors, is_up, outbox_of, turn-leads, all_join, IsBelow}
+use Rattle.world_laws.proofs.Prelude.{IsFrom, step_numbered, life, word_of, entry-out}
 use Rattle.conn_rules.specs.declared.input.Input.TheVariants as inputs
 use Rattle.controller_model.specs.LifeLaws.Acts.{comes, nothing}
-use Rattle.controller_model.specs.LifeLaws.Numbers.{IsBelow}
 use Rattle.controller_model.proofs.LifeLaws.SeenFrames.{texts_back, texts_of}
-use Rattle.controller_model.proofs.LifeLaws.Sources.{IsFrom}
-use Rattle.controller_model.proofs.LifeLaws.Turns.{step_numbered}
-use Rattle.controller_model.specs.Life.{life}
-use Rattle.controller_model.specs.Reading.{word_of}
 use Rattle.ruled_relay.specs.declared.item.What.TheVariants as whats
 use Rattle.world_model.specs.Relay.{entry_of}
 use Rattle.world_laws.specs.References.Agree.{Agrees, Confirms, ConfirmsBeing, ConfirmsBy, ConfirmsIn, HasAsked, IsRight, IsUnknown, reads}
@@ -29,7 +25,6 @@ use Rattle.world_laws.proofs.References.Numbered.{AreOfOne, outs_of_one}
 use Rattle.world_laws.proofs.References.Peers.{Differ, peers_of}
 use Rattle.world_laws.proofs.References.Right.{AreTexts, asking_said, clearing_said, own_put, plain_said, quiet_said, right_out, said}
 use Rattle.world_laws.proofs.References.Runs.{Grows, Says, begins_agree, early_goes, goes_agree, goes_unheard}
-use Rattle.world_laws.proofs.Others.{entry-out}
 
 -- ---- what comes to a connection
 
@@ -42,15 +37,13 @@ module _ (P : ℕ → Type 0) (n r : ℕ) where
   ]
 
   word_comes : (c : Controller) (source : ℕ) (word : Word) → IsFrom source word → ConfirmsIn P n word → IsBrought (brought_by c n word) (inputs.ConnectionConfirm r) → P r
-  word_comes c source Nothing from confirms is = absurd is
-  word_comes c source Ping from confirms is = absurd is
-  word_comes c source (Asks request delay) from confirms is = absurd is
   word_comes c source (OnChannel at input) from confirms is = held_comes (holder (channel_state c at)) input is (λ own there same input_is. absurd (subst (IsAtPlace at) (sym input_is) from.1))
   word_comes c source (Reports at number report) from confirms is = absurd cc
   word_comes c source (OnConnection destination input) from confirms is = held_comes (Some destination) input is (λ own there same input_is.
       subst (λ (x : Input). ConfirmsIn P n (OnConnection destination x)) (sym input_is) confirms (number own there same)) where
         number : (own : ℕ) → Some destination ≡ Some own → own ≡ n → destination ≡ n
         number own there same = let is : destination ≡ own = cc in is ∙ same
+  word_comes c source _ from confirms is = absurd is
 
   break_comes : (source : ℕ) → inputs.ConnectionConfirm r ≡ break_of source → P r
   break_comes source is = by (source == SWITCH_LINK) is where
@@ -146,14 +139,11 @@ waits_there : (o : Option Connection) → reach_of o ≡ waits → IsThere o
 waits_there None is = absurd cc
 waits_there (Some s) is = by s.state is where
   by : (state : State) → reach_in state ≡ waits → IsOpen state
-  by WaitActivation is = tt
-  by WaitEstablish is = tt
-  by WaitConfirm is = tt
-  by (Live reference stage) is = tt
   by (Closed (Due cause)) is = absurd cc
   by (Closed (WasAsked reference)) is = absurd cc
   by (Closed Complete) is = absurd cc
   by Removed is = absurd cc
+  by _ is = tt
 
 -- ---- a step
 

@@ -2,16 +2,13 @@
 -- leaves of others.
 use Rattle.world_laws.proofs.Prelude.{◌≡◌, ◌≢◌, ◌⊎◌, ℕ, ◌+◌, ◌<◌, ◌≤◌, Bool, true, List, [], ◌∷◌, ◌++◌, length, find, Option, Some, None}
 use Rattle.world_laws.proofs.Prelude.{refl, sym, ap, ◌∙◌, subst, inl, inr, slice_get, slice_set, AllByRecursion, append-nil, Sccp}
-use Rattle.world_laws.proofs.Prelude.{ConnectionConfirm, ConnectionRefused, ConnectionRequest, DataForm1, Released, IsReference}
-use Rattle.world_laws.proofs.Prelude.{SWITCH_LINK, AllByRecursion-append, AllByRecursion-so, controllers, Controller, REFERENCE_BASE}
-use Rattle.world_laws.proofs.Prelude.{connections_after, replies, OutboxEntry, switch_took, Actors, Link, is_up, link_of, outbox_of}
-use Rattle.world_laws.proofs.Prelude.{with_outbox, changed_link}
-use Rattle.bssmap_codec.specs.declared.sccp.Sccp.TheVariants.{ReleaseComplete}
+use Rattle.world_laws.proofs.Prelude.{ConnectionConfirm, ConnectionRefused, IsReference, SWITCH_LINK, AllByRecursion-append}
+use Rattle.world_laws.proofs.Prelude.{AllByRecursion-so, controllers, Controller, REFERENCE_BASE, connections_after, replies, OutboxEntry}
+use Rattle.world_laws.proofs.Prelude.{switch_took, Actors, Link, is_up, link_of, outbox_of, with_outbox, changed_link, is_of_peer, taken_in}
+use Rattle.world_laws.proofs.Prelude.{taken_of, is_unasked, is_asking, is_unheard, is_known}
 use Rattle.msc_end.specs.declared.connection.Connection.{Connection}
-use Rattle.world_laws.specs.LineUps.{is_of_peer, taken_in, taken_of}
 use Rattle.world_laws.specs.References.Agree.{Agrees, AsksOnce, Confirms, ConfirmsBeing, ConfirmsBy, HasAsked, IsAsked, IsHeeded, IsUnasked}
 use Rattle.world_laws.specs.References.Agree.{IsUnknown, Knows, Never, Only, Runs, StandsAt, is_over, reads_of}
-use Rattle.world_laws.specs.References.Agree.Agrees.{is_unasked, is_asking, is_unheard, is_known}
 use Rattle.world_laws.specs.References.Naming.{early, reach_of}
 use Rattle.world_laws.specs.References.Reads.{AreNothing, IsNothing, Read, asks, carried, nothing}
 use Rattle.world_laws.proofs.References.Places.{push_none, push_stands, set-none, set_other}
@@ -66,11 +63,7 @@ pub data Effect (m : ℕ) (cs : List Connection) : List Connection → List Sccp
 
 confirms_none : (P : ℕ → Type 0) (n : ℕ) (message : Sccp) → IsNoConfirm message → ConfirmsBy P n message
 confirms_none P n (ConnectionConfirm destination source) none = absurd none
-confirms_none P n (ConnectionRequest source user) none = tt
-confirms_none P n (ConnectionRefused destination) none = tt
-confirms_none P n (Released destination source) none = tt
-confirms_none P n (ReleaseComplete destination source) none = tt
-confirms_none P n (DataForm1 destination user) none = tt
+confirms_none P n _ none = tt
 
 pub confirms_after : {w v : Actors} {others : List OutboxEntry} {cs : List Connection} {reps : List Sccp} (P : ℕ → Type 0) (n : ℕ) → After w v others cs reps → Confirms P w n → AllByRecursion (ConfirmsBy P n) reps → Confirms P v n
 confirms_after {w} {reps = reps} P n after confirms more = record {
@@ -164,10 +157,7 @@ pub record Took (w v : Actors) (n : ℕ) (cs : List Connection) (reps : List Scc
 pub nothing_heeded : (r : Read) → IsNothing r → IsHeeded r × (carried r ≡ [])
 nothing_heeded nothing is = (tt, refl)
 nothing_heeded (asks source initial) is = absurd is
-nothing_heeded (Read.carries d m) is = absurd is
-nothing_heeded (Read.clears d) is = absurd is
-nothing_heeded (Read.tells d) is = absurd is
-nothing_heeded Read.odd is = absurd is
+nothing_heeded _ is = absurd is
 
 -- what isn't heeded changes nothing
 pub took_nothing : {w v : Actors} {others : List OutboxEntry} (n : ℕ) (r : Read) → After w v others w.switch.connections [] → IsNothing r → ((P : ℕ → Type 0) → Confirms P w n → Confirms P v n) → IsSame w v n → Agrees w n → Took w v n w.switch.connections [] r

@@ -2,20 +2,16 @@
 -- as a message of which it is the text.
 use Rattle.world_laws.proofs.Prelude.{◌≡◌, ℕ, List, [], ◌∷◌, ◌++◌, drop, slice_index_or, Some, Ok, refl, sym, ap, ◌∙◌, subst, result_ok}
 use Rattle.world_laws.proofs.Prelude.{Bssap, Management, Transfer, Bssmap, InterfaceFault, Sccp, bssap_text, IsReference, sccp_text}
-use Rattle.world_laws.proofs.Prelude.{Message, Station, Request, Data, ReleaseComplete, Out, IsReadOf, IsText, eqb-false}
-use Rattle.std.proofs.Common.{Result}
-use Rattle.std.proofs.lemmas.List.{append_cancel_right}
+use Rattle.world_laws.proofs.Prelude.{Message, Station, Request, Data, ReleaseComplete, Out, IsReadOf, IsText, eqb-false, Result}
+use Rattle.world_laws.proofs.Prelude.{append_cancel_right, Short, CellIdentifier, reference_at, reference_text, data_behind_at, bind_ok}
+use Rattle.world_laws.proofs.Prelude.{ok_is}
 use Rattle.bssmap_codec.specs.declared.bssmap.Bssmap.TheVariants as bssmap
-use Rattle.bssmap_codec.specs.declared.fault.InterfaceFault.TheVariants.{Short}
 use Rattle.bssmap_codec.specs.declared.sccp.Sccp.TheVariants as sccp
-use Rattle.bssmap_codec.specs.declared.values.CellIdentifier.{CellIdentifier}
 use Rattle.bssmap_codec.specs.BssmapType.{bssmap_octet, type_of}
-use Rattle.bssmap_codec.specs.Reference.{reference_at, reference_text}
-use Rattle.bssmap_codec.specs.SccpReading.{data_behind_at, data_form_at, sccp_reading}
+use Rattle.bssmap_codec.specs.SccpReading.{data_form_at, sccp_reading}
 use Rattle.bssmap_codec.specs.SccpType.{sccp_type}
 use Rattle.bssmap_codec.proofs.Fronts.{reference_again}
 use Rattle.conn_messages.specs.Out.{out_of}
-use Rattle.octets.proofs.Steps.{bind_ok, ok_is}
 use Rattle.octets.specs.Front.{octet_at}
 use Rattle.world_laws.specs.References.Naming.{IsPlain}
 use Rattle.world_laws.specs.References.Reads.{IsPlainRead, Read, asks, clears, initial_read, management_read, nothing, sccp_read, data_read}
@@ -46,29 +42,11 @@ data_to d d' rest user three is =
 
 clear_octet : (b : Bssmap) → bssmap_octet (type_of b) ≡ bssmap_octet (type_of bssmap.ClearComplete) → b ≡ bssmap.ClearComplete
 clear_octet bssmap.ClearComplete is = refl
-clear_octet (bssmap.CompleteLayer3Information cell initial) is = absurd (eqb-false _ _ refl is)
-clear_octet (bssmap.AssignmentRequest channel_type) is = absurd (eqb-false _ _ refl is)
-clear_octet (bssmap.AssignmentComplete rr_cause) is = absurd (eqb-false _ _ refl is)
-clear_octet (bssmap.AssignmentFailure cause rr_cause) is = absurd (eqb-false _ _ refl is)
-clear_octet (bssmap.HandoverPerformed cause cell) is = absurd (eqb-false _ _ refl is)
-clear_octet (bssmap.ClearCommand cause) is = absurd (eqb-false _ _ refl is)
-clear_octet (bssmap.ClearRequest cause) is = absurd (eqb-false _ _ refl is)
-clear_octet (bssmap.SapiNReject dlci cause) is = absurd (eqb-false _ _ refl is)
-clear_octet bssmap.CipherModeCommand is = absurd (eqb-false _ _ refl is)
-clear_octet (bssmap.CipherModeReject cause) is = absurd (eqb-false _ _ refl is)
+clear_octet _ is = absurd (eqb-false _ _ refl is)
 
 initial_octet : (b : Bssmap) → bssmap_octet (type_of b) ≡ 0x57 → (cell : CellIdentifier) × (initial : List ℕ) × (b ≡ bssmap.CompleteLayer3Information cell initial)
 initial_octet (bssmap.CompleteLayer3Information cell initial) is = (cell, initial, refl)
-initial_octet bssmap.ClearComplete is = absurd (eqb-false _ 0x57 refl is)
-initial_octet (bssmap.AssignmentRequest channel_type) is = absurd (eqb-false _ 0x57 refl is)
-initial_octet (bssmap.AssignmentComplete rr_cause) is = absurd (eqb-false _ 0x57 refl is)
-initial_octet (bssmap.AssignmentFailure cause rr_cause) is = absurd (eqb-false _ 0x57 refl is)
-initial_octet (bssmap.HandoverPerformed cause cell) is = absurd (eqb-false _ 0x57 refl is)
-initial_octet (bssmap.ClearCommand cause) is = absurd (eqb-false _ 0x57 refl is)
-initial_octet (bssmap.ClearRequest cause) is = absurd (eqb-false _ 0x57 refl is)
-initial_octet (bssmap.SapiNReject dlci cause) is = absurd (eqb-false _ 0x57 refl is)
-initial_octet bssmap.CipherModeCommand is = absurd (eqb-false _ 0x57 refl is)
-initial_octet (bssmap.CipherModeReject cause) is = absurd (eqb-false _ 0x57 refl is)
+initial_octet _ is = absurd (eqb-false _ 0x57 refl is)
 
 -- neither CLEAR COMPLETE nor an initial message
 unfoldable IsTold : Bssmap → Type 0
@@ -80,29 +58,13 @@ told_octet : (b b' : Bssmap) → IsTold b → bssmap_octet (type_of b) ≡ bssma
 unfolding IsTold
 told_octet b bssmap.ClearComplete told same = subst IsTold (clear_octet b same) told
 told_octet b (bssmap.CompleteLayer3Information cell initial) told same = let is = initial_octet b same in subst IsTold is.2 told
-told_octet b (bssmap.AssignmentRequest channel_type) told same = tt
-told_octet b (bssmap.AssignmentComplete rr_cause) told same = tt
-told_octet b (bssmap.AssignmentFailure cause rr_cause) told same = tt
-told_octet b (bssmap.HandoverPerformed cause cell) told same = tt
-told_octet b (bssmap.ClearCommand cause) told same = tt
-told_octet b (bssmap.ClearRequest cause) told same = tt
-told_octet b (bssmap.SapiNReject dlci cause) told same = tt
-told_octet b bssmap.CipherModeCommand told same = tt
-told_octet b (bssmap.CipherModeReject cause) told same = tt
+told_octet b _ told same = tt
 
 told_read : (k d : ℕ) (b : Bssmap) → IsTold b → d ≡ k → IsPlainRead k (management_read d b)
 unfolding IsTold
 told_read k d bssmap.ClearComplete told is = absurd told
 told_read k d (bssmap.CompleteLayer3Information cell initial) told is = absurd told
-told_read k d (bssmap.AssignmentRequest channel_type) told is = is
-told_read k d (bssmap.AssignmentComplete rr_cause) told is = is
-told_read k d (bssmap.AssignmentFailure cause rr_cause) told is = is
-told_read k d (bssmap.HandoverPerformed cause cell) told is = is
-told_read k d (bssmap.ClearCommand cause) told is = is
-told_read k d (bssmap.ClearRequest cause) told is = is
-told_read k d (bssmap.SapiNReject dlci cause) told is = is
-told_read k d bssmap.CipherModeCommand told is = is
-told_read k d (bssmap.CipherModeReject cause) told is = is
+told_read k d _ told is = is
 
 -- ---- one frame
 
@@ -192,8 +154,6 @@ plain_read n k d (Management b) three plain text = by b plain text where
   now b told to text = subst (λ (x : ℕ). IsPlainRead k (body_read (out_of n (Data x (Management b))))) (sym to) (told_data n k b three told (subst (λ (x : ℕ). IsText n (out_of n (Data x (Management b)))) to text))
 
   by : (b : Bssmap) → IsPlain k (Data d (Management b)) → IsText n (out_of n (Data d (Management b))) → IsPlainRead k (body_read (out_of n (Data d (Management b))))
-  by bssmap.ClearComplete plain text = absurd plain
-  by (bssmap.CompleteLayer3Information cell initial) plain text = absurd plain
   by (bssmap.AssignmentRequest channel_type) plain text = now (bssmap.AssignmentRequest channel_type) tt plain text
   by (bssmap.AssignmentComplete rr_cause) plain text = now (bssmap.AssignmentComplete rr_cause) tt plain text
   by (bssmap.AssignmentFailure cause rr_cause) plain text = now (bssmap.AssignmentFailure cause rr_cause) tt plain text
@@ -203,3 +163,4 @@ plain_read n k d (Management b) three plain text = by b plain text where
   by (bssmap.SapiNReject dlci cause) plain text = now (bssmap.SapiNReject dlci cause) tt plain text
   by bssmap.CipherModeCommand plain text = now bssmap.CipherModeCommand tt plain text
   by (bssmap.CipherModeReject cause) plain text = now (bssmap.CipherModeReject cause) tt plain text
+  by _ plain text = absurd plain

@@ -1,14 +1,12 @@
 -- By an ACTIVATION ACK the controller puts one output at most.
 use Rattle.world_laws.proofs.Prelude.{◌≡◌, ◌≢◌, ◌⊎◌, inl, inr, ℕ, Bool, true, false, List, [], ◌∷◌, Option, Some, None, refl, sym, ap, ◌∙◌}
-use Rattle.world_laws.proofs.Prelude.{subst, Place, Out, outs_of, Active, Preparing, Changing, Draining, State, WaitActivation}
-use Rattle.world_laws.proofs.Prelude.{WaitEstablish, WaitConfirm, Live, Closed, Removed, Connection, is_at, Row, assign_immediately}
-use Rattle.world_laws.proofs.Prelude.{command_to, on_activation_ack, ChannelState, Free, InUse, Releasing, Word, Controller, Entry}
-use Rattle.world_laws.proofs.Prelude.{channel_state, entry_of, ignoring, hears, place_at, by_fitting, concerning, entry_at, on_state}
-use Rattle.world_laws.proofs.Prelude.{on_what, on_word, row_in, rsl_word, Frame, What, Rsl, acknowledged_tenure, target_in, rsl_in, Actors}
-use Rattle.world_laws.proofs.Prelude.{IsKnown, IsKnownItem, if_is}
+use Rattle.world_laws.proofs.Prelude.{subst, Place, Out, outs_of, Preparing, State, WaitActivation, Live, Connection, is_at, Row}
+use Rattle.world_laws.proofs.Prelude.{assign_immediately, command_to, on_activation_ack, ChannelState, Free, InUse, Releasing, Word}
+use Rattle.world_laws.proofs.Prelude.{Controller, Entry, channel_state, entry_of, ignoring, hears, place_at, by_fitting, concerning}
+use Rattle.world_laws.proofs.Prelude.{entry_at, on_state, on_what, on_word, row_in, rsl_word, Frame, What, Rsl, acknowledged_tenure}
+use Rattle.world_laws.proofs.Prelude.{target_in, rsl_in, Actors, IsKnown, IsKnownItem, if_is, word_of}
 use Rattle.conn_rules.specs.declared.input.Input.TheVariants as inputs
 use Rattle.conn_rules.specs.Table.{row_of}
-use Rattle.controller_model.specs.Reading.{word_of}
 use Rattle.ruled_relay.specs.declared.item.What.TheVariants as whats
 use Rattle.rsl_codec.specs.declared.rsl.Rsl.TheVariants as rsl
 use Rattle.world_laws.proofs.OrderHeard.{read_known, word-known}
@@ -20,13 +18,7 @@ IsOneOut outs = (outs ≡ []) ⊎ ((out : Out) × (outs ≡ out ∷ []))
 one_row : (n : ℕ) (p : Place) (state : State) (s : Connection) (r : Row) → on_activation_ack state s p ≡ Some r → IsOneOut (outs_of n r.outs)
 one_row n p WaitActivation s r fits = subst (λ (q : Row). IsOneOut (outs_of n q.outs)) (if_is (is_at p s.serving) (assign_immediately s) r fits).1 (inr (_, refl))
 one_row n p (Live reference (Preparing target)) s r fits = subst (λ (q : Row). IsOneOut (outs_of n q.outs)) (if_is (is_at p target.channel) (command_to reference target s) r fits).1 (inr (_, refl))
-one_row n p (Live reference Active) s r fits = absurd cc
-one_row n p (Live reference Draining) s r fits = absurd cc
-one_row n p (Live reference (Changing target)) s r fits = absurd cc
-one_row n p WaitEstablish s r fits = absurd cc
-one_row n p WaitConfirm s r fits = absurd cc
-one_row n p (Closed clearing) s r fits = absurd cc
-one_row n p Removed s r fits = absurd cc
+one_row n p _ s r fits = absurd cc
 
 one_fitting : (p : Place) (c : Controller) (e : Entry) (o : Option Row) → row_in c e.connection (inputs.ActivationAck p) ≡ o → IsOneOut (by_fitting (ignoring c) e o c).outs
 unfolding row_of

@@ -1,24 +1,21 @@
 -- A COMMAND goes on the serving channel of its connection.
 use Rattle.world_laws.proofs.Prelude.{◌≡◌, ◌≢◌, ◌⊎◌, inl, inr, ℕ, ◌==◌, Bool, true, false, cond, if◌then◌else◌, List, [], ◌∷◌, ◌++◌}
 use Rattle.world_laws.proofs.Prelude.{Option, Some, None, refl, sym, ap, ◌∙◌, subst, eqb-true, flat_map, AllByRecursion, Channel, Place}
-use Rattle.world_laws.proofs.Prelude.{Station, Out, outs_of, Active, Preparing, Changing, Draining, State, WaitActivation, WaitEstablish}
-use Rattle.world_laws.proofs.Prelude.{WaitConfirm, Live, Closed, Removed, Connection, is_at, Row, IsOpen, assign_immediately, command_to}
+use Rattle.world_laws.proofs.Prelude.{Station, Out, outs_of, Preparing, State, WaitActivation}
+use Rattle.world_laws.proofs.Prelude.{Live, Connection, is_at, Row, IsOpen, assign_immediately, command_to}
 use Rattle.world_laws.proofs.Prelude.{on_activation_ack, IsSent, ChannelState, Free, InUse, Releasing, Word, Controller, Entry}
 use Rattle.world_laws.proofs.Prelude.{channel_state, entry_of, ignoring, hears, place_at, place_of, by_fitting, concerning, entry_at}
 use Rattle.world_laws.proofs.Prelude.{on_state, on_what, on_word, row_in, rsl_word, Frame, What, DataMessage, Rsl, AirMessage, Tenure}
 use Rattle.world_laws.proofs.Prelude.{acknowledged_tenure, target_in, rsl_in, Actors, IsKnown, IsKnownItem, entries_to, said_to, if_is}
-use Rattle.conn_messages.specs.Out.{out_of}
+use Rattle.world_laws.proofs.Prelude.{out_of, word_of, leading, leading_by, leading_from_outbox, entry-out}
 use Rattle.conn_rules.specs.declared.input.Input.TheVariants as inputs
 use Rattle.conn_rules.specs.Table.{row_of}
-use Rattle.controller_model.specs.Reading.{word_of}
 use Rattle.ruled_relay.specs.declared.item.What.TheVariants as whats
 use Rattle.rsl_codec.specs.declared.common_channel.ImmediateAssignment.{ImmediateAssignment as Assignment}
 use Rattle.rsl_codec.specs.declared.rsl.Rsl.TheVariants as rsl
 use Rattle.world_model.specs.Relay.{commands, entry_of as outbox_entry}
-use Rattle.world_laws.specs.GoingDown.{leading, leading_by, leading_from_outbox}
 use Rattle.world_laws.proofs.OrderHeard.{read_known, word-known}
 use Rattle.world_laws.proofs.OwnerRun.{source_or}
-use Rattle.world_laws.proofs.Others.{entry-out}
 use Rattle.world_laws.proofs.Targets.FreeQuiet.{leads_none}
 use Rattle.world_laws.proofs.OrderLeads.{no_request, request_place}
 
@@ -49,13 +46,7 @@ ack_row at p c n k e WaitActivation s r own is fits there = subst (λ (q : Row).
 ack_row at p c n k e (Live reference (Preparing target)) s r own is fits there =
     subst (λ (q : Row). AllLead at c (outs_of n q.outs)) (if_is (is_at p target.channel) (command_to reference target s) r fits).1
     (λ sent. (command_leads at c n k e s.serving _ refl (ap (λ (x : Connection). x.serving) (sym own)) there (subst IsOpen (sym is ∙ ap (λ (x : Connection). x.state) own) tt) sent.0, tt))
-ack_row at p c n k e (Live reference Active) s r own is fits there = absurd cc
-ack_row at p c n k e (Live reference Draining) s r own is fits there = absurd cc
-ack_row at p c n k e (Live reference (Changing target)) s r own is fits there = absurd cc
-ack_row at p c n k e WaitEstablish s r own is fits there = absurd cc
-ack_row at p c n k e WaitConfirm s r own is fits there = absurd cc
-ack_row at p c n k e (Closed clearing) s r own is fits there = absurd cc
-ack_row at p c n k e Removed s r own is fits there = absurd cc
+ack_row at p c n k e _ s r own is fits there = absurd cc
 
 ack_fitting : (at p : Place) (c : Controller) (k : ℕ) (e : Entry) (o : Option Row) → row_in c e.connection (inputs.ActivationAck p) ≡ o → entry_of c k ≡ Some e → AllLead at c (by_fitting (ignoring c) e o c).outs
 unfolding row_of
@@ -106,8 +97,7 @@ entry-none at (Some tenure) out (inr silent) to = by (rsl_in out.frame) refl whe
     inner : (b : Bool) → (d.channel == at.number) ≡ b → (if b then leading d.l3 target else []) ≡ []
     inner true hit = absurd (silent d (ap (λ (b : Bool). if b then rsl_in out.frame else None) to ∙ is) (eqb-true d.channel at.number hit))
     inner false miss = refl
-  by None is = refl
-  by (Some _) is = refl
+  by _ is = refl
 
 pub entries-none : (at : Place) (target : Option Tenure) (outs : List Out) → (target ≡ None) ⊎ AllByRecursion (λ out. (d : DataMessage) → said_to at out ≡ Some (rsl.DataRequest d) → d.channel ≡ at.number → ⊥) outs → flat_map (leading_from_outbox at.number) (entries_to at target outs) ≡ []
 entries-none at target [] why = refl

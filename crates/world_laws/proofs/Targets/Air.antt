@@ -5,9 +5,8 @@ use Rattle.world_laws.proofs.Prelude.{eqb-true, Place, SWITCH_LINK, CHANNEL_NUMB
 use Rattle.world_laws.proofs.Prelude.{after_tell, is_active, Rsl, CellParameters, Parameters, Event, actors_after, Actors, Spot, base_of}
 use Rattle.world_laws.proofs.Prelude.{is_active_at, new_actors, new_spot, no_station, spot_at, stations_from, with_base, with_spot}
 use Rattle.world_laws.proofs.Prelude.{base-elsewhere, base-with_spot, reached-up, up-right, spot-with_base, true≢false, Respots}
-use Rattle.world_laws.proofs.Prelude.{event-keeps}
+use Rattle.world_laws.proofs.Prelude.{event-keeps, airs, asks_up, counts, goes_down, is_left, short_up}
 use Rattle.world_laws.proofs.Targets.Places.{base_cases, is_place, same_place, spot-apart, spot_here}
-use Rattle.world_model.proofs.Footprints.Respots.{airs, asks_up, counts, goes_down, is_left, short_up}
 
 abbrev pub IdleAir : Actors → Type 0
 IdleAir w = (at : Place) → at.station ≢ SWITCH_LINK → is_active_at w at ≡ false → (spot_at w at).air ≡ []

@@ -6,17 +6,13 @@ use Rattle.world_laws.proofs.Prelude.{is_for, outs_for, IsSent, ChannelState, Fr
 use Rattle.world_laws.proofs.Prelude.{Tenures, Activation, Rsl, ChannelActivation, RfChannelRelease, RfChannelReleaseAck, AirMessage}
 use Rattle.world_laws.proofs.Prelude.{Tenure, Agrees, to_come, began, begins, begins_and_ends, acknowledgements, due, Actors, is_active_at}
 use Rattle.world_laws.proofs.Prelude.{is_up, outbox_of, Both-empty, Goes, Passes, Runs, said_to, runs, first_passes, activates, over}
-use Rattle.world_laws.proofs.Prelude.{passes, releases, IsOne, hear, acks-append, AllByRecursion-filter}
-use Rattle.conn_messages.specs.Out.{out_of}
-use Rattle.world_model.specs.OwnerLines.{Comes}
+use Rattle.world_laws.proofs.Prelude.{passes, releases, IsOne, hear, acks-append, AllByRecursion-filter, out_of, Comes, acknowledgements_up}
+use Rattle.world_laws.proofs.Prelude.{is_release_ack, messages_up, brings, coming_up, going_down, leading_from_air, leading_from_outbox}
+use Rattle.world_laws.proofs.Prelude.{IsSettled, StandWithin, is_ending}
 use Rattle.world_model.specs.OwnerLines.Comes.{nothing, ends}
-use Rattle.world_laws.specs.Acknowledged.{acknowledgements_up, is_release_ack, messages_up}
-use Rattle.world_laws.specs.ComingUp.{brings, coming_up}
-use Rattle.world_laws.specs.GoingDown.{going_down, leading_from_air, leading_from_outbox}
 use Rattle.world_laws.proofs.Acknowledged.{coming-read}
 use Rattle.world_laws.proofs.Framing.{all_right}
 use Rattle.world_laws.proofs.OrderTexts.{seen_activation}
-use Rattle.world_laws.specs.Targets.Quiet.{IsSettled, StandWithin, is_ending}
 use Rattle.world_laws.proofs.Targets.FreeQuiet.{alone, hear_free}
 use Rattle.world_laws.proofs.Targets.Settled.{comes_idle}
 use Rattle.world_laws.proofs.Targets.Ways.{WaysStand, behind_end, nothing_before}

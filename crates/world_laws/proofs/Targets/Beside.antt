@@ -1,28 +1,25 @@
 -- The target stays fresh at each event in which the controller does nothing.
 use Rattle.world_laws.proofs.Prelude.{◌≡◌, ◌≢◌, ℕ, ◌==◌, ◌&&◌, nat_eq, Bool, true, false, if◌then◌else◌, unwrap_or, find, List, [], ◌∷◌}
 use Rattle.world_laws.proofs.Prelude.{◌++◌, Option, Some, None, refl, sym, ap, ◌∙◌, subst, inl, inr, cases_Bool, eqb-false, eqb-true}
-use Rattle.world_laws.proofs.Prelude.{eq-eqb, AllByRecursion, Channel, Place, SWITCH_LINK, Active, Preparing, Changing, Draining, State}
+use Rattle.world_laws.proofs.Prelude.{eq-eqb, AllByRecursion, Channel, Place, SWITCH_LINK, Preparing, Changing, State}
 use Rattle.world_laws.proofs.Prelude.{Live, Target, Connection, is_at, IsApart, undone, place_of, Sapi, Zero, Three, BaseState}
 use Rattle.world_laws.proofs.Prelude.{after_tell, data_indication, establish_indication, Whereabouts, Stage, New, Connected, to_be_taken}
-use Rattle.world_laws.proofs.Prelude.{after_frame, after_frame_at, frame_answer, MobileState, Rsl, Event, AirUp, Command, Seat, Asking, On}
-use Rattle.world_laws.proofs.Prelude.{Moving, Gone, Tenure, actors_after, first_in, after_air_up, brought, complete, frame_in, framed}
+use Rattle.world_laws.proofs.Prelude.{after_frame, after_frame_at, frame_answer, MobileState, Rsl, Event, AirUp, Command, Seat, On}
+use Rattle.world_laws.proofs.Prelude.{Moving, Tenure, actors_after, first_in, after_air_up, brought, complete, frame_in, framed}
 use Rattle.world_laws.proofs.Prelude.{signalling_brought, Actors, Mobile, base_of, has_number, is_active_at, is_reached, is_station_up}
 use Rattle.world_laws.proofs.Prelude.{is_up, mobile_of, put_back, tenure_at, with_base, Good, reached-up, up-right, air_up-leads}
 use Rattle.world_laws.proofs.Prelude.{after-taken, Both-empty, down-after, reached-station, false≢true, same_Some, apart_behind}
+use Rattle.world_laws.proofs.Prelude.{messages_in, brings_up, coming_up, made_of, commanded_target, IsAlone, IsElsewhere, LinedUp, Sits}
+use Rattle.world_laws.proofs.Prelude.{came, BeginWith, IsAwaited, IsFreshIn, IsLedBy, IsOnPlace}
 use Rattle.conn_rules.specs.Streams.{target_in}
-use Rattle.world_laws.specs.LineUp.Places.{Item as Brought, messages_in}
-use Rattle.world_laws.specs.LineUp.Places.Item.{brought as brings_up}
+use Rattle.world_laws.specs.LineUp.Places.{Item as Brought}
 use Rattle.world_laws.proofs.LineUp.Lines.{messages_in-append}
 use Rattle.mobile_end.specs.declared.mobile_end.Place.TheVariants as places
 use Rattle.world_model.specs.Life.{event_after}
-use Rattle.world_laws.specs.ComingUp.{coming_up, made_of}
-use Rattle.world_laws.specs.LineUps.{commanded_target}
-use Rattle.world_laws.specs.Seated.{IsAlone, IsElsewhere, LinedUp, Sits}
-use Rattle.world_laws.specs.Seated.Sits.{stays, came}
+use Rattle.world_laws.specs.Seated.Sits.{stays}
 use Rattle.world_laws.proofs.AirUp.{frame_lent}
 use Rattle.world_laws.proofs.Framing.{all_right}
 use Rattle.world_laws.proofs.Projecting.{active_there, coming-told}
-use Rattle.world_laws.specs.Targets.Fresh.{BeginWith, IsAwaited, IsFreshIn, IsLedBy, IsOnPlace}
 use Rattle.world_laws.proofs.Targets.Comings.{Comes, coming, comes_step, elsewhere_coming, is_frame, is_relays, short_coming}
 use Rattle.world_laws.proofs.Targets.Comings.Comes.{begun, same}
 use Rattle.world_laws.proofs.Targets.Downs.{none_down}
@@ -106,9 +103,7 @@ module _ {m : ℕ} (w : Actors) (event : Event) (mobile : ℕ) (p : Mobile) (s :
     tenure_in : Seat → Tenure → Tenure
     tenure_in (On t c) d = t
     tenure_in x d = d
-  seat_prepared Asking tenure command is sits = absurd cc
-  seat_prepared (Moving from other) tenure command is sits = absurd cc
-  seat_prepared Gone tenure command is sits = absurd cc
+  seat_prepared _ tenure command is sits = absurd cc
 
   frame_prepared : (c : Channel) → target_in s.state ≡ c ∷ [] → commanded_target s.state ≡ None → (number : ℕ) (sapi : Sapi) → coming (place_of c) w ≡ [] → coming (place_of c) (unwrap_or (after_air_up w number sapi) w) ≡ []
   frame_prepared c is idle number sapi none = after-taken (λ u. coming (place_of c) u ≡ []) (after_air_up w number sapi) w
@@ -174,9 +169,7 @@ module _ {m : ℕ} (w : Actors) (event : Event) (mobile : ℕ) (p : Mobile) (s :
       tenure_in : Seat → Tenure → Tenure
       tenure_in (On a b) d = a
       tenure_in x d = d
-    seat_commanded Asking tenure command same_seat sat = absurd cc
-    seat_commanded (Moving from other) tenure command same_seat sat = absurd cc
-    seat_commanded Gone tenure command same_seat sat = absurd cc
+    seat_commanded _ tenure command same_seat sat = absurd cc
 
     still_up : is_up v t.channel.station ≡ true → is_up w t.channel.station ≡ true
     still_up up = by (is_up w t.channel.station) refl where
@@ -258,6 +251,4 @@ module _ {m : ℕ} (w : Actors) (event : Event) (mobile : ℕ) (p : Mobile) (s :
   pub beside_fresh : (state : State) → s.state ≡ state → IsFreshIn w p state → IsFreshIn v q state
   beside_fresh (Live reference (Preparing target)) is fresh = awaited target.channel (ap target_in is) (ap commanded_target is) fresh
   beside_fresh (Live reference (Changing target)) is fresh = led_by target (ap target_in is) (ap commanded_target is) fresh event refl
-  beside_fresh (Live reference Active) is fresh = tt
-  beside_fresh (Live reference Draining) is fresh = tt
   beside_fresh _ is fresh = tt

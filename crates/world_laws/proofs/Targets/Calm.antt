@@ -7,17 +7,17 @@ use Rattle.world_laws.proofs.Prelude.{OutboxEntry, actors_after, after_base_push
 use Rattle.world_laws.proofs.Prelude.{after_switch_takes, after_switch_does, Actors, Link, Spot, base_of, broken_link, is_up, link_of}
 use Rattle.world_laws.proofs.Prelude.{with_base, with_outbox, with_spot, Plain, base-elsewhere, base-with_spot, up-right, as_before}
 use Rattle.world_laws.proofs.Prelude.{ends_now, handle-leads, push-leads, broken-leads, switch_takes-leads, switch_took-leads, does-leads}
-use Rattle.world_laws.proofs.Prelude.{after-taken, handle-turned, tick-turned, air-after, is_on_air, true≢false}
+use Rattle.world_laws.proofs.Prelude.{after-taken, handle-turned, tick-turned, air-after, is_on_air, true≢false, breaking, up_and_down}
+use Rattle.world_laws.proofs.Prelude.{is_station_up}
 use Rattle.world_model.specs.Honest.{given}
 use Rattle.world_model.specs.Life.{event_after}
-use Rattle.world_model.proofs.Honesty.{breaking, step, Step}
+use Rattle.world_model.proofs.Honesty.{step, Step}
 use Rattle.world_model.proofs.Honesty.Acts.{acts, rests}
 use Rattle.world_model.proofs.Honesty.Plain.{next}
 use Rattle.world_model.proofs.Honesty.Step.{acts_then, breaks, gives}
 use Rattle.world_model.proofs.Leads.{OfTaken, FromAir}
 use Rattle.world_laws.proofs.Spots.{set-same}
 use Rattle.world_laws.proofs.Targets.Places.{base-same}
-use Rattle.world_model.specs.World.{is_station_up}
 
 -- the link stays up or down, and where it is down the same channels are active
 pub record Calm (n : ℕ) (w v : Actors) : Type 0 where
@@ -39,9 +39,6 @@ boxed {n} {w} m entries = record { up = set-same (λ (l : Link). l.up) w.links b
 -- a change of mobiles, of the inbox, the controller or the switch
 plain : {n : ℕ} {w v : Actors} → v.links ≡ w.links → v.stations ≡ w.stations → Calm n w v
 plain {n} {w} {v} links stations = record { up = ap (λ (u : Actors). is_up u n) (ap (λ (ls : List Link). record w { links = ls }) links); active = λ _. ap (λ (ss : List _). (base_of (record w { stations = ss }) n).active) stations }
-
-up_and_down : {b : Bool} → b ≡ true → b ≡ false → ⊥
-up_and_down is_true is_false = true≢false (sym is_true ∙ is_false)
 
 air_calm : (n : ℕ) (w : Actors) (event : Event) → n ≢ 0 → is_on_air event ≡ true → Calm n w (actors_after w event)
 air_calm n w event n_is on = air-after (Calm n w) w event on (record {

@@ -8,25 +8,20 @@ use Rattle.world_laws.proofs.Prelude.{BasePush, Handle, SwitchTakes, SwitchDoes,
 use Rattle.world_laws.proofs.Prelude.{short_message_brought, signalling_brought, link_answer, sccp_in, after_switch_takes}
 use Rattle.world_laws.proofs.Prelude.{after_switch_does, Actors, Mobile, Spot, base_of, is_up, spot_at, with_base, with_outbox, with_spot}
 use Rattle.world_laws.proofs.Prelude.{Good, Plain, base-elsewhere, as_before, ends_now, switch_takes-leads, switch_took-leads, does-leads}
-use Rattle.world_laws.proofs.Prelude.{after-taken, Tells, air-after, is_on_air, true≢false}
-use Rattle.world_laws.specs.LineUp.Places.{Item as Brought, messages_in}
-use Rattle.world_laws.specs.LineUp.Places.Item.{brought as brings_up, released as ends_up}
+use Rattle.world_laws.proofs.Prelude.{after-taken, Tells, air-after, is_on_air, true≢false, messages_in, brings_up, ends_up, popped}
+use Rattle.world_laws.proofs.Prelude.{breaking, pushing, OfTaken, messages_up, read_of, brings, brings_in, coming_up, made_of, of_main}
+use Rattle.world_laws.specs.LineUp.Places.{Item as Brought}
 use Rattle.world_laws.proofs.LineUp.Lines.{messages_in-append}
 use Rattle.world_model.specs.Honest.{given}
 use Rattle.world_model.specs.Life.{event_after}
-use Rattle.world_model.specs.Queues.{popped}
-use Rattle.world_model.proofs.Honesty.{breaking, pushing}
 use Rattle.world_model.proofs.Honesty.Plain.{next}
-use Rattle.world_model.proofs.Leads.{OfTaken}
-use Rattle.world_laws.specs.Acknowledged.{messages_up, read_of}
-use Rattle.world_laws.specs.ComingUp.{brings, brings_in, coming_up, made_of, of_main}
 use Rattle.world_laws.proofs.Acknowledged.{coming-read}
 use Rattle.world_laws.proofs.Projecting.{coming-same, made-append}
 use Rattle.world_laws.proofs.Quiet.{coming-with_spot}
 use Rattle.world_laws.proofs.Targets.Calm.{first_and_behind}
 use Rattle.world_laws.proofs.Targets.Places.{base_cases, is_place}
 use Rattle.world_laws.proofs.Targets.Ways.{goes_read}
-use Rattle.world_model.proofs.Footprints.Tells.{answers, brings as brings_frame, detects, establishes, links, opens_with, reports, requires}
+use Rattle.world_model.proofs.Footprints.Tells.{answers, brings as brings_frame, establishes, links, opens_with}
 
 -- the messages on their way up
 abbrev pub coming : Place → Actors → List (List ℕ)
@@ -161,14 +156,12 @@ stays : (at : Place) (w : Actors) (o : Option Actors) → OfTaken (λ v. coming 
 stays at w o leads = same (after-taken (λ v. coming at v ≡ coming at w) o w leads refl)
 
 tells_none : {w : Actors} {event : Event} {n : ℕ} {message : Rsl} (k : ℕ) → is_frame event ≡ false → Tells w event n message → messages_in (made_of k (message ∷ [])) ≡ []
-tells_none k b (requires number station initial accepts) = refl
 tells_none k b (opens_with number p tenure frame lent) = absurd cc
 tells_none k b (brings_frame number sapi p tenure frame lent) = absurd cc
 tells_none k b (links number p tenure frame lent) = absurd cc
-tells_none k b (detects number tenure reached) = refl
 tells_none k b (establishes tenure reached) = established_none k tenure.at.number Zero
 tells_none k b (answers station l answer taken) = answer-none k l.channel answer
-tells_none k b (reports number report tenure reached long) = refl
+tells_none k b _ = refl
 
 air_comes : (at : Place) (w : Actors) (event : Event) → is_on_air event ≡ true → is_frame event ≡ false → Comes at w (actors_after w event)
 air_comes at w event on b = same (air-after (λ v. coming at v ≡ coming at w) w event on (record {

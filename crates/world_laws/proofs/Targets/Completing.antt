@@ -1,25 +1,17 @@
 -- What comes first of a target to which the mobile was commanded is COMPLETE, and says so.
-use Rattle.world_laws.proofs.Prelude.{◌≡◌, ◌≢◌, ℕ, ◌==◌, ◌&&◌, Bool, true, false, if◌then◌else◌, List, [], ◌∷◌, ◌++◌}
-use Rattle.world_laws.proofs.Prelude.{option_to_list, Option, Some, None, refl, sym, ap, ◌∙◌, subst, eqb-true, eq-eqb, flat_map}
-use Rattle.world_laws.proofs.Prelude.{NORMAL_EVENT, Change, Assignment, Handover, Place, SWITCH_LINK, Target, changes_by, is_target_at}
-use Rattle.world_laws.proofs.Prelude.{is_dtap, same_change, brought_by, brought_in, brought_with, if_held, nothing, ChannelState, InUse}
-use Rattle.world_laws.proofs.Prelude.{Take, OnChannel, channel_state, holder, hears, place_at, place_of, data_word, rsl_word, sapi_of, Sapi}
-use Rattle.world_laws.proofs.Prelude.{Zero, Three, Frame, Item, DataMessage, Rsl, complete, rsl_in, Actors, base_of, IsKnownItem}
-use Rattle.world_laws.proofs.Prelude.{Both-empty, same_Some}
+use Rattle.world_laws.proofs.Prelude.{◌≡◌, ◌≢◌, ℕ, ◌==◌, ◌&&◌, Bool, true, false, if◌then◌else◌, List, [], ◌∷◌, ◌++◌, option_to_list}
+use Rattle.world_laws.proofs.Prelude.{Option, Some, None, refl, sym, ap, ◌∙◌, subst, eqb-true, eq-eqb, flat_map, NORMAL_EVENT, Change}
+use Rattle.world_laws.proofs.Prelude.{Assignment, Handover, Place, SWITCH_LINK, Target, changes_by, is_target_at, is_dtap, same_change}
+use Rattle.world_laws.proofs.Prelude.{brought_by, brought_in, brought_with, if_held, nothing, ChannelState, InUse, Take, OnChannel}
+use Rattle.world_laws.proofs.Prelude.{channel_state, holder, hears, place_at, place_of, data_word, rsl_word, sapi_of, Sapi, Zero, Frame}
+use Rattle.world_laws.proofs.Prelude.{Item, DataMessage, Rsl, complete, rsl_in, Actors, base_of, IsKnownItem, Both-empty, same_Some, comes}
+use Rattle.world_laws.proofs.Prelude.{word_of, RrCause, messages_in, ends_up, messages_up, read_of, brings, brings_if, brings_in}
+use Rattle.world_laws.proofs.Prelude.{of_establishment, of_main, initial_by, initials_up, BeginWith}
 use Rattle.conn_rules.specs.declared.input.Input.TheVariants as inputs
-use Rattle.controller_model.specs.LifeLaws.Acts.Brought.{comes}
-use Rattle.controller_model.specs.Reading.{word_of}
-use Rattle.dtap_codec.specs.declared.rr.RrCause.{RrCause}
-use Rattle.world_laws.specs.LineUp.Places.{messages_in}
-use Rattle.world_laws.specs.LineUp.Places.Item.{released as ends_up}
 use Rattle.ruled_relay.specs.declared.item.What.TheVariants as whats
 use Rattle.rsl_codec.specs.declared.rsl.Rsl.TheVariants as rsl
 use Rattle.world_model.proofs.Worlds.{on_literals}
-use Rattle.world_laws.specs.Acknowledged.{messages_up, read_of}
-use Rattle.world_laws.specs.ComingUp.{brings, brings_if, brings_in, of_establishment, of_main}
-use Rattle.world_laws.specs.Lives.{initial_by, initials_up}
 use Rattle.world_laws.proofs.OrderHeard.{read_known, word-known}
-use Rattle.world_laws.specs.Targets.Fresh.{BeginWith}
 use Rattle.world_laws.proofs.Targets.RoleGoes.{role}
 
 -- ---- what COMPLETE says
@@ -45,8 +37,7 @@ data Brings-data (k : ℕ) (m : Rsl) : Type 0 where
 
 main_zero : (o : Option Sapi) (l3 : List ℕ) → (messages_in (of_main o l3) ≡ [] → ⊥) → o ≡ Some Zero
 main_zero (Some Zero) l3 some = refl
-main_zero (Some Three) l3 some = absurd (some refl)
-main_zero None l3 some = absurd (some refl)
+main_zero _ l3 some = absurd (some refl)
 
 brings_data : (k : ℕ) (m : Rsl) → initial_by k m ≡ [] → (messages_in (brings k m) ≡ [] → ⊥) → Brings-data k m
 brings_data k (rsl.EstablishIndication e) none some = absurd (some (by (e.channel == k) none)) where

@@ -4,12 +4,12 @@ use Rattle.world_laws.proofs.Prelude.{◌≡◌, ◌≢◌, inl, inr, ℕ, Bool,
 use Rattle.world_laws.proofs.Prelude.{◌∙◌, subst, cases_Bool, eq-eqb, flat_map-append, append-nil, flat_map, Place, place_at, BaseState}
 use Rattle.world_laws.proofs.Prelude.{Event, Handle, Tick, AirMessage, OutboxEntry, Tenure, actors_after, outputs, put, taken, to_link}
 use Rattle.world_laws.proofs.Prelude.{rsl_in, Actors, Link, Spot, is_up, outbox_of, spot_at, with_base, with_spot, up-right, Both-empty}
-use Rattle.world_laws.proofs.Prelude.{outbox-step, OutboxStep, breaks, spot-with_base, Respots, event-keeps}
+use Rattle.world_laws.proofs.Prelude.{outbox-step, OutboxStep, breaks, spot-with_base, Respots, event-keeps, going_down, leading}
+use Rattle.world_laws.proofs.Prelude.{leading_by, leading_from_air, leading_from_outbox, airs, asks_up, counts, goes_down, is_left}
+use Rattle.world_laws.proofs.Prelude.{short_up}
 use Rattle.world_model.proofs.Outboxes.Step.{goes}
-use Rattle.world_laws.specs.GoingDown.{going_down, leading, leading_by, leading_from_air, leading_from_outbox}
 use Rattle.world_laws.proofs.Targets.Comings.{is_relays}
 use Rattle.world_laws.proofs.Targets.Places.{is_place, same_place, spot-apart, spot_here}
-use Rattle.world_model.proofs.Footprints.Respots.{airs, asks_up, counts, goes_down, is_left, short_up}
 
 -- ---- the air
 

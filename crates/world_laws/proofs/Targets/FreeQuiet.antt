@@ -9,26 +9,18 @@ use Rattle.world_laws.proofs.Prelude.{due, outputs, put, to_link, handled, targe
 use Rattle.world_laws.proofs.Prelude.{Actors, base_of, is_active_at, is_up, new_actors, outbox_of, good-new, LivesByTable-new, Both-empty}
 use Rattle.world_laws.proofs.Prelude.{new_outbox, Rests, beside-rests, IsKnownItem, known-inbox, Goes, Runs, entries_to, runs, first_passes}
 use Rattle.world_laws.proofs.Prelude.{activates, over, passes, releases, Right, handle-turned, heard_of, kinds, right-step, there-of}
-use Rattle.world_laws.proofs.Prelude.{tick-turned, IsOne, Serves, hear, length-stations_from, true≢false}
-use Rattle.controller_model.specs.Life.{life, take, tick}
-use Rattle.link_model.specs.Base.{new_base}
+use Rattle.world_laws.proofs.Prelude.{tick-turned, IsOne, Serves, hear, length-stations_from, true≢false, life, tick, new_base, popped}
+use Rattle.world_laws.proofs.Prelude.{new_ends, AllAgree-new, new-down, takes-rests, HaveSpots-new, acknowledgements_up, messages_up}
+use Rattle.world_laws.proofs.Prelude.{read_of, brings, coming_up, leading, leading_by, leading_from_air, leading_from_outbox, messages_in}
+use Rattle.world_laws.proofs.Prelude.{ChannelsAreSettled, FreeChannelsAreQuiet, IsQuiet, IsSettled, StandWithin}
+use Rattle.controller_model.specs.Life.{take}
 use Rattle.world_model.specs.declared.event.Event.TheVariants as events
 use Rattle.world_model.specs.Life.{event_after}
-use Rattle.world_model.specs.Queues.{popped}
 use Rattle.world_model.specs.Relay.{commands, entry_of}
-use Rattle.world_model.proofs.Honesty.{new_ends}
-use Rattle.world_model.proofs.OwnerLines.{AllAgree-new}
-use Rattle.world_model.proofs.OwnerRuns.{Follows, ServesAt, new-down}
-use Rattle.world_model.proofs.OwnerTakes.{takes-rests}
-use Rattle.world_model.proofs.OwnerTenures.{HaveSpots-new}
-use Rattle.world_laws.specs.Acknowledged.{acknowledgements_up, messages_up, read_of}
-use Rattle.world_laws.specs.ComingUp.{brings, coming_up}
-use Rattle.world_laws.specs.GoingDown.{leading, leading_by, leading_from_air, leading_from_outbox}
-use Rattle.world_laws.specs.LineUp.Places.{messages_in}
+use Rattle.world_model.proofs.OwnerRuns.{Follows, ServesAt}
 use Rattle.world_laws.proofs.Acknowledged.{coming-read}
 use Rattle.world_laws.proofs.OrderServes.{Lawful, LeadsOwn}
 use Rattle.world_laws.proofs.OwnerRun.{item_leads, lawful_life, life-settings, serves_event, snoc_steps}
-use Rattle.world_laws.specs.Targets.Quiet.{ChannelsAreSettled, FreeChannelsAreQuiet, IsQuiet, IsSettled, StandWithin}
 use Rattle.world_laws.proofs.Targets.AckOne.{IsOneOut, one_item}
 use Rattle.world_laws.proofs.Targets.Air.{IdleAir, idle_air_new, idle_step}
 use Rattle.world_laws.proofs.Targets.Settled.{Frees, comes_free, settled_after}
@@ -69,8 +61,7 @@ leads_none k (Some (DataRequest d)) = by (d.channel == k) where
   by : (b : Bool) → (if b then [] else []) ≡ (let xs : List AirMessage = [] in xs)
   by true = refl
   by false = refl
-leads_none k None = refl
-leads_none k (Some _) = refl
+leads_none k _ = refl
 
 none_led : (k n : ℕ) (outs : List Out) → AllByRecursion (λ x. leading_from_outbox k x ≡ []) (to_link n (map (entry_of None) outs))
 none_led k n [] = tt
@@ -89,8 +80,7 @@ one_within k n tenure out active h = by (out.to == n) refl where
     inner : (b : Bool) → (d.channel == k) ≡ b → (if b then leading d.l3 target else []) ≡ []
     inner true hit = absurd (true≢false (sym (h d to is (eqb-true d.channel k hit)) ∙ idle))
     inner false miss = refl
-  leads None is to idle = refl
-  leads (Some _) is to idle = refl
+  leads _ is to idle = refl
 
   by : (b : Bool) → (out.to == n) ≡ b → StandWithin k active (cond b (entry_of (Some tenure) out ∷ []) [])
   by true to = ((λ idle. leads (rsl_in out.frame) refl to idle), tt)
@@ -123,9 +113,8 @@ goes_free (first_passes beside rest) is = goes_free rest is
 goes_free (activates a says same few rest) is = refl
 
 pub hear_free : (heard : List Rsl) (state : ChannelState) → hear heard state ≡ Free → (state ≡ Free) ⊎ ((channel : ℕ) × (rest : List Rsl) × (heard ≡ RfChannelReleaseAck channel ∷ rest))
-hear_free [] state is = inl is
 hear_free (RfChannelReleaseAck channel ∷ rest) state is = inr (channel, rest, refl)
-hear_free (_ ∷ rest) state is = inl is
+hear_free _ state is = inl is
 
 pub alone : (heard : List Rsl) (m : Rsl) (rest : List Rsl) → IsOne heard → heard ≡ m ∷ rest → heard ≡ m ∷ []
 alone heard m rest (inl none) is = absurd (let both : [] ≡ m ∷ rest = sym none ∙ is in cc)

@@ -1,28 +1,21 @@
 -- The target stays fresh when the controller works.
 use Rattle.world_laws.proofs.Prelude.{◌≡◌, ◌≢◌, ◌⊎◌, inl, inr, ℕ, ◌≤◌, ◌==◌, ◌&&◌, Bool, true, false, option_map, find, List, [], ◌∷◌}
 use Rattle.world_laws.proofs.Prelude.{◌++◌, length, Option, Some, None, refl, sym, ap, ◌∙◌, subst, append_assoc, eq-eqb, flat_map-append}
-use Rattle.world_laws.proofs.Prelude.{flat_map, AllByRecursion, Channel, Place, Message, Out, SWITCH_LINK, change_activation, Active}
-use Rattle.world_laws.proofs.Prelude.{Preparing, Changing, Draining, State, Live, Target, Connection, TargetRole, orders, roles_of}
+use Rattle.world_laws.proofs.Prelude.{flat_map, AllByRecursion, Channel, Place, Message, Out, SWITCH_LINK, change_activation}
+use Rattle.world_laws.proofs.Prelude.{Preparing, Changing, State, Live, Target, Connection, TargetRole, orders, roles_of}
 use Rattle.world_laws.proofs.Prelude.{target_channels, target_role, Stands, IsApart, IsOpen, undone, ActsOn, brought_in, connection_of}
 use Rattle.world_laws.proofs.Prelude.{Owns, OwnsOpen, is_link_up, AreUsed, Ready, Free, InUse, Step, Controller, Entry, channel_state}
 use Rattle.world_laws.proofs.Prelude.{hears, place_of, state_in, step, DataMessage, Rsl, DataRequest, Parameters, AirMessage, OutboxEntry}
-use Rattle.world_laws.proofs.Prelude.{Seat, Asking, On, Moving, Gone, Tenure, to_be_taken, first_in, complete, Agrees, acknowledgements}
+use Rattle.world_laws.proofs.Prelude.{Seat, On, Tenure, to_be_taken, first_in, complete, Agrees, acknowledgements}
 use Rattle.world_laws.proofs.Prelude.{Actors, Mobile, Spot, has_number, is_up, mobile_of, outbox_of, spot_at, Both-empty, said_to, Serves}
-use Rattle.world_laws.proofs.Prelude.{Turned, hear, same_Some, false≢true, apart_behind, free≢use}
+use Rattle.world_laws.proofs.Prelude.{Turned, hear, same_Some, false≢true, apart_behind, free≢use, Items, messages_in, messages_up}
+use Rattle.world_laws.proofs.Prelude.{coming_up, going_down, leading_from_air, leading_from_outbox, commanded_target, IsHad, LinedUp, Sits}
+use Rattle.world_laws.proofs.Prelude.{BeginWith, IsAwaited, IsFreshIn, IsLedBy, IsOnPlace, IsSettled}
 use Rattle.conn_rules.specs.Streams.{target_in}
-use Rattle.world_laws.specs.LineUp.Places.{Item as Items, messages_in}
 use Rattle.world_laws.proofs.LineUp.Lines.{messages_in-append}
-use Rattle.world_laws.specs.Acknowledged.{messages_up}
-use Rattle.world_laws.specs.ComingUp.{coming_up}
-use Rattle.world_laws.specs.GoingDown.{going_down, leading_from_air, leading_from_outbox}
-use Rattle.world_laws.specs.LineUps.{commanded_target}
-use Rattle.world_laws.specs.OthersFrame.{IsHad}
-use Rattle.world_laws.specs.Seated.{LinedUp, Sits}
 use Rattle.world_laws.specs.Seated.Sits.{stays}
 use Rattle.world_laws.proofs.Framing.{all_right}
 use Rattle.world_laws.proofs.OrderServes.{Lawful, use_free}
-use Rattle.world_laws.specs.Targets.Fresh.{BeginWith, IsAwaited, IsFreshIn, IsLedBy, IsOnPlace}
-use Rattle.world_laws.specs.Targets.Quiet.{IsSettled}
 use Rattle.world_laws.proofs.Targets.AckServes.{LeadsOn, ServesOn, entries-none}
 use Rattle.world_laws.proofs.Targets.Begun.{activated_free, freed_down, freed_silent}
 use Rattle.world_laws.proofs.Targets.RoleGoes.{IsComplete, RoleGoes, acts_role, role}
@@ -43,29 +36,21 @@ FreshRole w p (Some t) = FreshBy w p t.target t.is_commanded
 to_role : (w : Actors) (p : Mobile) (state : State) → IsFreshIn w p state → FreshRole w p (target_role state)
 to_role w p (Live reference (Preparing target)) fresh = fresh
 to_role w p (Live reference (Changing target)) fresh = fresh
-to_role w p (Live reference Active) fresh = tt
-to_role w p (Live reference Draining) fresh = tt
 to_role w p _ fresh = tt
 
 of_role : (w : Actors) (p : Mobile) (state : State) → FreshRole w p (target_role state) → IsFreshIn w p state
 of_role w p (Live reference (Preparing target)) fresh = fresh
 of_role w p (Live reference (Changing target)) fresh = fresh
-of_role w p (Live reference Active) fresh = tt
-of_role w p (Live reference Draining) fresh = tt
 of_role w p _ fresh = tt
 
 pub role_channel : (state : State) (t : Target) (b : Bool) → target_role state ≡ Some (role t b) → target_in state ≡ t.channel ∷ []
 role_channel (Live reference (Preparing target)) t b is = ap (λ (x : TargetRole). x.target.channel ∷ []) (same_Some _ _ is)
 role_channel (Live reference (Changing target)) t b is = ap (λ (x : TargetRole). x.target.channel ∷ []) (same_Some _ _ is)
-role_channel (Live reference Active) t b is = absurd cc
-role_channel (Live reference Draining) t b is = absurd cc
 role_channel _ t b is = absurd cc
 
 role_prepared : (state : State) (t : Target) → target_role state ≡ Some (role t false) → commanded_target state ≡ None
 role_prepared (Live reference (Preparing target)) t is = refl
 role_prepared (Live reference (Changing target)) t is = absurd (let b : true ≡ false = ap (λ (x : TargetRole). x.is_commanded) (same_Some _ _ is) in cc)
-role_prepared (Live reference Active) t is = absurd cc
-role_prepared (Live reference Draining) t is = absurd cc
 role_prepared _ t is = absurd cc
 
 -- ---- a turn in the world
@@ -172,9 +157,7 @@ module _ {m : ℕ} (settings : Parameters) (owner : Tenure → ℕ) (w v : Actor
 
   not_there : (seat : Seat) (c : Channel) → place_of s.serving ≢ place_of c → Sits w s.serving None seat → IsOnPlace seat (place_of c) → ⊥
   not_there (On tenure command) c apart (stays there remembers) on = apart (ap (λ (x : Tenure). x.at) (sym there) ∙ on)
-  not_there Asking c apart sits on = on
-  not_there (Moving from command) c apart sits on = on
-  not_there Gone c apart sits on = on
+  not_there _ c apart sits on = on
 
   commanded_then : (t : Target) → target_role s.state ≡ Some (role t false) → IsAwaited w t.channel → IsLedBy v q t
   commanded_then t is a = record {

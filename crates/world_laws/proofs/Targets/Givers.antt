@@ -1,28 +1,22 @@
 -- What the connection's mobile gives first on the target, at each event in which the controller
 -- does nothing.
 use Rattle.world_laws.proofs.Prelude.{◌≡◌, ◌≢◌, ℕ, ◌%◌, nat_eq, Bool, true, false, if◌then◌else◌, find, List, [], ◌∷◌, ◌++◌, length}
-use Rattle.world_laws.proofs.Prelude.{unwrap_or, option_to_list, Option, Some, None, Ok, Err, refl, sym, ap, ◌∙◌, subst, append_assoc, inl}
-use Rattle.world_laws.proofs.Prelude.{inr, cases_Bool, eqb-false, eqb-true, Change, Assignment, Handover, Channel, Place, Target, is_dtap}
+use Rattle.world_laws.proofs.Prelude.{unwrap_or, option_to_list, Option, Some, Ok, refl, sym, ap, ◌∙◌, subst, append_assoc, inl, inr}
+use Rattle.world_laws.proofs.Prelude.{cases_Bool, eqb-false, eqb-true, Change, Assignment, Handover, Channel, Place, Target, is_dtap}
 use Rattle.world_laws.proofs.Prelude.{place_of, RrMessage, AssignmentCommand, HandoverCommand, ChannelRelease, RrFault, Sapi, Zero, Three}
-use Rattle.world_laws.proofs.Prelude.{is_flow_message, with_number, Empty, Given, Reached, Whereabouts, lent_message, to_be_taken, waits}
+use Rattle.world_laws.proofs.Prelude.{is_flow_message, with_number, Empty, Reached, Whereabouts, lent_message, to_be_taken, waits}
 use Rattle.world_laws.proofs.Prelude.{DataLinkState, after_acked, after_acked_at, after_number, after_queue, MobileState, Event, AirMessage}
-use Rattle.world_laws.proofs.Prelude.{Command, Seat, Asking, On, Moving, Gone, Tenure, actors_after, first_in, complete, connected}
-use Rattle.world_laws.proofs.Prelude.{controlled, hearing, remembering, Actors, Mobile, has_number, mobile_of, put_back, back-found}
-use Rattle.world_laws.proofs.Prelude.{back-other, found-number, Becomes, became-number, event-keeps, hearing-end, same_Some}
-use Rattle.world_laws.proofs.Prelude.{found-front}
-use Rattle.std.proofs.Common.{Result}
-use Rattle.dtap_codec.specs.RrReading.{rr_reading}
+use Rattle.world_laws.proofs.Prelude.{Command, Seat, Asking, On, Moving, Tenure, actors_after, first_in, complete, connected, controlled}
+use Rattle.world_laws.proofs.Prelude.{hearing, remembering, Actors, Mobile, has_number, mobile_of, put_back, back-found, back-other}
+use Rattle.world_laws.proofs.Prelude.{found-number, Becomes, became-number, event-keeps, hearing-end, same_Some, found-front, Result}
+use Rattle.world_laws.proofs.Prelude.{rr_reading, after_load_from, Sits, between, IsOnPlace}
 use Rattle.link_model.specs.declared.air_link.Air.{Air}
 use Rattle.link_model.specs.AirLink.{after_ack, offered_message}
 use Rattle.mobile_end.specs.declared.mobile_end.Place.TheVariants as places
-use Rattle.mobile_end.specs.DataLink.{after_load_from}
 use Rattle.mobile_end.specs.Mobile.{link_of, with_link}
-use Rattle.world_laws.specs.Seated.{Sits, command_to}
-use Rattle.world_laws.specs.Seated.Sits.{between}
-use Rattle.world_laws.specs.Targets.Fresh.{IsOnPlace}
+use Rattle.world_laws.specs.Seated.{command_to}
 use Rattle.world_laws.proofs.Targets.Comings.{is_frame}
-use Rattle.world_model.proofs.Footprints.Becomes.{arrives, hears, is_acked, leaves, lends, misses, opens, queues, returns}
-use Rattle.world_model.proofs.Footprints.Becomes.{sits as is_seated}
+use Rattle.world_model.proofs.Footprints.Becomes.{arrives, hears, is_acked, leaves, misses, queues, returns, sits as is_seated}
 
 -- on this place it gives this message first
 abbrev pub Gives : List ℕ → Place → Mobile → Type 0
@@ -49,31 +43,22 @@ acked-first : (e : MobileState) (sapi : Sapi) (text : List ℕ) → first_in (to
 acked-first e sapi text is = by e.place sapi where
   air : (a : Air) → e.zero.air ≡ a → first_in (option_to_list (offered_message (after_ack a)) ++ e.zero.waiting) ≡ Some text
   air Empty same = ap (λ (x : Air). first_in (option_to_list (offered_message x) ++ e.zero.waiting)) (sym same) ∙ is
-  air (Given message) same = ap (λ (x : Air). first_in (option_to_list (offered_message x) ++ e.zero.waiting)) (sym same) ∙ is
-  air (Reached message) same = ap (λ (x : Air). first_in (option_to_list (offered_message x) ++ e.zero.waiting)) (sym same) ∙ is
+  air _ same = ap (λ (x : Air). first_in (option_to_list (offered_message x) ++ e.zero.waiting)) (sym same) ∙ is
 
   by : (place : Whereabouts) (sapi : Sapi) → first_in (to_be_taken (after_acked_at place e sapi).zero) ≡ Some text
   by places.OnChannel Zero = air e.zero.air refl
-  by places.OnChannel Three = is
-  by places.Moving Zero = is
-  by places.Moving Three = is
+  by _ _ = is
 
 -- what the station takes is what comes first
 pub lent_first : (link : DataLinkState) (frame text : List ℕ) → lent_message link ≡ Some frame → first_in (to_be_taken link) ≡ Some text → frame ≡ text
 lent_first link frame text lent first = by link.waiting link.air lent first where
   by : (waiting : List (List ℕ)) (air : Air) → offered_message (after_load_from waiting air).air ≡ Some frame → first_in (option_to_list (offered_message air) ++ waiting) ≡ Some text → frame ≡ text
-  by (x ∷ xs) Empty a b = same (sym a ∙ b) where
-    same : {c d : List ℕ} → Some c ≡ Some d → c ≡ d
-    same {c} e = ap (λ (o : Option (List ℕ)). unwrap_or o c) e
   by [] Empty a b = absurd cc
-  by [] (Given message) a b = same (sym a ∙ b) where
-    same : {c d : List ℕ} → Some c ≡ Some d → c ≡ d
-    same {c} e = ap (λ (o : Option (List ℕ)). unwrap_or o c) e
-  by (x ∷ xs) (Given message) a b = same (sym a ∙ b) where
-    same : {c d : List ℕ} → Some c ≡ Some d → c ≡ d
-    same {c} e = ap (λ (o : Option (List ℕ)). unwrap_or o c) e
   by [] (Reached message) a b = absurd cc
   by (x ∷ xs) (Reached message) a b = absurd cc
+  by _ _ a b = same (sym a ∙ b) where
+    same : {c d : List ℕ} → Some c ≡ Some d → c ≡ d
+    same {c} e = ap (λ (o : Option (List ℕ)). unwrap_or o c) e
 
 -- ---- what it hears
 
@@ -81,19 +66,14 @@ lent_first link frame text lent first = by link.waiting link.air lent first wher
 hearing_on : (p : Mobile) (a : AirMessage) (at : Place) → IsOnPlace (hearing p a).seat at → IsOnPlace p.seat at
 hearing_on p a at = by_kind (is_dtap a.message) where
   by_seat : (change : Change) (target : Tenure) (seat : Seat) → p.seat ≡ seat → IsOnPlace (remembering p change target seat).seat at → IsOnPlace seat at
-  by_seat change target Asking is on = subst (λ (x : Seat). IsOnPlace x at) is on
   by_seat change target (On tenure command) is on = on
-  by_seat change target (Moving from command) is on = subst (λ (x : Seat). IsOnPlace x at) is on
-  by_seat change target Gone is on = subst (λ (x : Seat). IsOnPlace x at) is on
+  by_seat change target _ is on = subst (λ (x : Seat). IsOnPlace x at) is on
 
   by_message : (target : Option Tenure) (r : Result RrMessage RrFault) → IsOnPlace (controlled p target r).seat at → IsOnPlace p.seat at
   by_message target (Ok (ChannelRelease cause)) on = absurd on
   by_message (Some target) (Ok (AssignmentCommand channel)) on = by_seat Assignment target p.seat refl on
   by_message (Some target) (Ok (HandoverCommand cell channel reference)) on = by_seat Handover target p.seat refl on
-  by_message None (Ok (AssignmentCommand channel)) on = on
-  by_message None (Ok (HandoverCommand cell channel reference)) on = on
-  by_message target (Ok _) on = on
-  by_message target (Err fault) on = on
+  by_message _ _ on = on
 
   by_kind : (b : Bool) → IsOnPlace (if b then record p { received = p.received ++ a.message ∷ [] } else controlled p a.target (rr_reading a.message)).seat at → IsOnPlace p.seat at
   by_kind true on = on
@@ -129,25 +109,17 @@ module _ (w : Actors) (mobile : ℕ) (p : Mobile) (text : List ℕ) (at : Place)
         subst (Gives text at) (same_Some _ _ (sym there ∙ is)) gives
   ]
 
-  -- of another, or of one that isn't there
-  still_elsewhere : (number : ℕ) (before after : Mobile) → mobile_of w number ≡ Some before → after.number ≡ before.number → (before ≡ p → IsOnPlace after.seat at → ⊥) → StillIn (put_back after w.mobiles)
-  still_elsewhere number before after acts same h = still_put w.mobiles number before after acts same refl (λ own on. absurd (h own on))
-
   module _ (serving : Channel) (t : Target) (text_is : text ≡ complete t.change) (at_is : at ≡ place_of t.channel) (apart : place_of serving ≢ at) (sits : Sits w serving (Some t) p.seat) where
     no_asking : p.seat ≡ Asking → ⊥
     no_asking is = by p.seat is sits where
       by : (seat : Seat) → seat ≡ Asking → Sits w serving (Some t) seat → ⊥
       by Asking same sat = elim sat [ ]
-      by (On tenure command) same sat = absurd cc
-      by (Moving from command) same sat = absurd cc
-      by Gone same sat = absurd cc
+      by _ same sat = absurd cc
 
     -- between the channels it is commanded to the target, and comes from the serving one
     moves : (from : Tenure) (command : Command) → p.seat ≡ Moving from command → (command ≡ command_to w t) × (from.at ≡ place_of serving)
     moves from command is = by p.seat is sits where
       by : (seat : Seat) → seat ≡ Moving from command → Sits w serving (Some t) seat → (command ≡ command_to w t) × (from.at ≡ place_of serving)
-      by Asking same sat = absurd cc
-      by (On tenure other) same sat = absurd cc
       by (Moving here other) same (between a b) = (
         sym (ap (λ (x : Seat). command_in x other) same) ∙ b,
         ap (λ (x : Tenure). x.at) (sym (ap (λ (x : Seat). from_in x here) same) ∙ a),
@@ -159,12 +131,10 @@ module _ (w : Actors) (mobile : ℕ) (p : Mobile) (text : List ℕ) (at : Place)
         from_in : Seat → Tenure → Tenure
         from_in (Moving f c) d = f
         from_in seat d = d
-      by Gone same sat = absurd cc
+      by _ same sat = absurd cc
 
     still_gives : {number : ℕ} {event : Event} {x q : Mobile} → x ≡ p → is_frame event ≡ false → Becomes w number event x q → Gives text at q
     still_gives own b (queues sapi message x may) = λ on. queued_first x.end sapi message text (subst (Gives text at) (sym own) gives on)
-    still_gives own b (opens x tenure frame lent) = absurd cc
-    still_gives own b (lends x tenure frame lent) = absurd cc
     still_gives own b (is_acked sapi x) = λ on. acked-first x.end sapi text (subst (Gives text at) (sym own) gives on)
     still_gives own b (hears x tenure command first others seat reached stood) = λ on.
         ap (λ (e : MobileState). first_in (to_be_taken e.zero)) (hearing-end x first) ∙ subst (Gives text at) (sym own) gives (hearing_on x first at on)
@@ -175,6 +145,7 @@ module _ (w : Actors) (mobile : ℕ) (p : Mobile) (text : List ℕ) (at : Place)
     still_gives own b (returns x from command seat reached) = λ on.
         absurd (apart (sym (moves from command (ap (λ (y : Mobile). y.seat) (sym own) ∙ seat)).1 ∙ on))
     still_gives own b (is_seated station x channel asks) = λ on. absurd (no_asking (ap (λ (y : Mobile). y.seat) (sym own) ∙ asks))
+    still_gives own b _ = absurd cc
 
     pub gives_step : (event : Event) → is_frame event ≡ false → Still (actors_after w event)
     gives_step event b = event-keeps Still w event (record {

@@ -1,16 +1,14 @@
 -- One station of a world changes, or one channel.
 use Rattle.world_laws.proofs.Prelude.{◌≡◌, ◌≢◌, ◌⊎◌, inl, inr, ℕ, suc, zero, ◌-◌, ◌==◌, ◌&&◌, nat_eq, Bool, true, false, List, [], ◌∷◌}
-use Rattle.world_laws.proofs.Prelude.{get_or, set, refl, sym, ap, ◌∙◌, arith, cases_Bool, eqb-false, eqb-true, eq-eqb, Place, BaseState}
-use Rattle.world_laws.proofs.Prelude.{Actors, Spot, base_of, new_spot, no_station, spot_at, station_of, with_base, with_spot}
+use Rattle.world_laws.proofs.Prelude.{get_or, set, refl, sym, ap, ◌∙◌, cases_Bool, eqb-false, eqb-true, eq-eqb, Place, BaseState}
+use Rattle.world_laws.proofs.Prelude.{Actors, Spot, base_of, new_spot, no_station, spot_at, station_of, with_base, with_spot, less_one}
 use Rattle.world_model.specs.World.{Station}
 use Rattle.world_laws.proofs.Spots.{set-apart, set-same}
 
 set_cases : {X : Type 0} (d : X) (xs : List X) (k j : ℕ) (a : X) → ((get_or (set xs k a) j d ≡ a) × (get_or xs j d ≡ get_or xs k d)) ⊎ (get_or (set xs k a) j d ≡ get_or xs j d)
-set_cases d [] k j a = inr refl
 set_cases d (x ∷ xs) zero zero a = inl (refl, refl)
-set_cases d (x ∷ xs) zero (suc j) a = inr refl
-set_cases d (x ∷ xs) (suc k) zero a = inr refl
 set_cases d (x ∷ xs) (suc k) (suc j) a = set_cases d xs k j a
+set_cases d _ _ _ a = inr refl
 
 set_here : {X : Type 0} (d : X) (xs : List X) (k : ℕ) (a : X) → (get_or (set xs k a) k d ≡ a) ⊎ (get_or (set xs k a) k d ≡ d)
 set_here d [] k a = inr refl
@@ -41,9 +39,6 @@ spot_here u p spot = elim (set_here no_station u.stations (p.station - 1) (recor
 -- the same place
 abbrev pub is_place : Place → Place → Bool
 is_place at p = (at.station == p.station) && (at.number == p.number)
-
-less_one : (n m : ℕ) → n ≢ 0 → m ≢ 0 → n ≢ m → n - 1 ≢ m - 1
-less_one n m n_is m_is differs same = differs (omega arith)
 
 pub spot-apart : (u : Actors) (p at : Place) (spot : Spot) → p.station ≢ 0 → at.station ≢ 0 → is_place at p ≡ false → spot_at (with_spot p spot u) at ≡ spot_at u at
 spot-apart u p at spot p_is at_is other = elim (cases_Bool (nat_eq at.station p.station)) [

@@ -6,10 +6,9 @@ use Rattle.world_laws.proofs.Prelude.{RoleStep, Roles, TargetRole, after_step, a
 use Rattle.world_laws.proofs.Prelude.{is_target_at, leaves_at, orders, roles_of, step_by, step_orders, target_role, with_target, goes_on}
 use Rattle.world_laws.proofs.Prelude.{ends, had_ended, stays, commands, completes, goes_back, leaves, Stands, Row, IsOpen, Acts, Brought}
 use Rattle.world_laws.proofs.Prelude.{FitsNone, IsBrought, rests, ages, opens, goes, aged_holds, pass_stands, changes_of, same_Some}
+use Rattle.world_laws.proofs.Prelude.{commanded_role, RrCause, comes}
 use Rattle.conn_rules.specs.declared.input.Input.TheVariants as inputs
-use Rattle.conn_rules.specs.Roles.{commanded as commanded_role}
-use Rattle.dtap_codec.specs.declared.rr.RrCause.{RrCause}
-use Rattle.controller_model.specs.LifeLaws.Acts.Brought.{comes, passes}
+use Rattle.controller_model.specs.LifeLaws.Acts.Brought.{passes}
 use Rattle.world_laws.proofs.Channels.BegunRun.{kept_some}
 
 abbrev pub role : Target → Bool → TargetRole

@@ -3,12 +3,10 @@ use Rattle.world_laws.proofs.Prelude.{◌≡◌, ℕ, true, false, List, [], ◌
 use Rattle.world_laws.proofs.Prelude.{Place, Active, Preparing, Changing, Live, place_at, usual_settings, Zero, Given}
 use Rattle.world_laws.proofs.Prelude.{Reached, data_indication, establish_indication, Connected, DataLinkState, Rsl, RfChannelReleaseAck}
 use Rattle.world_laws.proofs.Prelude.{BasePush, BaseTakes, Handle, SwitchDoes, Assign, Seat, Asking, On, Gone, complete, station_item}
-use Rattle.world_laws.proofs.Prelude.{Actors, Mobile, World, new_actors, outbox_of, opened, after_all}
+use Rattle.world_laws.proofs.Prelude.{Actors, Mobile, World, new_actors, outbox_of, opened, after_all, idle_link, BeginWith, IsAwaited}
+use Rattle.world_laws.proofs.Prelude.{IsFreshIn, IsLedBy, IsOnPlace, IsQuiet, StandWithin, is_ending}
 use Rattle.mobile_end.specs.declared.mobile_end.Place.TheVariants.{OnChannel}
-use Rattle.mobile_end.specs.Mobile.{idle_link}
 use Rattle.world_model.proofs.Worlds.{on_literals}
-use Rattle.world_laws.specs.Targets.Fresh.{BeginWith, IsAwaited, IsFreshIn, IsLedBy, IsOnPlace}
-use Rattle.world_laws.specs.Targets.Quiet.{IsQuiet, StandWithin, is_ending}
 use Rattle.world_laws.proofs.Usual.{channel, to_0a}
 
 -- ---- worlds

@@ -4,15 +4,12 @@ use Rattle.world_laws.proofs.Prelude.{ap, ◌∙◌, subst, flat_map-append, app
 use Rattle.world_laws.proofs.Prelude.{Releasing, channel_state, hears, is_active, activation_ack, Tenures, Rsl, RfChannelReleaseAck, Event}
 use Rattle.world_laws.proofs.Prelude.{Tenure, actors_after, Agrees, active_behind, is_in_use, to_come, began, begins, begins_and_ends}
 use Rattle.world_laws.proofs.Prelude.{acknowledgements, due, put, taken, Actors, Link, is_active_at, is_up, outbox_of, Good, Both-empty}
-use Rattle.world_laws.proofs.Prelude.{outbox-step, OutboxStep, breaks, acks-append, pipe-step, PipeStep, flows, stops, false≢true}
-use Rattle.world_model.specs.OwnerLines.{Comes}
+use Rattle.world_laws.proofs.Prelude.{outbox-step, OutboxStep, breaks, acks-append, pipe-step, PipeStep, flows, stops, false≢true, Comes}
+use Rattle.world_laws.proofs.Prelude.{popped, acknowledgements_up, is_release_ack, messages_up, read_of, brings, coming_up, IsSettled}
+use Rattle.world_laws.proofs.Prelude.{StandWithin, is_ending}
 use Rattle.world_model.specs.OwnerLines.Comes.{nothing, ends}
-use Rattle.world_model.specs.Queues.{popped}
 use Rattle.world_model.proofs.Outboxes.Step.{goes}
-use Rattle.world_laws.specs.Acknowledged.{acknowledgements_up, is_release_ack, messages_up, read_of}
-use Rattle.world_laws.specs.ComingUp.{brings, coming_up}
 use Rattle.world_laws.proofs.Acknowledged.{coming-read}
-use Rattle.world_laws.specs.Targets.Quiet.{IsSettled, StandWithin, is_ending}
 use Rattle.world_laws.proofs.Targets.Air.{IdleAir}
 use Rattle.world_laws.proofs.Targets.Calm.{down_active}
 use Rattle.world_laws.proofs.Targets.Ways.{WaysStand, any-middle, behind_end, nothing_before, still_within, ways_down}
@@ -43,8 +40,7 @@ comes_idle k (Releasing number) all (x ∷ y ∷ xs) ys begins_and_ends is (inr 
 
 pub comes_free : (k : ℕ) (state : ChannelState) (all : List Rsl) → Comes k state all → state ≡ Free → all ≡ []
 comes_free k Free all nothing is = refl
-comes_free k (InUse number) all comes is = absurd cc
-comes_free k (Releasing number) all comes is = absurd cc
+comes_free k _ all comes is = absurd cc
 
 -- ---- what an event is to a channel
 

@@ -1,38 +1,30 @@
 -- In every run the target of a change stays fresh until the connection's mobile comes there.
-use Rattle.world_laws.proofs.Prelude.{◌≡◌, ◌≢◌, ◌⊎◌, inl, inr, ℕ, suc, ◌≤◌, ◌&&◌, Bool, true, false, cond, filter, unwrap_or, List, []}
-use Rattle.world_laws.proofs.Prelude.{◌∷◌, ◌++◌, length, Option, Some, None, refl, sym, ap, ◌∙◌, subst, append_assoc, arith, flat_map}
-use Rattle.world_laws.proofs.Prelude.{AllByRecursion, Channel, Place, SWITCH_LINK, Active, Preparing, Changing, Draining, State, Live}
-use Rattle.world_laws.proofs.Prelude.{Target, Connection, TargetRole, changes_by, is_target_at, roles_of, target_channels, target_role}
-use Rattle.world_laws.proofs.Prelude.{Stands, undone, ActsOn, brought_in, connection_of, Owns, is_link_up, ComesInOctets, AreUsed}
-use Rattle.world_laws.proofs.Prelude.{life_acts, life_ready, life_uses, Ready, InUse, Step, Take, Controller, channel_state, hears}
-use Rattle.world_laws.proofs.Prelude.{place_at, place_of, state_in, step, is_control, Item, What, Rsl, AreAllowed, Parameters, Event}
-use Rattle.world_laws.proofs.Prelude.{BaseTakes, Handle, Tick, Tenure, actors_after, complete, owner_in}
-use Rattle.world_laws.proofs.Prelude.{acknowledgements, handled, tenure_in, with_turn, all_steps, first_taken, step_at, Actors, Mobile}
-use Rattle.world_laws.proofs.Prelude.{base_of, mobile_of, modulus_in, new_actors, spot_at, turn-leads, LivesByTable-new, IsKnownItem}
-use Rattle.world_laws.proofs.Prelude.{known-inbox, handle-turned, heard_of, tick-turned, beside-step, Serves, same_Some, control-complete}
-use Rattle.world_laws.proofs.Prelude.{kept-controller}
+use Rattle.world_laws.proofs.Prelude.{◌≡◌, ◌≢◌, ◌⊎◌, inl, inr, ℕ, suc, ◌≤◌, ◌&&◌, Bool, true, false, cond, filter, unwrap_or, List, [], ◌∷◌}
+use Rattle.world_laws.proofs.Prelude.{◌++◌, length, Option, Some, None, refl, sym, ap, ◌∙◌, subst, append_assoc, arith, flat_map}
+use Rattle.world_laws.proofs.Prelude.{AllByRecursion, Channel, Place, SWITCH_LINK, Preparing, Changing, State, Live, Target, Connection}
+use Rattle.world_laws.proofs.Prelude.{TargetRole, changes_by, is_target_at, roles_of, target_channels, target_role, Stands, undone, ActsOn}
+use Rattle.world_laws.proofs.Prelude.{brought_in, connection_of, Owns, is_link_up, ComesInOctets, AreUsed, life_acts, life_ready, life_uses}
+use Rattle.world_laws.proofs.Prelude.{Ready, InUse, Step, Take, Controller, channel_state, hears, place_at, place_of, state_in, step}
+use Rattle.world_laws.proofs.Prelude.{is_control, Item, What, Rsl, AreAllowed, Parameters, Event, BaseTakes, Handle, Tick, Tenure}
+use Rattle.world_laws.proofs.Prelude.{actors_after, complete, owner_in, acknowledgements, handled, tenure_in, with_turn, all_steps}
+use Rattle.world_laws.proofs.Prelude.{first_taken, step_at, Actors, Mobile, base_of, mobile_of, modulus_in, new_actors, spot_at, turn-leads}
+use Rattle.world_laws.proofs.Prelude.{LivesByTable-new, IsKnownItem, known-inbox, handle-turned, heard_of, tick-turned, beside-step, Serves}
+use Rattle.world_laws.proofs.Prelude.{same_Some, control-complete, kept-controller, life, tick, Brings, controls_of, messages_in}
+use Rattle.world_laws.proofs.Prelude.{messages_up, read_of, brings_in, coming_up, going_down, awaited_in, commanded_target, IsLed, Lives}
+use Rattle.world_laws.proofs.Prelude.{TargetIsFresh, initials_up, CameInOctets, IsHad, IsAlone, commanded_channels, BeginWith, FreshTells}
+use Rattle.world_laws.proofs.Prelude.{IsFreshIn, IsLedBy, TargetsStayFresh}
 use Rattle.conn_rules.specs.Streams.{target_in}
 use Rattle.controller_model.specs.declared.step.Step.TheVariants as steps
-use Rattle.controller_model.specs.Life.{life, take, tick}
-use Rattle.world_laws.specs.LineUp.Places.{Item as Brings, controls_of, messages_in}
+use Rattle.controller_model.specs.Life.{take}
 use Rattle.world_laws.proofs.LineUp.Lines.{messages_in-append}
 use Rattle.ruled_relay.specs.declared.item.What.TheVariants as whats
 use Rattle.world_model.specs.Life.{event_after}
 use Rattle.world_model.proofs.OwnerRuns.{ServesAt}
-use Rattle.world_laws.specs.Acknowledged.{messages_up, read_of}
-use Rattle.world_laws.specs.ComingUp.{brings_in, coming_up}
-use Rattle.world_laws.specs.GoingDown.{going_down}
-use Rattle.world_laws.specs.Handled.{awaited_in}
-use Rattle.world_laws.specs.LineUps.{commanded_target}
-use Rattle.world_laws.specs.Lives.{IsLed, Lives, TargetIsFresh, initials_up}
-use Rattle.world_laws.specs.OthersFrame.{CameInOctets, IsHad}
-use Rattle.world_laws.specs.Seated.{IsAlone, commanded_channels}
 use Rattle.world_laws.proofs.Framing.{all_right, all_left}
 use Rattle.world_laws.proofs.OrderServes.{Lawful}
 use Rattle.world_laws.proofs.OwnHandle.{first_coming, handled_by}
 use Rattle.world_laws.proofs.OwnerRun.{lawful_life, life-settings, serves_event}
 use Rattle.world_laws.proofs.Standing.{connections_stand_new}
-use Rattle.world_laws.specs.Targets.Fresh.{BeginWith, FreshTells, IsFreshIn, IsLedBy, TargetsStayFresh}
 use Rattle.world_laws.proofs.Targets.AckServes.{ack_item}
 use Rattle.world_laws.proofs.Targets.Beside.{beside_fresh}
 use Rattle.world_laws.proofs.Targets.Comings.{is_relays}
@@ -254,6 +246,4 @@ fresh_tells_new w p s fresh = by s.state refl fresh where
   by : (state : State) → s.state ≡ state → IsFreshIn w p state → TargetIsFresh w s
   by (Live reference (Preparing target)) is a = tells (target.channel ∷ []) [] (ap awaited_in is) (ap (λ (x : State). commanded_channels (commanded_target x)) is) (a.silent, tt) (a.uncommanded, tt) tt
   by (Live reference (Changing target)) is led = tells [] (target.channel ∷ []) (ap awaited_in is) (ap (λ (x : State). commanded_channels (commanded_target x)) is) tt tt (led_of (complete target.change) (coming_up w (place_of target.channel)) (control-complete target.change) led.first, tt)
-  by (Live reference Active) is so = tells [] [] (ap awaited_in is) (ap (λ (x : State). commanded_channels (commanded_target x)) is) tt tt tt
-  by (Live reference Draining) is so = tells [] [] (ap awaited_in is) (ap (λ (x : State). commanded_channels (commanded_target x)) is) tt tt tt
   by _ is so = tells [] [] (ap awaited_in is) (ap (λ (x : State). commanded_channels (commanded_target x)) is) tt tt tt

@@ -3,21 +3,17 @@ use Rattle.world_laws.proofs.Prelude.{◌≡◌, ◌≢◌, ℕ, ◌-◌, ◌==�
 use Rattle.world_laws.proofs.Prelude.{◌∙◌, subst, append_assoc, eq-eqb, flat_map-append, append-nil, flat_map, list_any, Place, Tenures}
 use Rattle.world_laws.proofs.Prelude.{tenure_brings, apart, sapi_of, Item, What, Rsl, Parameters, Event, actors_after}
 use Rattle.world_laws.proofs.Prelude.{said, said_by, acknowledgements, all_popped, pushed, Actors, base_of, is_active_at, is_up}
-use Rattle.world_laws.proofs.Prelude.{new_actors, Good, inbox-goes, Both-empty, is_active, BaseState, false≢true}
+use Rattle.world_laws.proofs.Prelude.{new_actors, Good, inbox-goes, Both-empty, is_active, BaseState, false≢true, messages_in, popped, Kept}
+use Rattle.world_laws.proofs.Prelude.{kept-all, new_ends, tenures-kept, new_base, is_release_ack, messages_up, read_by, read_of, brings}
+use Rattle.world_laws.proofs.Prelude.{of_establishment, initial_by}
 use Rattle.link_model.specs.Tenures.Tenures.{over, begins, ends}
-use Rattle.world_laws.specs.LineUp.Places.{Item as Brought, messages_in}
+use Rattle.world_laws.specs.LineUp.Places.{Item as Brought}
 use Rattle.ruled_relay.specs.declared.item.What.TheVariants as whats
 use Rattle.rsl_codec.specs.declared.rsl.Rsl.TheVariants as rsl
 use Rattle.world_model.specs.Honest.{all_given, given}
-use Rattle.world_model.specs.Queues.{popped}
-use Rattle.world_model.proofs.Honesty.{Kept, kept-all, new_ends, tenures-kept}
 use Rattle.world_model.proofs.Honesty.Kept.{works, rested}
-use Rattle.link_model.specs.Base.{new_base}
 use Rattle.link_model.specs.BaseCalls.{messages_given}
 use Rattle.link_model.proofs.Tenures.{Tenures-given}
-use Rattle.world_laws.specs.Acknowledged.{is_release_ack, messages_up, read_by, read_of}
-use Rattle.world_laws.specs.ComingUp.{brings, of_establishment}
-use Rattle.world_laws.specs.Lives.{initial_by}
 use Rattle.world_laws.proofs.Acknowledged.{apart_brings, behind, bound, given-read, pushed-read, unbound, brought_unbound}
 use Rattle.world_laws.proofs.Targets.Calm.{down_made}
 use Rattle.world_laws.proofs.Events.{world}
@@ -32,10 +28,6 @@ said-read station item = by item.what where
     nothing : (b : Bool) → (let xs : List Rsl = if b then [] else [] in xs) ≡ []
     nothing true = refl
     nothing false = refl
-
-all_said_read : (station : ℕ) (items : List Item) → flat_map (said station) items ≡ flat_map (read_of station) items
-all_said_read station [] = refl
-all_said_read station (item ∷ items) = ap (λ (ms : List Rsl). ms ++ flat_map (said station) items) (said-read station item) ∙ ap (λ (ms : List Rsl). read_of station item ++ ms) (all_said_read station items)
 
 pub heard_read : (at : Place) (item : Item) → acknowledgements at.number (said at.station item) ≡ acknowledgements at.number (flat_map (read_of at.station) (item ∷ []))
 heard_read at item = ap (acknowledgements at.number) (said-read at.station item ∙ sym (append-nil (read_of at.station item)))

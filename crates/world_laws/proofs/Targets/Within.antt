@@ -1,10 +1,8 @@
 -- Commands that wait for a station, in the tenures of their channel.
 use Rattle.world_laws.proofs.Prelude.{◌≡◌, ℕ, ◌==◌, ◌&&◌, ◌||◌, not, Bool, true, false, if◌then◌else◌, List, [], ◌∷◌, ◌++◌, Option, Some}
-use Rattle.world_laws.proofs.Prelude.{None, refl, sym, ap, ◌∙◌, subst, flat_map, AllByRecursion, activation_ack, Rsl, ChannelActivation}
+use Rattle.world_laws.proofs.Prelude.{refl, sym, ap, ◌∙◌, subst, flat_map, AllByRecursion, activation_ack, Rsl, ChannelActivation}
 use Rattle.world_laws.proofs.Prelude.{RfChannelRelease, RfChannelReleaseAck, AirMessage, OutboxEntry, acknowledgement, active_all, due}
-use Rattle.world_laws.proofs.Prelude.{is_active_then, rsl_in, Both-empty}
-use Rattle.world_laws.specs.GoingDown.{leading_from_outbox}
-use Rattle.world_laws.specs.Targets.Quiet.{StandWithin}
+use Rattle.world_laws.proofs.Prelude.{is_active_then, rsl_in, Both-empty, leading_from_outbox, StandWithin}
 
 pub within_append : (k : ℕ) (active : Bool) (xs ys : List OutboxEntry) → StandWithin k active xs → StandWithin k (active_all k active xs) ys → StandWithin k active (xs ++ ys)
 within_append k active [] ys here rest = rest
@@ -23,7 +21,6 @@ within_none k active (x ∷ xs) none = ((λ _. none.0), within_none k (is_active
 
 -- where no acknowledgement is due, a channel stays active, or not
 pub still_then : (k : ℕ) (active : Bool) (o : Option Rsl) → acknowledgement k active o ≡ [] → is_active_then k active o ≡ active
-still_then k true (Some (ChannelActivation a)) none = refl
 still_then k false (Some (ChannelActivation a)) none = by (a.channel == k) none where
   by : (b : Bool) → (if b && not false then activation_ack k ∷ [] else []) ≡ [] → false || b ≡ false
   by true is = absurd cc
@@ -32,8 +29,7 @@ still_then k active (Some (RfChannelRelease number)) none = by (number == k) non
   by : (b : Bool) → (if b then RfChannelReleaseAck k ∷ [] else []) ≡ [] → not b && active ≡ active
   by true is = absurd cc
   by false is = refl
-still_then k active None none = refl
-still_then k active (Some _) none = refl
+still_then k _ _ none = refl
 
 -- the channel stays as it is
 pub still_all : (k : ℕ) (active : Bool) (xs : List OutboxEntry) → due k active xs ≡ [] → active_all k active xs ≡ active

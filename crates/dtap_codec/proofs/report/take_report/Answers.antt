@@ -5,7 +5,8 @@ use Rattle.dtap_codec.proofs.Fields.{Begin-append}
 use Rattle.dtap_codec.proofs.Reports.{bit-is_one, bit-is_zero}
 use Rattle.dtap_codec.proofs.report.take_report.Goals as goal
 
-as_number : (n m many number left rest : ℕ) → n ≡ m → Begin (field 1 n ∷ []) many number left rest → Begin (field 1 m ∷ []) many number left rest
+as_number : (n m many number left rest : ℕ) → n ≡ m → Begin (field 1 n ∷ []) many number left rest →
+    Begin (field 1 m ∷ []) many number left rest
 as_number n m many number left rest e h =
     let P : ℕ → Type 0 = λ v. Begin (field 1 v ∷ []) many number left rest in
     subst P e h

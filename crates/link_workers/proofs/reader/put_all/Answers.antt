@@ -1,8 +1,8 @@
 use Rattle.std.proofs.Common.{◌≡◌, rules, Ok, false, true, ap, refl, sym, subst, ◌∙◌, ◌≤◌, arith}
 use Rattle.ipa_framing.specs.Frame.{IsPartial}
 use Rattle.ipa_framing.specs.Framer.{FramerState}
-use Rattle.link_workers.specs.declared.read_count.TheConstants.{MOST_READS}
-use Rattle.link_workers.specs.declared.unread.Unread.TheVariants.{Refused}
+use Rattle.link_workers.specs.declared.link_reads.TheConstants.{MOST_READS}
+use Rattle.link_workers.specs.declared.unread.UnreadLink.TheVariants.{Refused}
 use Rattle.link_workers.specs.Reading.{PutsAll, ReadsOn, BreaksOff}
 use Rattle.link_workers.proofs.Reading.{PutsSome, as_error, breaks_more, breaks_read, some_more, some_none}
 use Rattle.link_workers.proofs.reader.put_all.Goals as goal

@@ -1,6 +1,6 @@
 use Rattle.std.proofs.Common.{◌≡◌, ◌≤◌, ◌-◌, false}
 use Rattle.ipa_framing.specs.Frame.{IsPartial}
-use Rattle.link_workers.specs.declared.read_count.TheConstants.{MOST_READS}
+use Rattle.link_workers.specs.declared.link_reads.TheConstants.{MOST_READS}
 use Rattle.link_workers.proofs.Reading.{PutsSome}
 use Rattle.link_workers.proofs.reader.put_all.Given as goal
 

@@ -1,6 +1,6 @@
 use Rattle.std.proofs.Common.{◌≡◌, ◌≤◌, ◌-◌, false}
 use Rattle.ipa_framing.specs.Frame.{IsPartial}
-use Rattle.link_workers.specs.declared.read_count.TheConstants.{MOST_READS}
+use Rattle.link_workers.specs.declared.link_reads.TheConstants.{MOST_READS}
 use Rattle.link_workers.proofs.Answering.{AnswersSome}
 use Rattle.link_workers.proofs.switch.answer_all.Given as goal
 

@@ -1,6 +1,6 @@
-use Rattle.std.proofs.Common.{◌≡◌, true, map, refl}
+use Rattle.std.proofs.Common.{◌≡◌, true, refl}
 use Rattle.clap.specs.Words.{app_of, is_simple_and_free}
-use Rattle.program_base.specs.CommandLine.{bsc}
+use Rattle.program_base.specs.CommandLine.{bsc, texts}
 use Rattle.program_base.proofs.Taking.{taken_by, refused_by}
 use Rattle.program_base.proofs.parsing.matches_of.Goals as goal
 
@@ -8,10 +8,14 @@ use Rattle.program_base.proofs.parsing.matches_of.Goals as goal
 simple : is_simple_and_free bsc ≡ true
 simple = refl
 
-pub returns-in-Ok-clause-ok : goal.returns-in-Ok-clause-ok
-returns-in-Ok-clause-ok c =
-    taken_by (app_of c.in_ok-command.command) bsc (map (λ word. word.now) c.args.words.now) c.in-Ok.matches c.in_ok-command.ensures simple c.in-Ok.ensures.kinds c.in-Ok.ensures.matches
+pub returns-in-Ok-clause-taken : goal.returns-in-Ok-clause-taken
+returns-in-Ok-clause-taken c =
+    (taken_by (app_of c.in_ok-command.command) bsc (texts c.args.words.now) c.in-Ok.matches c.in_ok-command.ensures simple c.in-Ok.ensures.kinds c.in-Ok.ensures.matches).0
 
-pub returns-in-Err-clause-words : goal.returns-in-Err-clause-words
-returns-in-Err-clause-words c is =
-    refused_by (app_of c.in_ok-command.command) bsc (map (λ word. word.now) c.args.words.now) c.in-Err.error c.in_ok-command.ensures simple c.in-Err.ensures.kinds (c.fault_of.ensures (cc (is)))
+pub returns-in-Ok-clause-found : goal.returns-in-Ok-clause-found
+returns-in-Ok-clause-found c =
+    (taken_by (app_of c.in_ok-command.command) bsc (texts c.args.words.now) c.in-Ok.matches c.in_ok-command.ensures simple c.in-Ok.ensures.kinds c.in-Ok.ensures.matches).1
+
+pub returns-in-Err-clause-refused : goal.returns-in-Err-clause-refused
+returns-in-Err-clause-refused c complaint is =
+    refused_by (app_of c.in_ok-command.command) bsc (texts c.args.words.now) c.in-Err.error c.in_ok-command.ensures simple c.in-Err.ensures.kinds (c.from.ensures complaint cc).1

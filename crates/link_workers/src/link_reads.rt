@@ -9,15 +9,15 @@ pub(crate) const MOST_READS: u64 = 1 << 40;
 
 /// How many reads of a link were made. Only a read adds to it.
 #[derive(Clone, Copy)]
-pub(crate) struct ReadCount {
+pub(crate) struct LinkReads {
     made: u64,
 }
 
-impl ReadCount {
-    pub fn none() -> ReadCount
+impl LinkReads {
+    pub fn none() -> LinkReads
         ensures { result.made ≡ 0 }
     {
-        ReadCount { made: 0 }
+        LinkReads { made: 0 }
     }
 
     /// Whether as many were made as a reader makes.
@@ -32,7 +32,8 @@ impl ReadCount {
         requires { self.old.made < MOST_READS }
         ensures counted { self.new.made ≡ self.old.made + 1 }
         ensures bound { ReadsAtMost result block.new }
-        ensures octets { ReadConsumes (I.remaining reader.old) (I.remaining reader.new) result block.new }
+        ensures octets { ReadConsumes (I.remaining reader.old) (I.remaining reader.new)
+            result block.new }
     {
         self.made += 1;
         reader.read(block)

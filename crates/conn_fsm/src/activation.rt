@@ -1,0 +1,171 @@
+ghost use Rattle.std.specs.Prelude.{OnOk, OnErr};
+ghost use Rattle.conn_rules.specs.declared.state.State.TheVariants.{Live, WaitActivation};
+ghost use Rattle.conn_rules.specs.Table.{assign_immediately, command_to, on_activation_ack};
+ghost use Rattle.conn_rules.specs.Table.{on_activation_nack, refuse};
+ghost use Rattle.conn_fsm.specs.Doing.{Does, Stays, StepsOnOk};
+
+use crate::machine::Machine;
+use crate::places::is_at;
+use bssmap_codec::Reference;
+use conn_messages::causes::EQUIPMENT_FAILURE;
+use conn_messages::station_message::{change_command, immediate_assign_command};
+use conn_messages::switch_message::assignment_failure;
+use conn_messages::{Change, Channel, Messages, Outputs, Place};
+use conn_rules::{ShortMessageLink, Stage, State, Target};
+use octets::Memory;
+
+impl Machine {
+    /// CHANNEL ACTIVATION ACK.
+    pub(crate) fn on_activation_ack(
+        &mut self,
+        at: Place,
+        outputs: &mut Outputs,
+    ) -> Result<bool, Memory>
+        ensures done { StepsOnOk result (on_activation_ack self.old.state self.old at)
+            self.old self.new outputs.old.outs outputs.new.outs }
+        ensures err { OnErr result (Stays self.old self.new outputs.old.outs outputs.new.outs) }
+    {
+        let state = self.state;
+        match state {
+            State::WaitActivation => self.access_activated(&at, outputs),
+            State::Live(reference, stage) => self.target_activated(reference, stage, &at, outputs),
+            _ => Ok(false),
+        }
+    }
+
+    fn access_activated(&mut self, at: &Place, outputs: &mut Outputs) -> Result<bool, Memory>
+        ensures done { StepsOnOk result (on_activation_ack WaitActivation self.old at.now)
+            self.old self.new outputs.old.outs outputs.new.outs }
+        ensures err { OnErr result (Stays self.old self.new outputs.old.outs outputs.new.outs) }
+    {
+        if !is_at(at, &self.serving) {
+            return Ok(false);
+        }
+        self.assign_immediately(outputs)?;
+        Ok(true)
+    }
+
+    // The mobile is told its channel.
+    fn assign_immediately(&mut self, outputs: &mut Outputs) -> Result<(), Memory>
+        ensures done { OnOk result (Does (assign_immediately self.old)
+            self.old self.new outputs.old.outs outputs.new.outs) }
+        ensures err { OnErr result (Stays self.old self.new outputs.old.outs outputs.new.outs) }
+    {
+        let mut put = Messages::new(self.alloc);
+        put.push(immediate_assign_command(self.alloc, &self.serving, self.request, self.delay)?)?;
+        self.put(&put, outputs)?;
+        self.enter(State::WaitEstablish);
+        Ok(())
+    }
+
+    fn target_activated(
+        &mut self,
+        reference: Reference,
+        stage: Stage,
+        at: &Place,
+        outputs: &mut Outputs,
+    ) -> Result<bool, Memory>
+        ensures done { StepsOnOk result (on_activation_ack (Live reference stage) self.old at.now)
+            self.old self.new outputs.old.outs outputs.new.outs }
+        ensures err { OnErr result (Stays self.old self.new outputs.old.outs outputs.new.outs) }
+    {
+        let Stage::Preparing(target) = stage else {
+            return Ok(false);
+        };
+        if !is_at(at, &target.channel) {
+            return Ok(false);
+        }
+        self.command(reference, target, outputs)?;
+        Ok(true)
+    }
+
+    // The mobile is commanded to the target.
+    fn command(
+        &mut self,
+        reference: Reference,
+        target: Target,
+        outputs: &mut Outputs,
+    ) -> Result<(), Memory>
+        ensures done { OnOk result (Does (command_to reference target self.old)
+            self.old self.new outputs.old.outs outputs.new.outs) }
+        ensures err { OnErr result (Stays self.old self.new outputs.old.outs outputs.new.outs) }
+    {
+        let mut put = Messages::new(self.alloc);
+        put.push(change_command(self.alloc, &self.serving, target.change, &target.channel)?)?;
+        self.put(&put, outputs)?;
+        self.link = ShortMessageLink::Down;
+        self.enter(State::Live(reference, Stage::Changing(target)));
+        Ok(())
+    }
+
+    /// CHANNEL ACTIVATION NACK.
+    pub(crate) fn on_activation_nack(
+        &mut self,
+        at: Place,
+        offer: Option<Channel>,
+        outputs: &mut Outputs,
+    ) -> Result<bool, Memory>
+        ensures done { StepsOnOk result (on_activation_nack self.old.state self.old at offer)
+            self.old self.new outputs.old.outs outputs.new.outs }
+        ensures err { OnErr result (Stays self.old self.new outputs.old.outs outputs.new.outs) }
+    {
+        let state = self.state;
+        match state {
+            State::WaitActivation if is_at(&at, &self.serving) => {
+                self.empty(State::Removed);
+                Ok(true)
+            }
+            State::Live(reference, stage) => {
+                self.target_refused(reference, stage, &at, offer, outputs)
+            }
+            _ => Ok(false),
+        }
+    }
+
+    fn target_refused(
+        &mut self,
+        reference: Reference,
+        stage: Stage,
+        at: &Place,
+        offer: Option<Channel>,
+        outputs: &mut Outputs,
+    ) -> Result<bool, Memory>
+        ensures done { StepsOnOk result
+            (on_activation_nack (Live reference stage) self.old at.now offer)
+            self.old self.new outputs.old.outs outputs.new.outs }
+        ensures err { OnErr result (Stays self.old self.new outputs.old.outs outputs.new.outs) }
+    {
+        let Stage::Preparing(target) = stage else {
+            return Ok(false);
+        };
+        if !is_at(at, &target.channel) {
+            return Ok(false);
+        }
+        self.refuse(reference, target.change, offer, outputs)?;
+        Ok(true)
+    }
+
+    // The target can't be had.
+    fn refuse(
+        &mut self,
+        reference: Reference,
+        change: Change,
+        offer: Option<Channel>,
+        outputs: &mut Outputs,
+    ) -> Result<(), Memory>
+        ensures done { OnOk result (Does (refuse reference change offer self.old)
+            self.old self.new outputs.old.outs outputs.new.outs) }
+        ensures err { OnErr result (Stays self.old self.new outputs.old.outs outputs.new.outs) }
+    {
+        let mut put = Messages::new(self.alloc);
+        if let Change::Assignment = change {
+            put.push(assignment_failure(self.alloc, reference, EQUIPMENT_FAILURE, None)?)?;
+        }
+        let begins = self.waits && self.may_begin(self.resting_stage());
+        self.put_waiting(begins, reference, offer, &mut put)?;
+        self.put(&put, outputs)?;
+        self.rest(reference);
+        self.begin_waiting(begins, reference, offer);
+        Ok(())
+    }
+}

@@ -1,0 +1,38 @@
+ghost use Rattle.std.specs.Prelude.{◌≡◌, ◌≢◌};
+ghost use Rattle.clap.specs.Words.{kind_of};
+ghost use Rattle.clap.specs.declared.error.Error.{Error as Complaint};
+ghost use Rattle.clap.specs.declared.error.kind.ErrorKind.TheVariants.{OutOfMemory};
+ghost use Rattle.program_base.specs.declared.no_task.NoTask.TheVariants.{Refused};
+ghost use Rattle.program_base.specs.declared.no_task.NoTask.TheVariants.{Memory as NoMemory};
+
+use clap::Error;
+use clap::error::ErrorKind;
+use std::alloc::AllocError;
+
+/// Why `clap` finds no task in the words.
+#[derive(Drop)]
+pub(crate) enum NoTask {
+    /// It refuses them, and says this of them.
+    Refused(Error),
+    Memory,
+}
+
+impl From<Error> for NoTask {
+    ghost from_gives = { λ error fault. (complaint : Complaint) → fault ≡ Refused complaint
+        → (complaint ≡ error) × (kind_of error ≢ OutOfMemory) };
+
+    fn from(error: Error) -> NoTask {
+        match error.kind() {
+            ErrorKind::OutOfMemory => NoTask::Memory,
+            _ => NoTask::Refused(error),
+        }
+    }
+}
+
+impl From<AllocError> for NoTask {
+    ghost from_gives = { λ _ fault. fault ≡ NoMemory };
+
+    fn from(_error: AllocError) -> NoTask {
+        NoTask::Memory
+    }
+}
