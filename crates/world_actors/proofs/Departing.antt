@@ -4,6 +4,7 @@ use Rattle.world_actors.proofs.Prelude.{refl, sym, ap, ◌∙◌, subst, option_
 use Rattle.world_actors.proofs.Prelude.{at_station, told_to, Seat, Asking, On, Moving, Gone, Tenure, by_mobile, only_if, told, Takes}
 use Rattle.world_actors.proofs.Prelude.{Actors, Mobile, Station, has_number, is_reached, mobile_of}
 use Rattle.std.proofs.Common.{IfSome}
+use Rattle.conn_messages.specs.declared.channel.Change.{Change}
 use Rattle.world_ends.specs.Mobiles.{arriving, is_moving, leaving}
 use Rattle.world_ends.specs.Stations.{established_on, left_on}
 use Rattle.world_model.specs.Mobiles.{after_arriving, after_move, after_return, after_touch, arrived, complete, failure, handover_detection, is_to_handover, left, moved, returned, seated, touched}
@@ -122,7 +123,7 @@ pub touch_wants : {X : Type 0} (result : Result X Memory) (w : Actors) (number :
     → OnErr result (IsSome (after_touch w number))
 touch_wants result w number d is handover reached = wants result _ _ (touch_by w number d true true is handover reached)
 
--- ---- it arrives, or returns
+-- ---- it is seated on a channel
 
 seated_is : (w : Actors) (number : ℕ) (p : Mobile) (tenure : Tenure) (control : List ℕ) (stations : List Station) (mobiles : MobilesState) → mobile_of w number ≡ Some p
     → stations ≡ at_station tenure.at.station (established_on tenure.at.number) w.stations → mobiles ≡ at_mobile number (arriving tenure control) (mobiles_of w)
@@ -132,68 +133,65 @@ seated_is w number p tenure control stations mobiles found is arrives =
     ∙ ap (λ (s : MobilesState). record (with_mobiles w s) { stations = at_station tenure.at.station (established_on tenure.at.number) w.stations })
     (arrives ∙ at_mobile_is w number p (arriving tenure control) found refl)
 
-abbrev arrives_by : Actors → Mobile → Departure → Option Actors
-arrives_by w p d = only_if (is_reached w d.command.target) (seated w p d.command.target (complete d.command.change))
+-- ---- on a channel of its departure, where it is reached, with the message that goes first there
 
-arrive_is : (w : Actors) (number : ℕ) → after_arriving w number ≡ by_mobile w number (λ p. by_departure (arrives_by w) p p.seat)
-arrive_is w number = same_acts w number (arrived w) (by_departure (arrives_by w)) by_seat where
-  by_seat : (p : Mobile) (s : Seat) → arrived w p s ≡ by_departure (arrives_by w) p s
+abbrev seats_on : (Departure → Tenure) → (Change → List ℕ) → Actors → Mobile → Departure → Option Actors
+seats_on on control w p d = only_if (is_reached w (on d)) (seated w p (on d) (control d.command.change))
+
+pub record Seating : Type 0 where
+  pub on : Departure → Tenure
+  pub control : Change → List ℕ
+  pub after : Actors → ℕ → Option Actors
+  pub is : (w : Actors) (number : ℕ) → after w number ≡ by_mobile w number (λ p. by_departure (seats_on on control w) p p.seat)
+
+abbrev target_of : Departure → Tenure
+target_of d = d.command.target
+
+abbrev origin_of : Departure → Tenure
+origin_of d = d.from
+
+pub arrive_is : (w : Actors) (number : ℕ) → after_arriving w number ≡ by_mobile w number (λ p. by_departure (seats_on target_of complete w) p p.seat)
+arrive_is w number = same_acts w number (arrived w) (by_departure (seats_on target_of complete w)) by_seat where
+  by_seat : (p : Mobile) (s : Seat) → arrived w p s ≡ by_departure (seats_on target_of complete w) p s
   by_seat p (Moving from command) = refl
   by_seat p (On t c) = refl
   by_seat p Asking = refl
   by_seat p Gone = refl
 
-pub arrive_unmoved : (w : Actors) (number : ℕ) → of_seat moving_from w number ≡ None → Takes w (after_arriving w number) false w
-arrive_unmoved w number none = moving_idle w number (arrives_by w) _ (arrive_is w number) none
-
-arrive_at : (w : Actors) (number : ℕ) (d : Departure) (b : Bool) (r : Reads moving_from w number d) → is_reached w d.command.target ≡ b
-    → after_arriving w number ≡ only_if b (seated w r.mobile d.command.target (complete d.command.change))
-arrive_at w number d b r reached =
-    arrive_is w number ∙ when_read moving_from w number d (arrives_by w) r ∙ ap (λ (x : Bool). only_if x (seated w r.mobile d.command.target (complete d.command.change))) reached
-
-pub arrive_unreached : (w : Actors) (number : ℕ) (d : Departure) → of_seat moving_from w number ≡ Some d → is_reached w d.command.target ≡ false → Takes w (after_arriving w number) false w
-arrive_unreached w number d is reached = idle w _ (arrive_at w number d false (read_found moving_from w number d is) reached)
-
-pub arrive_done : (w : Actors) (number : ℕ) (d : Departure) (stations : List Station) (mobiles : MobilesState) → of_seat moving_from w number ≡ Some d → is_reached w d.command.target ≡ true
-    → stations ≡ at_station d.command.target.at.station (established_on d.command.target.at.number) w.stations → mobiles ≡ at_mobile number (arriving d.command.target (complete d.command.change)) (mobiles_of w)
-    → Takes w (after_arriving w number) true (record (with_mobiles w mobiles) { stations = stations })
-arrive_done w number d stations mobiles is reached after arrives =
-    let r : Reads moving_from w number d = read_found moving_from w number d is in
-    done w _ _ _ (arrive_at w number d true r reached) (seated_is w number r.mobile d.command.target (complete d.command.change) stations mobiles r.found after arrives)
-
-pub arrive_wants : {X : Type 0} (result : Result X Memory) (w : Actors) (number : ℕ) (d : Departure) → of_seat moving_from w number ≡ Some d → is_reached w d.command.target ≡ true
-    → OnErr result (IsSome (after_arriving w number))
-arrive_wants result w number d is reached = wants result _ _ (arrive_at w number d true (read_found moving_from w number d is) reached)
-
-abbrev returns_by : Actors → Mobile → Departure → Option Actors
-returns_by w p d = only_if (is_reached w d.from) (seated w p d.from (failure d.command.change))
-
-return_is : (w : Actors) (number : ℕ) → after_return w number ≡ by_mobile w number (λ p. by_departure (returns_by w) p p.seat)
-return_is w number = same_acts w number (returned w) (by_departure (returns_by w)) by_seat where
-  by_seat : (p : Mobile) (s : Seat) → returned w p s ≡ by_departure (returns_by w) p s
+pub return_is : (w : Actors) (number : ℕ) → after_return w number ≡ by_mobile w number (λ p. by_departure (seats_on origin_of failure w) p p.seat)
+return_is w number = same_acts w number (returned w) (by_departure (seats_on origin_of failure w)) by_seat where
+  by_seat : (p : Mobile) (s : Seat) → returned w p s ≡ by_departure (seats_on origin_of failure w) p s
   by_seat p (Moving from command) = refl
   by_seat p (On t c) = refl
   by_seat p Asking = refl
   by_seat p Gone = refl
 
-pub return_unmoved : (w : Actors) (number : ℕ) → of_seat moving_from w number ≡ None → Takes w (after_return w number) false w
-return_unmoved w number none = moving_idle w number (returns_by w) _ (return_is w number) none
+-- it arrives
+abbrev pub arrival : Seating
+arrival = record { on = target_of; control = complete; after = after_arriving; is = arrive_is }
 
-return_at : (w : Actors) (number : ℕ) (d : Departure) (b : Bool) (r : Reads moving_from w number d) → is_reached w d.from ≡ b
-    → after_return w number ≡ only_if b (seated w r.mobile d.from (failure d.command.change))
-return_at w number d b r reached =
-    return_is w number ∙ when_read moving_from w number d (returns_by w) r ∙ ap (λ (x : Bool). only_if x (seated w r.mobile d.from (failure d.command.change))) reached
+-- it returns
+abbrev pub going_back : Seating
+going_back = record { on = origin_of; control = failure; after = after_return; is = return_is }
 
-pub return_unreached : (w : Actors) (number : ℕ) (d : Departure) → of_seat moving_from w number ≡ Some d → is_reached w d.from ≡ false → Takes w (after_return w number) false w
-return_unreached w number d is reached = idle w _ (return_at w number d false (read_found moving_from w number d is) reached)
+pub seat_unmoved : (s : Seating) (w : Actors) (number : ℕ) → of_seat moving_from w number ≡ None → Takes w (s.after w number) false w
+seat_unmoved s w number none = moving_idle w number (seats_on s.on s.control w) _ (s.is w number) none
 
-pub return_done : (w : Actors) (number : ℕ) (d : Departure) (stations : List Station) (mobiles : MobilesState) → of_seat moving_from w number ≡ Some d → is_reached w d.from ≡ true
-    → stations ≡ at_station d.from.at.station (established_on d.from.at.number) w.stations → mobiles ≡ at_mobile number (arriving d.from (failure d.command.change)) (mobiles_of w)
-    → Takes w (after_return w number) true (record (with_mobiles w mobiles) { stations = stations })
-return_done w number d stations mobiles is reached after arrives =
+seat_at : (s : Seating) (w : Actors) (number : ℕ) (d : Departure) (b : Bool) (r : Reads moving_from w number d) → is_reached w (s.on d) ≡ b
+    → s.after w number ≡ only_if b (seated w r.mobile (s.on d) (s.control d.command.change))
+seat_at s w number d b r reached =
+    s.is w number ∙ when_read moving_from w number d (seats_on s.on s.control w) r ∙ ap (λ (x : Bool). only_if x (seated w r.mobile (s.on d) (s.control d.command.change))) reached
+
+pub seat_unreached : (s : Seating) (w : Actors) (number : ℕ) (d : Departure) → of_seat moving_from w number ≡ Some d → is_reached w (s.on d) ≡ false → Takes w (s.after w number) false w
+seat_unreached s w number d is reached = idle w _ (seat_at s w number d false (read_found moving_from w number d is) reached)
+
+pub seat_done : (s : Seating) (w : Actors) (number : ℕ) (d : Departure) (stations : List Station) (mobiles : MobilesState) → of_seat moving_from w number ≡ Some d → is_reached w (s.on d) ≡ true
+    → stations ≡ at_station (s.on d).at.station (established_on (s.on d).at.number) w.stations → mobiles ≡ at_mobile number (arriving (s.on d) (s.control d.command.change)) (mobiles_of w)
+    → Takes w (s.after w number) true (record (with_mobiles w mobiles) { stations = stations })
+seat_done s w number d stations mobiles is reached after arrives =
     let r : Reads moving_from w number d = read_found moving_from w number d is in
-    done w _ _ _ (return_at w number d true r reached) (seated_is w number r.mobile d.from (failure d.command.change) stations mobiles r.found after arrives)
+    done w _ _ _ (seat_at s w number d true r reached) (seated_is w number r.mobile (s.on d) (s.control d.command.change) stations mobiles r.found after arrives)
 
-pub return_wants : {X : Type 0} (result : Result X Memory) (w : Actors) (number : ℕ) (d : Departure) → of_seat moving_from w number ≡ Some d → is_reached w d.from ≡ true
-    → OnErr result (IsSome (after_return w number))
-return_wants result w number d is reached = wants result _ _ (return_at w number d true (read_found moving_from w number d is) reached)
+pub seat_wants : {X : Type 0} (result : Result X Memory) (s : Seating) (w : Actors) (number : ℕ) (d : Departure) → of_seat moving_from w number ≡ Some d → is_reached w (s.on d) ≡ true
+    → OnErr result (IsSome (s.after w number))
+seat_wants result s w number d is reached = wants result _ _ (seat_at s w number d true (read_found moving_from w number d is) reached)

@@ -3,7 +3,7 @@ use Rattle.world_actors.proofs.Prelude.{◌≡◌, ℕ, ◌-◌, Bool, true, fal
 use Rattle.world_actors.proofs.Prelude.{Ok, Err, OnOk, OnErr, IsSome, refl, sym, ap, ◌∙◌, set-get_or, find_at, Place, place_at, Memory, Rsl}
 use Rattle.world_actors.proofs.Prelude.{at_mobile, mobile_in, MobilesState, at_station, told_to, with_spot_of, Seat, Asking, On, Moving}
 use Rattle.world_actors.proofs.Prelude.{Gone, Tenure, behind_first, first_in, Takes, Actors, Mobile, Station, base_of, has_number}
-use Rattle.world_actors.proofs.Prelude.{is_station_up, mobile_of, no_station, outbox_of, spot_at, station_of, tenure_at}
+use Rattle.world_actors.proofs.Prelude.{is_station_up, mobile_of, no_station, outbox_of, spot_at, station_of, tenure_at, some-same}
 use Rattle.std.proofs.Common.{not}
 use Rattle.dtap_codec.specs.RrReading.{rr_reading}
 use Rattle.link_model.specs.declared.fault.LinkFault.{LinkFault}
@@ -134,9 +134,6 @@ left_by w station others = with_outbox station others w
 first_is : (w : Actors) (station : ℕ) (entry : OutboxEntry) → first_in (outbox_of w station) ≡ Some entry
     → took_first station (outbox_of w station) w ≡ took station entry.target (rsl_in entry.out.frame) (with_relay w (record (relay_of w) { links = taken_of station w.links }))
 first_is w station entry first = by_lines (outbox_of w station) refl first where
-  some-same : {x y : OutboxEntry} → Some x ≡ Some y → x ≡ y
-  some-same e = cc
-
   by_lines : (lines : List OutboxEntry) → outbox_of w station ≡ lines → first_in lines ≡ Some entry
       → took_first station lines w ≡ took station entry.target (rsl_in entry.out.frame) (with_outbox station (behind_first (outbox_of w station)) w)
   by_lines [] are h = absurd cc

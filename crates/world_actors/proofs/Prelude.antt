@@ -20,3 +20,6 @@ pub use Rattle.world_model.specs.World.{outbox_of, put_back, spot_at, station_of
 pub use Rattle.world_model.specs.declared.seat.Seat.{Seat}
 pub use Rattle.world_model.specs.declared.seat.Seat.TheVariants.{Asking, Gone, Moving, On}
 pub use Rattle.world_model.specs.declared.seat.Tenure.{Tenure}
+
+pub some-same : {A : Type 0} {x y : A} → Some x ≡ Some y → x ≡ y
+some-same e = cc

@@ -2,17 +2,14 @@
 use Rattle.world_actors.proofs.Prelude.{◌≡◌, ℕ, Bool, true, false, if◌then◌else◌, List, [], ◌∷◌, set, Option, Some, None, refl, sym, ap}
 use Rattle.world_actors.proofs.Prelude.{◌∙◌, subst, option_and_then, option_map, find_at, at_mobile, mobile_in, Seat, Asking, On, Moving}
 use Rattle.world_actors.proofs.Prelude.{Gone, Tenure, by_mobile, Actors, Mobile, Station, has_number, is_reached, mobile_of, no_station}
-use Rattle.world_actors.proofs.Prelude.{put_back}
+use Rattle.world_actors.proofs.Prelude.{put_back, some-same}
 use Rattle.std.proofs.Common.{zero, suc, cond, slice_index_or, find, inl, inr}
 use Rattle.std.specs.Option.{is_some}
 use Rattle.std.proofs.lemmas.Bool.{cases_Bool}
 use Rattle.world_ends.specs.Mobiles.{at_found, place_in}
 use Rattle.world_model.specs.declared.seat.Command.{Command}
 use Rattle.world_actors.specs.Seats.{reached_by, reached_from}
-use Rattle.world_actors.proofs.Upper.{back_at, found_number, mobiles_of}
-
-some-same : {A : Type 0} {x y : A} → Some x ≡ Some y → x ≡ y
-some-same e = cc
+use Rattle.world_actors.proofs.Upper.{back_at, first_found, found_number, mobiles_of}
 
 -- ---- a mobile
 
@@ -122,7 +119,7 @@ put_back_same number (x ∷ xs) p is h =
     ap (λ (n : ℕ). if has_number n x then p ∷ xs else x ∷ put_back p xs) is
     ∙ elim (cases_Bool (has_number number x)) [
       | inl here ↦
-          let same : x ≡ p = some-same (sym (ap (λ (b : Bool). cond b (Some x) (find (has_number number) xs)) here) ∙ h) in
+          let same : x ≡ p = first_found number x p xs here h in
           ap (λ (b : Bool). if b then p ∷ xs else x ∷ put_back p xs) here ∙ ap (λ (y : Mobile). y ∷ xs) (sym same)
       | inr other ↦
           ap (λ (b : Bool). if b then p ∷ xs else x ∷ put_back p xs) other

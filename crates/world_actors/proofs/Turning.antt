@@ -1,7 +1,7 @@
 -- What the controller puts joins the outboxes, and nothing else of the world changes.
 use Rattle.world_actors.proofs.Prelude.{◌≡◌, ℕ, Bool, true, false, if◌then◌else◌, List, [], ◌∷◌, ◌++◌, Option, Some, None, Result, Ok, Err}
 use Rattle.world_actors.proofs.Prelude.{OnOk, OnErr, IsSome, refl, sym, ap, ◌∙◌, subst, Memory, Tenure, behind_first, first_in, Takes}
-use Rattle.world_actors.proofs.Prelude.{Actors, outbox_of}
+use Rattle.world_actors.proofs.Prelude.{Actors, outbox_of, some-same}
 use Rattle.std.proofs.Common.{fold}
 use Rattle.conn_messages.specs.declared.out.Out.{Out}
 use Rattle.controller_model.specs.Controller.{Turn}
@@ -52,9 +52,6 @@ item_puts (Ok x) w item target new aims is =
 -- where there is one
 pub handle_is : (w : Actors) (item : Item) → first_in w.inbox ≡ Some item → after_handle w ≡ Some (after_item item (record w { inbox = behind_first w.inbox }))
 handle_is w item first = by_items w.inbox refl first where
-  some-same : {x y : Item} → Some x ≡ Some y → x ≡ y
-  some-same e = cc
-
   by_items : (items : List Item) → w.inbox ≡ items → first_in items ≡ Some item → handled items w ≡ Some (after_item item (record w { inbox = behind_first items }))
   by_items [] are h = absurd cc
   by_items (i ∷ others) are h = ap (λ (j : Item). handled (j ∷ others) w) (some-same h)

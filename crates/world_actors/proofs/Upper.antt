@@ -2,7 +2,7 @@
 use Rattle.world_actors.proofs.Prelude.{◌≡◌, ℕ, Bool, true, false, ◌&&◌, if◌then◌else◌, List, [], ◌∷◌, set, Option, Some, None, Result, Ok}
 use Rattle.world_actors.proofs.Prelude.{Err, OnErr, IsSome, refl, sym, ap, ◌∙◌, subst, option_and_then, option_map, find_at, Sapi, Memory}
 use Rattle.world_actors.proofs.Prelude.{by_mobile_in, MobilesState, by_mobile, only_if, Takes, Actors, Mobile, has_number, mobile_of}
-use Rattle.world_actors.proofs.Prelude.{put_back}
+use Rattle.world_actors.proofs.Prelude.{put_back, some-same}
 use Rattle.std.proofs.Common.{zero, suc, ◌+◌, cond, not, find, IfOk, inl, inr, arith}
 use Rattle.std.specs.Option.{is_none}
 use Rattle.std.proofs.lemmas.Bool.{cases_Bool, eqb-true}
@@ -30,17 +30,17 @@ back_at (p ∷ ps) q =
           ∙ sym (ap (λ (k : ℕ). set (p ∷ ps) k q) (length-place q.number p ps false other))
     ]
 
+pub first_found : (number : ℕ) (x p : Mobile) (xs : List Mobile) → has_number number x ≡ true → find (has_number number) (x ∷ xs) ≡ Some p → x ≡ p
+first_found number x p xs here is = some-same (sym (ap (λ (b : Bool). cond b (Some x) (find (has_number number) xs)) here) ∙ is)
+
 pub found_number : (number : ℕ) (mobiles : List Mobile) (p : Mobile) → find (has_number number) mobiles ≡ Some p → p.number ≡ number
 found_number number [] p is = absurd cc
 found_number number (x ∷ xs) p is =
     elim (cases_Bool (has_number number x)) [
       | inl here ↦
-          let same : x ≡ p = some-same (sym (ap (λ (b : Bool). cond b (Some x) (find (has_number number) xs)) here) ∙ is) in
-          subst (λ (m : Mobile). m.number ≡ number) same (eqb-true x.number number here)
+          subst (λ (m : Mobile). m.number ≡ number) (first_found number x p xs here is) (eqb-true x.number number here)
       | inr other ↦ found_number number xs p (sym (ap (λ (b : Bool). cond b (Some x) (find (has_number number) xs)) other) ∙ is)
-    ] where
-      some-same : {x y : Mobile} → Some x ≡ Some y → x ≡ y
-      some-same e = cc
+    ]
 
 -- ---- the mobiles of a world
 

@@ -1,6 +1,7 @@
 -- What the calls of the links make of them, by the words of `world_model`, which has the same for
 -- the whole world.
-use Rattle.std.specs.Prelude.{ℕ, Bool, if◌then◌else◌, List, [], ◌∷◌, ◌++◌, fold, set, slice_index_or, Option}
+use Rattle.std.specs.Prelude.{ℕ, Bool, if◌then◌else◌, List, [], ◌∷◌}
+use Rattle.std.specs.Prelude.{◌++◌, fold, set, slice_index_or, Option}
 use Rattle.conn_messages.specs.declared.out.Out.{Out}
 use Rattle.world_model.specs.declared.line.OutboxEntry.{OutboxEntry}
 use Rattle.world_model.specs.declared.seat.Tenure.{Tenure}
@@ -19,7 +20,8 @@ abbrev pub outbox_in : List Link → ℕ → List OutboxEntry
 outbox_in links number = (link_in links number).outbox
 
 abbrev pub with_outbox_in : ℕ → List OutboxEntry → List Link → List Link
-with_outbox_in number entries links = set links number (record (link_in links number) { outbox = entries })
+with_outbox_in number entries links =
+    set links number (record (link_in links number) { outbox = entries })
 
 -- the first entry of an outbox is taken
 abbrev pub taken_of : ℕ → List Link → List Link
@@ -27,7 +29,10 @@ taken_of number links = with_outbox_in number (behind_first (outbox_in links num
 
 -- an output joins the outbox of a link that is up
 abbrev pub joined_in : Option Tenure → List Link → Out → List Link
-joined_in target links out = if is_up_in links out.to then with_outbox_in out.to (outbox_in links out.to ++ entry_of target out ∷ []) links else links
+joined_in target links out =
+    if is_up_in links out.to
+    then with_outbox_in out.to (outbox_in links out.to ++ entry_of target out ∷ []) links
+    else links
 
 abbrev pub all_joined_in : Option Tenure → List Link → List Out → List Link
 all_joined_in target links outs = fold (joined_in target) links outs

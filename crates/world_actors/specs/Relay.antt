@@ -14,7 +14,8 @@ with_item_in item r = record r { inbox = r.inbox ++ item ∷ [] }
 
 -- what the controller put joins the outboxes
 abbrev pub with_turn_in : Option Tenure → Turn → RelayState → RelayState
-with_turn_in target t r = record r { controller = t.next; links = all_joined_in target r.links t.outs }
+with_turn_in target t r =
+    record r { controller = t.next; links = all_joined_in target r.links t.outs }
 
 -- the controller handles an item
 abbrev pub handling : Option Tenure → Item → RelayState → RelayState
@@ -26,4 +27,6 @@ ticking ms r = with_turn_in None (tick ms r.controller) r
 
 -- the link of a source breaks
 abbrev pub breaking : ℕ → RelayState → RelayState
-breaking source r = with_item_in (record { source = source; what = whats.Down }) (record r { links = broken_in source r.links })
+breaking source r =
+    with_item_in (record { source = source; what = whats.Down })
+    (record r { links = broken_in source r.links })

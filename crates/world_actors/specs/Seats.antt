@@ -20,7 +20,10 @@ reached_by w number = option_and_then (λ p. reached_from w p.seat) (mobile_in n
 
 -- on a channel where it is reached
 abbrev pub told_from : Actors → Seat → Option Departure
-told_from w (On tenure (Some command)) = if is_reached w tenure then Some (record { from = tenure; command = command }) else None
+told_from w (On tenure (Some command)) =
+    if is_reached w tenure
+    then Some (record { from = tenure; command = command })
+    else None
 told_from w seat = None
 
 -- once it left
@@ -32,7 +35,8 @@ moving_from seat = None
 abbrev pub of_seat : (Seat → Option Departure) → Actors → ℕ → Option Departure
 of_seat reads w number = option_and_then (λ p. reads p.seat) (mobile_in number w.mobiles)
 
--- ---- whether a mobile of a number is new, and whether the next frame of one on SAPI 0 is its initial message
+-- ---- whether a mobile of a number is new, and whether the next frame of one on SAPI 0 is its
+-- ---- initial message
 
 abbrev pub is_new_by : Actors → ℕ → Bool
 is_new_by w number = nat_lt 0 number && is_none (mobile_in number w.mobiles)

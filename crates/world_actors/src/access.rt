@@ -20,8 +20,11 @@ impl Network {
         initial: &[u8],
         accepts_sapi_three: bool,
     ) -> Result<bool, Memory>
-        ensures ok { IfOk result (λ taken. Takes self.old (after_connecting self.old mobile station initial.now accepts_sapi_three) taken self.new) }
-        ensures memory { OnErr result (IsSome (after_connecting self.old mobile station initial.now accepts_sapi_three)) }
+        ensures ok { IfOk result (λ taken. Takes self.old
+            (after_connecting self.old mobile station initial.now accepts_sapi_three)
+            taken self.new) }
+        ensures memory { OnErr result
+            (IsSome (after_connecting self.old mobile station initial.now accepts_sapi_three)) }
     {
         if !self.is_new(mobile) {
             return Ok(false);

@@ -1,5 +1,6 @@
 ghost use Rattle.std.specs.Prelude.{◌≡◌, IfOk, IsSome, OnErr};
-ghost use Rattle.world_model.specs.Mobiles.{after_air_ack, after_air_down, after_air_down_lost, after_report};
+ghost use Rattle.world_model.specs.Mobiles.{after_air_ack, after_air_down};
+ghost use Rattle.world_model.specs.Mobiles.{after_air_down_lost, after_report};
 ghost use Rattle.world_model.specs.Takes.{Takes};
 ghost use Rattle.world_actors.specs.Seats.{reached_by, reached_from};
 
@@ -47,7 +48,8 @@ impl Network {
 
     /// A mobile takes the first message for it from the air.
     pub fn air_down(&mut self, mobile: u8) -> Result<bool, Memory>
-        ensures ok { IfOk result (λ taken. Takes self.old (after_air_down self.old mobile) taken self.new) }
+        ensures ok { IfOk result (λ taken.
+            Takes self.old (after_air_down self.old mobile) taken self.new) }
         ensures memory { OnErr result (IsSome (after_air_down self.old mobile)) }
     {
         let Some(tenure) = self.reached_by(mobile) else {
@@ -74,7 +76,8 @@ impl Network {
 
     /// A measurement report of a mobile, of 16 octets, reaches its station.
     pub fn report(&mut self, mobile: u8, report: &[u8]) -> Result<bool, Memory>
-        ensures ok { IfOk result (λ taken. Takes self.old (after_report self.old mobile report.now) taken self.new) }
+        ensures ok { IfOk result (λ taken.
+            Takes self.old (after_report self.old mobile report.now) taken self.new) }
         ensures memory { OnErr result (IsSome (after_report self.old mobile report.now)) }
     {
         let Some(tenure) = self.reached_by(mobile) else {

@@ -1,11 +1,14 @@
-ghost use Rattle.std.specs.Prelude.{◌≡◌, ◌≢◌, ◌&&◌, if◌then◌else◌, false, IfOk, IsSome, Ok, OnErr, OnOk, Some};
+ghost use Rattle.std.specs.Prelude.{◌≡◌, ◌≢◌, ◌&&◌, if◌then◌else◌, false};
+ghost use Rattle.std.specs.Prelude.{IfOk, IsSome, Ok, OnErr, OnOk, Some};
 ghost use Rattle.controller_model.specs.Controller.{place_at};
 ghost use Rattle.dtap_codec.specs.RrReading.{rr_reading};
 ghost use Rattle.rsl_codec.specs.ChannelNumber.{is_channel};
 ghost use Rattle.world_ends.specs.Activations.{activated_by};
 ghost use Rattle.world_model.specs.declared.limits.TheConstants.{MAX_TENURE as LAST};
 ghost use Rattle.world_model.specs.Lists.{first_in};
-ghost use Rattle.world_model.specs.Stations.{accepts, activated, after_base_takes, aired, asked_for_link, assigned, assigned_to, mobile_on, released, rsl_in as message_in, took};
+ghost use Rattle.world_model.specs.Stations.{accepts, activated, after_base_takes, aired};
+ghost use Rattle.world_model.specs.Stations.{asked_for_link, assigned, assigned_to};
+ghost use Rattle.world_model.specs.Stations.{mobile_on, released, rsl_in as message_in, took};
 ghost use Rattle.world_model.specs.Takes.{Takes};
 ghost use Rattle.world_model.specs.World.{is_active_at, mobile_of, outbox_of, spot_at, tenure_at};
 ghost use Rattle.world_actors.specs.Seats.{is_asking, is_asking_by};
@@ -24,7 +27,8 @@ impl Network {
     /// A station takes the first line of its outbox. It doesn't take the activation of a channel
     /// that had its last tenure.
     pub fn base_takes(&mut self, station: u16) -> Result<bool, Memory>
-        ensures ok { IfOk result (λ taken. Takes self.old (after_base_takes self.old station) taken self.new) }
+        ensures ok { IfOk result (λ taken.
+            Takes self.old (after_base_takes self.old station) taken self.new) }
         ensures memory { OnErr result (IsSome (after_base_takes self.old station)) }
     {
         if !self.is_station_up(station) {
@@ -64,7 +68,8 @@ impl Network {
 
     fn take_line(&mut self, station: u16, line: OutboxEntry) -> Result<(), Memory>
         requires { is_spent self.old station (activated_by (message_in line.out.frame)) ≡ false }
-        ensures { OnOk result (took station line.target (message_in line.out.frame) self.old ≡ Some self.new) }
+        ensures { OnOk result
+            (took station line.target (message_in line.out.frame) self.old ≡ Some self.new) }
     {
         let message = rsl_in(self.alloc, &line.out.frame)?;
         match message {
@@ -129,7 +134,8 @@ impl Network {
     }
 
     fn accepts_link(&self, at: Place) -> bool
-        ensures { result ≡ (is_active_at self.now at && accepts (mobile_on self.now (tenure_at self.now at))) }
+        ensures { result ≡ (is_active_at self.now at
+            && accepts (mobile_on self.now (tenure_at self.now at))) }
     {
         self.stations.is_active(&at) && self.mobiles.accepts_sapi_three(&self.last_tenure(at))
     }
@@ -169,7 +175,10 @@ impl Network {
 
     // A mobile is on the channel with the number in this octet, if it is a channel's.
     fn assign_on(&mut self, mobile: u8, station: u16, octet: u8)
-        ensures { self.new ≡ (if is_channel octet then assigned_to (mobile_of self.old mobile) (tenure_at self.old (place_at station octet)) self.old else self.old) }
+        ensures { self.new ≡ (if is_channel octet
+            then assigned_to (mobile_of self.old mobile)
+            (tenure_at self.old (place_at station octet)) self.old
+            else self.old) }
     {
         match ChanNo::read(octet) {
             Ok(number) => self.assign_to(mobile, Place { station, number }),
@@ -179,7 +188,8 @@ impl Network {
 
     // A mobile is on the channel, if it is asking.
     fn assign_to(&mut self, mobile: u8, at: Place)
-        ensures { self.new ≡ assigned_to (mobile_of self.old mobile) (tenure_at self.old at) self.old }
+        ensures { self.new ≡
+            assigned_to (mobile_of self.old mobile) (tenure_at self.old at) self.old }
     {
         if self.is_asking(mobile) {
             let tenure = self.last_tenure(at);

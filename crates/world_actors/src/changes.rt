@@ -1,5 +1,6 @@
 ghost use Rattle.std.specs.Prelude.{◌≡◌, IfOk, IsSome, OnErr};
-ghost use Rattle.world_model.specs.Mobiles.{after_arriving, after_move, after_return, after_touch, is_to_handover};
+ghost use Rattle.world_model.specs.Mobiles.{after_arriving, after_move, after_return};
+ghost use Rattle.world_model.specs.Mobiles.{after_touch, is_to_handover};
 ghost use Rattle.world_model.specs.Takes.{Takes};
 ghost use Rattle.world_actors.specs.Seats.{moving_from, of_seat, told_from};
 
@@ -68,7 +69,8 @@ impl Network {
 
     /// A mobile is heard on the channel of a handover.
     pub fn touch(&mut self, mobile: u8) -> Result<bool, Memory>
-        ensures ok { IfOk result (λ taken. Takes self.old (after_touch self.old mobile) taken self.new) }
+        ensures ok { IfOk result (λ taken.
+            Takes self.old (after_touch self.old mobile) taken self.new) }
         ensures memory { OnErr result (IsSome (after_touch self.old mobile)) }
     {
         let Some(departure) = self.moving(mobile) else {
@@ -92,7 +94,8 @@ impl Network {
 
     /// A mobile arrives on the channel to which it was told to change.
     pub fn arrive(&mut self, mobile: u8) -> Result<bool, Memory>
-        ensures ok { IfOk result (λ taken. Takes self.old (after_arriving self.old mobile) taken self.new) }
+        ensures ok { IfOk result (λ taken.
+            Takes self.old (after_arriving self.old mobile) taken self.new) }
         ensures memory { OnErr result (IsSome (after_arriving self.old mobile)) }
     {
         let Some(departure) = self.moving(mobile) else {
@@ -109,7 +112,8 @@ impl Network {
 
     /// A mobile returns to the channel that it left.
     pub fn give_up(&mut self, mobile: u8) -> Result<bool, Memory>
-        ensures ok { IfOk result (λ taken. Takes self.old (after_return self.old mobile) taken self.new) }
+        ensures ok { IfOk result (λ taken.
+            Takes self.old (after_return self.old mobile) taken self.new) }
         ensures memory { OnErr result (IsSome (after_return self.old mobile)) }
     {
         let Some(departure) = self.moving(mobile) else {

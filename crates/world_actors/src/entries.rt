@@ -1,7 +1,8 @@
 ghost use Rattle.std.specs.Prelude.{◌≡◌, IfOk, Ok, Some};
 ghost use Rattle.dtap_codec.specs.RrReading.{rr_reading};
 ghost use Rattle.rsl_codec.specs.declared.rsl.Rsl.TheVariants.{DataRequest};
-ghost use Rattle.world_model.specs.Relay.{commands as commands_by, entry_of as entry_by, is_change_command as is_change_command_by};
+ghost use Rattle.world_model.specs.Relay.{commands as commands_by, entry_of as entry_by};
+ghost use Rattle.world_model.specs.Relay.{is_change_command as is_change_command_by};
 ghost use Rattle.world_model.specs.Stations.{rsl_in as message_in};
 
 use conn_messages::Out;

@@ -38,7 +38,8 @@ impl Network {
 
     // The tenure that an item begins for the controller, which an ACTIVATION ACK does.
     fn target_of(&self, item: &Item) -> Result<Option<Tenure>, Memory>
-        ensures { IfOk result (λ target. target ≡ target_in self.now item.now.source item.now.what) }
+        ensures { IfOk result (λ target.
+            target ≡ target_in self.now item.now.source item.now.what) }
     {
         match &item.what {
             What::Frame(frame) => self.acknowledged_tenure(item.source, frame),
@@ -47,7 +48,8 @@ impl Network {
     }
 
     fn acknowledged_tenure(&self, station: u16, frame: &Frame) -> Result<Option<Tenure>, Memory>
-        ensures { IfOk result (λ target. target ≡ acknowledged_tenure self.now station (message_in frame.now)) }
+        ensures { IfOk result (λ target.
+            target ≡ acknowledged_tenure self.now station (message_in frame.now)) }
     {
         let message = rsl_in(self.alloc, frame)?;
         let target = self.tenure_in(station, &message);

@@ -57,7 +57,8 @@ impl RelayLink {
 
     /// Puts an entry behind the others.
     pub(crate) fn put(&mut self, entry: OutboxEntry) -> Result<(), Memory>
-        ensures { OnOk result (self.new ≡ record self.old { outbox = self.old.outbox ++ entry ∷ [] }) }
+        ensures { OnOk result
+            (self.new ≡ record self.old { outbox = self.old.outbox ++ entry ∷ [] }) }
     {
         self.outbox.push_back(entry)?;
         Ok(())

@@ -1,7 +1,8 @@
 ghost use Rattle.std.specs.Prelude.{◌≡◌, IfOk, OnOk, option_map, replicate};
 ghost use Rattle.world_model.specs.Lists.{first_in};
 ghost use Rattle.world_model.specs.World.{new_link};
-ghost use Rattle.world_actors.specs.Links.{all_joined_in, broken_in, is_up_in, joined_in, outbox_in, taken_of};
+ghost use Rattle.world_actors.specs.Links.{all_joined_in, broken_in, is_up_in};
+ghost use Rattle.world_actors.specs.Links.{joined_in, outbox_in, taken_of};
 
 use crate::entries::entry_of;
 use crate::link::RelayLink;

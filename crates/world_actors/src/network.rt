@@ -1,6 +1,7 @@
 ghost use Rattle.std.specs.Prelude.{◌≡◌, IfOk, if◌then◌else◌};
 ghost use Rattle.dtap_codec.specs.Number.{count_of};
-ghost use Rattle.world_model.specs.World.{is_reached, is_station_up, is_up, modulus_in, new_actors, stations_from, tenure_at};
+ghost use Rattle.world_model.specs.World.{is_reached, is_station_up, is_up, modulus_in};
+ghost use Rattle.world_model.specs.World.{new_actors, stations_from, tenure_at};
 
 use crate::relay::Relay;
 use conn_messages::{Place, SWITCH_LINK};

@@ -1,6 +1,7 @@
 ghost use Rattle.std.specs.Prelude.{◌≡◌, IfOk, IsSome, OnErr, OnOk, Some};
 ghost use Rattle.link_model.specs.Base.{first_message};
-ghost use Rattle.world_model.specs.Relay.{after_base_push, after_break, after_tick, pushed_by_station, pushed_by_switch};
+ghost use Rattle.world_model.specs.Relay.{after_base_push, after_break, after_tick};
+ghost use Rattle.world_model.specs.Relay.{pushed_by_station, pushed_by_switch};
 ghost use Rattle.world_model.specs.Takes.{Takes};
 ghost use Rattle.world_model.specs.World.{base_of};
 
@@ -19,7 +20,8 @@ impl Network {
 
     /// The first item that a source made goes to the inbox's end.
     pub fn base_push(&mut self, source: u16) -> Result<bool, Memory>
-        ensures ok { IfOk result (λ taken. Takes self.old (after_base_push self.old source) taken self.new) }
+        ensures ok { IfOk result (λ taken.
+            Takes self.old (after_base_push self.old source) taken self.new) }
         ensures memory { OnErr result (IsSome (after_base_push self.old source)) }
     {
         if source == SWITCH_LINK {
@@ -30,34 +32,34 @@ impl Network {
     }
 
     fn switch_pushes(&mut self) -> Result<bool, Memory>
-        ensures ok { IfOk result (λ taken. Takes self.old (pushed_by_switch self.old.switch_made self.old) taken self.new) }
+        ensures ok { IfOk result (λ taken.
+            Takes self.old (pushed_by_switch self.old.switch_made self.old) taken self.new) }
         ensures memory { OnErr result (IsSome (pushed_by_switch self.old.switch_made self.old)) }
     {
         match self.switch.next() {
             Some(message) => {
                 let pushed = self.relay.push_from_switch(&message);
                 drop(message);
-                match pushed {
-                    Ok(()) => Ok(true),
-                    Err(Memory) => Err(Memory),
-                }
+                pushed?;
+                Ok(true)
             }
             None => Ok(false),
         }
     }
 
     fn station_pushes(&mut self, station: u16) -> Result<bool, Memory>
-        ensures ok { IfOk result (λ taken. Takes self.old (pushed_by_station station (first_message (base_of self.old station)) self.old) taken self.new) }
-        ensures memory { OnErr result (IsSome (pushed_by_station station (first_message (base_of self.old station)) self.old)) }
+        ensures ok { IfOk result (λ taken. Takes self.old
+            (pushed_by_station station (first_message (base_of self.old station)) self.old)
+            taken self.new) }
+        ensures memory { OnErr result (IsSome
+            (pushed_by_station station (first_message (base_of self.old station)) self.old)) }
     {
         match self.stations.next(station) {
             Some(message) => {
                 let pushed = self.relay.push_from_station(station, &message);
                 drop(message);
-                match pushed {
-                    Ok(()) => Ok(true),
-                    Err(Memory) => Err(Memory),
-                }
+                pushed?;
+                Ok(true)
             }
             None => Ok(false),
         }
@@ -65,7 +67,8 @@ impl Network {
 
     /// The link of a source breaks: what was made for it and what its outbox has is lost.
     pub fn break_down(&mut self, source: u16) -> Result<bool, Memory>
-        ensures ok { IfOk result (λ taken. Takes self.old (after_break self.old source) taken self.new) }
+        ensures ok { IfOk result (λ taken.
+            Takes self.old (after_break self.old source) taken self.new) }
         ensures memory { OnErr result (IsSome (after_break self.old source)) }
     {
         if !self.is_up(source) {

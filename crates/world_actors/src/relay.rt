@@ -38,13 +38,21 @@ impl Model for Relay {
 
     ghost Value = { RelayState };
 
-    ghost view = { λ r. record { inbox = r.inbox.items; controller = r.controller; links = r.links } };
+    ghost view = { λ r. record {
+      inbox = r.inbox.items;
+      controller = r.controller;
+      links = r.links;
+    } };
 }
 
 impl Relay {
     /// A controller of these settings, all of whose links are up, with empty queues.
     pub fn new(alloc: Global, settings: Settings) -> Result<Relay, Memory>
-        ensures { IfOk result (λ r. r ≡ record { inbox = []; controller = new_controller settings; links = replicate (length settings.cells + 1) new_link }) }
+        ensures { IfOk result (λ r. r ≡ record {
+          inbox = [];
+          controller = new_controller settings;
+          links = replicate (length settings.cells + 1) new_link;
+        }) }
     {
         match Links::new(alloc, usize::from(settings.cell_count()) + 1) {
             Ok(links) => Relay::with_links(alloc, links, settings),
@@ -57,7 +65,8 @@ impl Relay {
 
     // The same with these links.
     fn with_links(alloc: Global, links: Links, settings: Settings) -> Result<Relay, Memory>
-        ensures { IfOk result (λ r. r ≡ record { inbox = []; controller = new_controller settings; links = links }) }
+        ensures { IfOk result (λ r.
+            r ≡ record { inbox = []; controller = new_controller settings; links = links }) }
     {
         match Controller::new(alloc, settings) {
             Ok(controller) => Ok(Relay {
@@ -98,13 +107,12 @@ impl Relay {
     /// A message that a station gives out goes to the inbox's end.
     pub fn push_from_station(&mut self, station: u16, message: &Rsl) -> Result<(), Memory>
         requires { rsl_write_fault message.now ≡ None }
-        ensures { OnOk result (self.new ≡ with_item_in (station_item station message.now) self.old) }
+        ensures { OnOk result
+            (self.new ≡ with_item_in (station_item station message.now) self.old) }
     {
         let mut body = Vec::new(self.alloc);
-        match message.write(self.alloc, &mut body) {
-            Ok(()) => self.push_frame(station, RSL_STREAM, Octets::new(body)),
-            Err(_) => Err(Memory),
-        }
+        message.write(self.alloc, &mut body).map_err(|_| Memory)?;
+        self.push_frame(station, RSL_STREAM, Octets::new(body))
     }
 
     /// A message that the switch gives out goes to the inbox's end.
@@ -113,14 +121,15 @@ impl Relay {
         ensures { OnOk result (self.new ≡ with_item_in (switch_item message.now) self.old) }
     {
         let mut body = Vec::new(self.alloc);
-        match write_sccp(self.alloc, message, &mut body) {
-            Ok(()) => self.push_frame(SWITCH_LINK, SCCP_STREAM, Octets::new(body)),
-            Err(_) => Err(Memory),
-        }
+        write_sccp(self.alloc, message, &mut body).map_err(|_| Memory)?;
+        self.push_frame(SWITCH_LINK, SCCP_STREAM, Octets::new(body))
     }
 
     fn push_frame(&mut self, source: u16, stream: u8, body: Octets) -> Result<(), Memory>
-        ensures { OnOk result (self.new ≡ with_item_in (record { source = source; what = whats.Frame (record { stream = stream; body = body }) }) self.old) }
+        ensures { OnOk result (self.new ≡ with_item_in (record {
+          source = source;
+          what = whats.Frame (record { stream = stream; body = body });
+        }) self.old) }
     {
         self.push(Item {
             source,
@@ -149,10 +158,10 @@ impl Relay {
         ensures { OnOk result (self.new ≡ handling target.now item self.old) }
     {
         let mut outputs = Outputs::new(self.alloc);
-        match self.controller.step(item, &mut outputs) {
-            Ok(()) => self.links.join_all(target, outputs.into_vec()),
-            Err(_) => Err(Memory),
-        }
+        self.controller
+            .step(item, &mut outputs)
+            .map_err(|_| Memory)?;
+        self.links.join_all(target, outputs.into_vec())
     }
 
     /// So many milliseconds pass for the controller, and what it puts joins the outboxes.

@@ -13,7 +13,8 @@ impl Network {
     /// nothing, and memory is wanted only for one that is.
     #[tactic(auto, unfolding(world_model::specs::Life::event_after))]
     pub fn step(&mut self, event: &Event) -> Result<bool, Memory>
-        ensures ok { IfOk result (λ taken. Takes self.old (event_after self.old event.now) taken self.new) }
+        ensures ok { IfOk result (λ taken.
+            Takes self.old (event_after self.old event.now) taken self.new) }
         ensures memory { OnErr result (IsSome (event_after self.old event.now)) }
     {
         match event {

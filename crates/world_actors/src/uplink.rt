@@ -11,7 +11,8 @@ use octets::Memory;
 impl Network {
     /// The station takes the frame in the air from a mobile.
     pub fn air_up(&mut self, mobile: u8, sapi: Sapi) -> Result<bool, Memory>
-        ensures ok { IfOk result (λ taken. Takes self.old (after_air_up self.old mobile sapi) taken self.new) }
+        ensures ok { IfOk result (λ taken.
+            Takes self.old (after_air_up self.old mobile sapi) taken self.new) }
         ensures memory { OnErr result (IsSome (after_air_up self.old mobile sapi)) }
     {
         let Some(tenure) = self.reached_by(mobile) else {

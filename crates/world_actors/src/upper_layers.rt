@@ -17,7 +17,8 @@ impl Network {
     /// The upper layers of a mobile send a message, where the mobile is on a channel or between
     /// two.
     pub fn upper(&mut self, mobile: u8, sapi: Sapi, message: &[u8]) -> Result<bool, Memory>
-        ensures ok { IfOk result (λ taken. Takes self.old (after_upper self.old mobile sapi message.now) taken self.new) }
+        ensures ok { IfOk result (λ taken.
+            Takes self.old (after_upper self.old mobile sapi message.now) taken self.new) }
         ensures memory { OnErr result (IsSome (after_upper self.old mobile sapi message.now)) }
     {
         self.mobiles.send(mobile, sapi, message)
@@ -25,7 +26,8 @@ impl Network {
 
     /// The switch takes the first message of its outbox.
     pub fn switch_takes(&mut self) -> Result<bool, Memory>
-        ensures ok { IfOk result (λ taken. Takes self.old (after_switch_takes self.old) taken self.new) }
+        ensures ok { IfOk result (λ taken.
+            Takes self.old (after_switch_takes self.old) taken self.new) }
         ensures memory { OnErr result (IsSome (after_switch_takes self.old)) }
     {
         if !self.is_up(SWITCH_LINK) || self.relay.first_entry(SWITCH_LINK).is_none() {
@@ -43,7 +45,8 @@ impl Network {
     /// The switch acts of its own on one of its connections, where that is open. A message that it
     /// sends has 1 to 251 octets.
     pub fn switch_does(&mut self, action: &SwitchAction) -> Result<bool, Memory>
-        ensures ok { IfOk result (λ taken. Takes self.old (after_switch_does self.old action.now) taken self.new) }
+        ensures ok { IfOk result (λ taken.
+            Takes self.old (after_switch_does self.old action.now) taken self.new) }
         ensures memory { OnErr result (IsSome (after_switch_does self.old action.now)) }
     {
         if !self.is_up(SWITCH_LINK) {
@@ -62,8 +65,11 @@ impl Network {
 
     fn switch_sends(&mut self, connection: u32, sapi: Sapi, message: &[u8]) -> Result<bool, Memory>
         requires { is_up self.old SWITCH_LINK ≡ true }
-        ensures ok { IfOk result (λ taken. Takes self.old (after_switch_does self.old (actions.Dtap connection sapi message.now)) taken self.new) }
-        ensures memory { OnErr result (IsSome (after_switch_does self.old (actions.Dtap connection sapi message.now))) }
+        ensures ok { IfOk result (λ taken. Takes self.old
+            (after_switch_does self.old (actions.Dtap connection sapi message.now))
+            taken self.new) }
+        ensures memory { OnErr result
+            (IsSome (after_switch_does self.old (actions.Dtap connection sapi message.now))) }
     {
         if message.is_empty() || message.len() > MESSAGE_LIMIT {
             return Ok(false);
