@@ -33,4 +33,7 @@ by_offer input offer c (Some e) = by_fitting (turn [] c) e (row_of e.connection 
 
 -- channels and handovers once a connection put these messages
 abbrev pub following : ℕ → List Message → Controller → Controller
-following number messages c = record c { channels = fold (channels_after number) c.channels messages; handovers = handovers_after c.handovers messages }
+following number messages c = record c {
+  channels = fold (channels_after number) c.channels messages;
+  handovers = handovers_after c.handovers messages;
+}

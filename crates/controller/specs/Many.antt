@@ -64,4 +64,6 @@ IsReadyFor was (Some e) = IsAsPlanned was e.connection
 -- each is there, and none twice
 abbrev pub AreReady : List Due → List Entry → Type 0
 AreReady [] es = Unit {0}
-AreReady (d ∷ ds) es = IsReadyFor d.was (find (has_number d.number) es) × AllByRecursion (λ (other : Due). other.number ≢ d.number) ds × AreReady ds es
+AreReady (d ∷ ds) es =
+    IsReadyFor d.was (find (has_number d.number) es)
+    × AllByRecursion (λ (other : Due). other.number ≢ d.number) ds × AreReady ds es

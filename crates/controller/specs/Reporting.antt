@@ -21,7 +21,8 @@ measured_in number report c (Some e) = measured number report c e
 -- where it moves, a handover begins as far as it may
 abbrev pub moved_in : ℕ → Controller → Option Entry → Turn
 moved_in cell c None = turn [] c
-moved_in cell c (Some e) = by_offer inputs.Move (handover_offer c e.connection.serving cell) c (Some e)
+moved_in cell c (Some e) =
+    by_offer inputs.Move (handover_offer c e.connection.serving cell) c (Some e)
 
 abbrev pub decided_in : Decision → Controller → Option Entry → Turn
 decided_in Stay c o = turn [] c

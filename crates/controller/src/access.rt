@@ -25,7 +25,8 @@ impl Controller {
         outputs: &mut Outputs,
     ) -> Result<(), Memory>
         requires { station ≢ 0 }
-        ensures ok { OnOk result (Turns (words.asked self.old station request delay) self.old self.new outputs.old.outs outputs.new.outs) }
+        ensures ok { OnOk result (Turns (words.asked self.old station request delay)
+            self.old self.new outputs.old.outs outputs.new.outs) }
         ensures err { OnErr result (Stays self.old self.new outputs.old.outs outputs.new.outs) }
     {
         if !self.may_open() {
@@ -57,7 +58,8 @@ impl Controller {
     ) -> Result<(), Memory>
         requires number { self.old.next_number < 2 ^ 24 }
         requires channel { IsOfCell self.old.settings channel }
-        ensures ok { OnOk result (Turns (words.with_connection self.old channel request delay) self.old self.new outputs.old.outs outputs.new.outs) }
+        ensures ok { OnOk result (Turns (words.with_connection self.old channel request delay)
+            self.old self.new outputs.old.outs outputs.new.outs) }
         ensures err { OnErr result (Stays self.old self.new outputs.old.outs outputs.new.outs) }
     {
         let number = self.next_number;
@@ -78,7 +80,8 @@ fn activation_frames(
     outputs: &mut Outputs,
 ) -> Result<Outputs, Memory>
     requires { number < 2 ^ 24 }
-    ensures made { IfOk result (λ made. made.outs ≡ outs_of number (access_activation channel.now ∷ [])) }
+    ensures made { IfOk result
+        (λ made. made.outs ≡ outs_of number (access_activation channel.now ∷ [])) }
     ensures lawful { IfOk result (λ _. IsLawfulMessage (access_activation channel.now)) }
     ensures room { IfOk result (λ made. length made.outs ≤ outputs.new.spare) }
     ensures outs { outputs.new.outs ≡ outputs.old.outs }

@@ -14,7 +14,8 @@ impl Controller {
     /// The link of this number broke: the connections learn of it by rising number, and the
     /// channels of a station are free.
     pub(crate) fn on_break(&mut self, source: u16, outputs: &mut Outputs) -> Result<(), Memory>
-        ensures ok { OnOk result (Turns (words.on_break source self.old) self.old self.new outputs.old.outs outputs.new.outs) }
+        ensures ok { OnOk result (Turns (words.on_break source self.old)
+            self.old self.new outputs.old.outs outputs.new.outs) }
         ensures err { OnErr result (Stays self.old self.new outputs.old.outs outputs.new.outs) }
     {
         let planned = self.plan_with_room(&Cause::Break(source), outputs)?;

@@ -27,7 +27,9 @@ impl Controller {
         outputs: &mut Outputs,
     ) -> Result<(), Memory>
         requires { IsCarried input }
-        ensures ok { OnOk result (Turns (on_state (words.channel_state self.old at.now) at.now input self.old (entry_at self.old (words.channel_state self.old at.now))) self.old self.new outputs.old.outs outputs.new.outs) }
+        ensures ok { OnOk result (Turns (on_state (words.channel_state self.old at.now) at.now input
+            self.old (entry_at self.old (words.channel_state self.old at.now)))
+            self.old self.new outputs.old.outs outputs.new.outs) }
         ensures err { OnErr result (Stays self.old self.new outputs.old.outs outputs.new.outs) }
     {
         let state = self.channels.state(*at);
@@ -52,7 +54,9 @@ impl Controller {
         outputs: &mut Outputs,
     ) -> Result<(), Memory>
         requires { IsCarried input }
-        ensures ok { OnOk result (Turns (concerning_too input (words.freed at.now self.old) (words.entry_of self.old number)) self.old self.new outputs.old.outs outputs.new.outs) }
+        ensures ok { OnOk result (Turns (concerning_too input (words.freed at.now self.old)
+            (words.entry_of self.old number))
+            self.old self.new outputs.old.outs outputs.new.outs) }
         ensures err { OnErr result (Stays self.old self.new outputs.old.outs outputs.new.outs) }
     {
         let state = self.channels.state(*at);

@@ -87,9 +87,12 @@ impl Controller {
 
 // Links that are up, channels that are free, and no connections.
 fn parts(alloc: Global, settings: &Settings) -> Result<(Vec<bool>, Channels, Connections), Memory>
-    ensures links { IfOk result (λ parts. parts.0.items ≡ replicate (length settings.now.cells + 1) true) }
-    ensures channels { IfOk result (λ parts. parts.1 ≡ replicate (length settings.now.cells + 1) free_channels) }
-    ensures connections { IfOk result (λ parts. parts.2 ≡ record { settings = settings.now; entries = [] }) }
+    ensures links { IfOk result
+        (λ parts. parts.0.items ≡ replicate (length settings.now.cells + 1) true) }
+    ensures channels { IfOk result
+        (λ parts. parts.1 ≡ replicate (length settings.now.cells + 1) free_channels) }
+    ensures connections { IfOk result
+        (λ parts. parts.2 ≡ record { settings = settings.now; entries = [] }) }
 {
     let links = usize::from(settings.cell_count()) + 1;
     let up = vec![in alloc; true; links]?;

@@ -19,7 +19,8 @@ impl Controller {
     /// appended to the outputs. After the break of its link, and where there is no such link, an
     /// item is ignored. A refusal, for lack of memory, changes nothing and hands the item back.
     pub fn step(&mut self, item: Item, outputs: &mut Outputs) -> Result<(), Item>
-        ensures ok { OnOk result (Turns (words.take item self.old) self.old self.new outputs.old.outs outputs.new.outs) }
+        ensures ok { OnOk result (Turns (words.take item self.old)
+            self.old self.new outputs.old.outs outputs.new.outs) }
         ensures err { OnErr result (Stays self.old self.new outputs.old.outs outputs.new.outs) }
         ensures back { IfErr result (λ refused. refused ≡ item) }
     {
@@ -31,7 +32,8 @@ impl Controller {
 
     #[tactic(auto, unfolding(controller_model::specs::Life::take))]
     fn take(&mut self, item: &Item, outputs: &mut Outputs) -> Result<(), Memory>
-        ensures ok { OnOk result (Turns (words.take item.now self.old) self.old self.new outputs.old.outs outputs.new.outs) }
+        ensures ok { OnOk result (Turns (words.take item.now self.old)
+            self.old self.new outputs.old.outs outputs.new.outs) }
         ensures err { OnErr result (Stays self.old self.new outputs.old.outs outputs.new.outs) }
     {
         if !self.is_up(item.source) {
@@ -45,7 +47,8 @@ impl Controller {
     }
 
     fn on_frame(&mut self, source: u16, frame: &Frame, outputs: &mut Outputs) -> Result<(), Memory>
-        ensures ok { OnOk result (Turns (words.on_word source (word_of source frame.now) self.old) self.old self.new outputs.old.outs outputs.new.outs) }
+        ensures ok { OnOk result (Turns (words.on_word source (word_of source frame.now) self.old)
+            self.old self.new outputs.old.outs outputs.new.outs) }
         ensures err { OnErr result (Stays self.old self.new outputs.old.outs outputs.new.outs) }
     {
         let word = read_word(self.alloc, source, frame)?;
@@ -55,7 +58,8 @@ impl Controller {
     fn on_word(&mut self, source: u16, word: Word, outputs: &mut Outputs) -> Result<(), Memory>
         requires carried { IsCarriedWord word }
         requires comes { ComesFrom source word }
-        ensures ok { OnOk result (Turns (words.on_word source word self.old) self.old self.new outputs.old.outs outputs.new.outs) }
+        ensures ok { OnOk result (Turns (words.on_word source word self.old)
+            self.old self.new outputs.old.outs outputs.new.outs) }
         ensures err { OnErr result (Stays self.old self.new outputs.old.outs outputs.new.outs) }
     {
         match word {

@@ -37,49 +37,62 @@ pub fn run(
     settings: Settings,
     steps: Vec<Step>,
 ) -> Result<(Controller, Outputs), Memory>
-    ensures life { IfOk result (λ both. (both.0 ≡ (words.life settings steps.items).next) × (both.1.outs ≡ (words.life settings steps.items).outs)) }
+    ensures life { IfOk result (λ both. (both.0 ≡ (words.life settings steps.items).next)
+        × (both.1.outs ≡ (words.life settings steps.items).outs)) }
 
     // Of each connection while it is open, and of each SAPI: what was relayed to the switch, then
     // what is held, is what came on its channels; what was handed to the mobile, then what is held,
     // is what the switch sent and wasn't rejected. Always, what was handed is some of what the
     // switch sent, in its order.
-    ensures uplink { IfOk result (λ both. (number : ℕ) → 1 ≤ number → UplinkIsConserved number settings steps.items (turn both.1.outs both.0)) }
-    ensures downlink { IfOk result (λ both. (number : ℕ) → 1 ≤ number → DownlinkIsConserved number settings steps.items (turn both.1.outs both.0)) }
+    ensures uplink { IfOk result (λ both. (number : ℕ) → 1 ≤ number →
+        UplinkIsConserved number settings steps.items (turn both.1.outs both.0)) }
+    ensures downlink { IfOk result (λ both. (number : ℕ) → 1 ≤ number →
+        DownlinkIsConserved number settings steps.items (turn both.1.outs both.0)) }
 
     // Nothing is handed while its channel changes, and nothing is relayed or handed once it is
     // closed, whatever comes.
-    ensures silence { IfOk result (λ both. (number : ℕ) → 1 ≤ number → SilenceIsKept number settings steps.items (turn both.1.outs both.0)) }
-    ensures closed { IfOk result (λ both. (rest : List StepValue) (number : ℕ) → 1 ≤ number → number < both.0.next_number
-        → (IsThere (connection_of both.0 number) → ⊥) → StaysSilent number both.0 rest) }
+    ensures silence { IfOk result (λ both. (number : ℕ) → 1 ≤ number →
+        SilenceIsKept number settings steps.items (turn both.1.outs both.0)) }
+    ensures closed { IfOk result (λ both. (rest : List StepValue) (number : ℕ) → 1 ≤ number →
+        number < both.0.next_number → (IsThere (connection_of both.0 number) → ⊥) →
+        StaysSilent number both.0 rest) }
 
     // Told by the messages alone: nothing is handed from the COMMAND until COMPLETE, FAILURE or a
     // clear; else it goes to the channel that serves; and once CLEAR COMPLETE was put only RLC is
     // put.
-    ensures handing { IfOk result (λ both. (number : ℕ) → 1 ≤ number → HandsInPlace number settings steps.items (turn both.1.outs both.0)) }
+    ensures handing { IfOk result (λ both. (number : ℕ) → 1 ≤ number →
+        HandsInPlace number settings steps.items (turn both.1.outs both.0)) }
 
     // Its channels are its own: a channel is in use by a connection exactly where the connection
     // uses it.
-    ensures channels { IfOk result (λ both. (number : ℕ) → OwnsOpen both.0.channels both.0.links number (connection_of both.0 number)) }
+    ensures channels { IfOk result (λ both. (number : ℕ) →
+        OwnsOpen both.0.channels both.0.links number (connection_of both.0 number)) }
     ensures used { IfOk result (λ both. AreUsed both.0) }
 
     // Connections have rising numbers, below the next one, and are there only while the link of the
     // switch is up.
     ensures numbers { IfOk result (λ both. IsNumbered both.0) }
-    ensures linked { IfOk result (λ both. (number : ℕ) → 1 ≤ number → LinkedOf (is_up both.0 SWITCH_LINK) (connection_of both.0 number)) }
+    ensures linked { IfOk result (λ both. (number : ℕ) → 1 ≤ number →
+        LinkedOf (is_up both.0 SWITCH_LINK) (connection_of both.0 number)) }
 
     // Whatever step comes next, it does one row of the table to a connection at most, and puts its
     // messages on channels that it uses then, to links that are up, with an IMMEDIATE ASSIGNMENT
     // for its own mobile alone; and a frame leaves all connections that it doesn't concern as they
     // are.
-    ensures rows { IfOk result (λ both. (next : StepValue) (number : ℕ) → 1 ≤ number → ActsOn number both.0 next) }
-    ensures placed { IfOk result (λ both. (next : StepValue) (number : ℕ) → 1 ≤ number → KeepsToChannels number both.0 next) }
+    ensures rows { IfOk result (λ both. (next : StepValue) (number : ℕ) → 1 ≤ number →
+        ActsOn number both.0 next) }
+    ensures placed { IfOk result (λ both. (next : StepValue) (number : ℕ) → 1 ≤ number →
+        KeepsToChannels number both.0 next) }
     ensures reach { IfOk result (λ both. (next : StepValue) → GoesToUp both.0 next) }
-    ensures named { IfOk result (λ both. (next : StepValue) (number : ℕ) → 1 ≤ number → NamesItsMobile number both.0 next) }
-    ensures others { IfOk result (λ both. (number source : ℕ) (frame : FrameValue) → 1 ≤ number → FrameLeaves number both.0 source frame) }
+    ensures named { IfOk result (λ both. (next : StepValue) (number : ℕ) → 1 ≤ number →
+        NamesItsMobile number both.0 next) }
+    ensures others { IfOk result (λ both. (number source : ℕ) (frame : FrameValue) → 1 ≤ number →
+        FrameLeaves number both.0 source frame) }
 
     // Where what came was octets, each frame has 2,048 octets at most, and is read as the message
     // that was put.
-    ensures sent { IfOk result (λ both. AllByRecursion ComesInOctets steps.items → AllByRecursion IsSent both.1.outs) }
+    ensures sent { IfOk result (λ both. AllByRecursion ComesInOctets steps.items →
+        AllByRecursion IsSent both.1.outs) }
 {
     live(alloc, settings, steps)
 }
@@ -91,7 +104,8 @@ fn live(
     settings: Settings,
     steps: Vec<Step>,
 ) -> Result<(Controller, Outputs), Memory>
-    ensures life { IfOk result (λ both. (both.0 ≡ (words.life settings steps.items).next) × (both.1.outs ≡ (words.life settings steps.items).outs)) }
+    ensures life { IfOk result (λ both. (both.0 ≡ (words.life settings steps.items).next)
+        × (both.1.outs ≡ (words.life settings steps.items).outs)) }
     ensures allowed { AreAllowed settings }
 {
     let mut controller = Controller::new(alloc, settings)?;
@@ -109,7 +123,8 @@ impl Controller {
     /// Does a step. What it puts is appended to the outputs. A refusal, for lack of memory, changes
     /// nothing.
     pub fn run_one(&mut self, step: Step, outputs: &mut Outputs) -> Result<(), Memory>
-        ensures ok { OnOk result (Turns (words.step self.old step) self.old self.new outputs.old.outs outputs.new.outs) }
+        ensures ok { OnOk result (Turns (words.step self.old step)
+            self.old self.new outputs.old.outs outputs.new.outs) }
         ensures err { OnErr result (Stays self.old self.new outputs.old.outs outputs.new.outs) }
     {
         match step {
@@ -120,7 +135,8 @@ impl Controller {
 
     // Does these steps, one after the other. What they put is appended to the outputs.
     fn run_all(&mut self, steps: Vec<Step>, outputs: &mut Outputs) -> Result<(), Memory>
-        ensures { OnOk result (Turns (each words.step self.old steps.items) self.old self.new outputs.old.outs outputs.new.outs) }
+        ensures { OnOk result (Turns (each words.step self.old steps.items)
+            self.old self.new outputs.old.outs outputs.new.outs) }
     {
         for step in steps {
             self.run_one(step, outputs)?;

@@ -43,7 +43,8 @@ impl Controller {
     /// Plans the steps of all connections that do one, by rising number. It takes all memory that
     /// they want but that of the outputs.
     fn plan_all(&self, cause: &Cause) -> Result<Vec<Planned>, Memory>
-        ensures planned { IfOk result (λ planned. map planned_for planned.items ≡ all_due cause.now self.now.settings.timers self.now.entries) }
+        ensures planned { IfOk result (λ planned. map planned_for planned.items
+            ≡ all_due cause.now self.now.settings.timers self.now.entries) }
         ensures rising { AreRising self.now.entries }
     {
         let mut planned = Vec::new(self.alloc);
@@ -62,7 +63,8 @@ impl Controller {
         cause: &Cause,
         outputs: &mut Outputs,
     ) -> Result<Vec<Planned>, Memory>
-        ensures planned { IfOk result (λ planned. map planned_for planned.items ≡ all_due cause.now self.now.settings.timers self.now.entries) }
+        ensures planned { IfOk result (λ planned. map planned_for planned.items
+            ≡ all_due cause.now self.now.settings.timers self.now.entries) }
         ensures rising { AreRising self.now.entries }
         ensures room { IfOk result (λ planned. sum_by frames_of planned.items ≤ outputs.new.spare) }
         ensures outs { outputs.new.outs ≡ outputs.old.outs }
@@ -75,7 +77,9 @@ impl Controller {
     }
 
     fn plan_one(&self, conn: &Conn, cause: &Cause, planned: &mut Vec<Planned>) -> Result<(), Memory>
-        ensures { OnOk result (map planned_for planned.new.items ≡ map planned_for planned.old.items ++ due_of cause.now self.now.settings.timers conn.now) }
+        ensures { OnOk result (map planned_for planned.new.items
+            ≡ map planned_for planned.old.items
+            ++ due_of cause.now self.now.settings.timers conn.now) }
     {
         if let Some(input) = self.due(cause, conn) {
             let plan = conn.plan(input)?;
@@ -100,7 +104,8 @@ impl Controller {
     pub(crate) fn carry_out(&mut self, planned: Vec<Planned>, outputs: &mut Outputs)
         requires ready { AreReady (map planned_for planned.items) self.old.entries }
         requires room { sum_by frames_of planned.items ≤ outputs.old.spare }
-        ensures { Turns (each carried_out self.old (map planned_for planned.items)) self.old self.new outputs.old.outs outputs.new.outs }
+        ensures { Turns (each carried_out self.old (map planned_for planned.items))
+            self.old self.new outputs.old.outs outputs.new.outs }
     {
         for one in planned {
             self.carry_out_one(one, outputs);
@@ -110,7 +115,8 @@ impl Controller {
     fn carry_out_one(&mut self, one: Planned, outputs: &mut Outputs)
         requires ready { IsReadyFor one.plan.was (entry_of self.old one.number) }
         requires room { frames_of one ≤ outputs.old.spare }
-        ensures turns { Turns (carried_out self.old (planned_for one)) self.old self.new outputs.old.outs outputs.new.outs }
+        ensures turns { Turns (carried_out self.old (planned_for one))
+            self.old self.new outputs.old.outs outputs.new.outs }
         ensures room { outputs.old.spare ≤ outputs.new.spare + frames_of one }
     {
         let Planned { number, plan } = one;

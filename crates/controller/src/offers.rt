@@ -17,7 +17,8 @@ impl Controller {
     /// What would be offered to an assignment that begins with this input, as far as one may.
     pub(crate) fn offer_for(&self, number: u32, input: &Input) -> Option<Channel>
         ensures offer { IsOffer self.now.settings result }
-        ensures row { (e : Entry) → entry_of self.now number ≡ Some e → row_of e.connection input.now result ≡ row_in self.now e.connection input.now }
+        ensures row { (e : Entry) → entry_of self.now number ≡ Some e →
+            row_of e.connection input.now result ≡ row_in self.now e.connection input.now }
     {
         if !may_begin(input) {
             return None;

@@ -26,7 +26,9 @@ impl Controller {
         outputs: &mut Outputs,
     ) -> Result<(), Memory>
         requires { report.now.valid ≡ true }
-        ensures ok { OnOk result (Turns (words.on_report at.now number report.now self.old (words.entry_at self.old (channel_state self.old at.now))) self.old self.new outputs.old.outs outputs.new.outs) }
+        ensures ok { OnOk result (Turns (words.on_report at.now number report.now
+            self.old (words.entry_at self.old (channel_state self.old at.now)))
+            self.old self.new outputs.old.outs outputs.new.outs) }
         ensures err { OnErr result (Stays self.old self.new outputs.old.outs outputs.new.outs) }
     {
         let state = self.channels.state(*at);
@@ -47,7 +49,9 @@ impl Controller {
         outputs: &mut Outputs,
     ) -> Result<(), Memory>
         requires { report.now.valid ≡ true }
-        ensures ok { OnOk result (Turns (words.on_report at.now number report.now self.old (entry_of self.old connection)) self.old self.new outputs.old.outs outputs.new.outs) }
+        ensures ok { OnOk result (Turns (words.on_report at.now number report.now
+            self.old (entry_of self.old connection))
+            self.old self.new outputs.old.outs outputs.new.outs) }
         ensures err { OnErr result (Stays self.old self.new outputs.old.outs outputs.new.outs) }
     {
         if self.measures(connection, at) {
@@ -79,7 +83,9 @@ impl Controller {
     ) -> Result<(), Memory>
         requires valid { report.now.valid ≡ true }
         requires there { IsSome (entry_of self.old connection) }
-        ensures ok { OnOk result (Turns (measured_in number report.now self.old (entry_of self.old connection)) self.old self.new outputs.old.outs outputs.new.outs) }
+        ensures ok { OnOk result (Turns (measured_in number report.now
+            self.old (entry_of self.old connection))
+            self.old self.new outputs.old.outs outputs.new.outs) }
         ensures err { OnErr result (Stays self.old self.new outputs.old.outs outputs.new.outs) }
     {
         let decision = self.connections.decide_with(connection, report, number)?;
@@ -95,7 +101,9 @@ impl Controller {
         outputs: &mut Outputs,
     ) -> Result<(), Memory>
         requires { HasCell decision }
-        ensures ok { OnOk result (Turns (decided_in decision self.old (entry_of self.old connection)) self.old self.new outputs.old.outs outputs.new.outs) }
+        ensures ok { OnOk result (Turns (decided_in decision
+            self.old (entry_of self.old connection))
+            self.old self.new outputs.old.outs outputs.new.outs) }
         ensures err { OnErr result (Stays self.old self.new outputs.old.outs outputs.new.outs) }
     {
         match decision {
@@ -107,7 +115,8 @@ impl Controller {
     // A handover to this cell begins, where one may.
     fn hand_over(&mut self, connection: u32, cell: u16, outputs: &mut Outputs) -> Result<(), Memory>
         requires { 1 ≤ cell }
-        ensures ok { OnOk result (Turns (moved_in cell self.old (entry_of self.old connection)) self.old self.new outputs.old.outs outputs.new.outs) }
+        ensures ok { OnOk result (Turns (moved_in cell self.old (entry_of self.old connection))
+            self.old self.new outputs.old.outs outputs.new.outs) }
         ensures err { OnErr result (Stays self.old self.new outputs.old.outs outputs.new.outs) }
     {
         let Some(serving) = self.serving_of(connection) else {

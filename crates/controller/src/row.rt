@@ -25,7 +25,8 @@ impl Controller {
         outputs: &mut Outputs,
     ) -> Result<(), Memory>
         requires { IsCarried input }
-        ensures ok { OnOk result (Turns (concerning input self.old (entry_of self.old number)) self.old self.new outputs.old.outs outputs.new.outs) }
+        ensures ok { OnOk result (Turns (concerning input self.old (entry_of self.old number))
+            self.old self.new outputs.old.outs outputs.new.outs) }
         ensures err { OnErr result (Stays self.old self.new outputs.old.outs outputs.new.outs) }
     {
         if !self.do_row(number, input, outputs)? {
@@ -43,8 +44,10 @@ impl Controller {
         outputs: &mut Outputs,
     ) -> Result<bool, Memory>
         requires { IsCarried input }
-        ensures fits { IfOk result (λ fits. fits ≡ fits_in self.old input (entry_of self.old number)) }
-        ensures ok { OnOk result (Turns (concerning_too input self.old (entry_of self.old number)) self.old self.new outputs.old.outs outputs.new.outs) }
+        ensures fits { IfOk result
+            (λ fits. fits ≡ fits_in self.old input (entry_of self.old number)) }
+        ensures ok { OnOk result (Turns (concerning_too input self.old (entry_of self.old number))
+            self.old self.new outputs.old.outs outputs.new.outs) }
         ensures err { OnErr result (Stays self.old self.new outputs.old.outs outputs.new.outs) }
     {
         let offer = self.offer_for(number, &input);
@@ -61,8 +64,10 @@ impl Controller {
     ) -> Result<bool, Memory>
         requires carried { IsCarried input }
         requires offer { IsOffer self.old.settings offer }
-        ensures fits { IfOk result (λ fits. fits ≡ fits_with input offer (entry_of self.old number)) }
-        ensures ok { OnOk result (Turns (by_offer input offer self.old (entry_of self.old number)) self.old self.new outputs.old.outs outputs.new.outs) }
+        ensures fits { IfOk result
+            (λ fits. fits ≡ fits_with input offer (entry_of self.old number)) }
+        ensures ok { OnOk result (Turns (by_offer input offer self.old (entry_of self.old number))
+            self.old self.new outputs.old.outs outputs.new.outs) }
         ensures err { OnErr result (Stays self.old self.new outputs.old.outs outputs.new.outs) }
     {
         let from = outputs.len();
@@ -76,8 +81,8 @@ impl Controller {
     /// Follows the frames that a connection put: which channels they take into use or release, and
     /// how many handovers they begin.
     pub(crate) fn follow(&mut self, number: u32, outs: &[Out])
-        ensures { (messages : List Message) → AllByRecursion IsSound messages → outs.now ≡ outs_of number messages
-            → self.new ≡ following number messages self.old }
+        ensures { (messages : List Message) → AllByRecursion IsSound messages →
+            outs.now ≡ outs_of number messages → self.new ≡ following number messages self.old }
     {
         self.channels.follow(number, outs);
         let begun = handovers_begun(outs);

@@ -15,7 +15,8 @@ impl Controller {
     /// So many milliseconds pass: for all connections; then what expires does, by rising number of
     /// the connections. A refusal, for lack of memory, changes nothing.
     pub fn tick(&mut self, ms: u32, outputs: &mut Outputs) -> Result<(), Memory>
-        ensures ok { OnOk result (Turns (words.tick ms self.old) self.old self.new outputs.old.outs outputs.new.outs) }
+        ensures ok { OnOk result (Turns (words.tick ms self.old)
+            self.old self.new outputs.old.outs outputs.new.outs) }
         ensures err { OnErr result (Stays self.old self.new outputs.old.outs outputs.new.outs) }
     {
         let planned = self.plan_with_room(&Cause::Time(ms), outputs)?;
