@@ -1,5 +1,6 @@
 -- What the options of `replay` ask for.
-use Rattle.std.specs.Prelude.{ℕ, List, length, Option, Some, None, Result, Ok, Err}
+use Rattle.std.specs.Prelude.{ℕ, List, length, Option, Some, None, Result, Ok, Err, option_map}
+use Rattle.std.specs.Borrow.{Bor}
 use Rattle.settings.specs.Parameters.{Parameters}
 use Rattle.program_base.specs.Words.{source_in}
 use Rattle.program_base.specs.declared.fault.ProgramFault.{ProgramFault}
@@ -21,7 +22,8 @@ asked_of_source settings (Some source) = Ok (breaking settings source)
 abbrev pub asked_with : Result Parameters ProgramFault → Option (List ℕ) → Result Asked ProgramFault
 asked_with (Err fault) breaks = Err fault
 asked_with (Ok settings) None = Ok (controlled settings)
-asked_with (Ok settings) (Some word) = asked_of_source settings (source_in (length settings.cells) word)
+asked_with (Ok settings) (Some word) =
+    asked_of_source settings (source_in (length settings.cells) word)
 
 -- What the settings' text and the word behind `--break` ask for, or why it is nothing. Settings
 -- come first, and `--break` wants some.
@@ -29,6 +31,15 @@ abbrev pub asked : Option (List ℕ) → Option (List ℕ) → Result Asked Prog
 asked (Some text) breaks = asked_with (settings_of text) breaks
 asked None None = Ok fixed
 asked None (Some word) = Err BadBreak
+
+-- what `replay` is asked for, by what it is given
+abbrev pub asked_for : Option (Bor (List ℕ)) → Option (Bor (List ℕ)) → Result Asked ProgramFault
+asked_for settings breaks =
+    asked (option_map (λ text. text.now) settings) (option_map (λ word. word.now) breaks)
+
+-- the same, where it is given the text of settings
+abbrev pub asked_of_text : List ℕ → Option (Bor (List ℕ)) → Result Asked ProgramFault
+asked_of_text text breaks = asked_with (settings_of text) (option_map (λ word. word.now) breaks)
 
 -- how many cells the script counts with
 abbrev pub cells_of : Asked → ℕ

@@ -1,5 +1,6 @@
 -- The lines of a script that is broken at each place.
-use Rattle.std.specs.Prelude.{ℕ, zero, suc, ◌+◌, ◌-◌, ◌^◌, List, [], ◌++◌, length, codes, decimal, Option, Some, None, unwrap_or}
+use Rattle.std.specs.Prelude.{ℕ, zero, suc, ◌+◌, ◌-◌, ◌^◌, List, [], ◌++◌, length, codes, decimal}
+use Rattle.std.specs.Prelude.{Option, Some, None, unwrap_or}
 use Rattle.world_model.specs.declared.event.Event.{Event}
 use Rattle.world.specs.declared.world.Scene.{Scene}
 use Rattle.world.specs.Views.{sent_list, accepted_list}
@@ -33,7 +34,9 @@ sent_by_all scene = count_to (sent_list scene) 255
 -- the line of a place
 abbrev pub break_line : ℕ → Scene → List ℕ
 break_line place scene =
-    codes "break " ++ decimal place ++ codes " accepted " ++ decimal (accepted_by_all scene) ++ codes " sent " ++ decimal (sent_by_all scene) ++ codes "\n"
+    codes "break " ++ decimal place
+    ++ codes " accepted " ++ decimal (accepted_by_all scene)
+    ++ codes " sent " ++ decimal (sent_by_all scene) ++ codes "\n"
 
 -- the texts of 0, 1, and so on, this many
 unfoldable pub texts_below : (ℕ → List ℕ) → ℕ → List ℕ
@@ -46,4 +49,6 @@ broken_world begin events source place = after_all begin (broken events place so
 
 -- the lines of all places, from before the first event to behind the last
 abbrev pub break_lines : WorldState → List Event → ℕ → List ℕ
-break_lines begin events source = texts_below (λ place. break_line place (broken_world begin events source place).scene) (length events + 1)
+break_lines begin events source = texts_below
+    (λ place. break_line place (broken_world begin events source place).scene)
+    (length events + 1)

@@ -6,7 +6,7 @@ use Rattle.world.specs.World.{after_all, controlled_world, fixed_world}
 use Rattle.bsc_program.specs.Asked.{Asked, fixed, controlled, breaking, cells_of}
 use Rattle.bsc_program.specs.Breaks.{break_lines}
 use Rattle.bsc_program.specs.Report.{IsReport}
-use Rattle.bsc_program.specs.Script.{IsBadScript, IsScript}
+use Rattle.bsc_program.specs.Script.{HasBadLineAt, IsBadScript, IsScript}
 use Rattle.program_base.specs.declared.fault.ProgramFault.{ProgramFault}
 use Rattle.program_base.specs.declared.fault.ProgramFault.TheVariants.{Failed}
 use Rattle.program_base.specs.declared.failure.Failure.TheVariants.{BadEvent, Memory, Device}
@@ -16,23 +16,27 @@ use Rattle.program_base.specs.declared.failure.Failure.TheVariants.{BadEvent, Me
 -- of the source breaks in that world.
 abbrev pub IsPrinted : Asked → List Event → List ℕ → Type 0
 IsPrinted fixed events text = IsReport (after_all (fixed_world 4) events) text
-IsPrinted (controlled settings) events text = IsReport (after_all (controlled_world settings) events) text
-IsPrinted (breaking settings source) events text = text ≡ break_lines (controlled_world settings) events source
+IsPrinted (controlled settings) events text =
+    IsReport (after_all (controlled_world settings) events) text
+IsPrinted (breaking settings source) events text =
+    text ≡ break_lines (controlled_world settings) events source
 
 -- Known contents grew by what a known script's events give.
 abbrev pub Replays : Asked → Option (List ℕ) → Option (List ℕ) → Option (List ℕ) → Type 0
 Replays asked start old new =
-    IfSome start (λ octets. (events : List Event) × (text : List ℕ) × IsScript (cells_of asked) octets events × IsPrinted asked events text × Appends old new text)
+    IfSome start (λ octets. (events : List Event) × (text : List ℕ)
+    × IsScript (cells_of asked) octets events × IsPrinted asked events text × Appends old new text)
 
 -- a known script has a bad line
 abbrev pub HasBadLine : Asked → Option (List ℕ) → Type 0
-HasBadLine asked start = IfSome start (λ octets. (number : ℕ) × IsBadScript (cells_of asked) octets number)
+HasBadLine asked start =
+    IfSome start (λ octets. (number : ℕ) × IsBadScript (cells_of asked) octets number)
 
 -- Why not all is printed: what is asked for is at fault, where memory isn't wanted before that is
 -- known; or a known script has a bad line, with this number; or memory or a device failed.
 abbrev pub Fails : Result Asked ProgramFault → Option (List ℕ) → ProgramFault → Type 0
 Fails (Err found) start fault = (fault ≡ found) ⊎ (fault ≡ Failed Memory)
-Fails (Ok asked) start (Failed (BadEvent number)) = IfSome start (λ octets. IsBadScript (cells_of asked) octets number)
+Fails (Ok asked) start (Failed (BadEvent number)) = HasBadLineAt (cells_of asked) start number
 Fails (Ok asked) start (Failed Memory) = Unit {0}
 Fails (Ok asked) start (Failed Device) = Unit {0}
 Fails (Ok asked) start _ = ⊥

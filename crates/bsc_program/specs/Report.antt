@@ -1,5 +1,6 @@
 -- The report of a world.
-use Rattle.std.specs.Prelude.{◌≡◌, ℕ, zero, suc, ◌<◌, ◌≤◌, ◌-◌, ◌^◌, List, [], ◌++◌, length, codes, decimal, Option, Some, None, IsSome, unwrap_or, Bool, true, false}
+use Rattle.std.specs.Prelude.{◌≡◌, ℕ, zero, suc, ◌<◌, ◌≤◌, ◌-◌, ◌^◌, List, [], ◌++◌, length, codes}
+use Rattle.std.specs.Prelude.{decimal, Option, Some, None, IsSome, unwrap_or, Bool, true, false}
 use Rattle.std.specs.Io.KnownBytes.{Appends, Keeps}
 use Rattle.std.specs.List.{flat_map}
 use Rattle.hex.specs.Hex.{encode_lower}
@@ -21,24 +22,28 @@ list_text whose number what messages = whose ++ decimal number ++ what ++ counte
 
 abbrev pub mobile_by : ℕ → Option (List (List ℕ)) → Option (List (List ℕ)) → List ℕ
 mobile_by number (Some sent) (Some received) =
-    list_text (codes "mobile ") number (codes " sent ") sent ++ list_text (codes "mobile ") number (codes " received ") received
+    list_text (codes "mobile ") number (codes " sent ") sent
+    ++ list_text (codes "mobile ") number (codes " received ") received
 mobile_by number _ _ = []
 
 -- the lists of a mobile, where there is one with this number
 abbrev pub mobile_text : Scene → ℕ → List ℕ
 mobile_text scene number = mobile_by number (sent_list scene number) (received_list scene number)
 
-abbrev pub connection_by : ℕ → Option (List (List ℕ)) → Option (List (List ℕ)) → Option (List (List ℕ)) → Option (List ℕ)
+abbrev pub connection_by : ℕ → Option (List (List ℕ)) → Option (List (List ℕ))
+    → Option (List (List ℕ)) → Option (List ℕ)
 connection_by number (Some taken) (Some accepted) (Some unnumbered) =
     Some (
-    list_text (codes "conn ") number (codes " taken ") taken ++ list_text (codes "conn ") number (codes " accepted ") accepted
+    list_text (codes "conn ") number (codes " taken ") taken
+    ++ list_text (codes "conn ") number (codes " accepted ") accepted
     ++ list_text (codes "conn ") number (codes " unnumbered ") unnumbered
     )
 connection_by number _ _ _ = None
 
 -- the lists of a connection of the switch; None where there is none with this number
 abbrev pub connection_text : Scene → ℕ → Option (List ℕ)
-connection_text scene number = connection_by number (taken_list scene number) (accepted_list scene number) (unnumbered_list scene number)
+connection_text scene number = connection_by number
+    (taken_list scene number) (accepted_list scene number) (unnumbered_list scene number)
 
 -- the texts of 1, 2, and so on up to a number
 unfoldable pub texts_to : (ℕ → List ℕ) → ℕ → List ℕ
@@ -62,7 +67,8 @@ not_taken_line n = codes "events not taken " ++ decimal n ++ codes "\n"
 abbrev pub IsReport : WorldState → List ℕ → Type 0
 IsReport world text =
     (connections : List ℕ) × AreConnections world.scene connections
-    × (text ≡ texts_to (mobile_text world.scene) 255 ++ connections ++ not_taken_line world.not_taken)
+    × (text ≡ texts_to (mobile_text world.scene) 255 ++ connections
+    ++ not_taken_line world.not_taken)
 
 -- a text was written where there is one
 abbrev pub WritesIfSome : Bool → Option (List ℕ) → Option (List ℕ) → Option (List ℕ) → Type 0

@@ -1,5 +1,6 @@
 -- A script: the lines of events.
-use Rattle.std.specs.Prelude.{◌≡◌, ◌≢◌, ◌⊎◌, ℕ, ◌+◌, ◌-◌, ◌^◌, min, List, [], ◌∷◌, ◌++◌, length, codes}
+use Rattle.std.specs.Prelude.{◌≡◌, ◌≢◌, ◌⊎◌, ℕ, ◌+◌, ◌-◌, ◌^◌, min, List, [], ◌∷◌, ◌++◌, length}
+use Rattle.std.specs.Prelude.{codes, Option, IfSome}
 use Rattle.std.specs.List.{flat_map, AllByRecursion}
 use Rattle.std.specs.Str.{IsUtf8}
 use Rattle.world_model.specs.declared.event.Event.{Event}
@@ -16,7 +17,8 @@ lines_text lines = flat_map (λ line. line ++ codes "\n") lines
 -- the lines are the texts of the events, one by one
 abbrev pub AreTexts : ℕ → List Event → List (List ℕ) → Type 0
 AreTexts cells [] [] = Unit {0}
-AreTexts cells (event ∷ events) (line ∷ lines) = IsLine cells event line × AreTexts cells events lines
+AreTexts cells (event ∷ events) (line ∷ lines) =
+    IsLine cells event line × AreTexts cells events lines
 AreTexts cells _ _ = ⊥
 
 -- The octets are the lines of these events, where there are so many cells. The last may lack its
@@ -44,9 +46,14 @@ pub record IsBadScript (cells : ℕ) (octets : List ℕ) (number : ℕ) : Type 0
   pub line : List ℕ
   pub behind : List ℕ
   pub no_feeds : AllByRecursion HasNoFeed lines × HasNoFeed line
-  pub ended : ((octets ≡ lines_text lines ++ line) × (line ≢ [])) ⊎ (octets ≡ lines_text lines ++ (line ++ codes "\n" ++ behind))
+  pub ended : ((octets ≡ lines_text lines ++ line) × (line ≢ []))
+      ⊎ (octets ≡ lines_text lines ++ (line ++ codes "\n" ++ behind))
   pub bad : IsBadLine cells line
   pub is : number ≡ line_count (length lines + 1)
+
+-- a known script has a bad line, with this number
+abbrev pub HasBadLineAt : ℕ → Option (List ℕ) → ℕ → Type 0
+HasBadLineAt cells start number = IfSome start (λ octets. IsBadScript cells octets number)
 
 -- ---- what the reader's calls do
 
@@ -67,7 +74,8 @@ pub record Reads (old new : Script) (octets : List ℕ) : Type 0 where
   pub lines : List (List ℕ)
   pub added : List Event
   pub texts : AreTexts old.cells added lines
-  pub no_feeds : HasNoFeed old.started.items → AllByRecursion HasNoFeed lines × HasNoFeed new.started.items
+  pub no_feeds : HasNoFeed old.started.items
+      → AllByRecursion HasNoFeed lines × HasNoFeed new.started.items
   pub events : new.events.items ≡ old.events.items ++ added
   pub parts : old.started.items ++ octets ≡ lines_text lines ++ new.started.items
   pub cells : new.cells ≡ old.cells
@@ -89,4 +97,5 @@ pub record RefusesAt (old : Script) (octets : List ℕ) (number : ℕ) : Type 0 
 -- started.
 abbrev pub Finishes : Script → List Event → Type 0
 Finishes script events = ((script.started.items ≡ []) × (events ≡ script.events.items))
-    ⊎ ((event : Event) × IsLine script.cells event script.started.items × (events ≡ script.events.items ++ event ∷ []))
+    ⊎ ((event : Event) × IsLine script.cells event script.started.items
+    × (events ≡ script.events.items ++ event ∷ []))

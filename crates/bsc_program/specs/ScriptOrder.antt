@@ -9,4 +9,6 @@ use Rattle.bsc_program.specs.Script.{IsScript}
 -- A script for a network of allowed settings: the world that its events make is in order.
 abbrev pub ScriptsRunInOrder : Parameters → List ℕ → List Event → Type 0
 ScriptsRunInOrder settings octets events =
-    AreAllowed settings → IsScript (length settings.cells) octets events → IsInOrder (controlled_world settings).scene events (after_all (controlled_world settings) events).scene
+    AreAllowed settings → IsScript (length settings.cells) octets events
+    → IsInOrder (controlled_world settings).scene events
+    (after_all (controlled_world settings) events).scene

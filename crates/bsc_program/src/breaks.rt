@@ -3,7 +3,8 @@ ghost use Rattle.std.specs.Io.KnownBytes.{Appends};
 ghost use Rattle.world.specs.Views.{sent_list};
 ghost use Rattle.world.specs.World.{controlled_world};
 ghost use Rattle.program_base.specs.SettingsText.{settings_of};
-ghost use Rattle.bsc_program.specs.Breaks.{accepted_by_all, break_line, break_lines, broken_world, sent_by_all};
+ghost use Rattle.bsc_program.specs.Breaks.{accepted_by_all, break_line, break_lines, broken_world};
+ghost use Rattle.bsc_program.specs.Breaks.{sent_by_all};
 ghost use Rattle.program_base.specs.Status.{status_of};
 
 use program_base::{Failure, read_settings};
@@ -22,7 +23,8 @@ pub(crate) fn write_breaks<W: Write>(
     output: &mut W,
 ) -> Result<(), Failure>
     ensures ok { OnOk result (IfOk (settings_of text.now) (λ settings.
-        Appends (W.contents output.old) (W.contents output.new) (break_lines (controlled_world settings) events.now source))) }
+        Appends (W.contents output.old) (W.contents output.new)
+        (break_lines (controlled_world settings) events.now source))) }
     ensures err { IfErr result (λ failure. status_of failure ≡ 3) }
 {
     for place in 0..=events.len() {
@@ -42,8 +44,10 @@ fn write_broken<W: Write>(
     place: usize,
     output: &mut W,
 ) -> Result<(), Failure>
-    ensures ok { OnOk result (IfOk (settings_of text.now) (λ settings. Appends (W.contents output.old) (W.contents output.new)
-        (break_line place (broken_world (controlled_world settings) events.now source place).scene))) }
+    ensures ok { OnOk result (IfOk (settings_of text.now) (λ settings.
+        Appends (W.contents output.old) (W.contents output.new)
+        (break_line place
+        (broken_world (controlled_world settings) events.now source place).scene))) }
     ensures err { IfErr result (λ failure. status_of failure ≡ 3) }
 {
     let Ok(settings) = read_settings(alloc, text) else {
@@ -56,7 +60,8 @@ fn write_broken<W: Write>(
 /// Writes the line of a world in which a link broke at this place of the script: how many messages
 /// of the flow the switch accepted on all connections, and how many all mobiles sent.
 fn write_break<W: Write>(world: &World, place: usize, output: &mut W) -> Result<(), Failure>
-    ensures ok { OnOk result (Appends (W.contents output.old) (W.contents output.new) (break_line place world.now.scene)) }
+    ensures ok { OnOk result (Appends (W.contents output.old) (W.contents output.new)
+        (break_line place world.now.scene)) }
     ensures err { IfErr result (λ failure. status_of failure ≡ 3) }
 {
     let accepted = accepted_by_all(world);

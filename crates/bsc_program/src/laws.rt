@@ -11,11 +11,13 @@ ghost use Rattle.bsc_program.specs.ScriptOrder.{ScriptsRunInOrder};
 /// make is in order: what the switch accepts in a connection is the beginning of what its mobile
 /// sent, no gap is ever judged, and each queue gives what was put there.
 pub fn scripts_run_in_order()
-    ensures { (settings : Parameters) (octets : List ℕ) (events : List Event) → ScriptsRunInOrder settings octets events }
+    ensures { (settings : Parameters) (octets : List ℕ) (events : List Event)
+        → ScriptsRunInOrder settings octets events }
 {}
 
 /// Law: the event of a script line is of octets, as the order of messages asks of events in a world
 /// with a controller.
 pub fn lines_are_of_octets()
-    ensures { (cells : ℕ) (event : Event) (line : List ℕ) → IsLine cells event line → IsOctetEvent event }
+    ensures { (cells : ℕ) (event : Event) (line : List ℕ)
+        → IsLine cells event line → IsOctetEvent event }
 {}

@@ -1,11 +1,12 @@
-ghost use Rattle.std.specs.Prelude.{◌≡◌, ◌≢◌, ◌⊎◌, ℕ, List, Some, None, Err, IfErr, IfOk, IfSome, IsErrAnd, IsOkAnd, MatchResult, OnOk, option_map, length};
+ghost use Rattle.std.specs.Prelude.{◌≡◌, ◌≢◌, ◌⊎◌, ℕ, List, Some, None, Err, IfErr, IfOk, IsErrAnd};
+ghost use Rattle.std.specs.Prelude.{IsOkAnd, MatchResult, OnOk, length};
 ghost use Rattle.std.specs.Io.KnownBytes.{Appends, IsAtEnd};
 ghost use Rattle.world.specs.World.{after_all};
 ghost use Rattle.program_base.specs.Words.{source_in};
-ghost use Rattle.bsc_program.specs.Asked.{asked, asked_with, breaking, controlled, fixed};
+ghost use Rattle.bsc_program.specs.Asked.{asked_for, asked_of_text, breaking, controlled, fixed};
 ghost use Rattle.bsc_program.specs.Replayed.{Fails, HasBadLine, Replays};
 ghost use Rattle.bsc_program.specs.Report.{IsReport};
-ghost use Rattle.bsc_program.specs.Script.{IsBadScript};
+ghost use Rattle.bsc_program.specs.Script.{HasBadLineAt};
 ghost use Rattle.program_base.specs.SettingsText.{settings_of};
 ghost use Rattle.program_base.specs.Status.{status_of, status_of_fault};
 ghost use Rattle.program_base.specs.declared.failure.Failure.TheVariants.{BadEvent};
@@ -41,19 +42,20 @@ pub fn replay<R: Read, W: Write, E: Write>(
 ) -> u8
     ensures status { (result ≡ 0) ⊎ (result ≡ 1) ⊎ (result ≡ 2) ⊎ (result ≡ 3) }
     // Options that ask for nothing give the status of their first fault, unless memory runs out.
-    ensures asked { IfErr (asked (option_map (λ text. text.now) settings.entry) (option_map (λ word. word.now) breaks.entry))
+    ensures asked { IfErr (asked_for settings.entry breaks.entry)
         (λ fault. (result ≡ status_of_fault fault) ⊎ (result ≡ 3)) }
     // It ends with 1 only where the settings have a fault.
-    ensures settings { result ≡ 1 → IsErrAnd (asked (option_map (λ text. text.now) settings.entry) (option_map (λ word. word.now) breaks.entry))
+    ensures settings { result ≡ 1 → IsErrAnd (asked_for settings.entry breaks.entry)
         (λ fault. status_of_fault fault ≡ 1) }
     // It ends with 0 only where the whole script was read, if its octets are known.
     ensures read { result ≡ 0 → IsAtEnd (R.remaining input.new) }
     // What is printed then is the report of what the script's events make of the world, or the
     // lines of all breaks, if it is known what an output holds.
-    ensures printed { result ≡ 0 → IsOkAnd (asked (option_map (λ text. text.now) settings.entry) (option_map (λ word. word.now) breaks.entry))
-        (λ asked. Replays asked (R.remaining input.old) (W.contents output.old) (W.contents output.new)) }
+    ensures printed { result ≡ 0 → IsOkAnd (asked_for settings.entry breaks.entry)
+        (λ asked. Replays asked (R.remaining input.old)
+        (W.contents output.old) (W.contents output.new)) }
     // It ends with 2 only where `breaks` names no source, or where a line of the script is bad.
-    ensures bad { result ≡ 2 → MatchResult (asked (option_map (λ text. text.now) settings.entry) (option_map (λ word. word.now) breaks.entry))
+    ensures bad { result ≡ 2 → MatchResult (asked_for settings.entry breaks.entry)
         (λ asked. HasBadLine asked (R.remaining input.old)) (λ fault. fault ≡ BadBreak) }
     // Where it ends with 1 or 2 nothing is printed.
     ensures kept { (result ≡ 1) ⊎ (result ≡ 2) → output.new ≡ output.old }
@@ -75,9 +77,10 @@ fn try_replay<R: Read, W: Write>(
     output: &mut W,
 ) -> Result<(), ProgramFault>
     ensures read { OnOk result (IsAtEnd (R.remaining input.new)) }
-    ensures printed { OnOk result (IsOkAnd (asked (option_map (λ text. text.now) settings.entry) (option_map (λ word. word.now) breaks.entry))
-        (λ asked. Replays asked (R.remaining input.old) (W.contents output.old) (W.contents output.new))) }
-    ensures fails { IfErr result (λ fault. Fails (asked (option_map (λ text. text.now) settings.entry) (option_map (λ word. word.now) breaks.entry))
+    ensures printed { OnOk result (IsOkAnd (asked_for settings.entry breaks.entry)
+        (λ asked. Replays asked (R.remaining input.old)
+        (W.contents output.old) (W.contents output.new))) }
+    ensures fails { IfErr result (λ fault. Fails (asked_for settings.entry breaks.entry)
         (R.remaining input.old) fault) }
     ensures kept { IfErr result (λ fault. status_of_fault fault ≢ 3 → output.new ≡ output.old) }
 {
@@ -99,9 +102,10 @@ fn replay_with<R: Read, W: Write>(
     output: &mut W,
 ) -> Result<(), ProgramFault>
     ensures read { OnOk result (IsAtEnd (R.remaining input.new)) }
-    ensures printed { OnOk result (IsOkAnd (asked_with (settings_of text.now) (option_map (λ word. word.now) breaks.entry))
-        (λ asked. Replays asked (R.remaining input.old) (W.contents output.old) (W.contents output.new))) }
-    ensures fails { IfErr result (λ fault. Fails (asked_with (settings_of text.now) (option_map (λ word. word.now) breaks.entry))
+    ensures printed { OnOk result (IsOkAnd (asked_of_text text.now breaks.entry)
+        (λ asked. Replays asked (R.remaining input.old)
+        (W.contents output.old) (W.contents output.new))) }
+    ensures fails { IfErr result (λ fault. Fails (asked_of_text text.now breaks.entry)
         (R.remaining input.old) fault) }
     ensures kept { IfErr result (λ fault. status_of_fault fault ≢ 3 → output.new ≡ output.old) }
 {
@@ -134,8 +138,9 @@ fn replay_fixed<R: Read, W: Write>(
     output: &mut W,
 ) -> Result<(), Failure>
     ensures read { OnOk result (IsAtEnd (R.remaining input.new)) }
-    ensures printed { OnOk result (Replays fixed (R.remaining input.old) (W.contents output.old) (W.contents output.new)) }
-    ensures bad { (n : ℕ) → result ≡ Err (BadEvent n) → IfSome (R.remaining input.old) (λ octets. IsBadScript 1 octets n) }
+    ensures printed { OnOk result (Replays fixed (R.remaining input.old)
+        (W.contents output.old) (W.contents output.new)) }
+    ensures bad { (n : ℕ) → result ≡ Err (BadEvent n) → HasBadLineAt 1 (R.remaining input.old) n }
     ensures kept { IfErr result (λ failure. status_of failure ≢ 3 → output.new ≡ output.old) }
 {
     let events = read_script(alloc, FIXED_CELLS, input)?;
@@ -151,8 +156,10 @@ fn replay_controlled<R: Read, W: Write>(
     output: &mut W,
 ) -> Result<(), Failure>
     ensures read { OnOk result (IsAtEnd (R.remaining input.new)) }
-    ensures printed { OnOk result (Replays (controlled settings) (R.remaining input.old) (W.contents output.old) (W.contents output.new)) }
-    ensures bad { (n : ℕ) → result ≡ Err (BadEvent n) → IfSome (R.remaining input.old) (λ octets. IsBadScript (length settings.cells) octets n) }
+    ensures printed { OnOk result (Replays (controlled settings) (R.remaining input.old)
+        (W.contents output.old) (W.contents output.new)) }
+    ensures bad { (n : ℕ) → result ≡ Err (BadEvent n)
+        → HasBadLineAt (length settings.cells) (R.remaining input.old) n }
     ensures kept { IfErr result (λ failure. status_of failure ≢ 3 → output.new ≡ output.old) }
 {
     let cells = u16::from(settings.cell_count());
@@ -168,8 +175,8 @@ fn report_events<W: Write>(
     events: &[Event],
     output: &mut W,
 ) -> Result<(), Failure>
-    ensures ok { OnOk result ((text : List ℕ) × IsReport (after_all world events.now) text ×
-        Appends (W.contents output.old) (W.contents output.new) text) }
+    ensures ok { OnOk result ((text : List ℕ) × IsReport (after_all world events.now) text
+        × Appends (W.contents output.old) (W.contents output.new) text) }
     ensures err { IfErr result (λ failure. status_of failure ≡ 3) }
 {
     world.run(events)?;
@@ -187,9 +194,12 @@ fn replay_breaks<R: Read, W: Write>(
     output: &mut W,
 ) -> Result<(), Failure>
     ensures read { OnOk result (IsAtEnd (R.remaining input.new)) }
-    ensures printed { OnOk result (IfOk (settings_of text.now) (λ settings. cells ≡ length settings.cells →
-        Replays (breaking settings source) (R.remaining input.old) (W.contents output.old) (W.contents output.new))) }
-    ensures bad { (n : ℕ) → result ≡ Err (BadEvent n) → IfSome (R.remaining input.old) (λ octets. IsBadScript cells octets n) }
+    ensures printed { OnOk result (IfOk (settings_of text.now) (λ settings.
+        cells ≡ length settings.cells
+        → Replays (breaking settings source) (R.remaining input.old)
+        (W.contents output.old) (W.contents output.new))) }
+    ensures bad { (n : ℕ) → result ≡ Err (BadEvent n)
+        → HasBadLineAt cells (R.remaining input.old) n }
     ensures kept { IfErr result (λ failure. status_of failure ≢ 3 → output.new ≡ output.old) }
 {
     let events = read_script(alloc, cells, input)?;

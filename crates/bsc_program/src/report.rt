@@ -2,7 +2,8 @@ ghost use Rattle.std.specs.Prelude.{◌≡◌, ◌++◌, List, ℕ, IfErr, IfOk,
 ghost use Rattle.std.specs.Io.KnownBytes.{Appends};
 ghost use Rattle.hex.specs.Hex.{encode_lower};
 ghost use Rattle.program_base.specs.Status.{status_of};
-ghost use Rattle.bsc_program.specs.Report.{IsReport, WritesIfSome, connection_text, counted_lines, list_text, mobile_text};
+ghost use Rattle.bsc_program.specs.Report.{IsReport, WritesIfSome, connection_text, counted_lines};
+ghost use Rattle.bsc_program.specs.Report.{list_text, mobile_text};
 
 use octets::{Memory, Octets};
 use program_base::Failure;
@@ -17,8 +18,8 @@ pub(crate) fn write_report<W: Write>(
     world: &World,
     output: &mut W,
 ) -> Result<(), Failure>
-    ensures ok { OnOk result ((text : List ℕ) × IsReport world.now text ×
-        Appends (W.contents output.old) (W.contents output.new) text) }
+    ensures ok { OnOk result ((text : List ℕ) × IsReport world.now text
+        × Appends (W.contents output.old) (W.contents output.new) text) }
     ensures err { IfErr result (λ failure. status_of failure ≡ 3) }
 {
     for mobile in 1..=u8::MAX {
@@ -42,7 +43,8 @@ fn write_mobile<W: Write>(
     mobile: u8,
     output: &mut W,
 ) -> Result<(), Failure>
-    ensures ok { OnOk result (Appends (W.contents output.old) (W.contents output.new) (mobile_text world.now.scene mobile)) }
+    ensures ok { OnOk result (Appends (W.contents output.old) (W.contents output.new)
+        (mobile_text world.now.scene mobile)) }
     ensures err { IfErr result (λ failure. status_of failure ≡ 3) }
 {
     let (Some(sent), Some(received)) = (world.sent(mobile), world.received(mobile)) else {
@@ -60,7 +62,9 @@ fn write_connection<W: Write>(
     connection: u32,
     output: &mut W,
 ) -> Result<bool, Failure>
-    ensures ok { IfOk result (λ written. WritesIfSome written (connection_text world.now.scene connection) (W.contents output.old) (W.contents output.new)) }
+    ensures ok { IfOk result (λ written. WritesIfSome written
+        (connection_text world.now.scene connection)
+        (W.contents output.old) (W.contents output.new)) }
     ensures err { IfErr result (λ failure. status_of failure ≡ 3) }
 {
     let (Some(taken), Some(accepted), Some(unnumbered)) = (
@@ -92,7 +96,8 @@ fn write_list<W: Write>(
     messages: &[Octets],
     output: &mut W,
 ) -> Result<(), Failure>
-    ensures ok { OnOk result (Appends (W.contents output.old) (W.contents output.new) (list_text whose.now number what.now messages.now)) }
+    ensures ok { OnOk result (Appends (W.contents output.old) (W.contents output.new)
+        (list_text whose.now number what.now messages.now)) }
     ensures err { IfErr result (λ failure. status_of failure ≡ 3) }
 {
     write!(output, "{whose}{number}{what}")?;
@@ -106,7 +111,8 @@ fn write_messages<W: Write>(
     messages: &[Octets],
     output: &mut W,
 ) -> Result<(), Failure>
-    ensures ok { OnOk result (Appends (W.contents output.old) (W.contents output.new) (counted_lines messages.now)) }
+    ensures ok { OnOk result (Appends (W.contents output.old) (W.contents output.new)
+        (counted_lines messages.now)) }
     ensures err { IfErr result (λ failure. status_of failure ≡ 3) }
 {
     writeln!(output, "{}", messages.len())?;
@@ -118,7 +124,8 @@ fn write_messages<W: Write>(
 
 /// Writes a message as a line of lower-case hexadecimal digits.
 fn write_message<W: Write>(alloc: Global, message: &Octets, output: &mut W) -> Result<(), Failure>
-    ensures ok { OnOk result (Appends (W.contents output.old) (W.contents output.new) (encode_lower message.now ++ codes "\n")) }
+    ensures ok { OnOk result (Appends (W.contents output.old) (W.contents output.new)
+        (encode_lower message.now ++ codes "\n")) }
     ensures err { IfErr result (λ failure. status_of failure ≡ 3) }
 {
     let digits = hex::encode(alloc, message.as_slice()).map_err(Memory::from)?;

@@ -1,6 +1,6 @@
 ghost use Rattle.std.specs.Prelude.{◌≡◌, ◌≢◌, ℕ, ◌++◌, [], Err, IfOk, IfSome, OnOk};
 ghost use Rattle.std.specs.Io.KnownBytes.{IsAtEnd};
-ghost use Rattle.bsc_program.specs.Script.{AddsLine, Finishes, IsBadScript, IsScript, RefusesLine};
+ghost use Rattle.bsc_program.specs.Script.{AddsLine, Finishes, HasBadLineAt, IsScript, RefusesLine};
 ghost use Rattle.program_base.specs.declared.failure.Failure.TheVariants.{BadEvent};
 
 use memchr::memchr;
@@ -44,9 +44,11 @@ impl Script {
 
     /// Reads the line that ends with these octets.
     fn end_line(&mut self, end: &[u8]) -> Result<(), Failure>
-        ensures line { OnOk result (AddsLine self.old self.new (self.old.started.items ++ end.now)) }
+        ensures line { OnOk result
+            (AddsLine self.old self.new (self.old.started.items ++ end.now)) }
         ensures started { OnOk result (self.new.started.items ≡ []) }
-        ensures bad { (n : ℕ) → result ≡ Err (BadEvent n) → RefusesLine self.old (self.old.started.items ++ end.now) n }
+        ensures bad { (n : ℕ) → result ≡ Err (BadEvent n)
+            → RefusesLine self.old (self.old.started.items ++ end.now) n }
     {
         if self.started.is_empty() {
             return self.line(end);
@@ -129,8 +131,10 @@ pub(crate) fn read_script<R: Read>(
     input: &mut R,
 ) -> Result<Vec<Event>, Failure>
     ensures read { OnOk result (IsAtEnd (R.remaining input.new)) }
-    ensures events { IfOk result (λ events. IfSome (R.remaining input.old) (λ octets. IsScript cells octets events.items)) }
-    ensures bad { (n : ℕ) → result ≡ Err (BadEvent n) → IfSome (R.remaining input.old) (λ octets. IsBadScript cells octets n) }
+    ensures events { IfOk result (λ events.
+        IfSome (R.remaining input.old) (λ octets. IsScript cells octets events.items)) }
+    ensures bad { (n : ℕ)
+        → result ≡ Err (BadEvent n) → HasBadLineAt cells (R.remaining input.old) n }
 {
     let mut script = Script::new(alloc, cells);
     let mut room = room_for(alloc, BLOCK)?;

@@ -1,7 +1,9 @@
 -- A run of the call worker: one list of steps, and what of it each link gave and got.
-use Rattle.std.specs.Prelude.{◌≡◌, ℕ, ◌+◌, ◌<◌, ◌≤◌, Bool, true, List, [], ◌∷◌, ◌++◌, length, replicate, Option, Some, None}
+use Rattle.std.specs.Prelude.{◌≡◌, ℕ, ◌+◌, ◌<◌, ◌≤◌, Bool, true, List, [], ◌∷◌, ◌++◌, length}
+use Rattle.std.specs.Prelude.{replicate, Option, Some, None}
 use mathlib.Core.Option.{some}
 use lib.ListN.{get_elem?}
+use Rattle.controller_worker.specs.declared.call.HasRelayed.{HasRelayed}
 use Rattle.controller_worker.specs.declared.limits.TheConstants.{TICK_MS}
 use Rattle.controller_worker.specs.declared.mark.Marks.{Marks}
 use Rattle.controller_worker.specs.Going.{unmarked}
@@ -33,7 +35,8 @@ AreUnmarked links marks = marks.of_links.items ≡ replicate links unmarked
 -- outbox was given up, the first of that, then End. Its items in the steps are what was taken of
 -- it, with one more Down where that was added: only where its outbox was given up, and without a
 -- fault just there. Without a fault a Down of it was taken.
-pub record Serves (fault : Option IoFault) (steps : List Step) (frames : List Frame) (items : List Item) (link : ℕ) (old new : PutterView) : Type 0 where
+pub record Serves (fault : Option IoFault) (steps : List Step) (frames : List Frame)
+    (items : List Item) (link : ℕ) (old new : PutterView) : Type 0 where
   pub queue : new.queue ≡ old.queue
   pub sent : List Frame
   pub put : new.put ≡ lines sent ++ marks.End ∷ []
@@ -52,6 +55,15 @@ pub record Parts : Type 0 where
   -- what the clock has answered, in milliseconds
   pub told : ℕ
 
+-- what the call worker gives back, by what its clock has told
+abbrev pub relayed_parts : {K : Type 0} → (K → ℕ) → HasRelayed K → Parts
+relayed_parts told r = record {
+  controller = r.controller;
+  desk = r.desk;
+  putters = r.putters.items;
+  told = told r.clock;
+}
+
 -- A run of the call worker, which ended with this fault or with none. The items of the steps are
 -- those that were taken, but for one at most, the last, whose step ran out of memory. The ticks are
 -- what the clock answered; less than a tick is left without a fault.
@@ -68,7 +80,8 @@ pub record Runs (fault : Option IoFault) (old new : Parts) : Type 0 where
   pub tick : fault ≡ None → gathered < TICK_MS
   pub count : length new.putters ≡ length old.putters
   pub links : EachAt new.putters (λ link p.
-      (before : PutterView) × (get_elem? old.putters link ≡ some before) × Serves fault steps (frames_to link (over old.controller steps).outs) items link before p)
+      (before : PutterView) × (get_elem? old.putters link ≡ some before)
+      × Serves fault steps (frames_to link (over old.controller steps).outs) items link before p)
 
 abbrev pub IsMemory : Option IoFault → Type 0
 IsMemory None = Unit {0}

@@ -1,5 +1,6 @@
 -- The call worker on its way: what its calls do to it.
-use Rattle.std.specs.Prelude.{◌≡◌, ℕ, ◌+◌, ◌<◌, ◌≤◌, nat_lt, ◌&&◌, not, Bool, true, false, List, [], ◌∷◌, ◌++◌, length, slice_index_or, slice_set}
+use Rattle.std.specs.Prelude.{◌≡◌, ℕ, ◌+◌, ◌<◌, ◌≤◌, nat_lt, ◌&&◌, not, Bool, true, false, List, []}
+use Rattle.std.specs.Prelude.{◌∷◌, ◌++◌, length, slice_index_or, slice_set, Result, MatchResult}
 use mathlib.Core.Option.{some}
 use lib.ListN.{get_elem?}
 use Rattle.controller_worker.specs.declared.limits.TheConstants.{TICK_MS}
@@ -33,15 +34,18 @@ pub record Carries (ended : Bool) (p : PutterView) (frames : List Frame) : Type 
   pub first : AreSent (is_given_up p) frames sent
 
 -- to all that was carried, these frames are added
-pub record Sends (ended : Bool) (old : PutterView) (frames : List Frame) (new : PutterView) : Type 0 where
+pub record Sends (ended : Bool) (old : PutterView) (frames : List Frame)
+    (new : PutterView) : Type 0 where
   pub queue : new.queue ≡ old.queue
   pub stays : is_given_up old ≡ true → is_given_up new ≡ true
   pub carries : (past : List Frame) → Carries ended old past → Carries ended new (past ++ frames)
 
 -- each output was added to what its link's outbox carries
-pub record SendsAll (ended : ℕ → Bool) (old : List PutterView) (outs : List Out) (new : List PutterView) : Type 0 where
+pub record SendsAll (ended : ℕ → Bool) (old : List PutterView) (outs : List Out)
+    (new : List PutterView) : Type 0 where
   pub count : length new ≡ length old
-  pub each : EachAt new (λ link p. (before : PutterView) × (get_elem? old link ≡ some before) × Sends (ended link) before (frames_to link outs) p)
+  pub each : EachAt new (λ link p. (before : PutterView) × (get_elem? old link ≡ some before)
+      × Sends (ended link) before (frames_to link outs) p)
 
 abbrev pub not_ended : ℕ → Bool
 not_ended link = false
@@ -68,14 +72,17 @@ mark_at ms link = slice_index_or ms link unmarked
 -- what is remembered once an item of this source was taken, a Down or another
 abbrev pub noted : Bool → ℕ → List Mark → List Mark
 noted false source ms = ms
-noted true source ms = slice_set ms source (record { added = (mark_at ms source).added; down = true })
+noted true source ms =
+    slice_set ms source (record { added = (mark_at ms source).added; down = true })
 
 -- and once a Down of this source was added
 abbrev pub with_added : ℕ → List Mark → List Mark
-with_added source ms = slice_set ms source (record { added = true; down = (mark_at ms source).down })
+with_added source ms =
+    slice_set ms source (record { added = true; down = (mark_at ms source).down })
 
 -- one link over all that came and went
-pub record Fits (ended : Bool) (p : PutterView) (m : Mark) (frames : List Frame) (stepped taken : List What) : Type 0 where
+pub record Fits (ended : Bool) (p : PutterView) (m : Mark) (frames : List Frame)
+    (stepped taken : List What) : Type 0 where
   pub carries : Carries ended p frames
   pub items : AreStepped m.added stepped taken
   pub given_up : m.added ≡ true → is_given_up p ≡ true
@@ -94,10 +101,13 @@ pub record DoesStep (s : Step) (old new : State) : Type 0 where
   pub kept : new ≡ record old { controller = new.controller; putters = new.putters }
 
 -- what fitted before fits with this behind it
-pub record GoesOn (old new : State) (link : ℕ) (frames : List Frame) (stepped taken : List What) (before after : PutterView) : Type 0 where
+pub record GoesOn (old new : State) (link : ℕ) (frames : List Frame) (stepped taken : List What)
+    (before after : PutterView) : Type 0 where
   pub queue : after.queue ≡ before.queue
-  pub fits : (fs : List Frame) (ss ts : List What) → Fits (ended_of old link) before (mark_at old.marks link) fs ss ts
-      → Fits (ended_of new link) after (mark_at new.marks link) (fs ++ frames) (ss ++ stepped) (ts ++ taken)
+  pub fits : (fs : List Frame) (ss ts : List What)
+      → Fits (ended_of old link) before (mark_at old.marks link) fs ss ts
+      → Fits (ended_of new link) after (mark_at new.marks link)
+      (fs ++ frames) (ss ++ stepped) (ts ++ taken)
 
 -- from one state to a later one, where the last items taken are not in the steps
 pub record Goes (last : List Item) (old new : State) : Type 0 where
@@ -107,14 +117,20 @@ pub record Goes (last : List Item) (old new : State) : Type 0 where
   pub desk : HasTaken old.desk (items ++ last) new.desk
   pub time : new.told + old.gathered ≡ old.told + ticked steps + new.gathered
   pub count : length new.putters ≡ length old.putters
-  pub down : (link : ℕ) → (mark_at old.marks link).down ≡ true → (mark_at new.marks link).down ≡ true
+  pub down : (link : ℕ)
+      → (mark_at old.marks link).down ≡ true → (mark_at new.marks link).down ≡ true
   pub links : EachAt new.putters (λ link p.
       (before : PutterView) × (get_elem? old.putters link ≡ some before)
-      × GoesOn old new link (frames_to link (over old.controller steps).outs) (whats_of link (items_of steps)) (whats_of link items) before p)
+      × GoesOn old new link (frames_to link (over old.controller steps).outs)
+      (whats_of link (items_of steps)) (whats_of link items) before p)
 
 -- the same up to a step that ran out of memory
 abbrev pub GoesPart : State → State → Type 0
 GoesPart old new = (last : List Item) × (length last ≤ 1) × Goes last old new
+
+-- from one state to a later one, or up to a step that ran out of memory
+abbrev pub GoesOrStops : {X E : Type 0} → Result X E → State → State → Type 0
+GoesOrStops result old new = MatchResult result (λ _. Goes [] old new) (λ _. GoesPart old new)
 
 -- ---- what holds between calls
 
@@ -126,7 +142,8 @@ pub record Stands (s : State) : Type 0 where
 
 -- each link whose outbox was given up had its Down added
 abbrev pub IsSettled : State → Type 0
-IsSettled s = EachAt s.putters (λ link p. is_given_up p ≡ true → (mark_at s.marks link).added ≡ true)
+IsSettled s =
+    EachAt s.putters (λ link p. is_given_up p ≡ true → (mark_at s.marks link).added ≡ true)
 
 -- the outbox was given up, and its link's Down wasn't added
 abbrev pub pends : PutterView → Mark → Bool
@@ -152,10 +169,13 @@ pub record Finishes (s : State) : Type 0 where
 pub record Ends (old new : State) : Type 0 where
   pub kept : new ≡ record old { putters = new.putters; ended = new.ended }
   pub count : length new.putters ≡ length old.putters
-  pub links : EachAt new.putters (λ link p. (before : PutterView) × (get_elem? old.putters link ≡ some before) × GoesOn old new link [] [] [] before p)
+  pub links : EachAt new.putters (λ link p.
+      (before : PutterView) × (get_elem? old.putters link ≡ some before)
+      × GoesOn old new link [] [] [] before p)
   pub settled : IsSettled old → IsSettled new
 
 -- the mark was put behind all that was put, or refused
 abbrev pub PutsEnd : PutterView → Bool → PutterView → Type 0
-PutsEnd old true new = (new.queue ≡ old.queue) × (new.refusals ≡ old.refusals) × (new.put ≡ old.put ++ marks.End ∷ [])
+PutsEnd old true new = (new.queue ≡ old.queue) × (new.refusals ≡ old.refusals)
+    × (new.put ≡ old.put ++ marks.End ∷ [])
 PutsEnd old false new = new ≡ old

@@ -23,7 +23,9 @@ AreSent true frames sent = (rest : List Frame) × (frames ≡ sent ++ rest)
 -- what a source gave is what was taken of it; with one more Down, where that was added
 abbrev pub AreStepped : Bool → List What → List What → Type 0
 AreStepped false stepped taken = stepped ≡ taken
-AreStepped true stepped taken = (before : List What) × (behind : List What) × (taken ≡ before ++ behind) × (stepped ≡ before ++ whats.Down ∷ behind)
+AreStepped true stepped taken = (before : List What) × (behind : List What)
+    × (taken ≡ before ++ behind) × (stepped ≡ before ++ whats.Down ∷ behind)
 
 abbrev pub HasDown : List What → Type 0
-HasDown taken = (before : List What) × (behind : List What) × (taken ≡ before ++ whats.Down ∷ behind)
+HasDown taken =
+    (before : List What) × (behind : List What) × (taken ≡ before ++ whats.Down ∷ behind)

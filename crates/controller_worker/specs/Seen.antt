@@ -1,9 +1,9 @@
 -- The call worker as contracts see it.
 use Rattle.std.specs.Prelude.{ℕ}
-use Rattle.controller_worker.specs.declared.worker.Worker.{Worker}
+use Rattle.controller_worker.specs.declared.worker.CallWorker.{CallWorker}
 use Rattle.controller_worker.specs.Going.{State}
 
-abbrev pub seen : {K : Type 0} → (K → ℕ) → Worker K → State
+abbrev pub seen : {K : Type 0} → (K → ℕ) → CallWorker K → State
 seen told w = record {
   controller = w.controller;
   desk = w.desk;

@@ -13,4 +13,5 @@ use Rattle.ruled_relay.specs.Row.{EachAt, Row}
 abbrev pub HasTaken : Row → List Item → Row → Type 0
 HasTaken old items new =
     (queues_of new ≡ queues_of old)
-    × EachAt new (λ source e. (d : EndView What) × (get_elem? old source ≡ some d) × (e.seen.taken ≡ d.seen.taken ++ whats_of source items))
+    × EachAt new (λ source e. (d : EndView What) × (get_elem? old source ≡ some d)
+    × (e.seen.taken ≡ d.seen.taken ++ whats_of source items))

@@ -1,12 +1,13 @@
-ghost use Rattle.std.specs.Prelude.{◌≡◌, [], ◌<◌, ◌↔◌, length, IsTrue, MatchResult, OnOk, replicate, vec_len};
-ghost use Rattle.controller_worker.specs.Call.{AreNew, AreUnmarked, IsMemory, Runs};
-ghost use Rattle.controller_worker.specs.Going.{AreAllDown, Finishes, Goes, GoesPart, IsSettled, Stands, unmarked};
+ghost use Rattle.std.specs.Prelude.{◌≡◌, ◌<◌, ◌↔◌, length, IsTrue, OnOk, replicate, vec_len};
+ghost use Rattle.controller_worker.specs.Call.{AreNew, AreUnmarked, IsMemory, Runs, relayed_parts};
+ghost use Rattle.controller_worker.specs.Going.{AreAllDown, Finishes, GoesOrStops, IsSettled};
+ghost use Rattle.controller_worker.specs.Going.{Stands, unmarked};
 ghost use Rattle.controller_worker.specs.Seen.{seen};
 
 use crate::clock::Clock;
 use crate::limits::TICK_MS;
 use crate::mark::Marks;
-use crate::worker::Worker;
+use crate::worker::CallWorker;
 use controller::Controller;
 use link_workers::IoFault;
 use octets::Memory;
@@ -14,6 +15,16 @@ use ruled_relay::{Desk, Putter};
 use std::alloc::Global;
 use std::sync::Wait;
 use std::time::Duration;
+
+/// The call worker that has ended, and why, where that was before each link had ended.
+#[derive(Drop)]
+pub struct HasRelayed<K> {
+    pub controller: Controller,
+    pub desk: Desk,
+    pub putters: Vec<Putter>,
+    pub clock: K,
+    pub fault: Option<IoFault>,
+}
 
 /// Relays until each link has ended: takes the items of all links, and the time that the clock
 /// tells, and puts what the controller puts into the links' outboxes, the switch's first. It ends
@@ -30,14 +41,21 @@ pub fn call_worker<R: Wait, K: Clock + Drop>(
     putters: Vec<Putter>,
     marks: Marks,
     clock: K,
-) -> (Controller, Desk, Vec<Putter>, K, Option<IoFault>)
+) -> HasRelayed<K>
     requires new { AreNew putters.items }
     requires sources { length desk ≡ vec_len putters }
     requires marks { AreUnmarked (vec_len putters) marks }
-    ensures runs { Runs result.4 (record { controller = controller; desk = desk; putters = putters.items; told = K.told clock }) (record { controller = result.0; desk = result.1; putters = result.2.items; told = K.told result.3 }) }
-    ensures fault { IsMemory result.4 }
+    ensures runs { Runs result.fault
+        (record {
+          controller = controller;
+          desk = desk;
+          putters = putters.items;
+          told = K.told clock;
+        })
+        (relayed_parts K.told result) }
+    ensures fault { IsMemory result.fault }
 {
-    let mut worker = Worker {
+    let mut worker = CallWorker {
         alloc,
         controller,
         desk,
@@ -55,21 +73,22 @@ pub fn call_worker<R: Wait, K: Clock + Drop>(
             Some(IoFault::Memory)
         }
     };
-    (
-        worker.controller,
-        worker.desk,
-        worker.putters,
-        worker.clock,
+    HasRelayed {
+        controller: worker.controller,
+        desk: worker.desk,
+        putters: worker.putters,
+        clock: worker.clock,
         fault,
-    )
+    }
 }
 
-impl<K: Clock> Worker<K> {
+impl<K: Clock> CallWorker<K> {
     fn relay<R: Wait>(&mut self, rt: &R) -> Result<(), Memory>
         requires new { AreNew self.old.putters.items }
         requires sources { length self.old.desk ≡ vec_len self.old.putters }
-        requires start { (self.old.marks.items ≡ replicate (vec_len self.old.putters) unmarked) × (self.old.ended ≡ 0) × (self.old.gathered ≡ 0) }
-        ensures goes { MatchResult result (λ _. Goes [] (seen K.told self.old) (seen K.told self.new)) (λ _. GoesPart (seen K.told self.old) (seen K.told self.new)) }
+        requires start { (self.old.marks.items ≡ replicate (vec_len self.old.putters) unmarked)
+            × (self.old.ended ≡ 0) × (self.old.gathered ≡ 0) }
+        ensures goes { GoesOrStops result (seen K.told self.old) (seen K.told self.new) }
         ensures finishes { OnOk result (Finishes (seen K.told self.new)) }
         ensures ended { OnOk result (self.new.ended ≡ vec_len self.new.putters) }
     {
@@ -83,7 +102,7 @@ impl<K: Clock> Worker<K> {
         requires settled { IsSettled (seen K.told self.old) }
         requires gathered { self.old.gathered < TICK_MS }
         ensures stands { Stands (seen K.told self.new) }
-        ensures goes { MatchResult result (λ _. Goes [] (seen K.told self.old) (seen K.told self.new)) (λ _. GoesPart (seen K.told self.old) (seen K.told self.new)) }
+        ensures goes { GoesOrStops result (seen K.told self.old) (seen K.told self.new) }
         ensures finishes { OnOk result (Finishes (seen K.told self.new)) }
     {
         for _ in rt.forever() {

@@ -1,22 +1,22 @@
 //! The mark behind the last frame, put into each outbox.
-ghost use Rattle.std.specs.Prelude.{◌≡◌, [], length, MatchResult, OnOk, vec_len};
-ghost use Rattle.controller_worker.specs.Going.{Ends, Finishes, Goes, GoesPart, PutsEnd, Stands};
+ghost use Rattle.std.specs.Prelude.{◌≡◌, length, OnOk, vec_len};
+ghost use Rattle.controller_worker.specs.Going.{Ends, Finishes, GoesOrStops, PutsEnd, Stands};
 ghost use Rattle.controller_worker.specs.Seen.{seen};
 
 use crate::clock::Clock;
-use crate::worker::Worker;
+use crate::worker::CallWorker;
 use link_workers::Pauses;
 use octets::Memory;
 use ruled_relay::{Line, Putter};
 use std::sync::Wait;
 
-impl<K: Clock> Worker<K> {
+impl<K: Clock> CallWorker<K> {
     /// Puts the mark into each outbox. While one refuses it time is passed on and items are taken,
     /// as long as nothing can come of them.
     pub(crate) fn end_meanwhile<R: Wait>(&mut self, rt: &R) -> Result<(), Memory>
         requires stands { Stands (seen K.told self.old) }
         requires finishes { Finishes (seen K.told self.old) }
-        ensures goes { MatchResult result (λ _. Goes [] (seen K.told self.old) (seen K.told self.new)) (λ _. GoesPart (seen K.told self.old) (seen K.told self.new)) }
+        ensures goes { GoesOrStops result (seen K.told self.old) (seen K.told self.new) }
         ensures finishes { OnOk result (Finishes (seen K.told self.new)) }
         ensures ended { OnOk result (self.new.ended ≡ vec_len self.new.putters) }
     {
@@ -39,7 +39,7 @@ impl<K: Clock> Worker<K> {
         requires finishes { Finishes (seen K.told self.old) }
         ensures sources { length self.new.desk ≡ length self.new.putters.items }
         ensures marks { length self.new.marks.items ≡ length self.new.putters.items }
-        ensures goes { MatchResult result (λ _. Goes [] (seen K.told self.old) (seen K.told self.new)) (λ _. GoesPart (seen K.told self.old) (seen K.told self.new)) }
+        ensures goes { GoesOrStops result (seen K.told self.old) (seen K.told self.new) }
         ensures finishes { OnOk result (Finishes (seen K.told self.new)) }
     {
         if !self.controller.is_at_rest() {

@@ -2,7 +2,7 @@
 //! passing of time, does the controller's steps, and puts their outputs into the outboxes.
 #![tactic(auto)]
 
-pub use call::call_worker;
+pub use call::{HasRelayed, call_worker};
 pub use clock::Clock;
 pub use limits::{MAX_REFUSALS, TICK_MS};
 pub use mark::Marks;

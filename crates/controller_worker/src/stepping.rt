@@ -1,7 +1,10 @@
 //! Steps of the controller: an item that was taken, time that has gathered, or the `Down` of a link
 //! that was given up.
-ghost use Rattle.std.specs.Prelude.{◌≡◌, ◌+◌, ◌<◌, ◌^◌, ◌↔◌, [], min, length, IsTrue, MatchOption, MatchResult, OnOk, OnErr, vec_len};
-ghost use Rattle.controller_worker.specs.Going.{DoesStep, Goes, GoesPart, IsPending, IsSettled, SendsAll, Stands, not_ended, noted, pends, with_added};
+ghost use Rattle.std.specs.Prelude.{◌≡◌, ◌+◌, ◌<◌, ◌^◌, ◌↔◌, [], min, length, IsTrue, MatchOption};
+ghost use Rattle.std.specs.Prelude.{OnOk, OnErr, vec_len};
+ghost use Rattle.controller_worker.specs.Going.{DoesStep, Goes, GoesOrStops, IsPending, IsSettled};
+ghost use Rattle.controller_worker.specs.Going.{SendsAll, Stands, not_ended, noted, pends};
+ghost use Rattle.controller_worker.specs.Going.{with_added};
 ghost use Rattle.controller_worker.specs.Seen.{seen};
 ghost use Rattle.ruled_relay.specs.declared.item.What.TheVariants as whats;
 
@@ -9,14 +12,14 @@ use crate::clock::Clock;
 use crate::limits::{STEPS_A_RING, TICK_MS};
 use crate::mark::Mark;
 use crate::sending::{is_given_up, ring_all, send_all, tell_given_up};
-use crate::worker::Worker;
+use crate::worker::CallWorker;
 use conn_messages::Outputs;
 use controller_model::Step;
 use octets::Memory;
 use ruled_relay::{Item, Putter, What};
 use std::sync::Wait;
 
-impl<K: Clock> Worker<K> {
+impl<K: Clock> CallWorker<K> {
     /// Asks the clock, passes on what has gathered once that is a tick, and takes an item, if there
     /// is one. Says whether there was.
     pub(crate) fn turn<R: Wait>(&mut self, rt: &R) -> Result<bool, Memory>
@@ -24,7 +27,7 @@ impl<K: Clock> Worker<K> {
         requires settled { IsSettled (seen K.told self.old) }
         requires gathered { self.old.gathered < TICK_MS }
         ensures stands { Stands (seen K.told self.new) }
-        ensures goes { MatchResult result (λ _. Goes [] (seen K.told self.old) (seen K.told self.new)) (λ _. GoesPart (seen K.told self.old) (seen K.told self.new)) }
+        ensures goes { GoesOrStops result (seen K.told self.old) (seen K.told self.new) }
         ensures settled { OnOk result (IsSettled (seen K.told self.new)) }
         ensures gathered { OnOk result (self.new.gathered < TICK_MS) }
     {
@@ -38,7 +41,7 @@ impl<K: Clock> Worker<K> {
         requires settled { IsSettled (seen K.told self.old) }
         requires gathered { self.old.gathered < TICK_MS }
         ensures stands { Stands (seen K.told self.new) }
-        ensures goes { MatchResult result (λ _. Goes [] (seen K.told self.old) (seen K.told self.new)) (λ _. GoesPart (seen K.told self.old) (seen K.told self.new)) }
+        ensures goes { GoesOrStops result (seen K.told self.old) (seen K.told self.new) }
         ensures settled { OnOk result (IsSettled (seen K.told self.new)) }
         ensures gathered { OnOk result (self.new.gathered < TICK_MS) }
     {
@@ -56,7 +59,10 @@ impl<K: Clock> Worker<K> {
     fn ask_clock(&mut self)
         requires { self.old.gathered < TICK_MS }
         ensures goes { Goes [] (seen K.told self.old) (seen K.told self.new) }
-        ensures same { seen K.told self.new ≡ record (seen K.told self.old) { told = K.told self.new.clock; gathered = self.new.gathered } }
+        ensures same { seen K.told self.new ≡ record (seen K.told self.old) {
+          told = K.told self.new.clock;
+          gathered = self.new.gathered;
+        } }
         ensures gathered { self.new.gathered < TICK_MS + 2 ^ 32 }
     {
         self.gathered += u64::from(self.clock.elapsed());
@@ -66,9 +72,10 @@ impl<K: Clock> Worker<K> {
     fn tick<R: Wait>(&mut self, rt: &R) -> Result<(), Memory>
         requires stands { Stands (seen K.told self.old) }
         ensures stands { Stands (seen K.told self.new) }
-        ensures goes { MatchResult result (λ _. Goes [] (seen K.told self.old) (seen K.told self.new)) (λ _. GoesPart (seen K.told self.old) (seen K.told self.new)) }
+        ensures goes { GoesOrStops result (seen K.told self.old) (seen K.told self.new) }
         ensures settled { OnOk result (IsSettled (seen K.told self.new)) }
-        ensures gathered { OnOk result (self.new.gathered + min self.old.gathered 4294967295 ≡ self.old.gathered) }
+        ensures gathered { OnOk result
+            (self.new.gathered + min self.old.gathered 4294967295 ≡ self.old.gathered) }
     {
         let ms = largest_tick(self.gathered);
         self.do_step(rt, Step::Tick(ms))?;
@@ -80,7 +87,7 @@ impl<K: Clock> Worker<K> {
         requires stands { Stands (seen K.told self.old) }
         requires settled { IsSettled (seen K.told self.old) }
         ensures stands { Stands (seen K.told self.new) }
-        ensures goes { MatchResult result (λ _. Goes [] (seen K.told self.old) (seen K.told self.new)) (λ _. GoesPart (seen K.told self.old) (seen K.told self.new)) }
+        ensures goes { GoesOrStops result (seen K.told self.old) (seen K.told self.new) }
         ensures settled { OnOk result (IsSettled (seen K.told self.new)) }
         ensures gathered { self.new.gathered ≡ self.old.gathered }
     {
@@ -100,7 +107,7 @@ impl<K: Clock> Worker<K> {
     fn add_downs<R: Wait>(&mut self, rt: &R) -> Result<(), Memory>
         requires stands { Stands (seen K.told self.old) }
         ensures stands { Stands (seen K.told self.new) }
-        ensures goes { MatchResult result (λ _. Goes [] (seen K.told self.old) (seen K.told self.new)) (λ _. GoesPart (seen K.told self.old) (seen K.told self.new)) }
+        ensures goes { GoesOrStops result (seen K.told self.old) (seen K.told self.new) }
         ensures settled { OnOk result (IsSettled (seen K.told self.new)) }
         ensures gathered { self.new.gathered ≡ self.old.gathered }
     {
@@ -119,7 +126,8 @@ impl<K: Clock> Worker<K> {
     // The first link whose outbox was given up and whose `Down` wasn't added.
     fn pending(&self) -> Option<u16>
         requires { Stands (seen K.told self.now) }
-        ensures { MatchOption result (IsSettled (seen K.told self.now)) (λ link. IsPending (seen K.told self.now) link) }
+        ensures { MatchOption result (IsSettled (seen K.told self.now))
+            (λ link. IsPending (seen K.told self.now) link) }
     {
         for link in 0..self.desk.sources() {
             let putter = &self.putters[usize::from(link)];
@@ -169,8 +177,10 @@ impl<K: Clock> Worker<K> {
     }
 
     fn send<R: Wait>(&mut self, rt: &R, outputs: Outputs)
-        ensures sent { SendsAll not_ended self.old.putters.items outputs.outs self.new.putters.items }
-        ensures same { seen K.told self.new ≡ record (seen K.told self.old) { putters = self.new.putters.items } }
+        ensures sent { SendsAll not_ended self.old.putters.items outputs.outs
+            self.new.putters.items }
+        ensures same { seen K.told self.new
+            ≡ record (seen K.told self.old) { putters = self.new.putters.items } }
     {
         let more = outputs.len();
         send_all(rt, &mut self.putters, outputs.into_vec());

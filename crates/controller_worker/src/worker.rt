@@ -7,7 +7,7 @@ use std::alloc::Global;
 
 /// The call worker at work.
 #[derive(Drop)]
-pub(crate) struct Worker<K> {
+pub(crate) struct CallWorker<K> {
     pub(crate) alloc: Global,
     pub(crate) controller: Controller,
     pub(crate) desk: Desk,

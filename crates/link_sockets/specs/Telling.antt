@@ -7,7 +7,8 @@ use Rattle.std.specs.declared.time.Instant.{Instant}
 -- answer holds, and what the sum of all answers holds behind what was told. None where the clock
 -- went back.
 abbrev pub millis_to_tell : ℕ → ℕ → ℕ → ℕ
-millis_to_tell told last now = min (min ((now - last) / 1000000) 4294967295) (18446744073709551615 - told)
+millis_to_tell told last now =
+    min (min ((now - last) / 1000000) 4294967295) (18446744073709551615 - told)
 
 -- The milliseconds since the last time are told, and the time up to which that goes is the next
 -- last one. At the first reading none are.

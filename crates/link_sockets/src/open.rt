@@ -26,7 +26,9 @@ pub fn open_links<R>(
 where
     R: Net<Listener = TcpListener, Stream = TcpStream> + Log + Copy + Drop,
     ensures count { IfOk result (λ links. vec_len links ≡ length settings.now.cells + 1) }
-    ensures names { IfOk result (λ links. AreNamed (map (λ link. link.reader.name) links.items) × AreNamed (map (λ link. link.writer.name) links.items)) }
+    ensures names { IfOk result (λ links.
+        AreNamed (map (λ link. link.reader.name) links.items)
+        × AreNamed (map (λ link. link.writer.name) links.items)) }
 {
     let listeners = listen(rt, alloc, settings.cells())?;
     let mut links = Vec::new(alloc);
@@ -111,7 +113,8 @@ fn accept<R: Log + Copy + Drop>(
     place: usize,
     listener: &TcpListener,
 ) -> Result<SocketLink<R>, RunFault>
-    ensures { IfOk result (λ link. (place_of link.reader.name ≡ place) × (place_of link.writer.name ≡ place)) }
+    ensures { IfOk result (λ link.
+        (place_of link.reader.name ≡ place) × (place_of link.writer.name ≡ place)) }
 {
     let (stream, peer) = match listener.accept() {
         Ok(accepted) => accepted,

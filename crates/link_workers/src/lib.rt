@@ -6,9 +6,9 @@ pub use fault::IoFault;
 pub use gate::Gate;
 pub use link_reader::LinkReader;
 pub use pauses::Pauses;
-pub use reader::{frames_put_are_the_first, serve_reader};
-pub use switch::switch_worker;
-pub use writer::serve_writer;
+pub use reader::{HasRead, frames_put_are_the_first, serve_reader};
+pub use switch::{HasAnswered, switch_worker};
+pub use writer::{HasWritten, serve_writer};
 
 mod fault;
 mod framing;

@@ -16,9 +16,18 @@ use std::alloc::Global;
 use std::io::Read;
 use std::sync::Wait;
 
+/// The reader of a link that has ended, and why, where that was before the end of the octets.
+#[derive(Drop)]
+pub struct HasRead<I, G> {
+    pub reader: I,
+    pub gate: G,
+    pub pass: SourcePass,
+    pub fault: Option<IoFault>,
+}
+
 /// Reads the octets of a link to their end and puts the frames that they are cut into, as items of
 /// the pass's source; then puts `Down`. An item that there is no room for is put once there is.
-/// Gives all back, and why it ended before the end of the octets.
+/// Gives all back, with its fault.
 ///
 /// `ReadFailed`: a read failed, other than by an interruption, or there were 2^40 reads.
 /// `FrameFault`: a frame has a body of more than 2,048 octets. `Memory`: there was none for a
@@ -32,17 +41,22 @@ pub fn serve_reader<I: LinkReader, G: Gate, R: Wait>(
     gate: G,
     pass: SourcePass,
     limit: u32,
-) -> (I, G, SourcePass, Option<IoFault>)
-    ensures serves { Serves (I.remaining reader) (I.remaining result.0) limit
-        (G.refused gate) (G.refused result.1) pass result.2 result.3 }
-    ensures told { IsTold result.3 (I.told result.0) }
+) -> HasRead<I, G>
+    ensures serves { Serves (I.remaining reader) (I.remaining result.reader) limit
+        (G.refused gate) (G.refused result.gate) pass result.pass result.fault }
+    ensures told { IsTold result.fault (I.told result.reader) }
 {
     let mut gated = GatedPass { gate, pass, limit };
     let fault = fault_of(put_all(rt, alloc, &mut reader, &mut gated));
     tell(&mut reader, fault);
     let fault = put_down(rt, &mut gated, fault);
     let GatedPass { gate, pass, .. } = gated;
-    (reader, gate, pass, fault)
+    HasRead {
+        reader,
+        gate,
+        pass,
+        fault,
+    }
 }
 
 /// Tells the reader why nothing more is read, where that isn't its end.

@@ -16,9 +16,19 @@ use octets::{Memory, Octets};
 use std::alloc::Global;
 use std::io::{Read, Write};
 
+/// The switch at its end of a link that has ended, and why, where that was before the end of the
+/// octets.
+#[derive(Drop)]
+pub struct HasAnswered<I, O> {
+    pub reader: I,
+    pub writer: O,
+    pub switch: MscEnd,
+    pub fault: Option<IoFault>,
+}
+
 /// Plays the switch at its end of a link: answers the messages of SCCP that are read, in order, and
 /// writes the replies. A frame of another stream, or that is no message of SCCP, gets no reply.
-/// Gives all back, and why it ended before the end of the octets.
+/// Gives all back, with its fault.
 ///
 /// `ReadFailed`: a read failed, other than by an interruption, or there were 2^40 reads.
 /// `WriteFailed`: a write failed, other than by an interruption, or took no octet. `FrameFault`: a
@@ -29,12 +39,17 @@ pub fn switch_worker<I: Read, O: Write>(
     mut reader: I,
     mut writer: O,
     mut switch: MscEnd,
-) -> (I, O, MscEnd, Option<IoFault>)
-    ensures { PlaysSwitch (I.remaining reader) (I.remaining result.0) (O.contents writer)
-        (O.contents result.1) switch result.2 result.3 }
+) -> HasAnswered<I, O>
+    ensures { PlaysSwitch (I.remaining reader) (I.remaining result.reader) (O.contents writer)
+        (O.contents result.writer) switch result.switch result.fault }
 {
     let answered = answer_all(alloc, &mut reader, &mut writer, &mut switch);
-    (reader, writer, switch, fault_of(answered))
+    HasAnswered {
+        reader,
+        writer,
+        switch,
+        fault: fault_of(answered),
+    }
 }
 
 /// Answers the frames of a link until there are no octets left to be read.

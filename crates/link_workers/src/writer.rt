@@ -25,9 +25,17 @@ struct Broken {
     at_end: bool,
 }
 
+/// The writer of a link that has ended, and why, where not all was written.
+#[derive(Drop)]
+pub struct HasWritten<O> {
+    pub writer: O,
+    pub taker: Taker,
+    pub fault: Option<IoFault>,
+}
+
 /// Takes the lines of an outbox up to the mark `End`, and writes the octets of their frames. What
 /// waits there goes into one write, up to some 8 KiB. Then it flushes the writer. Gives all back,
-/// and why not all was written.
+/// with its fault.
 ///
 /// `WriteFailed`: a write failed, other than by an interruption, or took no octet, or the flush
 /// failed. `FrameFault`: a frame has a body of more than 2,048 octets. `Memory`: there was none.
@@ -39,8 +47,9 @@ pub fn serve_writer<O: Write, R: Wait>(
     alloc: Global,
     mut writer: O,
     mut taker: Taker,
-) -> (O, Taker, Option<IoFault>)
-    ensures { Delivers (O.contents writer) (O.contents result.0) taker result.1 result.2 }
+) -> HasWritten<O>
+    ensures { Delivers (O.contents writer) (O.contents result.writer)
+        taker result.taker result.fault }
 {
     let written = write_lines(rt, alloc, &mut writer, &mut taker);
     let flushed = writer.flush();
@@ -56,7 +65,11 @@ pub fn serve_writer<O: Write, R: Wait>(
             Some(broken.fault)
         }
     };
-    (writer, taker, fault)
+    HasWritten {
+        writer,
+        taker,
+        fault,
+    }
 }
 
 /// Writes the frames up to the mark.

@@ -6,8 +6,8 @@ use Rattle.ruled_relay.specs.Inbox.{AreJoined, PassView}
 use Rattle.ruled_relay.specs.Outbox.{PutterView}
 use Rattle.ruled_relay.specs.Row.{Row}
 use Rattle.station_io.specs.declared.link.Link.{Link}
-use Rattle.station_io.specs.declared.work.HasRead.{HasRead}
-use Rattle.station_io.specs.declared.work.HasWritten.{HasWritten}
+use Rattle.link_workers.specs.declared.reader.HasRead.{HasRead}
+use Rattle.link_workers.specs.declared.writer.HasWritten.{HasWritten}
 use Rattle.station_io.specs.Given.{Follows, all_given, given_back}
 use Rattle.station_io.specs.Pairs.{EachPair, paired}
 use Rattle.station_io.proofs.Pairing.{each_pair_next, each_pair_none, map_next, pair_next}

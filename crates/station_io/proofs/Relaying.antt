@@ -20,8 +20,8 @@ use Rattle.ruled_relay.specs.Row.{Row}
 use Rattle.station_io.specs.declared.link.Link.{Link}
 use Rattle.station_io.specs.declared.work.Calling.{Calling}
 use Rattle.station_io.specs.declared.work.HasCalled.{HasCalled}
-use Rattle.station_io.specs.declared.work.HasRead.{HasRead}
-use Rattle.station_io.specs.declared.work.HasWritten.{HasWritten}
+use Rattle.link_workers.specs.declared.reader.HasRead.{HasRead}
+use Rattle.link_workers.specs.declared.writer.HasWritten.{HasWritten}
 use Rattle.station_io.specs.declared.work.Reading.{Reading}
 use Rattle.station_io.specs.declared.work.Writing.{Writing}
 use Rattle.station_io.specs.Calls.{Runs}

@@ -26,8 +26,8 @@ use Rattle.ruled_relay.specs.Outbox.{PutterView, TakerView}
 use Rattle.ruled_relay.specs.Row.{EachAt}
 use Rattle.ruled_relay.specs.Rule.{taking}
 use Rattle.station_io.specs.declared.link.Link.{Link}
-use Rattle.station_io.specs.declared.work.HasRead.{HasRead}
-use Rattle.station_io.specs.declared.work.HasWritten.{HasWritten}
+use Rattle.link_workers.specs.declared.reader.HasRead.{HasRead}
+use Rattle.link_workers.specs.declared.writer.HasWritten.{HasWritten}
 use Rattle.station_io.specs.Calls.{Calls, HasEnd}
 use Rattle.station_io.specs.Done.{AreRead, AreWritten}
 use Rattle.station_io.specs.Given.{Follows, HasRoom, all_given, given_back}

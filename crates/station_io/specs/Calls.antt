@@ -1,5 +1,5 @@
 -- What the call worker leaves to the links.
-use Rattle.std.specs.Prelude.{◌≡◌, ℕ, List, [], ◌∷◌, ◌++◌, length, Option, Some, None}
+use Rattle.std.specs.Prelude.{◌≡◌, List, [], ◌∷◌, ◌++◌, length, Option, Some, None}
 use mathlib.Core.Option.{some}
 use lib.ListN.{get_elem?}
 use Rattle.controller_worker.specs.Call.{Serves}
@@ -17,19 +17,23 @@ use Rattle.ruled_relay.specs.Row.{EachAt, Row}
 
 -- A run of it, of which the clock and the controller are let go. It has a fault, or all items that
 -- it took are in its steps.
-pub record Runs (start : Controller) (desk : Row) (putters : List PutterView) (left : Row) (ended : List PutterView) : Type 0 where
+pub record Runs (start : Controller) (desk : Row) (putters : List PutterView) (left : Row)
+    (ended : List PutterView) : Type 0 where
   pub steps : List Step
   pub items : List Item
   pub taken : HasTaken desk items left
   pub count : length ended ≡ length putters
   pub links : EachAt ended (λ number p.
-      (before : PutterView) × (get_elem? putters number ≡ some before) × Serves None steps (frames_to number (over start steps).outs) items number before p)
+      (before : PutterView) × (get_elem? putters number ≡ some before)
+      × Serves None steps (frames_to number (over start steps).outs) items number before p)
 
 -- End was put last
 abbrev pub HasEnd : PutterView → Type 0
 HasEnd p = (before : List Line) × (p.put ≡ before ++ End ∷ [])
 
 -- A fault is that memory ran out; then too each outbox has its End, so that its writer ends.
-abbrev pub Calls : Controller → Row → List PutterView → Option IoFault → Row → List PutterView → Type 0
+abbrev pub Calls : Controller → Row → List PutterView → Option IoFault → Row → List PutterView
+    → Type 0
 Calls start desk putters None left ended = Runs start desk putters left ended
-Calls start desk putters (Some fault) left ended = (fault ≡ Memory) × (length ended ≡ length putters) × EachAt ended (λ number p. HasEnd p)
+Calls start desk putters (Some fault) left ended =
+    (fault ≡ Memory) × (length ended ≡ length putters) × EachAt ended (λ number p. HasEnd p)

@@ -1,13 +1,12 @@
 -- What a crew's workers give back, and how far they were started.
-use Rattle.std.specs.Prelude.{◌≡◌, ℕ, List, ◌++◌, length}
-use mathlib.Core.Option.{some}
-use lib.ListN.{get_elem?}
+use Rattle.std.specs.Prelude.{◌≡◌, List, ◌++◌, length}
+use Rattle.station_io.specs.Pairs.{EachPair}
 
 -- as many gave something back as there are workers, each what it may give
 abbrev pub AllDone : {W D : Type 0} → (W → D → Type 0) → List W → List D → Type 0
-AllDone {W} {D} Does workers done =
-    (length done ≡ length workers) × ((at : ℕ) (w : W) (d : D) → get_elem? workers at ≡ some w → get_elem? done at ≡ some d → Does w d)
+AllDone Does workers done = (length done ≡ length workers) × EachPair Does workers done
 
 -- some first ones of these came to those that were there
 abbrev pub BeginsWith : {W : Type 0} → List W → List W → List W → Type 0
-BeginsWith {W} old new workers = (first : List W) × (rest : List W) × (workers ≡ first ++ rest) × (new ≡ old ++ first)
+BeginsWith {W} old new workers = (first : List W) × (rest : List W) × (workers ≡ first ++ rest)
+    × (new ≡ old ++ first)

@@ -1,5 +1,5 @@
 -- What the threads of the relay give back.
-use Rattle.std.specs.Prelude.{◌≡◌, ℕ, List, [], ◌∷◌, length, Option}
+use Rattle.std.specs.Prelude.{ℕ, List, length, Option}
 use Rattle.std.specs.declared.alloc.Global.{Global}
 use Rattle.controller_model.specs.Controller.{Controller}
 use Rattle.link_workers.specs.Reading.{Serves}
@@ -10,8 +10,8 @@ use Rattle.ruled_relay.specs.Row.{Row}
 use Rattle.station_io.specs.declared.link.Link.{Link}
 use Rattle.station_io.specs.declared.work.Calling.{Calling}
 use Rattle.station_io.specs.declared.work.HasCalled.{HasCalled}
-use Rattle.station_io.specs.declared.work.HasRead.{HasRead}
-use Rattle.station_io.specs.declared.work.HasWritten.{HasWritten}
+use Rattle.link_workers.specs.declared.reader.HasRead.{HasRead}
+use Rattle.link_workers.specs.declared.writer.HasWritten.{HasWritten}
 use Rattle.station_io.specs.declared.work.Reading.{Reading}
 use Rattle.station_io.specs.declared.work.Writing.{Writing}
 use Rattle.station_io.specs.Calls.{Runs}
@@ -20,23 +20,30 @@ use Rattle.station_io.specs.CrewDone.{AllDone}
 
 -- each link was read, over readers that tell what is left of their octets and gates that tell how
 -- often they refused
-abbrev pub AreRead : {I G : Type 0} → (I → Option (List ℕ)) → (G → ℕ) → List (Reading I G) → List (HasRead I G) → Type 0
+abbrev pub AreRead : {I G : Type 0} → (I → Option (List ℕ)) → (G → ℕ) → List (Reading I G)
+    → List (HasRead I G) → Type 0
 AreRead remaining refused readings read =
-    AllDone (λ w d. Serves (remaining w.reader) (remaining d.reader) w.limit (refused w.gate) (refused d.gate) w.pass d.pass d.fault) readings read
+    AllDone (λ w d. Serves (remaining w.reader) (remaining d.reader) w.limit
+    (refused w.gate) (refused d.gate) w.pass d.pass d.fault) readings read
 
 -- each link was written, over writers that tell what they hold
-abbrev pub AreWritten : {O : Type 0} → (O → Option (List ℕ)) → List (Writing O) → List (HasWritten O) → Type 0
-AreWritten contents writings written = AllDone (λ w d. Delivers (contents w.writer) (contents d.writer) w.taker d.taker d.fault) writings written
+abbrev pub AreWritten : {O : Type 0} → (O → Option (List ℕ)) → List (Writing O)
+    → List (HasWritten O) → Type 0
+AreWritten contents writings written =
+    AllDone (λ w d. Delivers (contents w.writer) (contents d.writer) w.taker d.taker d.fault)
+    writings written
 
 -- the call worker has run without a fault
 abbrev pub IsCalled : {K : Type 0} → Calling K → HasCalled → Type 0
-IsCalled calling called = Runs calling.controller calling.desk calling.putters.items called.desk called.putters.items
+IsCalled calling called =
+    Runs calling.controller calling.desk calling.putters.items called.desk called.putters.items
 
 -- All threads have ended: the queues that were made for the links, and what each thread did with
 -- its ends of them.
-pub record HasEnded {I O G : Type 0} (remaining : I → Option (List ℕ)) (contents : O → Option (List ℕ)) (refused : G → ℕ)
-    (start : Controller) (alloc : Global) (limit : ℕ) (links : List (Link I O G))
-    (read : List (HasRead I G)) (written : List (HasWritten O)) (desk : Row) (putters : List PutterView) : Type 0 where
+pub record HasEnded {I O G : Type 0} (remaining : I → Option (List ℕ))
+    (contents : O → Option (List ℕ)) (refused : G → ℕ) (start : Controller) (alloc : Global)
+    (limit : ℕ) (links : List (Link I O G)) (read : List (HasRead I G))
+    (written : List (HasWritten O)) (desk : Row) (putters : List PutterView) : Type 0 where
   pub first_desk : Row
   pub passes : List PassView
   pub first_putters : List PutterView

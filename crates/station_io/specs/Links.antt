@@ -1,5 +1,6 @@
 -- The links of a relay, from its start until all of them have ended.
-use Rattle.std.specs.Prelude.{◌≡◌, ℕ, Bool, true, false, List, [], ◌∷◌, ◌++◌, length, Option, Some, None}
+use Rattle.std.specs.Prelude.{◌≡◌, ℕ, Bool, true, false, List, [], ◌∷◌, ◌++◌, length, Option, Some}
+use Rattle.std.specs.Prelude.{None}
 use Rattle.std.specs.Io.KnownBytes.{Appends, Consumes}
 use mathlib.Core.Option.{some}
 use lib.ListN.{get_elem?}
@@ -23,8 +24,13 @@ pub record LinkView : Type 0 where
   pub written : Option (List ℕ)
   pub refused : ℕ
 
-abbrev pub link_view : {I O G : Type 0} → (I → Option (List ℕ)) → (O → Option (List ℕ)) → (G → ℕ) → Link I O G → LinkView
-link_view remaining contents refused link = record { unread = remaining link.reader; written = contents link.writer; refused = refused link.gate }
+abbrev pub link_view : {I O G : Type 0} → (I → Option (List ℕ)) → (O → Option (List ℕ)) → (G → ℕ)
+    → Link I O G → LinkView
+link_view remaining contents refused link = record {
+  unread = remaining link.reader;
+  written = contents link.writer;
+  refused = refused link.gate;
+}
 
 -- a link that has ended, and its fault
 pub record Ended : Type 0 where
@@ -44,7 +50,8 @@ Writes None false text old new = Appends old new text
 Writes writing given_up text old new = AppendsBeginning old new text
 
 -- One link over these steps and outputs of the controller.
-pub record Comes (steps : List Step) (outs : List Out) (limit number : ℕ) (old new : LinkView) (fault : Option IoFault) : Type 0 where
+pub record Comes (steps : List Step) (outs : List Out) (limit number : ℕ) (old new : LinkView)
+    (fault : Option IoFault) : Type 0 where
   -- why its reader and its writer ended, and whether its outbox was given up
   pub reading : Option IoFault
   pub writing : Option IoFault
@@ -71,9 +78,14 @@ abbrev pub Relays : Controller → ℕ → List LinkView → List Ended → Type
 Relays start limit links ended =
     (length ended ≡ length links)
     × ((steps : List Step)
-    × ((number : ℕ) (old : LinkView) (now : Ended) → get_elem? links number ≡ some old → get_elem? ended number ≡ some now
+    × ((number : ℕ) (old : LinkView) (now : Ended)
+    → get_elem? links number ≡ some old → get_elem? ended number ≡ some now
     → Comes steps (over start steps).outs limit number old now.link now.fault))
 
 -- a link that was given back
-abbrev pub ended_view : {I O G : Type 0} → (I → Option (List ℕ)) → (O → Option (List ℕ)) → (G → ℕ) → Link I O G × Option IoFault → Ended
-ended_view remaining contents refused back = record { link = link_view remaining contents refused back.0; fault = back.1 }
+abbrev pub ended_view : {I O G : Type 0} → (I → Option (List ℕ)) → (O → Option (List ℕ)) → (G → ℕ)
+    → Link I O G × Option IoFault → Ended
+ended_view remaining contents refused back = record {
+  link = link_view remaining contents refused back.0;
+  fault = back.1;
+}

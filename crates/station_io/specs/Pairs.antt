@@ -12,4 +12,5 @@ module _ {X Y Z : Type 0} where
 module _ {X Y : Type 0} where
   -- this holds of each pair
   abbrev pub EachPair : (X → Y → Type 0) → List X → List Y → Type 0
-  EachPair F xs ys = (at : ℕ) (x : X) (y : Y) → get_elem? xs at ≡ some x → get_elem? ys at ≡ some y → F x y
+  EachPair F xs ys = (at : ℕ) (x : X) (y : Y) → get_elem? xs at ≡ some x → get_elem? ys at ≡ some y
+      → F x y

@@ -1,11 +1,11 @@
 -- What the threads of the relay are given.
-use Rattle.std.specs.Prelude.{◌≡◌, ℕ, List, [], length, map}
-use Rattle.controller_worker.specs.Call.{AreNew}
-use Rattle.ruled_relay.specs.Ends.{EndView}
+use Rattle.std.specs.Prelude.{◌≡◌, ℕ, List, [], length, map, vec_len}
+use Rattle.controller_worker.specs.Call.{AreNew, AreUnmarked}
 use Rattle.ruled_relay.specs.Inbox.{PassView, queues_of}
 use Rattle.ruled_relay.specs.Outbox.{PutterView, TakerView}
 use Rattle.ruled_relay.specs.Row.{EachAt, Row}
 use Rattle.station_io.specs.declared.link.Link.{Link}
+use Rattle.station_io.specs.declared.work.Calling.{Calling}
 use Rattle.station_io.specs.declared.work.Reading.{Reading}
 use Rattle.station_io.specs.declared.work.Writing.{Writing}
 use Rattle.station_io.specs.Pairs.{paired}
@@ -13,7 +13,13 @@ use Rattle.std.specs.declared.alloc.Global.{Global}
 
 module _ {I O G : Type 0} where
   abbrev pub reading : Global → ℕ → Link I O G → PassView → Reading I G
-  reading alloc limit link pass = record { alloc = alloc; reader = link.reader; gate = link.gate; pass = pass; limit = limit }
+  reading alloc limit link pass = record {
+    alloc = alloc;
+    reader = link.reader;
+    gate = link.gate;
+    pass = pass;
+    limit = limit;
+  }
 
   abbrev pub writing : Global → Link I O G → TakerView → Writing O
   writing alloc link taker = record { alloc = alloc; writer = link.writer; taker = taker }
@@ -24,6 +30,13 @@ module _ {I O G : Type 0} where
   abbrev pub writings : Global → List (Link I O G) → List TakerView → List (Writing O)
   writings alloc links takers = paired (writing alloc) links takers
 
+-- The call worker may begin: nothing was put into an outbox or refused there, each source has an
+-- outbox, and nothing is remembered of a link.
+abbrev pub MayCall : {K : Type 0} → Calling K → Type 0
+MayCall calling =
+    AreNew calling.putters.items × (length calling.desk ≡ vec_len calling.putters)
+    × AreUnmarked (vec_len calling.putters) calling.marks
+
 -- how many items, or lines, wait at most in the queue of one link
 abbrev pub most_waiting : ℕ
 most_waiting = 1024
@@ -31,11 +44,15 @@ most_waiting = 1024
 -- so many new outboxes: the ends at each place are of one outbox
 abbrev pub AreNewOutboxes : ℕ → List PutterView → List TakerView → Type 0
 AreNewOutboxes count putters takers =
-    (length putters ≡ count) × (length takers ≡ count) × AreNew putters × EachAt takers (λ link t. t.taken ≡ [])
-    × (map (λ (p : PutterView). p.queue) putters ≡ map (λ (t : TakerView). t.queue) takers) × EachAt takers (λ link t. t.capacity ≡ most_waiting)
+    (length putters ≡ count) × (length takers ≡ count) × AreNew putters
+    × EachAt takers (λ link t. t.taken ≡ [])
+    × (map (λ (p : PutterView). p.queue) putters ≡ map (λ (t : TakerView). t.queue) takers)
+    × EachAt takers (λ link t. t.capacity ≡ most_waiting)
 
 -- so many new queues: the ends at each place are of one queue
 abbrev pub AreNewQueues : ℕ → Row → List PassView → Type 0
 AreNewQueues count desk passes =
-    (length desk ≡ count) × (length passes ≡ count) × EachAt desk (λ link e. e.seen.taken ≡ []) × EachAt passes (λ link p. p.put ≡ [])
-    × (queues_of desk ≡ map (λ (p : PassView). p.queue) passes) × EachAt passes (λ link p. p.capacity ≡ most_waiting)
+    (length desk ≡ count) × (length passes ≡ count)
+    × EachAt desk (λ link e. e.seen.taken ≡ []) × EachAt passes (λ link p. p.put ≡ [])
+    × (queues_of desk ≡ map (λ (p : PassView). p.queue) passes)
+    × EachAt passes (λ link p. p.capacity ≡ most_waiting)

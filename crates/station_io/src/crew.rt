@@ -125,7 +125,9 @@ impl<W: Worker + Send + 'static> Crew<W> {
     where
         W::Done: Send + 'static,
         requires { All W.can_work workers.items }
-        ensures { MatchResult result (λ _. self.new ≡ self.old ++ workers.items) (λ _. BeginsWith self.old self.new workers.items) }
+        ensures { MatchResult result
+            (λ _. self.new ≡ self.old ++ workers.items)
+            (λ _. BeginsWith self.old self.new workers.items) }
     {
         for worker in workers {
             self.start(rt, signal, worker)?;

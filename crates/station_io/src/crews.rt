@@ -1,14 +1,14 @@
 //! The threads of the relay: all are started, or none begins.
-ghost use Rattle.std.specs.Prelude.{◌≡◌, [], ◌++◌, length, vec_len, IfOk, IfSome, None, OnOk};
-ghost use Rattle.controller_worker.specs.Call.{AreNew, AreUnmarked};
+ghost use Rattle.std.specs.Prelude.{◌≡◌, [], ◌++◌, IfOk, IfSome, None, OnOk};
 ghost use Rattle.station_io.specs.Done.{AreRead, AreWritten, IsCalled};
+ghost use Rattle.station_io.specs.Work.{MayCall};
 
 use crate::crew::Crew;
 use crate::signal::Signal;
-use crate::work::{Calling, HasCalled, HasRead, HasWritten, Reading, Writing};
+use crate::work::{Calling, HasCalled, Reading, Writing};
 use crate::worker::Worker;
 use controller_worker::Clock;
-use link_workers::{Gate, LinkReader};
+use link_workers::{Gate, HasRead, HasWritten, LinkReader};
 use octets::Memory;
 use ruled_relay::Desk;
 use std::alloc::Global;
@@ -31,7 +31,7 @@ pub(crate) struct Works<I, O, G, K> {
 
 /// What all threads of the relay gave back.
 #[derive(Drop)]
-pub(crate) struct Done<I, O, G> {
+pub(crate) struct WorksDone<I, O, G> {
     pub read: Vec<HasRead<I, G>>,
     pub written: Vec<HasWritten<O>>,
     pub called: HasCalled,
@@ -76,8 +76,9 @@ impl<
 
     /// Waits until all threads have ended. Nothing is given where one never began, or the call
     /// worker ended with a fault.
-    fn join<R: Threads + Wait>(self, rt: &R, called: HasCalled) -> Option<Done<I, O, G>>
-        ensures read { IfSome result (λ d. AreRead I.remaining G.refused self.readers d.read.items) }
+    fn join<R: Threads + Wait>(self, rt: &R, called: HasCalled) -> Option<WorksDone<I, O, G>>
+        ensures read { IfSome result
+            (λ d. AreRead I.remaining G.refused self.readers d.read.items) }
         ensures written { IfSome result (λ d. AreWritten O.contents self.writers d.written.items) }
         ensures called { IfSome result (λ d. (d.called ≡ called) × (called.fault ≡ None)) }
     {
@@ -86,7 +87,7 @@ impl<
         let read = readers.join_all(rt);
         let written = writers.join_all(rt);
         match (read, written, called) {
-            (Some(read), Some(written), Some(called)) => Some(Done {
+            (Some(read), Some(written), Some(called)) => Some(WorksDone {
                 read,
                 written,
                 called,
@@ -146,10 +147,12 @@ pub(crate) fn run<
     G: Gate + Drop + Send + 'static,
     K: Clock + Drop,
     R: Threads + Wait + Copy + Send + 'static,
->(rt: R, alloc: Global, works: Works<I, O, G, K>) -> Result<Done<I, O, G>, Memory>
-    requires { AreNew works.calling.putters.items × (length works.calling.desk ≡ vec_len works.calling.putters) × AreUnmarked (vec_len works.calling.putters) works.calling.marks }
-    ensures read { IfOk result (λ d. AreRead I.remaining G.refused works.readings.items d.read.items) }
-    ensures written { IfOk result (λ d. AreWritten O.contents works.writings.items d.written.items) }
+>(rt: R, alloc: Global, works: Works<I, O, G, K>) -> Result<WorksDone<I, O, G>, Memory>
+    requires { MayCall works.calling }
+    ensures read { IfOk result
+        (λ d. AreRead I.remaining G.refused works.readings.items d.read.items) }
+    ensures written { IfOk result
+        (λ d. AreWritten O.contents works.writings.items d.written.items) }
     ensures called { IfOk result (λ d. IsCalled works.calling d.called) }
 {
     let signal = Signal::new(alloc)?;

@@ -8,9 +8,9 @@ ghost use Rattle.station_io.specs.Links.{fault_of};
 ghost use Rattle.station_io.specs.Pairs.{EachPair};
 
 use crate::link::Link;
-use crate::work::{HasCalled, HasRead, HasWritten};
+use crate::work::HasCalled;
 use controller_worker::MAX_REFUSALS;
-use link_workers::IoFault;
+use link_workers::{HasRead, HasWritten, IoFault};
 use octets::Memory;
 use ruled_relay::{Inbox, Outbox, Putter, SourcePass};
 use std::alloc::Global;
@@ -71,7 +71,8 @@ pub(crate) struct Room<I, O, G> {
 impl<I: Drop, O: Drop, G: Drop> Room<I, O, G> {
     /// Room for so many links.
     pub fn new(alloc: Global, links: usize) -> Result<Room<I, O, G>, Memory>
-        ensures { IfOk result (λ r. HasRoom links r.back.items (vec_capacity r.back) r.passes.items (vec_capacity r.passes)) }
+        ensures { IfOk result (λ r. HasRoom links
+            r.back.items (vec_capacity r.back) r.passes.items (vec_capacity r.passes)) }
     {
         Ok(Room {
             back: Vec::with_capacity(alloc, links)?,
@@ -87,10 +88,12 @@ pub(crate) fn give_back<I: Drop, O: Drop, G: Drop>(
     written: Vec<HasWritten<O>>,
     called: HasCalled,
 ) -> Vec<Back<I, O, G>>
-    requires room { HasRoom (vec_len read) room.back.items (vec_capacity room.back) room.passes.items (vec_capacity room.passes) }
+    requires room { HasRoom (vec_len read)
+        room.back.items (vec_capacity room.back) room.passes.items (vec_capacity room.passes) }
     requires count { (vec_len written ≡ vec_len read) × (vec_len called.putters ≡ vec_len read) }
     requires inbox { queues_of called.desk ≡ map (λ p. p.queue) (map (λ r. r.pass) read.items) }
-    requires outboxes { map (λ w. w.taker.queue) written.items ≡ map (λ p. p.queue) called.putters.items }
+    requires outboxes { map (λ w. w.taker.queue) written.items
+        ≡ map (λ p. p.queue) called.putters.items }
     ensures back { result.items ≡ all_given read.items written.items called.putters.items }
     ensures outboxes { EachPair Follows written.items called.putters.items }
     ensures inbox { (left : Row) × AreJoined called.desk (map (λ r. r.pass) read.items) left }

@@ -3,7 +3,7 @@ ghost use Rattle.link_workers.specs.declared.fault.IoFault.TheVariants as faults
 ghost use Rattle.station_io.specs.Done.{HasEnded};
 ghost use Rattle.station_io.specs.Links.{Relays, ended_view, link_view};
 
-use crate::crews::{Done, Works, run};
+use crate::crews::{Works, WorksDone, run};
 use crate::giving::{Room, give_back};
 use crate::link::Link;
 use crate::queues::Queues;
@@ -43,11 +43,13 @@ pub fn serve_links<
     clock: K,
     limit: u32,
 ) -> Result<Vec<(Link<I, O, G>, Option<IoFault>)>, IoFault>
-    ensures links { IfOk result (λ back. Relays controller limit (map (link_view I.remaining O.contents G.refused) links.items) (map (ended_view I.remaining O.contents G.refused) back.items)) }
+    ensures links { IfOk result (λ back. Relays controller limit
+        (map (link_view I.remaining O.contents G.refused) links.items)
+        (map (ended_view I.remaining O.contents G.refused) back.items)) }
     ensures fault { IfErr result (λ fault. fault ≡ faults.Memory) }
 {
     let room = Room::new(alloc, links.len())?;
-    let Done {
+    let WorksDone {
         read,
         written,
         called,
@@ -70,8 +72,10 @@ fn relay<
     links: Vec<Link<I, O, G>>,
     clock: K,
     limit: u32,
-) -> Result<Done<I, O, G>, Memory>
-    ensures { IfOk result (λ d. HasEnded I.remaining O.contents G.refused controller alloc limit links.items d.read.items d.written.items d.called.desk d.called.putters.items) }
+) -> Result<WorksDone<I, O, G>, Memory>
+    ensures { IfOk result (λ d. HasEnded I.remaining O.contents G.refused
+        controller alloc limit links.items
+        d.read.items d.written.items d.called.desk d.called.putters.items) }
 {
     let count = links.len();
     let Queues {

@@ -3,7 +3,7 @@
 use crate::worker::Worker;
 use controller::Controller;
 use controller_worker::{Clock, Marks, call_worker};
-use link_workers::{Gate, IoFault, LinkReader, serve_reader, serve_writer};
+use link_workers::{Gate, HasRead, HasWritten, IoFault, LinkReader, serve_reader, serve_writer};
 use ruled_relay::{Desk, Putter, SourcePass, Taker};
 use std::alloc::Global;
 use std::io::Write;
@@ -20,15 +20,6 @@ pub(crate) struct Reading<I, G> {
     pub limit: u32,
 }
 
-/// A reader that has ended, and why.
-#[derive(Drop)]
-pub(crate) struct HasRead<I, G> {
-    pub reader: I,
-    pub gate: G,
-    pub pass: SourcePass,
-    pub fault: Option<IoFault>,
-}
-
 impl<I: LinkReader + Drop, G: Gate + Drop> Worker for Reading<I, G> {
     type Done = HasRead<I, G>;
 
@@ -36,23 +27,18 @@ impl<I: LinkReader + Drop, G: Gate + Drop> Worker for Reading<I, G> {
 
     ghost can_work = { λ w. Unit {0} };
 
-    ghost does = { λ w d. Serves (I.remaining w.reader) (I.remaining d.reader) w.limit (G.refused w.gate) (G.refused d.gate) w.pass d.pass d.fault };
+    ghost does = { λ w d. Serves (I.remaining w.reader) (I.remaining d.reader) w.limit
+        (G.refused w.gate) (G.refused d.gate) w.pass d.pass d.fault };
 
     fn work<R: Wait>(self, rt: &R) -> HasRead<I, G> {
-        let (reader, gate, pass, fault) = serve_reader(
+        serve_reader(
             rt,
             self.alloc,
             self.reader,
             self.gate,
             self.pass,
             self.limit,
-        );
-        HasRead {
-            reader,
-            gate,
-            pass,
-            fault,
-        }
+        )
     }
 }
 
@@ -64,14 +50,6 @@ pub(crate) struct Writing<O> {
     pub taker: Taker,
 }
 
-/// A writer that has ended, and why.
-#[derive(Drop)]
-pub(crate) struct HasWritten<O> {
-    pub writer: O,
-    pub taker: Taker,
-    pub fault: Option<IoFault>,
-}
-
 impl<O: Write + Drop> Worker for Writing<O> {
     type Done = HasWritten<O>;
 
@@ -79,15 +57,11 @@ impl<O: Write + Drop> Worker for Writing<O> {
 
     ghost can_work = { λ w. Unit {0} };
 
-    ghost does = { λ w d. Delivers (O.contents w.writer) (O.contents d.writer) w.taker d.taker d.fault };
+    ghost does = { λ w d. Delivers (O.contents w.writer) (O.contents d.writer)
+        w.taker d.taker d.fault };
 
     fn work<R: Wait>(self, rt: &R) -> HasWritten<O> {
-        let (writer, taker, fault) = serve_writer(rt, self.alloc, self.writer, self.taker);
-        HasWritten {
-            writer,
-            taker,
-            fault,
-        }
+        serve_writer(rt, self.alloc, self.writer, self.taker)
     }
 }
 
@@ -113,16 +87,16 @@ pub(crate) struct HasCalled {
 impl<K: Clock + Drop> Worker for Calling<K> {
     type Done = HasCalled;
 
-    ghost use Rattle.std.specs.Prelude.{◌≡◌, length, vec_len};
-    ghost use Rattle.controller_worker.specs.Call.{AreNew, AreUnmarked};
     ghost use Rattle.station_io.specs.Calls.{Calls};
+    ghost use Rattle.station_io.specs.Work.{MayCall};
 
-    ghost can_work = { λ w. AreNew w.putters.items × (length w.desk ≡ vec_len w.putters) × AreUnmarked (vec_len w.putters) w.marks };
+    ghost can_work = { λ w. MayCall w };
 
-    ghost does = { λ w d. Calls w.controller w.desk w.putters.items d.fault d.desk d.putters.items };
+    ghost does = { λ w d.
+        Calls w.controller w.desk w.putters.items d.fault d.desk d.putters.items };
 
     fn work<R: Wait>(self, rt: &R) -> HasCalled {
-        let (_, desk, putters, _, fault) = call_worker(
+        let relayed = call_worker(
             rt,
             self.alloc,
             self.controller,
@@ -132,9 +106,9 @@ impl<K: Clock + Drop> Worker for Calling<K> {
             self.clock,
         );
         HasCalled {
-            desk,
-            putters,
-            fault,
+            desk: relayed.desk,
+            putters: relayed.putters,
+            fault: relayed.fault,
         }
     }
 }

@@ -18,7 +18,8 @@ pub(crate) fn workers<I: Drop, O: Drop, G: Drop>(
     limit: u32,
 ) -> Result<(Vec<Reading<I, G>>, Vec<Writing<O>>), Memory>
     requires { (vec_len passes ≡ vec_len links) × (vec_len takers ≡ vec_len links) }
-    ensures readings { IfOk result (λ r. r.0.items ≡ readings_of alloc limit links.items passes.items) }
+    ensures readings { IfOk result
+        (λ r. r.0.items ≡ readings_of alloc limit links.items passes.items) }
     ensures writings { IfOk result (λ r. r.1.items ≡ writings_of alloc links.items takers.items) }
 {
     let mut readings = Vec::with_capacity(alloc, links.len())?;

@@ -74,12 +74,12 @@ fn read<R: Wait>(
         left: refused,
         ..OPEN
     };
-    let (source, gate, _, fault) = serve_reader(rt, alloc, Source::new(calls), gate, pass, limit);
+    let read = serve_reader(rt, alloc, Source::new(calls), gate, pass, limit);
     Ok(Ended {
         desk,
-        told: source.told,
-        asked: gate.asked,
-        fault,
+        told: read.reader.told,
+        asked: read.gate.asked,
+        fault: read.fault,
     })
 }
 
@@ -231,7 +231,7 @@ fn count_frames<R: Wait>(rt: &R, desk: &mut Desk) -> u32 {
 /// Reads 100 frames into an inbox of one item.
 fn flood<R: Wait>(rt: &R, alloc: Global, pass: SourcePass) -> Option<IoFault> {
     let calls = [Call::Octets(PING); 100];
-    serve_reader(rt, alloc, Source::new(&calls), OPEN, pass, 10_000).3
+    serve_reader(rt, alloc, Source::new(&calls), OPEN, pass, 10_000).fault
 }
 
 #[test]
@@ -261,7 +261,7 @@ fn flood_with<R: Wait>(
     pass: SourcePass,
 ) -> Option<IoFault> {
     let calls = [Call::Octets(frame); 400];
-    serve_reader(rt, alloc, Source::new(&calls), counts, pass, 1).3
+    serve_reader(rt, alloc, Source::new(&calls), counts, pass, 1).fault
 }
 
 /// How often a gate was asked, once that was more than 128 times and some time has passed.

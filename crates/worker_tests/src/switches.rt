@@ -25,15 +25,10 @@ fn a_connection_request_is_confirmed(rt: HostRuntime) -> Result<(), Fail> {
         Call::Octets(REQUEST),
     ];
     let switch = MscEnd::new(alloc, Modulus::Four);
-    let (_, sink, switch, fault) = switch_worker(
-        alloc,
-        Source::new(&calls),
-        Sink::new(alloc),
-        switch,
-    );
-    assert!(rt; fault.is_none());
-    assert!(rt; sink.got.as_slice() == CONFIRM);
-    assert!(rt; switch.taken(1).is_some());
+    let answered = switch_worker(alloc, Source::new(&calls), Sink::new(alloc), switch);
+    assert!(rt; answered.fault.is_none());
+    assert!(rt; answered.writer.got.as_slice() == CONFIRM);
+    assert!(rt; answered.switch.taken(1).is_some());
     Ok(())
 }
 
@@ -46,8 +41,9 @@ fn a_switch_that_wants_memory_writes_a_first_part(rt: HostRuntime) -> Result<(),
     };
     let switch = MscEnd::new(alloc, Modulus::Four);
     let source = Source::new(&[Call::Octets(REQUEST)]);
-    let (_, sink, _, fault) = switch_worker(alloc, source, sink, switch);
-    assert!(rt; CONFIRM.starts_with(sink.got.as_slice()));
-    assert!(rt; sink.got.as_slice() == CONFIRM || fault.is_some());
-    ended(fault)
+    let answered = switch_worker(alloc, source, sink, switch);
+    let got = answered.writer.got.as_slice();
+    assert!(rt; CONFIRM.starts_with(got));
+    assert!(rt; got == CONFIRM || answered.fault.is_some());
+    ended(answered.fault)
 }

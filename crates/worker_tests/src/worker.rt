@@ -118,13 +118,11 @@ fn run<R: Abort + Wait>(rt: &R, alloc: Global, ends: Ends, clock: Script) -> End
         marks,
     } = ends;
     let controller = controller(rt, alloc);
-    let (controller, _, putters, _, fault) = call_worker(
-        rt, alloc, controller, desk, putters, marks, clock,
-    );
+    let relayed = call_worker(rt, alloc, controller, desk, putters, marks, clock);
     Ended {
-        fault,
-        ignored: controller.ignored(),
-        refusals: refusals(putters.as_slice()),
+        fault: relayed.fault,
+        ignored: relayed.controller.ignored(),
+        refusals: refusals(relayed.putters.as_slice()),
     }
 }
 

@@ -1,6 +1,6 @@
 use crate::devices::{Flushed, PING, Sink, ended, is_fault};
 use ipa_framing::{CCM_STREAM, Frame};
-use link_workers::{IoFault, serve_writer};
+use link_workers::{HasWritten, IoFault, serve_writer};
 use octets::{Memory, Octets};
 use ruled_relay::{Line, Outbox, Putter, Taker};
 use std::alloc::Global;
@@ -49,9 +49,13 @@ fn write<R: Wait>(
 ) -> Result<(Sink, Option<IoFault>), Fail> {
     let (mut putter, taker) = Outbox::new(alloc, 8)?;
     put_pings(rt, alloc, &mut putter, frames)?;
-    let (sink, mut taker, fault) = serve_writer(rt, alloc, sink, taker);
+    let HasWritten {
+        writer,
+        mut taker,
+        fault,
+    } = serve_writer(rt, alloc, sink, taker);
     match taker.take(rt) {
-        None => Ok((sink, fault)),
+        None => Ok((writer, fault)),
         Some(_) => Err(Fail::new("not all was taken")),
     }
 }
@@ -130,8 +134,8 @@ fn await_flush<R: Clock>(rt: &R, flushes: &AtomicU64) -> bool {
 
 /// Writes to a device. Whether there was no fault, and it got the frame PING.
 fn write_ping<R: Wait>(rt: &R, alloc: Global, sink: Flushed, taker: Taker) -> bool {
-    let (sink, _, fault) = serve_writer(rt, alloc, sink, taker);
-    fault.is_none() && sink.got.as_slice() == PING
+    let written = serve_writer(rt, alloc, sink, taker);
+    written.fault.is_none() && written.writer.got.as_slice() == PING
 }
 
 #[test]

@@ -1,7 +1,7 @@
 use Rattle.std.proofs.Common.{◌≡◌, ℕ, vec_len, Option, None, Some, refl, sym, subst, arith}
 use Rattle.link_workers.specs.declared.fault.IoFault.{IoFault}
 use Rattle.link_workers.specs.declared.fault.IoFault.TheVariants as faults
-use Rattle.controller_worker.specs.declared.worker.Worker.{Worker}
+use Rattle.controller_worker.specs.declared.worker.CallWorker.{CallWorker}
 use Rattle.controller_worker.specs.Call.{Runs}
 use Rattle.controller_worker.specs.Going.{State}
 use Rattle.controller_worker.specs.Seen.{seen}
@@ -9,7 +9,7 @@ use Rattle.controller_worker.proofs.Runs.{parts_of, runs_part, runs_whole}
 use Rattle.controller_worker.proofs.call.call_worker.Goals as goal
 use Rattle.controller_worker.proofs.call.call_worker.Goals.{in-Ok, in-Err}
 
-same_run : {K : Type 0} (told : K → ℕ) (start : State) (fault f : Option IoFault) (worker w : Worker K) → fault ≡ f → worker ≡ w → Runs f (parts_of start) (parts_of (seen told w))
+same_run : {K : Type 0} (told : K → ℕ) (start : State) (fault f : Option IoFault) (worker w : CallWorker K) → fault ≡ f → worker ≡ w → Runs f (parts_of start) (parts_of (seen told w))
     → Runs fault (parts_of start) (parts_of (seen told worker))
 same_run told start fault f worker w is same run =
     subst (λ x. Runs x (parts_of start) (parts_of (seen told worker))) (sym is) (subst (λ v. Runs f (parts_of start) (parts_of (seen told v))) (sym same) run)

@@ -1,0 +1,8 @@
+use Rattle.std.proofs.Common.{[], refl, arith}
+use Rattle.controller_worker.proofs.Courses.{goes_still, taken_none}
+use Rattle.controller_worker.proofs.worker.CallWorker.ask_clock.Goals as goal
+
+pub returns-clause-goes : goal.returns-clause-goes
+returns-clause-goes g c =
+    let e = c.elapsed.ensures in
+    goes_still [] _ _ refl refl refl (λ link. refl) (taken_none c.args.self.now.desk) (let f = c.from.ensures in omega arith)

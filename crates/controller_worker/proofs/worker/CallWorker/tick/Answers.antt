@@ -1,0 +1,21 @@
+use Rattle.std.proofs.Common.{◌-◌, sym, ap, subst, arith}
+use Rattle.controller_worker.specs.Going.{GoesPart}
+use Rattle.controller_worker.specs.Seen.{seen}
+use Rattle.controller_worker.proofs.Courses.{by_both, by_err, goes_none, part_of_goes}
+use Rattle.controller_worker.proofs.Turns.{step_ticked}
+use Rattle.controller_worker.proofs.worker.CallWorker.tick.Goals as goal
+
+pub returns-in_err-do_step-clause-goes : goal.returns-in_err-do_step-clause-goes
+returns-in_err-do_step-clause-goes g c =
+    by_err c.from_residual.result (seen g.K.Clock.told c.args.self.now) (seen g.K.Clock.told c.do_step.new.self) c.from_residual.ensures.0
+    (subst (λ y. GoesPart (seen g.K.Clock.told c.args.self.now) y) (sym c.in_err-do_step.ensures.err)
+    (part_of_goes (seen g.K.Clock.told c.args.self.now) (seen g.K.Clock.told c.args.self.now) (goes_none (seen g.K.Clock.told c.args.self.now))))
+
+pub returns-clause-goes : goal.returns-clause-goes
+returns-clause-goes g c =
+    let e = c.largest_tick-ms.ensures in
+    let f = c.from.ensures in
+    let k = ap (λ s. s.gathered) c.in_ok-do_step.ensures.ok.kept in
+    by_both c.add_downs.result (seen g.K.Clock.told c.args.self.now) _ (seen g.K.Clock.told c.add_downs.new.self)
+    (step_ticked (seen g.K.Clock.told c.args.self.now) (seen g.K.Clock.told c.do_step.new.self) c.largest_tick-ms.result (c.do_step.new.self.gathered - c.from.result) c.in_ok-do_step.ensures.ok
+    (omega arith)) c.add_downs.ensures.goes

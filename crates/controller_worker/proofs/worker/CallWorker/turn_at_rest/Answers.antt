@@ -1,0 +1,6 @@
+use Rattle.controller_worker.specs.Seen.{seen}
+use Rattle.controller_worker.proofs.Courses.{goes_none}
+use Rattle.controller_worker.proofs.worker.CallWorker.turn_at_rest.Goals as goal
+
+pub returns-then-not-is_at_rest-clause-goes : goal.returns-then-not-is_at_rest-clause-goes
+returns-then-not-is_at_rest-clause-goes g c = goes_none (seen g.K.Clock.told c.args.self.now)

@@ -1,6 +1,0 @@
-use Rattle.std.proofs.Common.{◌≡◌, ℕ, ◌<◌, true}
-use Rattle.controller_worker.specs.Going.{mark_at}
-use Rattle.controller_worker.proofs.worker.Worker.are_all_down.Given as goal
-
-abbrev pub invariant-loop-mark : goal.invariant-loop-mark
-invariant-loop-mark g l = (link : ℕ) → link < l.mark-index → (mark_at l.self.marks.items link).down ≡ true

@@ -1,8 +1,0 @@
-use Rattle.controller_worker.specs.Going.{Ends}
-use Rattle.controller_worker.specs.Seen.{seen}
-use Rattle.controller_worker.proofs.worker.Worker.end_alone.Given as goal
-
-abbrev pub invariant-loop : goal.invariant-loop
-invariant-loop g l =
-    (goal.iterator-loop g).can_next l.iterator' × (goal.iterator-loop g).is_finite l.iterator'
-    × Ends (seen g.K.Clock.told l.fn.self) (seen g.K.Clock.told l.self)
