@@ -21,21 +21,21 @@ octets-of word octets says = by (nat_eq (length word) 0) (decode_of word) refl s
   by false (Err fault) is says = absurd (cc says)
   by false (Ok read) is says = subst AreOctets (same_Some read octets says) (decode_of-ok word read is).3
 
-octet-of : (word : List ℕ) (mobile : ℕ) → mobile_in word ≡ Some mobile → mobile < 256
-octet-of word mobile says =
+octet_of : (word : List ℕ) (mobile : ℕ) → mobile_in word ≡ Some mobile → mobile < 256
+octet_of word mobile says =
     let n : ℕ = decimal_after 0 word in
     let within = cond_some (is_decimal word && nat_le 1 n && nat_le n 255) n mobile says in
     let most : n ≤ 255 = leb-true n 255 (and_parts (is_decimal word && nat_le 1 n) (nat_le n 255) within.0).1 in
     omega (arith, within.1, most)
 
-words-of-octets : (cells : ℕ) (event : Event) (words : List (List ℕ)) → AreWords cells (words_of event) words → IsOctetEvent event
-words-of-octets cells (Upper m s o) words (name, rest, split, named, (w, ws, split_w, is_m, (v, vs, split_v, is_s, (u, us, split_u, is_o, end)))) = octets-of u o is_o
-words-of-octets cells (Connect m b o y) words (name, rest, split, named, (w, ws, split_w, is_m, (v, vs, split_v, is_b, (u, us, split_u, is_o, more)))) = (octet-of w m is_m, octets-of u o is_o)
-words-of-octets cells (Report m o) words (name, rest, split, named, (w, ws, split_w, is_m, (u, us, split_u, is_o, end))) = octets-of u o is_o
-words-of-octets cells (SwitchDoes (Dtap c s o)) words (name, rest, split, named, (act, more, split_act, acts, (w, ws, split_w, is_c, (v, vs, split_v, is_s, (u, us, split_u, is_o, end))))) = octets-of u o is_o
-words-of-octets cells (SwitchDoes (Assign c)) words say = tt
-words-of-octets cells (SwitchDoes (Clear c)) words say = tt
-words-of-octets cells _ words say = tt
+words_of_octets : (cells : ℕ) (event : Event) (words : List (List ℕ)) → AreWords cells (words_of event) words → IsOctetEvent event
+words_of_octets cells (Upper m s o) words (name, rest, split, named, (w, ws, split_w, is_m, (v, vs, split_v, is_s, (u, us, split_u, is_o, end)))) = octets-of u o is_o
+words_of_octets cells (Connect m b o y) words (name, rest, split, named, (w, ws, split_w, is_m, (v, vs, split_v, is_b, (u, us, split_u, is_o, more)))) = (octet_of w m is_m, octets-of u o is_o)
+words_of_octets cells (Report m o) words (name, rest, split, named, (w, ws, split_w, is_m, (u, us, split_u, is_o, end))) = octets-of u o is_o
+words_of_octets cells (SwitchDoes (Dtap c s o)) words (name, rest, split, named, (act, more, split_act, acts, (w, ws, split_w, is_c, (v, vs, split_v, is_s, (u, us, split_u, is_o, end))))) = octets-of u o is_o
+words_of_octets cells (SwitchDoes (Assign c)) words say = tt
+words_of_octets cells (SwitchDoes (Clear c)) words say = tt
+words_of_octets cells _ words say = tt
 
-pub line-is-of-octets : (cells : ℕ) (event : Event) (line : List ℕ) → IsLine cells event line → IsOctetEvent event
-line-is-of-octets cells event line is = words-of-octets cells event is.words is.say
+pub line_is_of_octets : (cells : ℕ) (event : Event) (line : List ℕ) → IsLine cells event line → IsOctetEvent event
+line_is_of_octets cells event line is = words_of_octets cells event is.words is.say

@@ -1,6 +1,7 @@
 -- What options ask for, and the lines of breaks, against literal words, settings and worlds.
 use Rattle.std.proofs.Common.{◌≡◌, ℕ, List, [], ◌∷◌, ◌++◌, ◌+◌, ◌-◌, ◌<◌, suc, map, false, Option, Some, None, Ok, Err, refl, ap, arith, ◌∙◌}
 use Rattle.std.specs.Prelude.{codes, decimal, ◌^◌, ◌==◌, if◌then◌else◌}
+use Rattle.octets.proofs.Hex.{hex}
 use Rattle.toml.proofs.OnLiterals.{toml_on_literals}
 use Rattle.settings.specs.declared.fault.SettingsFault.TheVariants.{NotToml, Missing}
 use Rattle.settings.specs.declared.key.Key.TheVariants as keys
@@ -26,8 +27,8 @@ two_cells = record {
   timers = record { t3101_ms = 3000; t3103_ms = 5000; t3107_ms = 5000; drain_ms = 2000 };
   handover = record { rxlev_window = 10; rxqual_window = 1; neighbour_window = 10; interval = 6; hysteresis = 3 };
   cells =
-      record { listen = codes "127.0.0.1:3003"; location_area_code = 1; cell_identity = 1; arfcn = 20; bsic = record { ncc = 1; bcc = 1 }; channels = 0x41 ∷ 0x49 ∷ 0x0a ∷ [] }
-      ∷ record { listen = codes "127.0.0.1:3004"; location_area_code = 1; cell_identity = 2; arfcn = 30; bsic = record { ncc = 2; bcc = 2 }; channels = 0x41 ∷ 0x0a ∷ [] }
+      record { listen = codes "127.0.0.1:3003"; location_area_code = 1; cell_identity = 1; arfcn = 20; bsic = record { ncc = 1; bcc = 1 }; channels = hex "41 49 0a" }
+      ∷ record { listen = codes "127.0.0.1:3004"; location_area_code = 1; cell_identity = 2; arfcn = 30; bsic = record { ncc = 2; bcc = 2 }; channels = hex "41 0a" }
       ∷ [];
 }
 
@@ -84,17 +85,17 @@ over_the_gap = refl
 -- ---- lines
 
 abbrev events : List Event
-events = Upper 1 Zero (0x03 ∷ 0x05 ∷ []) ∷ AirUp 1 Zero ∷ SwitchTakes ∷ []
+events = Upper 1 Zero (hex "03 05") ∷ AirUp 1 Zero ∷ SwitchTakes ∷ []
 
 -- two messages were sent, of which one was accepted
 abbrev one_of_two : WorldState
-one_of_two = after_all (fixed_world 4) (Upper 1 Zero (0x03 ∷ 0x0f ∷ []) ∷ events)
+one_of_two = after_all (fixed_world 4) (Upper 1 Zero (hex "03 0f") ∷ events)
 
 -- the switch has one connection, with one accepted message
 one_accepted : accepted_by_all one_of_two.scene ≡ 1
 one_accepted =
     let list : ℕ → Option (List (List ℕ)) = accepted_list one_of_two.scene in
-    ap (count_from list 1) (let e : 2 ^ 32 - 1 ≡ suc (2 ^ 32 - 2) = omega arith in e) ∙ counted_more list 1 (2 ^ 32 - 2) ((0x03 ∷ 0x0f ∷ []) ∷ []) refl
+    ap (count_from list 1) (let e : 2 ^ 32 - 1 ≡ suc (2 ^ 32 - 2) = omega arith in e) ∙ counted_more list 1 (2 ^ 32 - 2) ((hex "03 0f") ∷ []) refl
     ∙ ap (λ (n : ℕ). 1 + n) (ap (count_from list 2) (let e : 2 ^ 32 - 2 ≡ suc (2 ^ 32 - 3) = omega arith in e) ∙ counted_end list 2 (2 ^ 32 - 3) refl)
 
 sent_by_the_first : count_to (sent_list one_of_two.scene) 1 ≡ 2

@@ -1,6 +1,7 @@
 -- Definitions against literal scripts and worlds.
 use Rattle.std.proofs.Common.{◌≡◌, [], ◌∷◌, ◌++◌, map, Some, None, refl}
 use Rattle.std.specs.Prelude.{codes, decimal}
+use Rattle.octets.proofs.Hex.{hex}
 use Rattle.hex.proofs.OnLiterals.{hex_on_literals}
 use Rattle.dtap_codec.specs.declared.sapi.Sapi.TheVariants.{Zero}
 use Rattle.world_model.specs.declared.event.Event.TheVariants.{Upper, AirUp, AirAck, SwitchTakes, Handle}
@@ -24,8 +25,8 @@ abbrev some_messages : WorldState
 some_messages =
     after_all (fixed_world 4)
     (
-    Upper 1 Zero (0x03 ∷ 0x0f ∷ []) ∷ Upper 1 Zero (0x0c ∷ 0xab ∷ []) ∷ Upper 1 Zero (0x03 ∷ 0x05 ∷ []) ∷ AirUp 1 Zero ∷ AirAck 1 Zero ∷ SwitchTakes ∷ AirUp 1 Zero ∷ AirAck 1 Zero ∷ SwitchTakes ∷ AirUp 1 Zero ∷ AirAck 1 Zero
-    ∷ SwitchTakes ∷ Upper 1 Zero (0x03 ∷ 0x06 ∷ []) ∷ Handle ∷ []
+    Upper 1 Zero (hex "03 0f") ∷ Upper 1 Zero (hex "0c ab") ∷ Upper 1 Zero (hex "03 05") ∷ AirUp 1 Zero ∷ AirAck 1 Zero ∷ SwitchTakes ∷ AirUp 1 Zero ∷ AirAck 1 Zero ∷ SwitchTakes ∷ AirUp 1 Zero ∷ AirAck 1 Zero
+    ∷ SwitchTakes ∷ Upper 1 Zero (hex "03 06") ∷ Handle ∷ []
     )
 
 its_mobile : mobile_text some_messages.scene 1 ≡

@@ -84,13 +84,13 @@ references_ok octets p fits e =
 
 -- ---- values with their length before them
 
-pub counted-text : (value more : List ℕ) → counted_at Short (counted_text value ++ more) ≡ Ok (value, more)
+pub counted_text_is_read : (value more : List ℕ) → counted_at Short (counted_text value ++ more) ≡ Ok (value, more)
 unfolding counted_at octet_at
-counted-text value more =
+counted_text_is_read value more =
     rw (le-ltb (length (value ++ more)) (length value) (omega (arith, length-append value more)), take_at value more (length value) refl, drop_at value more (length value) refl) refl
 
 pub counted_again : (octets value : List ℕ) (c : Counted octets value) → counted_at Short octets ≡ Ok (value, c.more)
-counted_again octets value c = ap (counted_at Short) c.is ∙ counted-text value c.more
+counted_again octets value c = ap (counted_at Short) c.is ∙ counted_text_is_read value c.more
 
 pub counted_is : (octets : List ℕ) (p : List ℕ × List ℕ) → AreOctets octets → counted_at Short octets ≡ Ok p →
     (octets ≡ counted_text p.0 ++ p.1) × (length p.0 ≤ LENGTH_LIMIT)
@@ -102,8 +102,8 @@ counted_is octets p fits e =
     let first = octet_first c.size c.rest octets c.is fits in
     (c.is ∙ ap (λ (n : ℕ). n ∷ c.rest) (sym long) ∙ ap (λ (xs : List ℕ). length p.0 ∷ xs) parts, omega arith)
 
-pub counted-shorter : (octets : List ℕ) (p : List ℕ × List ℕ) → counted_at Short octets ≡ Ok p → length p.1 < length octets
-counted-shorter octets p e =
+pub counted_shorter : (octets : List ℕ) (p : List ℕ × List ℕ) → counted_at Short octets ≡ Ok p → length p.1 < length octets
+counted_shorter octets p e =
     let c = counted_ok Short octets p e in
     omega (arith, length-drop c.size c.rest, ap length c.split.back, ap length c.is)
 
@@ -115,15 +115,15 @@ part_again pointer octets forward within =
     let ne : pointer ≢ NO_PART = omega arith in
     rw (ne_eqb pointer NO_PART ne, lt-leb (length octets) pointer within) refl
 
-or-false : (a b : Bool) → (a || b) ≡ false → (a ≡ false) × (b ≡ false)
-or-false true b e = absurd cc
-or-false false b e = (refl, e)
+or_false : (a b : Bool) → (a || b) ≡ false → (a ≡ false) × (b ≡ false)
+or_false true b e = absurd cc
+or_false false b e = (refl, e)
 
 pub part_ok : (pointer : ℕ) (rest part : List ℕ) → part_at pointer (pointer ∷ rest) ≡ Ok part → Points (pointer ∷ rest) part
 unfolding part_at
 part_ok pointer rest part e =
     let g = guard (eqb pointer NO_PART || leb (length (pointer ∷ rest)) pointer) BadPointer (Ok (drop pointer (pointer ∷ rest))) part e in
-    let tests = or-false (eqb pointer NO_PART) (leb (length (pointer ∷ rest)) pointer) g.0 in
+    let tests = or_false (eqb pointer NO_PART) (leb (length (pointer ∷ rest)) pointer) g.0 in
     let ne : pointer ≢ NO_PART = eqb-false pointer NO_PART tests.0 in
     record {
       pointer = pointer;

@@ -13,25 +13,25 @@ use Rattle.bssmap_codec.specs.declared.sccp_parameters.TheConstants.{NO_PART}
 use Rattle.bssmap_codec.specs.Sccp.{Options, PointsToOptions, HasOptions}
 use Rattle.bssmap_codec.specs.Sccp.Options.{over, ended, carried, other}
 use Rattle.bssmap_codec.specs.SccpReading.{part_at, option_behind, option_at, data_by, data_within, data_in, user_data_at}
-use Rattle.bssmap_codec.proofs.Fronts.{counted-shorter, counted-text, counted_is, part_again, part_ok}
-use Rattle.bssmap_codec.proofs.Options.{data-front}
+use Rattle.bssmap_codec.proofs.Fronts.{counted_shorter, counted_text_is_read, counted_is, part_again, part_ok}
+use Rattle.bssmap_codec.proofs.Options.{data_front}
 
 -- ---- options are read
 
-option-text : (id : ℕ) (value rest : List ℕ) → id ≢ END_OF_OPTIONS →
+option_text : (id : ℕ) (value rest : List ℕ) → id ≢ END_OF_OPTIONS →
     option_at (id ∷ (counted_text value ++ rest)) ≡ Ok (Some (id, value, rest))
 unfolding option_at
-option-text id value rest ne = rw (ne_eqb id END_OF_OPTIONS ne, counted-text value rest) refl
+option_text id value rest ne = rw (ne_eqb id END_OF_OPTIONS ne, counted_text_is_read value rest) refl
 
 pub options_again : (octets : List ℕ) (user : Option (List ℕ)) → Options octets user → data_in octets ≡ Ok user
 unfolding option_at
-options_again octets user over = data-front [] (Ok None) refl
-options_again octets user (ended more) = data-front (END_OF_OPTIONS ∷ more) (Ok None) refl
+options_again octets user over = data_front [] (Ok None) refl
+options_again octets user (ended more) = data_front (END_OF_OPTIONS ∷ more) (Ok None) refl
 options_again octets user (carried value more short) =
     let ne : USER_DATA ≢ END_OF_OPTIONS = omega arith in
-    data-front (USER_DATA ∷ (counted_text value ++ more)) (Ok (Some (USER_DATA, value, more))) (option-text USER_DATA value more ne)
+    data_front (USER_DATA ∷ (counted_text value ++ more)) (Ok (Some (USER_DATA, value, more))) (option_text USER_DATA value more ne)
 options_again octets user (other id value rest user' ne apart short behind) =
-    data-front (id ∷ (counted_text value ++ rest)) (Ok (Some (id, value, rest))) (option-text id value rest ne)
+    data_front (id ∷ (counted_text value ++ rest)) (Ok (Some (id, value, rest))) (option_text id value rest ne)
     ∙ ap (λ b. cond b (Ok (Some value)) (data_in rest)) (ne_eqb id USER_DATA apart)
     ∙ options_again rest user' behind
 
@@ -76,7 +76,7 @@ options_within (suc n) (id ∷ rest) user le fits e =
           let behind : AreOctets rest = λ i. fits (suc i) in
           behind_is id rest user (data_within n) (counted_at Short rest) behind ne refl
           (λ p is there.
-          let lt = counted-shorter rest p is in
+          let lt = counted_shorter rest p is in
           let text = counted_is rest p behind is in
           options_within n p.1 user (omega arith) (octets_back (counted_text p.0) p.1 (subst AreOctets text.0 behind)) there) e'
     ]

@@ -8,28 +8,28 @@ use Rattle.conn_rules.specs.declared.input.Input.TheVariants as inputs
 use Rattle.conn_rules.specs.declared.state.State.{State}
 use Rattle.conn_rules.specs.declared.state.Drain.{Drain}
 use Rattle.conn_rules.specs.Connection.{Connection, new_connection}
-use Rattle.conn_rules.specs.Standing.{DrainTime, IsCarried, Stands}
+use Rattle.conn_rules.specs.Validity.{DrainTime, IsCarried, IsValid}
 use Rattle.conn_rules.specs.Steps.{Row}
 use Rattle.conn_rules.specs.Streams.{OfRow}
 use Rattle.conn_rules.specs.Table.{row_if, row_of}
 use Rattle.conn_rules.proofs.StandingTable.{Stands-row}
 use Rattle.conn_rules.proofs.StandingSteps.{Stands-new}
 use Rattle.rsl_codec.specs.declared.values.RequestReference.{RequestReference}
-use Rattle.conn_fsm.specs.Doing.{Closes, Commits, Does, Finishes, IsPlanned, Plans, Stays, Steps}
+use Rattle.conn_fsm.specs.Doing.{Closes, Commits, Does, Finishes, IsPlanned, Plans, IsUnchanged, Steps}
 use Rattle.conn_rules.specs.Timers.{after_pass, drained_after}
 
 stands_by : (r : Option Row) (fits : Bool) (old new : Connection) (outs outs_after : List Out) →
-    Stands old → OfRow (λ r. Stands r.next) r → Steps r fits old new outs outs_after → Stands new
-stands_by (Some r) fits old new outs outs_after stands next done = subst Stands (sym done.1.0) next
-stands_by None fits old new outs outs_after stands next done = subst Stands (sym done.1.0) stands
+    IsValid old → OfRow (λ r. IsValid r.next) r → Steps r fits old new outs outs_after → IsValid new
+stands_by (Some r) fits old new outs outs_after stands next done = subst IsValid (sym done.1.0) next
+stands_by None fits old new outs outs_after stands next done = subst IsValid (sym done.1.0) stands
 
 pub step_stands : (input : Input) (offer : Option Channel) (fits : Bool) (old new : Connection) (outs outs_after : List Out) →
-    Stands old → IsCarried input → Steps (row_of old input offer) fits old new outs outs_after → Stands new
+    IsValid old → IsCarried input → Steps (row_of old input offer) fits old new outs outs_after → IsValid new
 step_stands input offer fits old new outs outs_after stands carried done =
     stands_by (row_of old input offer) fits old new outs outs_after stands (Stands-row old input offer stands carried) done
 
-pub stays_stands : (old new : Connection) (outs outs_after : List Out) → Stands old → Stays old new outs outs_after → Stands new
-stays_stands old new outs outs_after stands stays = subst Stands (sym stays.0) stands
+pub stays_stands : (old new : Connection) (outs outs_after : List Out) → IsValid old → IsUnchanged old new outs outs_after → IsValid new
+stays_stands old new outs outs_after stands stays = subst IsValid (sym stays.0) stands
 
 planned_carried : (input : Input) → IsPlanned input → IsCarried input
 planned_carried inputs.Expiry planned = tt
@@ -38,11 +38,11 @@ planned_carried (inputs.StationDown station) planned = tt
 planned_carried inputs.SwitchDown planned = tt
 planned_carried _ planned = absurd planned
 
-commits_by : (r : Option Row) (old new : Connection) (outs : List Out) → Stands old → OfRow (λ r. Stands r.next) r → Commits r old new outs → Stands new
-commits_by (Some r) old new outs stands next done = subst Stands (sym done.0) next
-commits_by None old new outs stands next done = subst Stands (sym done.0) stands
+commits_by : (r : Option Row) (old new : Connection) (outs : List Out) → IsValid old → OfRow (λ r. IsValid r.next) r → Commits r old new outs → IsValid new
+commits_by (Some r) old new outs stands next done = subst IsValid (sym done.0) next
+commits_by None old new outs stands next done = subst IsValid (sym done.0) stands
 
-pub commit_stands : (input : Input) (old new : Connection) (outs : List Out) → Stands old → IsPlanned input → Commits (row_of old input None) old new outs → Stands new
+pub commit_stands : (input : Input) (old new : Connection) (outs : List Out) → IsValid old → IsPlanned input → Commits (row_of old input None) old new outs → IsValid new
 commit_stands input old new outs stands planned done =
     commits_by (row_of old input None) old new outs stands (Stands-row old input None stands (planned_carried input planned)) done
 
@@ -65,14 +65,14 @@ committed None made (Some r) s new plans closes = absurd plans.1
 
 -- ---- beginnings, and time
 
-pub new_stands : (number : ℕ) (channel : Channel) (request : RequestReference) (delay : ℕ) → Stands (new_connection number channel request delay)
+pub new_stands : (number : ℕ) (channel : Channel) (request : RequestReference) (delay : ℕ) → IsValid (new_connection number channel request delay)
 new_stands number channel request delay = Stands-new number channel request delay
 
 drain_time : (ms : ℕ) (draining : List Drain) (drained : ℕ) → DrainTime draining drained → DrainTime draining (drained_after ms draining drained)
 drain_time ms [] drained time = time
 drain_time ms (d ∷ ds) drained time = tt
 
-pub pass_stands : (ms : ℕ) (s : Connection) → Stands s → Stands (after_pass ms s)
+pub pass_stands : (ms : ℕ) (s : Connection) → IsValid s → IsValid (after_pass ms s)
 pass_stands ms s stands = record {
   state = stands.state;
   down_limit = stands.down_limit;

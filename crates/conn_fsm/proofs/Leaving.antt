@@ -9,7 +9,7 @@ use Rattle.conn_rules.specs.declared.state.Drain.{Drain}
 use Rattle.conn_rules.specs.declared.state.Stage.{Stage}
 use Rattle.conn_rules.specs.declared.state.Stage.TheVariants.{Draining}
 use Rattle.conn_rules.specs.Connection.{Connection, first_channel}
-use Rattle.conn_rules.specs.Standing.{FirstIsEmpty}
+use Rattle.conn_rules.specs.Validity.{FirstIsEmpty}
 use Rattle.conn_rules.specs.Steps.{Row, row, ◌then◌, after_waiting, done_at, leave, may_begin, relay_held, settled, settled_stage, shifted, tenure_outs, waiting_outs}
 use Rattle.conn_rules.specs.Table.{release}
 use Rattle.hold_queue.specs.ChainState.{Tenure, empty_tenure, first_cleared}

@@ -8,7 +8,7 @@ use Rattle.conn_messages.specs.declared.channel.Place.{Place}
 use Rattle.conn_messages.specs.declared.message.Message.{Message}
 use Rattle.conn_messages.specs.SwitchMessage.{relaying}
 use Rattle.conn_rules.specs.Connection.{drain_at, first_channel, is_at, tenure_at}
-use Rattle.conn_rules.specs.Standing.{IsHeldTenure}
+use Rattle.conn_rules.specs.Validity.{IsHeldTenure}
 use Rattle.conn_rules.specs.Steps.{tenure_outs}
 use Rattle.dtap_codec.specs.declared.sapi.Sapi.{Sapi}
 use Rattle.dtap_codec.specs.declared.sapi.Sapi.TheVariants.{Zero, Three}

@@ -1,5 +1,6 @@
 -- Definitions against literal values: a connection with number 7, and frames of it.
 use Rattle.std.proofs.Common.{◌≡◌, ℕ, Bool, true, false, List, [], ◌∷◌, map, Some, None, refl, ap, arith}
+use Rattle.octets.proofs.Hex.{hex}
 use Rattle.conn_messages.specs.declared.channel.Channel.{Channel}
 use Rattle.conn_messages.specs.declared.out.Out.{Out}
 use Rattle.conn_messages.specs.Out.{out_of}
@@ -12,7 +13,7 @@ use Rattle.conn_rules.specs.Connection.{Connection, emptied, new_connection}
 use Rattle.conn_rules.specs.Steps.{Row, row}
 use Rattle.dtap_codec.specs.declared.sapi.Sapi.TheVariants.{Zero, Three}
 use Rattle.hold_queue.specs.ChainState.{Tenure}
-use Rattle.conn_fsm.specs.Doing.{Closes, Commits, EndsIn, Finishes, IsAsPlanned, IsInitial, IsPlanned, Stays, Steps, outs_in}
+use Rattle.conn_fsm.specs.Doing.{Closes, Commits, EndsIn, Finishes, IsAsPlanned, IsInitial, IsPlanned, IsUnchanged, Steps, outs_in}
 use Rattle.conn_fsm.specs.Leaving.{leaving, left, left_outs, oldest_left}
 use Rattle.conn_fsm.specs.Views.{joined}
 
@@ -20,7 +21,7 @@ abbrev channel : ℕ → Channel
 channel number = record {
   station = 1;
   number = number;
-  cell = 0x00 ∷ 0x00 ∷ 0xf1 ∷ 0x10 ∷ 0x00 ∷ 0x01 ∷ 0x00 ∷ 0x01 ∷ [];
+  cell = hex "00 00 f1 10 00 01 00 01";
   description = record { arfcn = 20; ncc = 1; bcc = 1 };
   reference = record { 0 = 0 };
 }
@@ -30,10 +31,10 @@ connection = new_connection 7 (channel 0x41) (record { access = 0x7f; frame = 0x
 
 -- RLC of the connection, and one of another
 abbrev complete : Out
-complete = record { to = 0; conn = 7; frame = record { stream = 0xfd; body = 0x05 ∷ 0x80 ∷ 0x00 ∷ 0x01 ∷ 0x00 ∷ 0x00 ∷ 0x07 ∷ [] } }
+complete = record { to = 0; conn = 7; frame = record { stream = 0xfd; body = hex "05 80 00 01 00 00 07" } }
 
 abbrev other : Out
-other = record { to = 2; conn = 3; frame = record { stream = 0x00; body = 0x08 ∷ 0x2e ∷ 0x01 ∷ 0x41 ∷ [] } }
+other = record { to = 2; conn = 3; frame = record { stream = 0x00; body = hex "08 2e 01 41" } }
 
 -- a row that puts RLC and removes the connection
 abbrev released : Row
@@ -56,7 +57,7 @@ no_row_answers_true done = done.0
 a_row_answers_true : Steps (Some released) false connection (emptied Removed connection) [] (complete ∷ []) → false ≡ true
 a_row_answers_true done = done.0
 
-changes_nothing : Stays connection connection (other ∷ complete ∷ []) (other ∷ complete ∷ [])
+changes_nothing : IsUnchanged connection connection (other ∷ complete ∷ []) (other ∷ complete ∷ [])
 changes_nothing = (refl, refl)
 
 -- ---- plans
@@ -134,14 +135,14 @@ one_octet = (omega arith, omega arith)
 -- ---- what is held of several tenures, the oldest first
 
 abbrev tenures : List Tenure
-tenures = record { zero = (0x03 ∷ 0x45 ∷ []) ∷ []; three = [] }
-    ∷ record { zero = (0x05 ∷ 0x24 ∷ []) ∷ (0x03 ∷ 0x8f ∷ []) ∷ []; three = (0x09 ∷ 0x01 ∷ []) ∷ [] }
+tenures = record { zero = (hex "03 45") ∷ []; three = [] }
+    ∷ record { zero = (hex "05 24") ∷ (hex "03 8f") ∷ []; three = (hex "09 01") ∷ [] }
     ∷ []
 
-joined_of_sapi_zero : joined Zero tenures ≡ (0x03 ∷ 0x45 ∷ []) ∷ (0x05 ∷ 0x24 ∷ []) ∷ (0x03 ∷ 0x8f ∷ []) ∷ []
+joined_of_sapi_zero : joined Zero tenures ≡ (hex "03 45") ∷ (hex "05 24") ∷ (hex "03 8f") ∷ []
 joined_of_sapi_zero = refl
 
-joined_of_sapi_three : joined Three tenures ≡ (0x09 ∷ 0x01 ∷ []) ∷ []
+joined_of_sapi_three : joined Three tenures ≡ (hex "09 01") ∷ []
 joined_of_sapi_three = refl
 
 -- ---- old channels leave
@@ -166,7 +167,7 @@ draining = record connection {
 
 the_oldest_left : oldest_left draining ≡ record connection {
   draining = record { channel = channel 0x0a; is_done = false } ∷ [];
-  up = record { limit = 16; tenures = record { zero = []; three = [] } ∷ record { zero = (0x05 ∷ 0x24 ∷ []) ∷ (0x03 ∷ 0x8f ∷ []) ∷ []; three = (0x09 ∷ 0x01 ∷ []) ∷ [] } ∷ [] };
+  up = record { limit = 16; tenures = record { zero = []; three = [] } ∷ record { zero = (hex "05 24") ∷ (hex "03 8f") ∷ []; three = (hex "09 01") ∷ [] } ∷ [] };
   drained = 0;
 }
 the_oldest_left = refl
@@ -179,15 +180,15 @@ one_left = refl
 
 -- what is held of channel 0A is relayed, then, with two, what is held of channel 41, SAPI 0 first
 relayed_by_one : map (λ message. (out_of 7 message).frame.body) (left_outs 0x800001 1 draining)
-    ≡ (0x06 ∷ 0x80 ∷ 0x00 ∷ 0x01 ∷ 0x00 ∷ 0x01 ∷ 0x05 ∷ 0x01 ∷ 0x00 ∷ 0x02 ∷ 0x03 ∷ 0x45 ∷ []) ∷ []
+    ≡ (hex "06 80 00 01 00 01 05 01 00 02 03 45") ∷ []
 unfolding out_of
 relayed_by_one = refl
 
 relayed_by_two : map (λ message. (out_of 7 message).frame.body) (left_outs 0x800001 2 draining)
-    ≡ (0x06 ∷ 0x80 ∷ 0x00 ∷ 0x01 ∷ 0x00 ∷ 0x01 ∷ 0x05 ∷ 0x01 ∷ 0x00 ∷ 0x02 ∷ 0x03 ∷ 0x45 ∷ [])
-    ∷ (0x06 ∷ 0x80 ∷ 0x00 ∷ 0x01 ∷ 0x00 ∷ 0x01 ∷ 0x05 ∷ 0x01 ∷ 0x00 ∷ 0x02 ∷ 0x05 ∷ 0x24 ∷ [])
-    ∷ (0x06 ∷ 0x80 ∷ 0x00 ∷ 0x01 ∷ 0x00 ∷ 0x01 ∷ 0x05 ∷ 0x01 ∷ 0x00 ∷ 0x02 ∷ 0x03 ∷ 0x8f ∷ [])
-    ∷ (0x06 ∷ 0x80 ∷ 0x00 ∷ 0x01 ∷ 0x00 ∷ 0x01 ∷ 0x05 ∷ 0x01 ∷ 0x83 ∷ 0x02 ∷ 0x09 ∷ 0x01 ∷ [])
+    ≡ (hex "06 80 00 01 00 01 05 01 00 02 03 45")
+    ∷ (hex "06 80 00 01 00 01 05 01 00 02 05 24")
+    ∷ (hex "06 80 00 01 00 01 05 01 00 02 03 8f")
+    ∷ (hex "06 80 00 01 00 01 05 01 83 02 09 01")
     ∷ []
 unfolding out_of
 relayed_by_two = refl

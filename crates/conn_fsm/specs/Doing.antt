@@ -18,13 +18,13 @@ Does r old new outs outs_after =
     × AllByRecursion IsSound r.outs
 
 -- nothing is appended, and the connection is as it was
-abbrev pub Stays : Connection → Connection → List Out → List Out → Type 0
-Stays old new outs outs_after = (new ≡ old) × (outs_after ≡ outs)
+abbrev pub IsUnchanged : Connection → Connection → List Out → List Out → Type 0
+IsUnchanged old new outs outs_after = (new ≡ old) × (outs_after ≡ outs)
 
 -- the row that fits is done; where none does, nothing changes
 abbrev pub Steps : Option Row → Bool → Connection → Connection → List Out → List Out → Type 0
 Steps (Some r) fits old new outs outs_after = (fits ≡ true) × Does r old new outs outs_after
-Steps None fits old new outs outs_after = (fits ≡ false) × Stays old new outs outs_after
+Steps None fits old new outs outs_after = (fits ≡ false) × IsUnchanged old new outs outs_after
 
 -- the call answers whether a row fits, and the row that does is done
 abbrev pub StepsOnOk : Result Bool Memory → Option Row →

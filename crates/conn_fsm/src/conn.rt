@@ -1,9 +1,9 @@
 ghost use Rattle.std.specs.Prelude.{◌≡◌, ◌<◌, ◌^◌, None, IfOk, OnErr};
 ghost use Rattle.conn_rules.specs.Connection.{new_connection};
-ghost use Rattle.conn_rules.specs.Standing.{IsCarried, Stands};
+ghost use Rattle.conn_rules.specs.Validity.{IsCarried, IsValid};
 ghost use Rattle.conn_rules.specs.Table.{row_of, serving_after};
 ghost use Rattle.hold_queue.specs.HoldState.{messages};
-ghost use Rattle.conn_fsm.specs.Doing.{Commits, IsAsPlanned, IsPlanned, Stays, StepsOnOk, outs_in};
+ghost use Rattle.conn_fsm.specs.Doing.{Commits, IsAsPlanned, IsPlanned, IsUnchanged, StepsOnOk, outs_in};
 ghost use Rattle.conn_rules.specs.Timers.{after_pass};
 ghost use Rattle.conn_fsm.specs.Views.{joined};
 
@@ -26,13 +26,13 @@ pub struct Conn {
 
 impl Model for Conn {
     ghost use Rattle.conn_rules.specs.Connection.{Connection};
-    ghost use Rattle.conn_rules.specs.Standing.{Stands};
+    ghost use Rattle.conn_rules.specs.Validity.{IsValid};
 
     ghost Value = { Connection };
 
     ghost view = { λ c. c.machine };
 
-    ghost invariant = { λ c. Stands c.machine };
+    ghost invariant = { λ c. IsValid c.machine };
 }
 
 impl Conn {
@@ -68,7 +68,7 @@ impl Conn {
         requires { IsCarried input }
         ensures done { StepsOnOk result (row_of self.old input offer)
             self.old self.new outputs.old.outs outputs.new.outs }
-        ensures err { OnErr result (Stays self.old self.new outputs.old.outs outputs.new.outs) }
+        ensures err { OnErr result (IsUnchanged self.old self.new outputs.old.outs outputs.new.outs) }
     {
         self.machine.step(input, offer, outputs)
     }

@@ -1,6 +1,6 @@
-ghost use Rattle.std.specs.Prelude.{◌≡◌, ◌++◌, OnOk, OnErr, Some, None};
+ghost use Rattle.std.specs.Prelude.{◌≡◌, ◌++◌, OnOk, OnErr};
 ghost use Rattle.conn_rules.specs.Steps.{dropping, ending, end_outs, failing, target_release};
-ghost use Rattle.conn_fsm.specs.Doing.{Does, Stays};
+ghost use Rattle.conn_fsm.specs.Doing.{Does, IsUnchanged};
 
 use crate::machine::Machine;
 use conn_messages::causes::ABNORMAL_RELEASE;
@@ -59,7 +59,7 @@ impl Machine {
     pub(crate) fn fail(&mut self, cause: u8, outputs: &mut Outputs) -> Result<(), Memory>
         ensures done { OnOk result (Does (failing self.old.state self.old cause)
             self.old self.new outputs.old.outs outputs.new.outs) }
-        ensures err { OnErr result (Stays self.old self.new outputs.old.outs outputs.new.outs) }
+        ensures err { OnErr result (IsUnchanged self.old self.new outputs.old.outs outputs.new.outs) }
     {
         let mut put = Messages::new(self.alloc);
         self.put_failing(cause, &mut put)?;
@@ -77,7 +77,7 @@ impl Machine {
     ) -> Result<(), Memory>
         ensures done { OnOk result (Does (ending self.old.state self.old cause last)
             self.old self.new outputs.old.outs outputs.new.outs) }
-        ensures err { OnErr result (Stays self.old self.new outputs.old.outs outputs.new.outs) }
+        ensures err { OnErr result (IsUnchanged self.old self.new outputs.old.outs outputs.new.outs) }
     {
         let mut put = Messages::new(self.alloc);
         self.put_end(cause, &mut put)?;
@@ -90,7 +90,7 @@ impl Machine {
     pub(crate) fn drop_channel(&mut self, outputs: &mut Outputs) -> Result<(), Memory>
         ensures done { OnOk result (Does (dropping self.old)
             self.old self.new outputs.old.outs outputs.new.outs) }
-        ensures err { OnErr result (Stays self.old self.new outputs.old.outs outputs.new.outs) }
+        ensures err { OnErr result (IsUnchanged self.old self.new outputs.old.outs outputs.new.outs) }
     {
         let mut put = Messages::new(self.alloc);
         put.push(rf_channel_release(&self.serving))?;

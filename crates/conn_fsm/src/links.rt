@@ -1,10 +1,9 @@
-ghost use Rattle.std.specs.Prelude.{◌≡◌, [], ◌∷◌, ◌++◌, Some, OnOk, OnErr, option_map};
-ghost use Rattle.bssmap_codec.specs.Layer3.{IsLayer3};
+ghost use Rattle.std.specs.Prelude.{◌≡◌, [], ◌∷◌, ◌++◌, Some, OnOk, OnErr};
 ghost use Rattle.conn_rules.specs.declared.state.ShortMessageLink.TheVariants.{Asked};
-ghost use Rattle.conn_rules.specs.Standing.{Stands};
+ghost use Rattle.conn_rules.specs.Validity.{IsValid};
 ghost use Rattle.conn_rules.specs.Steps.{link_down, link_up};
 ghost use Rattle.conn_rules.specs.Table.{access, on_connection_failure, on_error_indication, on_establish_confirm, on_establish_indication, on_release_indication};
-ghost use Rattle.conn_fsm.specs.Doing.{Does, IsInitial, Stays, StepsOnOk};
+ghost use Rattle.conn_fsm.specs.Doing.{Does, IsInitial, IsUnchanged, StepsOnOk};
 
 use crate::machine::Machine;
 use crate::places::is_at;
@@ -27,12 +26,12 @@ impl Machine {
         message: Option<Octets>,
         outputs: &mut Outputs,
     ) -> Result<bool, Memory>
-        requires stands { Stands self.old }
+        requires stands { IsValid self.old }
         requires layer3 { IsInitial message }
         ensures done { StepsOnOk result
             (on_establish_indication self.old.state self.old at sapi message)
             self.old self.new outputs.old.outs outputs.new.outs }
-        ensures err { OnErr result (Stays self.old self.new outputs.old.outs outputs.new.outs) }
+        ensures err { OnErr result (IsUnchanged self.old self.new outputs.old.outs outputs.new.outs) }
     {
         if !is_at(&at, &self.serving) {
             return Ok(false);
@@ -57,7 +56,7 @@ impl Machine {
         requires { IsInitial message }
         ensures done { OnOk result (Does (access message self.old)
             self.old self.new outputs.old.outs outputs.new.outs) }
-        ensures err { OnErr result (Stays self.old self.new outputs.old.outs outputs.new.outs) }
+        ensures err { OnErr result (IsUnchanged self.old self.new outputs.old.outs outputs.new.outs) }
     {
         match message {
             Some(initial) if initial.len() <= INITIAL_LIMIT => {
@@ -75,10 +74,10 @@ impl Machine {
 
     /// SAPI 3 comes up: what is held for it is handed.
     fn link_up(&mut self, outputs: &mut Outputs) -> Result<(), Memory>
-        requires { Stands self.old }
+        requires { IsValid self.old }
         ensures done { OnOk result (Does (link_up self.old)
             self.old self.new outputs.old.outs outputs.new.outs) }
-        ensures err { OnErr result (Stays self.old self.new outputs.old.outs outputs.new.outs) }
+        ensures err { OnErr result (IsUnchanged self.old self.new outputs.old.outs outputs.new.outs) }
     {
         let mut put = Messages::new(self.alloc);
         self.put_held(&self.serving, Sapi::Three, &mut put)?;
@@ -92,7 +91,7 @@ impl Machine {
     fn link_down(&mut self, reference: Reference, outputs: &mut Outputs) -> Result<(), Memory>
         ensures done { OnOk result (Does (link_down self.old.link reference self.old)
             self.old self.new outputs.old.outs outputs.new.outs) }
-        ensures err { OnErr result (Stays self.old self.new outputs.old.outs outputs.new.outs) }
+        ensures err { OnErr result (IsUnchanged self.old self.new outputs.old.outs outputs.new.outs) }
     {
         if let ShortMessageLink::Asked = self.link {
             let mut put = Messages::new(self.alloc);
@@ -111,10 +110,10 @@ impl Machine {
         sapi: Sapi,
         outputs: &mut Outputs,
     ) -> Result<bool, Memory>
-        requires { Stands self.old }
+        requires { IsValid self.old }
         ensures done { StepsOnOk result (on_establish_confirm self.old.state self.old at sapi)
             self.old self.new outputs.old.outs outputs.new.outs }
-        ensures err { OnErr result (Stays self.old self.new outputs.old.outs outputs.new.outs) }
+        ensures err { OnErr result (IsUnchanged self.old self.new outputs.old.outs outputs.new.outs) }
     {
         let ShortMessageLink::Asked = self.link else {
             return Ok(false);
@@ -142,7 +141,7 @@ impl Machine {
     ) -> Result<bool, Memory>
         ensures done { StepsOnOk result (on_error_indication self.old.state self.old at sapi)
             self.old self.new outputs.old.outs outputs.new.outs }
-        ensures err { OnErr result (Stays self.old self.new outputs.old.outs outputs.new.outs) }
+        ensures err { OnErr result (IsUnchanged self.old self.new outputs.old.outs outputs.new.outs) }
     {
         if !is_at(&at, &self.serving) {
             return Ok(false);
@@ -171,7 +170,7 @@ impl Machine {
     ) -> Result<bool, Memory>
         ensures done { StepsOnOk result (on_release_indication self.old.state self.old at sapi)
             self.old self.new outputs.old.outs outputs.new.outs }
-        ensures err { OnErr result (Stays self.old self.new outputs.old.outs outputs.new.outs) }
+        ensures err { OnErr result (IsUnchanged self.old self.new outputs.old.outs outputs.new.outs) }
     {
         match sapi {
             Sapi::Zero => self.on_connection_failure(at, outputs),
@@ -187,7 +186,7 @@ impl Machine {
     ) -> Result<bool, Memory>
         ensures done { StepsOnOk result (on_connection_failure self.old.state self.old at)
             self.old self.new outputs.old.outs outputs.new.outs }
-        ensures err { OnErr result (Stays self.old self.new outputs.old.outs outputs.new.outs) }
+        ensures err { OnErr result (IsUnchanged self.old self.new outputs.old.outs outputs.new.outs) }
     {
         if !is_at(&at, &self.serving) {
             return Ok(false);

@@ -2,7 +2,7 @@ ghost use Rattle.std.specs.Prelude.{◌≡◌, ◌++◌, IfOk, OnOk, Some, None,
 ghost use Rattle.conn_messages.specs.Out.{IsSound, outs_of};
 ghost use Rattle.std.specs.List.{AllByRecursion};
 ghost use Rattle.conn_messages.specs.declared.causes.TheConstants.{ABNORMAL_RELEASE, EQUIPMENT_FAILURE};
-ghost use Rattle.conn_rules.specs.Steps.{dropping, end_outs, failing, goes_to};
+ghost use Rattle.conn_rules.specs.Steps.{dropping, end_outs, failing, is_for_station};
 ghost use Rattle.conn_rules.specs.Steps.{target_release, without_station};
 ghost use Rattle.conn_rules.specs.Table.{on_drain_expiry, on_expiry};
 ghost use Rattle.conn_rules.specs.Table.{on_station_down, on_switch_down, targets};
@@ -132,7 +132,7 @@ impl Machine {
 
     fn put_end_without(&self, station: u16, put: &mut Messages) -> Result<(), Memory>
         ensures { OnOk result (put.new ≡ put.old
-            ++ filter (λ m. not (goes_to station m))
+            ++ filter (λ m. not (is_for_station station m))
             (end_outs self.now.state self.now.serving ABNORMAL_RELEASE)) }
     {
         if self.serving.station != station {
@@ -144,7 +144,7 @@ impl Machine {
 
     fn put_target_release_without(&self, station: u16, put: &mut Messages) -> Result<(), Memory>
         ensures { OnOk result (put.new ≡ put.old
-            ++ filter (λ m. not (goes_to station m)) (target_release self.now.state)) }
+            ++ filter (λ m. not (is_for_station station m)) (target_release self.now.state)) }
     {
         let state = self.state;
         match state {

@@ -1,9 +1,8 @@
 ghost use Rattle.std.specs.Prelude.{◌≡◌, [], ◌∷◌, ◌++◌, OnErr};
-ghost use Rattle.conn_messages.specs.Out.{outs_of};
 ghost use Rattle.conn_rules.specs.declared.state.State.TheVariants.{Closed};
-ghost use Rattle.conn_rules.specs.Standing.{Stands};
+ghost use Rattle.conn_rules.specs.Validity.{IsValid};
 ghost use Rattle.conn_rules.specs.Table.{on_cipher_mode_command, on_clear_command, on_confirm, on_refused, on_released};
-ghost use Rattle.conn_fsm.specs.Doing.{Does, Stays, StepsOnOk};
+ghost use Rattle.conn_fsm.specs.Doing.{IsUnchanged, StepsOnOk};
 
 use crate::machine::Machine;
 use bssmap_codec::Reference;
@@ -23,10 +22,10 @@ impl Machine {
         source: Reference,
         outputs: &mut Outputs,
     ) -> Result<bool, Memory>
-        requires { Stands self.old }
+        requires { IsValid self.old }
         ensures done { StepsOnOk result (on_confirm self.old.state self.old source)
             self.old self.new outputs.old.outs outputs.new.outs }
-        ensures err { OnErr result (Stays self.old self.new outputs.old.outs outputs.new.outs) }
+        ensures err { OnErr result (IsUnchanged self.old self.new outputs.old.outs outputs.new.outs) }
     {
         let state = self.state;
         let mut put = Messages::new(self.alloc);
@@ -51,7 +50,7 @@ impl Machine {
     pub(crate) fn on_refused(&mut self, outputs: &mut Outputs) -> Result<bool, Memory>
         ensures done { StepsOnOk result (on_refused self.old.state self.old)
             self.old self.new outputs.old.outs outputs.new.outs }
-        ensures err { OnErr result (Stays self.old self.new outputs.old.outs outputs.new.outs) }
+        ensures err { OnErr result (IsUnchanged self.old self.new outputs.old.outs outputs.new.outs) }
     {
         let state = self.state;
         match state {
@@ -71,7 +70,7 @@ impl Machine {
     ) -> Result<bool, Memory>
         ensures done { StepsOnOk result (on_released self.old.state self.old source)
             self.old self.new outputs.old.outs outputs.new.outs }
-        ensures err { OnErr result (Stays self.old self.new outputs.old.outs outputs.new.outs) }
+        ensures err { OnErr result (IsUnchanged self.old self.new outputs.old.outs outputs.new.outs) }
     {
         let state = self.state;
         let mut put = Messages::new(self.alloc);
@@ -90,7 +89,7 @@ impl Machine {
     pub(crate) fn on_cipher_mode_command(&mut self, outputs: &mut Outputs) -> Result<bool, Memory>
         ensures done { StepsOnOk result (on_cipher_mode_command self.old.state self.old)
             self.old self.new outputs.old.outs outputs.new.outs }
-        ensures err { OnErr result (Stays self.old self.new outputs.old.outs outputs.new.outs) }
+        ensures err { OnErr result (IsUnchanged self.old self.new outputs.old.outs outputs.new.outs) }
     {
         let state = self.state;
         let State::Live(reference, _) = state else {
@@ -106,7 +105,7 @@ impl Machine {
     pub(crate) fn on_clear_command(&mut self, outputs: &mut Outputs) -> Result<bool, Memory>
         ensures done { StepsOnOk result (on_clear_command self.old.state self.old)
             self.old self.new outputs.old.outs outputs.new.outs }
-        ensures err { OnErr result (Stays self.old self.new outputs.old.outs outputs.new.outs) }
+        ensures err { OnErr result (IsUnchanged self.old self.new outputs.old.outs outputs.new.outs) }
     {
         let state = self.state;
         match state {
@@ -127,7 +126,7 @@ impl Machine {
     fn clear_closed(&mut self, clearing: Clearing, outputs: &mut Outputs) -> Result<bool, Memory>
         ensures done { StepsOnOk result (on_clear_command (Closed clearing) self.old)
             self.old self.new outputs.old.outs outputs.new.outs }
-        ensures err { OnErr result (Stays self.old self.new outputs.old.outs outputs.new.outs) }
+        ensures err { OnErr result (IsUnchanged self.old self.new outputs.old.outs outputs.new.outs) }
     {
         let Clearing::Asked(reference) = clearing else {
             return Ok(false);

@@ -1,5 +1,5 @@
 ghost use Rattle.std.specs.Prelude.{◌≡◌, ◌≤◌, ◌++◌, length, IfOk, OnOk};
-ghost use Rattle.conn_rules.specs.Standing.{Stands};
+ghost use Rattle.conn_rules.specs.Validity.{IsValid};
 ghost use Rattle.hold_queue.specs.ChainState.{messages_in};
 ghost use Rattle.hold_queue.specs.HoldState.{messages};
 ghost use Rattle.conn_fsm.specs.Views.{joined};
@@ -13,7 +13,7 @@ use octets::{Memory, Octets};
 impl Machine {
     /// A copy of the switch's messages of a SAPI that are held.
     pub(crate) fn held(&self, sapi: Sapi) -> Result<Vec<Octets>, Memory>
-        requires { Stands self.now }
+        requires { IsValid self.now }
         ensures { IfOk result (λ list. list.items ≡ messages self.now.down sapi) }
     {
         let mut list = Vec::new(self.alloc);
@@ -39,7 +39,7 @@ impl Machine {
     /// A copy of the mobile's messages of a SAPI that are held, those of the oldest tenure first.
     #[tactic(auto, using(crate::proofs::Pushing::few_in))]
     pub(crate) fn held_up(&self, sapi: Sapi) -> Result<Vec<Octets>, Memory>
-        requires { Stands self.now }
+        requires { IsValid self.now }
         ensures { IfOk result (λ list. list.items ≡ joined sapi self.now.up.tenures) }
     {
         let mut list = Vec::new(self.alloc);

@@ -1,6 +1,6 @@
 -- The laws of the downlink, by what every row does.
-use Rattle.conn_rules.proofs.Prelude.{Option, Some, None, Channel, Sapi, Zero, Three, Input, State, Connection, Stands, OfRow}
-use Rattle.conn_rules.proofs.Prelude.{KeepsDownlink, IsSilent, GoesTo}
+use Rattle.conn_rules.proofs.Prelude.{Option, Some, None, Channel, Sapi, Zero, Three, Input, State, Connection, IsValid, OfRow}
+use Rattle.conn_rules.proofs.Prelude.{KeepsDownlink, IsSilent, IsHandedTo}
 use Rattle.conn_rules.specs.Steps.{Row}
 use Rattle.conn_rules.specs.Table.{row_of}
 use Rattle.conn_rules.proofs.DownlinkMessages.{AllByRecursion-so, IsParting, handed-parting, handed-quiet, goes_to_parting}
@@ -13,15 +13,15 @@ pub of_row_so : (P Q : Row → Type 0) → ((r : Row) → P r → Q r) → (o : 
 of_row_so P Q so None holds = tt
 of_row_so P Q so (Some r) holds = so r holds
 
-keeps_downlink_does : (sapi : Sapi) (state : State) (s : Connection) (input : Input) (r : Row) → Stands s → Does state s input r → KeepsDownlink sapi s input r
+keeps_downlink_does : (sapi : Sapi) (state : State) (s : Connection) (input : Input) (r : Row) → IsValid s → Does state s input r → KeepsDownlink sapi s input r
 keeps_downlink_does sapi state s input r stands (ends shut parting releases) = record {
   stream = λ is_open. absurd (shut is_open);
-  serving = AllByRecursion-so IsParting (GoesTo r.next.serving) (goes_to_parting r.next.serving) r.outs parting;
+  serving = AllByRecursion-so IsParting (IsHandedTo r.next.serving) (goes_to_parting r.next.serving) r.outs parting;
 }
 keeps_downlink_does sapi state s input r stands (passes was_open is_open quiet same nothing) = keeps_downlink_quiet sapi s input r quiet same nothing
 keeps_downlink_does sapi state s input r stands (moves was_open is_open keeps silent) = keeps stands sapi
 
-pub KeepsDownlink-row : (sapi : Sapi) (s : Connection) (input : Input) (offer : Option Channel) → Stands s → OfRow (KeepsDownlink sapi s input) (row_of s input offer)
+pub KeepsDownlink-row : (sapi : Sapi) (s : Connection) (input : Input) (offer : Option Channel) → IsValid s → OfRow (KeepsDownlink sapi s input) (row_of s input offer)
 KeepsDownlink-row sapi s input offer stands =
     of_row_so (Does s.state s input) (KeepsDownlink sapi s input) (λ r. keeps_downlink_does sapi s.state s input r stands) (row_of s input offer) (Does-row s input offer)
 

@@ -2,7 +2,7 @@
 use Rattle.conn_rules.proofs.Prelude.{◌≡◌, ℕ, ◌||◌, Bool, true, false, ◌&&◌, List, [], ◌∷◌, ◌++◌, map, filter, refl, sym, ◌∙◌, leb}
 use Rattle.conn_rules.proofs.Prelude.{if◌then◌else◌, true≢false, filter-append, AllByRecursion, Channel, Message, Station, handing}
 use Rattle.conn_rules.proofs.Prelude.{cond_both, Sapi, Zero, Three, DataRequest, flat_map-append, Request, Data, link_on, is_of, is_dtap}
-use Rattle.conn_rules.proofs.Prelude.{relayed_by, relayed, handed_by, handed, GoesTo, is_reject, rejects, without_rejected, FIRST_SDCCH}
+use Rattle.conn_rules.proofs.Prelude.{relayed_by, relayed, handed_by, handed, IsHandedTo, is_reject, rejects, without_rejected, FIRST_SDCCH}
 use Rattle.bssmap_codec.specs.declared.bssap.Bssap.TheVariants.{Management, Transfer}
 use Rattle.bssmap_codec.specs.declared.bssmap.Bssmap.TheVariants.{SapiNReject}
 
@@ -74,11 +74,11 @@ relayed-parting sapi [] parting = refl
 relayed-parting sapi (m ∷ ms) parting = rw (relayed_by-parting sapi m parting.0, relayed-parting sapi ms parting.1) refl
 
 -- such messages go anywhere
-pub goes_to_quiet : (c : Channel) (m : Message) → IsQuiet m → GoesTo c m
+pub goes_to_quiet : (c : Channel) (m : Message) → IsQuiet m → IsHandedTo c m
 goes_to_quiet c (Station station (DataRequest request)) quiet = λ dtap. absurd (true≢false (sym dtap ∙ quiet))
 goes_to_quiet c _ quiet = tt
 
-pub goes_to_parting : (c : Channel) (m : Message) → IsParting m → GoesTo c m
+pub goes_to_parting : (c : Channel) (m : Message) → IsParting m → IsHandedTo c m
 goes_to_parting c (Station station (DataRequest request)) parting = λ dtap. absurd (true≢false (sym dtap ∙ parting))
 goes_to_parting c _ parting = tt
 
@@ -134,7 +134,7 @@ handed-handing c _ _ _ = refl
 pub handed-append : (sapi : Sapi) (xs ys : List Message) → handed sapi (xs ++ ys) ≡ handed sapi xs ++ handed sapi ys
 handed-append sapi xs ys = flat_map-append (handed_by sapi) xs ys
 
-pub goes_to_handing : (c : Channel) (sapi : Sapi) (messages : List (List ℕ)) → AllByRecursion (GoesTo c) (map (handing c sapi) messages)
+pub goes_to_handing : (c : Channel) (sapi : Sapi) (messages : List (List ℕ)) → AllByRecursion (IsHandedTo c) (map (handing c sapi) messages)
 goes_to_handing c sapi [] = tt
 goes_to_handing c sapi (m ∷ ms) = (λ dtap. (refl, refl), goes_to_handing c sapi ms)
 

@@ -3,10 +3,10 @@ use Rattle.conn_rules.proofs.Prelude.{◌≡◌, ℕ, Bool, true, false, not, �
 use Rattle.conn_rules.proofs.Prelude.{Option, Some, None, append-nil, eqb, AllByRecursion, ABNORMAL_RELEASE, EQUIPMENT_FAILURE, Change}
 use Rattle.conn_rules.proofs.Prelude.{Assignment, Handover, Channel, Message, handing, cond_both, Sapi, Zero, Three, chain_count, HoldState}
 use Rattle.conn_rules.proofs.Prelude.{count, messages, with_messages, Input, ShortMessageLink, Down, Asked, Up, Stage, Preparing, Changing}
-use Rattle.conn_rules.proofs.Prelude.{State, Live, Closed, Target, Connection, IsAskedFor, Stands, IsOpen, is_dtap, handed, GoesTo}
+use Rattle.conn_rules.proofs.Prelude.{State, Live, Closed, Target, Connection, IsAskedFor, IsValid, IsOpen, is_dtap, handed, IsHandedTo}
 use Rattle.conn_rules.proofs.Prelude.{received_by, rejects, KeepsDownlink, IsChanging, IsSilent, OnlyReleases}
 use Rattle.conn_rules.specs.declared.input.Input.TheVariants as inputs
-use Rattle.conn_rules.specs.Steps.{Row, row, ◌then◌, end_outs, failing, dropping, without_station, goes_to, may_begin, begin_outs, after_begin, begin, waiting_outs, after_waiting, begin_waiting, hold_down, hand_held, request_where, hold_short_message, short_message, request_for, ask_for_held, link_up, link_down, hold_up}
+use Rattle.conn_rules.specs.Steps.{Row, row, ◌then◌, end_outs, failing, dropping, without_station, is_for_station, may_begin, begin_outs, after_begin, begin, waiting_outs, after_waiting, begin_waiting, hold_down, hand_held, request_where, hold_short_message, short_message, request_for, ask_for_held, link_up, link_down, hold_up}
 use Rattle.conn_rules.proofs.StandingSteps.{IsStill}
 use Rattle.conn_rules.proofs.DownlinkMessages.{AllByRecursion-append, AllByRecursion-filter, AllByRecursion-so, IsQuiet, AreQuiet, IsParting, AreParting, handed-quiet, goes_to_quiet, rejects-quiet, rejects-append, without_rejected-none, of_sapi, handed-handing, handed-append, goes_to_handing, rejects-handing}
 
@@ -25,7 +25,7 @@ received_by-nothing _ _ nothing = refl
 pub data Does (state : State) (s : Connection) (input : Input) (r : Row) : Type 0 where
   ends : (IsOpen r.next.state → ⊥) → AreParting r.outs → OnlyReleases state r.outs → Does state s input r
   passes : IsOpen state → IsOpen r.next.state → AreQuiet r.outs → r.next.down ≡ s.down → BringsNothing input → Does state s input r
-  moves : IsOpen state → IsOpen r.next.state → (Stands s → (sapi : Sapi) → KeepsDownlink sapi s input r) → IsSilent r → Does state s input r
+  moves : IsOpen state → IsOpen r.next.state → (IsValid s → (sapi : Sapi) → KeepsDownlink sapi s input r) → IsSilent r → Does state s input r
 
 -- ---- ends
 
@@ -59,7 +59,7 @@ does_dropping state s input is_open = ends absurd (tt, tt) (only_releases_open s
 -- a station that is down gets less
 pub does_without : (state : State) (s : Connection) (input : Input) (station : ℕ) (r : Row) → IsOpen state → (IsOpen r.next.state → ⊥) → AreParting r.outs → Does state s input (without_station station r)
 does_without state s input station r is_open shut parting =
-    ends shut (AllByRecursion-filter IsParting (λ message. not (goes_to station message)) r.outs parting) (only_releases_open state _ is_open)
+    ends shut (AllByRecursion-filter IsParting (λ message. not (is_for_station station message)) r.outs parting) (only_releases_open state _ is_open)
 
 pub does_broken : (state : State) (s : Connection) (input : Input) (station cause : ℕ) → IsOpen state → Does state s input (without_station station (failing state s cause))
 does_broken state s input station cause is_open =
@@ -109,7 +109,7 @@ does_waiting state s input stage reference offer outs t is_open opened quiet sam
 -- ---- what rows keep of the downlink
 
 -- where nothing came and nothing is rejected
-keeps_downlink_still : (sapi : Sapi) (s : Connection) (input : Input) (r : Row) → rejects r.outs ≡ false → BringsNothing input → AllByRecursion (GoesTo r.next.serving) r.outs → handed sapi r.outs ++ filter is_dtap (messages r.next.down sapi) ≡ filter is_dtap (messages s.down sapi) → KeepsDownlink sapi s input r
+keeps_downlink_still : (sapi : Sapi) (s : Connection) (input : Input) (r : Row) → rejects r.outs ≡ false → BringsNothing input → AllByRecursion (IsHandedTo r.next.serving) r.outs → handed sapi r.outs ++ filter is_dtap (messages r.next.down sapi) ≡ filter is_dtap (messages s.down sapi) → KeepsDownlink sapi s input r
 keeps_downlink_still sapi s input r none nothing goes same = record {
   serving = goes;
   stream = λ _. same ∙ sym (
@@ -121,7 +121,7 @@ keeps_downlink_still sapi s input r none nothing goes same = record {
 pub keeps_downlink_quiet : (sapi : Sapi) (s : Connection) (input : Input) (r : Row) → AreQuiet r.outs → r.next.down ≡ s.down → BringsNothing input → KeepsDownlink sapi s input r
 keeps_downlink_quiet sapi s input r quiet same nothing =
     keeps_downlink_still sapi s input r (rejects-quiet r.outs quiet) nothing
-    (AllByRecursion-so IsQuiet (GoesTo r.next.serving) (goes_to_quiet r.next.serving) r.outs quiet)
+    (AllByRecursion-so IsQuiet (IsHandedTo r.next.serving) (goes_to_quiet r.next.serving) r.outs quiet)
     (rw (handed-quiet sapi r.outs quiet, same) refl)
 
 -- a message is held
@@ -133,7 +133,7 @@ messages-held Three Zero message down = sym (ap (filter is_dtap) (append-nil dow
 
 pub keeps_downlink_held : (of sapi : Sapi) (message : List ℕ) (s : Connection) (r : Row) → AreQuiet r.outs → r.next.down ≡ with_messages s.down sapi (messages s.down sapi ++ message ∷ []) → KeepsDownlink of s (inputs.Downlink sapi message) r
 keeps_downlink_held of sapi message s r quiet held = record {
-  serving = AllByRecursion-so IsQuiet (GoesTo r.next.serving) (goes_to_quiet r.next.serving) r.outs quiet;
+  serving = AllByRecursion-so IsQuiet (IsHandedTo r.next.serving) (goes_to_quiet r.next.serving) r.outs quiet;
   stream = λ _. rw (handed-quiet of r.outs quiet, held)
       (messages-held of sapi message s.down
       ∙ sym (without_rejected-none of r.outs (filter is_dtap (messages s.down of ++ received_by of (inputs.Downlink sapi message))) (rejects-quiet r.outs quiet)));
@@ -175,7 +175,7 @@ opened : (reference : ℕ) (stage : Stage) (s : Connection) → s.state ≡ Live
 opened reference stage s is = subst IsOpen (sym is) tt
 
 -- a message is handed
-pub does_handing : (reference : ℕ) (stage : Stage) (s : Connection) (sapi : Sapi) (message : List ℕ) → IsStill stage → s.state ≡ Live reference stage → (Stands s → messages s.down sapi ≡ []) → Does (Live reference stage) s (inputs.Downlink sapi message) (row (handing s.serving sapi message ∷ []) s)
+pub does_handing : (reference : ℕ) (stage : Stage) (s : Connection) (sapi : Sapi) (message : List ℕ) → IsStill stage → s.state ≡ Live reference stage → (IsValid s → messages s.down sapi ≡ []) → Does (Live reference stage) s (inputs.Downlink sapi message) (row (handing s.serving sapi message ∷ []) s)
 does_handing reference stage s sapi message still is none =
     moves tt (opened reference stage s is) (λ stands of. keeps_downlink_handed of sapi message s (none stands)) (λ changes. absurd (not_changing stage reference s still is changes))
 
@@ -198,7 +198,7 @@ does_hold_short reference stage s message is =
     (λ room. moves tt (opened reference stage s is) (λ stands of. keeps_downlink_held of Three message s _ (are_quiet_request s.link s.serving) refl)
     (λ _. handed_none (request_where s.link s.serving) (are_quiet_request s.link s.serving)))
 
-pub does_short_message : (reference : ℕ) (stage : Stage) (link : ShortMessageLink) (s : Connection) (message : List ℕ) → IsStill stage → s.state ≡ Live reference stage → (Stands s → IsAskedFor link s.down.three) → Does (Live reference stage) s (inputs.Downlink Three message) (short_message (Live reference stage) link message s)
+pub does_short_message : (reference : ℕ) (stage : Stage) (link : ShortMessageLink) (s : Connection) (message : List ℕ) → IsStill stage → s.state ≡ Live reference stage → (IsValid s → IsAskedFor link s.down.three) → Does (Live reference stage) s (inputs.Downlink Three message) (short_message (Live reference stage) link message s)
 does_short_message reference stage Up s message still is none = does_handing reference stage s Three message still is none
 does_short_message reference stage _ s message still is none = does_hold_short reference stage s message is
 
@@ -277,17 +277,17 @@ does_changed state s input outs t stage reference offer is_open quiet same nothi
         (rejects-quiet asking (are_quiet_request_for t.down.three t.serving)))
         (rejects-quiet behind (are_quiet_waiting waits reference offer))
 
-    goes_quiet : (outs : List Message) → AreQuiet outs → AllByRecursion (GoesTo t.serving) outs
-    goes_quiet outs quiet = AllByRecursion-so IsQuiet (GoesTo t.serving) (goes_to_quiet t.serving) outs quiet
+    goes_quiet : (outs : List Message) → AreQuiet outs → AllByRecursion (IsHandedTo t.serving) outs
+    goes_quiet outs quiet = AllByRecursion-so IsQuiet (IsHandedTo t.serving) (goes_to_quiet t.serving) outs quiet
 
-    goes : AllByRecursion (GoesTo t.serving) all
-    goes = AllByRecursion-append (GoesTo t.serving) (outs ++ handing_outs ++ asking) behind
-        (AllByRecursion-append (GoesTo t.serving) (outs ++ handing_outs) asking
-        (AllByRecursion-append (GoesTo t.serving) outs handing_outs (goes_quiet outs quiet) (goes_to_handing t.serving Zero t.down.zero))
+    goes : AllByRecursion (IsHandedTo t.serving) all
+    goes = AllByRecursion-append (IsHandedTo t.serving) (outs ++ handing_outs ++ asking) behind
+        (AllByRecursion-append (IsHandedTo t.serving) (outs ++ handing_outs) asking
+        (AllByRecursion-append (IsHandedTo t.serving) outs handing_outs (goes_quiet outs quiet) (goes_to_handing t.serving Zero t.down.zero))
         (goes_quiet asking (are_quiet_request_for t.down.three t.serving)))
         (goes_quiet behind (are_quiet_waiting waits reference offer))
 
     keeps : (of : Sapi) → KeepsDownlink of s input (row all (after_waiting waits reference offer after))
     keeps of = keeps_downlink_still of s input (row all (after_waiting waits reference offer after)) none nothing
-        (subst (λ (serving : Channel). AllByRecursion (GoesTo serving) all) (sym begins.serving) goes)
+        (subst (λ (serving : Channel). AllByRecursion (IsHandedTo serving) all) (sym begins.serving) goes)
         (rw (handed_all of, begins.down) (handed-held of Zero t.serving t.down ∙ ap (λ (down : HoldState). filter is_dtap (messages down of)) same))

@@ -17,9 +17,9 @@ pub use Rattle.conn_rules.specs.Connection.{Connection, drain_at, emptied, enter
 pub use Rattle.conn_rules.specs.Roles.ChangesRoles.{ends, goes_on, had_ended}
 pub use Rattle.conn_rules.specs.Roles.RoleEnd.{dismisses, drops, refused}
 pub use Rattle.conn_rules.specs.Roles.RoleStep.{commands, completes, goes_back, leaves, stays}
-pub use Rattle.conn_rules.specs.Standing.{DrainTime, FirstIsEmpty, IsAskedFor, IsCarried, IsHeldTenure, OldestDrains, Stands, StandsBy}
-pub use Rattle.conn_rules.specs.Standing.{StandsIn}
-pub use Rattle.conn_rules.specs.Streams.{AreApart, Future, GoesTo, IsApart, IsChanging, IsFinal, IsOpen, IsSilent, KeepsDownlink}
+pub use Rattle.conn_rules.specs.Validity.{DrainTime, FirstIsEmpty, IsAskedFor, IsCarried, IsHeldTenure, OldestDrains, IsValid, IsValidState}
+pub use Rattle.conn_rules.specs.Validity.{IsValidStage}
+pub use Rattle.conn_rules.specs.Streams.{AreApart, Future, IsHandedTo, IsApart, IsChanging, IsFinal, IsOpen, IsSilent, KeepsDownlink}
 pub use Rattle.conn_rules.specs.Streams.{KeepsUplink, OfRow, OnlyReleases, first_at, from_input, handed, handed_by, is_dtap, is_of}
 pub use Rattle.conn_rules.specs.Streams.{is_reject, of_prepared, of_target, on_channel, received_by, rejects, relayed, relayed_by, still_of}
 pub use Rattle.conn_rules.specs.Streams.{still_to_relay, target_in, undone, used_channels, without_rejected}

@@ -8,15 +8,15 @@ use Rattle.conn_rules.proofs.Prelude.{Tenure, chain_count, put_in, count, messag
 use Rattle.conn_rules.proofs.Prelude.{eqb-true, eq-eqb, ne_eqb, Request, Data, ReleaseComplete, assignment_failure, complete_layer3, Input}
 use Rattle.conn_rules.proofs.Prelude.{Due, WasAsked, Drain, ShortMessageLink, Down, Asked, Up, Stage, Preparing, Changing, Draining, State}
 use Rattle.conn_rules.proofs.Prelude.{WaitActivation, WaitEstablish, WaitConfirm, Live, Closed, Removed, Connection, emptied, enter}
-use Rattle.conn_rules.proofs.Prelude.{first_channel, is_at, tenure_at, drain_at, goes_on, ends, had_ended, Stands, AreApart, IsApart}
+use Rattle.conn_rules.proofs.Prelude.{first_channel, is_at, tenure_at, drain_at, goes_on, ends, had_ended, IsValid, AreApart, IsApart}
 use Rattle.conn_rules.proofs.Prelude.{IsOpen, OfRow, target_in, undone, used_channels, ChannelActivation, EstablishRequest}
 use Rattle.conn_rules.proofs.Prelude.{RfChannelRelease}
 use Rattle.conn_messages.specs.declared.causes.TheConstants.{BSS_NOT_EQUIPPED, PROTOCOL_ERROR}
 use Rattle.conn_rules.specs.declared.input.Input.TheVariants as inputs
 use Rattle.conn_rules.specs.Putting.{Using, IsPutOn, ArePutOn, PutsOnOwn, same_place, used_after, uses_of, without_use}
-use Rattle.conn_rules.proofs.RolesTable.{ChangesRoles-row}
+use Rattle.conn_rules.proofs.RolesTable.{changes_roles_row}
 use Rattle.conn_rules.specs.Roles.{ChangesRolesBy, channels_in, channels_in_use, roles_of, target_role, to_stations}
-use Rattle.conn_rules.specs.Steps.{Row, row, ◌then◌, begin, begin_outs, begin_waiting, dropping, end_outs, failing, goes_to, hold_down, hold_short_message, hold_up, leave, link_down, link_up, may_begin, moved, relay_held, resting, request_for, request_where, resting_stage, settled, settled_stage, shifted, short_message, tenure_outs, waiting_outs, without_station, done_at}
+use Rattle.conn_rules.specs.Steps.{Row, row, ◌then◌, begin, begin_outs, begin_waiting, dropping, end_outs, failing, is_for_station, hold_down, hold_short_message, hold_up, leave, link_down, link_up, may_begin, moved, relay_held, resting, request_for, request_where, resting_stage, settled, settled_stage, shifted, short_message, tenure_outs, waiting_outs, without_station, done_at}
 use Rattle.conn_rules.specs.Table.{row_of, row_if, access, assign_immediately, command_to, complete, dtap_in, dtap_on_target, failure, refuse, release, release_in, speech_request, on_activation_ack, on_activation_nack, on_establish_indication, on_establish_confirm, on_release_indication, on_error_indication, on_connection_failure, on_dtap, on_complete, on_failure, on_release_ack, on_move, on_confirm, on_refused, on_released, on_downlink, on_assignment_request, on_cipher_mode_command, on_clear_command, on_expiry, on_drain_expiry, on_station_down, on_switch_down}
 
 abbrev at_channel : Channel → Place
@@ -128,7 +128,7 @@ kept_use station uses now (Station to (RfChannelRelease channel)) same at differ
 kept_use station uses now _ same at differ = same at differ
 
 -- of one that doesn't go
-dropped_use : (station : ℕ) (uses now : Using) (m : Message) → goes_to station m ≡ true → IsSameElse station uses now → IsSameElse station (used_after uses m) now
+dropped_use : (station : ℕ) (uses now : Using) (m : Message) → is_for_station station m ≡ true → IsSameElse station uses now → IsSameElse station (used_after uses m) now
 dropped_use station uses now (Station to (ChannelActivation a)) goes same at differ =
     same at differ ∙ sym (ap (λ (b : Bool). b || uses at) (not_same at (record { station = to; number = a.channel }) (λ is. differ (is ∙ eqb-true to station goes))))
 dropped_use station uses now (Station to (RfChannelRelease channel)) goes same at differ =
@@ -136,22 +136,22 @@ dropped_use station uses now (Station to (RfChannelRelease channel)) goes same a
 dropped_use station uses now (Station to _) goes same at differ = same at differ
 dropped_use station uses now _ goes same at differ = absurd (true≢false (sym goes))
 
-kept_put : (station : ℕ) (uses now : Using) (m : Message) → goes_to station m ≡ false → IsSameElse station uses now → IsPutOn uses m → IsPutOn now m
+kept_put : (station : ℕ) (uses now : Using) (m : Message) → is_for_station station m ≡ false → IsSameElse station uses now → IsPutOn uses m → IsPutOn now m
 kept_put station uses now (Station to (DataRequest d)) goes same put = same (record { station = to; number = d.channel }) (λ is. true≢false (sym (eq-eqb to station is) ∙ goes)) ∙ put
 kept_put station uses now (Station to (EstablishRequest l)) goes same put = same (record { station = to; number = l.channel }) (λ is. true≢false (sym (eq-eqb to station is) ∙ goes)) ∙ put
 kept_put station uses now (Station to (RfChannelRelease channel)) goes same put = same (record { station = to; number = channel }) (λ is. true≢false (sym (eq-eqb to station is) ∙ goes)) ∙ put
 kept_put station uses now _ goes same put = tt
 
-without_puts : (station : ℕ) (uses now : Using) (ms : List Message) → IsSameElse station uses now → ArePutOn uses ms → ArePutOn now (filter (λ message. not (goes_to station message)) ms)
+without_puts : (station : ℕ) (uses now : Using) (ms : List Message) → IsSameElse station uses now → ArePutOn uses ms → ArePutOn now (filter (λ message. not (is_for_station station message)) ms)
 without_puts station uses now [] same puts = tt
-without_puts station uses now (m ∷ ms) same puts = by (goes_to station m) refl (λ later same_then. without_puts station (used_after uses m) later ms same_then puts.1)
+without_puts station uses now (m ∷ ms) same puts = by (is_for_station station m) refl (λ later same_then. without_puts station (used_after uses m) later ms same_then puts.1)
   where
-    by : (b : Bool) → goes_to station m ≡ b → ((later : Using) → IsSameElse station (used_after uses m) later → ArePutOn later (filter (λ message. not (goes_to station message)) ms)) →
-        ArePutOn now (if not b then m ∷ filter (λ message. not (goes_to station message)) ms else filter (λ message. not (goes_to station message)) ms)
+    by : (b : Bool) → is_for_station station m ≡ b → ((later : Using) → IsSameElse station (used_after uses m) later → ArePutOn later (filter (λ message. not (is_for_station station message)) ms)) →
+        ArePutOn now (if not b then m ∷ filter (λ message. not (is_for_station station message)) ms else filter (λ message. not (is_for_station station message)) ms)
     by true goes rest = rest now (dropped_use station uses now m goes same)
     by false goes rest = (kept_put station uses now m goes same puts.0, rest (used_after now m) (kept_use station uses now m same))
 
-without_keeps : (station : ℕ) (uses : Using) (ms : List Message) → ArePutOn uses ms → ArePutOn uses (filter (λ message. not (goes_to station message)) ms)
+without_keeps : (station : ℕ) (uses : Using) (ms : List Message) → ArePutOn uses ms → ArePutOn uses (filter (λ message. not (is_for_station station message)) ms)
 without_keeps station uses ms puts = without_puts station uses uses ms (λ at differ. refl) puts
 
 -- what a row needs of the connection's channels: they are in use, and apart
@@ -485,5 +485,5 @@ puts_by s input offer (Some r) is all (ends was_open shut over) = subst (OfRow (
 puts_by s input offer (Some r) is all (had_ended was_shut shut nothing) = quiet_put (uses_of (channels_in_use s)) r.outs nothing
 
 -- channels of an open connection are apart
-pub puts_on_own : (s : Connection) (input : Input) (offer : Option Channel) → Stands s → (IsOpen s.state → AreApart (used_channels s)) → OfRow (λ r. PutsOnOwn s r.outs) (row_of s input offer)
-puts_on_own s input offer stands all = puts_by s input offer (row_of s input offer) refl all (ChangesRoles-row s input offer stands)
+pub puts_on_own : (s : Connection) (input : Input) (offer : Option Channel) → IsValid s → (IsOpen s.state → AreApart (used_channels s)) → OfRow (λ r. PutsOnOwn s r.outs) (row_of s input offer)
+puts_on_own s input offer stands all = puts_by s input offer (row_of s input offer) refl all (changes_roles_row s input offer stands)

@@ -7,8 +7,8 @@ use Rattle.conn_rules.proofs.Prelude.{HoldState, DataRequest, Input, Drain, Shor
 use Rattle.conn_rules.proofs.Prelude.{Target, Connection, stays, commands, leaves, drops, dismisses, goes_on, ends, had_ended, IsOpen}
 use Rattle.conn_rules.proofs.Prelude.{ChannelActivation, RfChannelRelease}
 use Rattle.conn_rules.specs.declared.input.Input.TheVariants as inputs
-use Rattle.conn_rules.specs.Roles.{Roles, target_role, roles_of, RoleStep, after_step, with_target, step_by, change_by, MayBegin, is_order, orders, step_orders, begin_orders, IsOfSwitch, brought, Tells, GoesOn, end_messages, is_to_station, to_stations, those_that_go, Ends, ChangesRoles, ChangesRolesBy}
-use Rattle.conn_rules.specs.Steps.{Row, row, end_outs, failing, dropping, without_station, goes_to, may_begin, begin_outs, after_begin, waiting_outs, after_waiting, begin_waiting, request_where, request_for, tenure_outs}
+use Rattle.conn_rules.specs.Roles.{Roles, target_role, roles_of, RoleStep, after_step, with_target, step_by, change_by, MayBegin, is_order, orders, step_orders, begin_orders, IsOfSwitch, brought, Tells, RemainsOpen, end_messages, is_to_station, to_stations, those_that_go, Ends, ChangesRoles, ChangesRolesBy}
+use Rattle.conn_rules.specs.Steps.{Row, row, end_outs, failing, dropping, without_station, is_for_station, may_begin, begin_outs, after_begin, waiting_outs, after_waiting, begin_waiting, request_where, request_for, tenure_outs}
 use Rattle.conn_rules.specs.Table.{row_if}
 use Rattle.conn_rules.proofs.DownlinkMessages.{AllByRecursion-append, AllByRecursion-so}
 
@@ -16,22 +16,22 @@ use Rattle.conn_rules.proofs.DownlinkMessages.{AllByRecursion-append, AllByRecur
 abbrev pub roles_in : State → Connection → Roles
 roles_in state s = record { serving = s.serving; target = target_role state; draining = s.draining }
 
-pub roles-known : (state : State) (s : Connection) → s.state ≡ state → roles_of s ≡ roles_in state s
-roles-known state s is = ap (λ (state : State). roles_in state s) is
+pub roles_known : (state : State) (s : Connection) → s.state ≡ state → roles_of s ≡ roles_in state s
+roles_known state s is = ap (λ (state : State). roles_in state s) is
 
 pub equal_roles : (a b : Roles) → a.serving ≡ b.serving → a.target ≡ b.target → a.draining ≡ b.draining → a ≡ b
 equal_roles a b serving target draining = λ i. record { serving = serving i; target = target i; draining = draining i }
 
 -- ---- the law, in a state that is known
 
-pub goes_on_in : (state : State) (s : Connection) (input : Input) (offer : Option Channel) (r : Row) → s.state ≡ state → IsOpen state → IsOpen r.next.state → GoesOn (step_by input (roles_in state s)) (roles_in state s) s.down input offer r → ChangesRoles s input offer r
+pub goes_on_in : (state : State) (s : Connection) (input : Input) (offer : Option Channel) (r : Row) → s.state ≡ state → IsOpen state → IsOpen r.next.state → RemainsOpen (step_by input (roles_in state s)) (roles_in state s) s.down input offer r → ChangesRoles s input offer r
 goes_on_in state s input offer r is was_open is_open on =
-    goes_on (subst IsOpen (sym is) was_open) is_open (subst (λ (state : State). GoesOn (step_by input (roles_in state s)) (roles_in state s) s.down input offer r) (sym is) on)
+    goes_on (subst IsOpen (sym is) was_open) is_open (subst (λ (state : State). RemainsOpen (step_by input (roles_in state s)) (roles_in state s) s.down input offer r) (sym is) on)
 
 -- where the step is known
-pub goes_on_by : (step : RoleStep) (state : State) (s : Connection) (input : Input) (offer : Option Channel) (r : Row) → step_by input (roles_in state s) ≡ step → s.state ≡ state → IsOpen state → IsOpen r.next.state → GoesOn step (roles_in state s) s.down input offer r → ChangesRoles s input offer r
+pub goes_on_by : (step : RoleStep) (state : State) (s : Connection) (input : Input) (offer : Option Channel) (r : Row) → step_by input (roles_in state s) ≡ step → s.state ≡ state → IsOpen state → IsOpen r.next.state → RemainsOpen step (roles_in state s) s.down input offer r → ChangesRoles s input offer r
 goes_on_by step state s input offer r same is was_open is_open on =
-    goes_on_in state s input offer r is was_open is_open (subst (λ (step : RoleStep). GoesOn step (roles_in state s) s.down input offer r) (sym same) on)
+    goes_on_in state s input offer r is was_open is_open (subst (λ (step : RoleStep). RemainsOpen step (roles_in state s) s.down input offer r) (sym same) on)
 
 pub ends_in : (state : State) (s : Connection) (input : Input) (offer : Option Channel) (r : Row) → s.state ≡ state → IsOpen state → (IsOpen r.next.state → ⊥) → Ends (roles_in state s) input r → ChangesRoles s input offer r
 ends_in state s input offer r is was_open shut over =
@@ -124,7 +124,7 @@ are_plain_request_for (first ∷ rest) serving = (tt, tt)
 -- ---- rows without a step
 
 -- nothing is ordered, nobody is told, no change begins
-pub goes_on_plain : (before : Roles) (down : HoldState) (input : Input) (offer : Option Channel) (r : Row) → roles_of r.next ≡ before → ArePlain r.outs → GoesOn stays before down input offer r
+pub goes_on_plain : (before : Roles) (down : HoldState) (input : Input) (offer : Option Channel) (r : Row) → roles_of r.next ≡ before → ArePlain r.outs → RemainsOpen stays before down input offer r
 goes_on_plain before down input offer r same plain = record {
   begun = None;
   may = tt;
@@ -194,7 +194,7 @@ tells_by (leaves place) before down input outs untold told = told
 tells_by _ before down input outs untold told = told
 
 pub goes_on_begins : (step : RoleStep) (before : Roles) (down : HoldState) (input : Input) (offer : Option Channel) (outs : List Message) (t : Connection) (behind : List Message) (next : Connection) →
-    IsUntoldStep step → roles_of t ≡ after_step step before → orders outs ≡ step_orders step before → AllByRecursion (IsOfSwitch down input) outs → BeginsBy input offer t behind next → GoesOn step before down input offer (row (outs ++ behind) next)
+    IsUntoldStep step → roles_of t ≡ after_step step before → orders outs ≡ step_orders step before → AllByRecursion (IsOfSwitch down input) outs → BeginsBy input offer t behind next → RemainsOpen step before down input offer (row (outs ++ behind) next)
 goes_on_begins step before down input offer outs t behind next untold same ordered told begins = record {
   begun = begins.begun;
   may = subst (MayBegin begins.begun input offer) same begins.may;
@@ -235,12 +235,12 @@ pub ends_broken : (state : State) (s : Connection) (station cause : ℕ) → End
 ends_broken state s station cause = record {
   end = dismisses ABNORMAL_RELEASE;
   fits = tt;
-  ordered = filter-filter is_to_station (λ message. not (goes_to station message)) (failing state s cause).outs
-      ∙ ap (filter (λ message. not (goes_to station message))) (to_stations-failing state s cause ∙ to_stations-end state s ABNORMAL_RELEASE);
+  ordered = filter-filter is_to_station (λ message. not (is_for_station station message)) (failing state s cause).outs
+      ∙ ap (filter (λ message. not (is_for_station station message))) (to_stations-failing state s cause ∙ to_stations-end state s ABNORMAL_RELEASE);
 }
 
 pub ends_dropping : (state : State) (s : Connection) (input : Input) → target_role state ≡ None → ((outs : List Message) → those_that_go input outs ≡ outs) → Ends (roles_in state s) input (dropping s)
 ends_dropping state s input none all_go = record { end = drops; fits = none; ordered = sym (all_go (end_messages drops (roles_in state s))) }
 
 pub ends_broken_drop : (state : State) (s : Connection) (station : ℕ) → target_role state ≡ None → Ends (roles_in state s) (inputs.StationDown station) (without_station station (dropping s))
-ends_broken_drop state s station none = record { end = drops; fits = none; ordered = filter-filter is_to_station (λ message. not (goes_to station message)) (dropping s).outs }
+ends_broken_drop state s station none = record { end = drops; fits = none; ordered = filter-filter is_to_station (λ message. not (is_for_station station message)) (dropping s).outs }

@@ -7,9 +7,9 @@ use Rattle.conn_rules.proofs.Prelude.{Drain, State, Closed, Removed, Target, Con
 use Rattle.conn_rules.proofs.Prelude.{goes_back, leaves, refused, drops, dismisses, goes_on, ends, had_ended, OfRow, IsOpen, undone}
 use Rattle.std.proofs.Common.{eqb-true}
 use Rattle.conn_rules.specs.declared.input.Input.TheVariants as inputs
-use Rattle.conn_rules.specs.Roles.{TargetRole, Roles, roles_of, RoleStep, still_draining, after_step, with_target, awaits_at, changes_by, is_target_at, leaves_at, step_by, MayBegin, is_order, orders, step_orders, begin_orders, GoesOn, RoleEnd, end_messages, target_releases, FitsEnd, is_to_station, to_stations, those_that_go, ChangesRoles, ChangesRolesBy, target_channels, channels_in, IsGivenUp, IsTaken, IsAcknowledged, KeepsAccount}
+use Rattle.conn_rules.specs.Roles.{TargetRole, Roles, roles_of, RoleStep, still_draining, after_step, with_target, awaits_at, changes_by, is_target_at, leaves_at, step_by, MayBegin, is_order, orders, step_orders, begin_orders, RemainsOpen, RoleEnd, end_messages, target_releases, FitsEnd, is_to_station, to_stations, those_that_go, ChangesRoles, ChangesRolesBy, target_channels, channels_in, IsGivenUp, IsTaken, IsAcknowledged, KeepsAccount}
 use Rattle.conn_rules.specs.Roles.IsGivenUp.{released, broke, not_activated}
-use Rattle.conn_rules.specs.Steps.{Row, done_at, goes_to}
+use Rattle.conn_rules.specs.Steps.{Row, done_at, is_for_station}
 
 -- ---- members of lists
 
@@ -133,7 +133,7 @@ goes_or_broke (inputs.StationDown station) c list there = by (eqb c.station stat
   where
     by : (b : Bool) → eqb c.station station ≡ b → Contains (those_that_go (inputs.StationDown station) list) (rf_channel_release c) ⊎ (inputs.StationDown station ≡ inputs.StationDown c.station)
     by true is = inr (ap (λ (station : ℕ). inputs.StationDown station) (sym (eqb-true c.station station is)))
-    by false is = inl (contains_kept (λ message. not (goes_to station message)) list (rf_channel_release c) there (ap not is))
+    by false is = inl (contains_kept (λ message. not (is_for_station station message)) list (rf_channel_release c) there (ap not is))
 goes_or_broke _ c list there = inl there
 
 given_up_ordered : (c : Channel) (input : Input) (outs list : List Message) → to_stations outs ≡ those_that_go input list → Contains list (rf_channel_release c) → IsGivenUp c input outs
@@ -331,7 +331,7 @@ draining-begin : (begun : Option Target) (roles : Roles) → (with_target begun 
 draining-begin None roles = refl
 draining-begin (Some target) roles = refl
 
-keeps_account_goes_on : (s : Connection) (input : Input) (offer : Option Channel) (r : Row) → IsOpen s.state → IsOpen r.next.state → GoesOn (step_by input (roles_of s)) (roles_of s) s.down input offer r → KeepsAccount s input offer r
+keeps_account_goes_on : (s : Connection) (input : Input) (offer : Option Channel) (r : Row) → IsOpen s.state → IsOpen r.next.state → RemainsOpen (step_by input (roles_of s)) (roles_of s) s.down input offer r → KeepsAccount s input offer r
 keeps_account_goes_on s input offer r was_open is_open on = record {
   gives_up = λ c there. elim (step_gives_up step input roles roles.target r.outs (begin_orders on.begun) c refl refl on.ordered (used_where s.state roles c there).1) [
     | inl kept ↦ inl (in_use_where r.next.state (roles_of r.next) c is_open (subst (λ (roles : Roles). Contains (used roles) c) (sym on.roles) (begin_keeps on.begun input offer after c on.may kept)))

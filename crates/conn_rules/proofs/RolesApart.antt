@@ -3,7 +3,7 @@ use Rattle.conn_rules.proofs.Prelude.{◌≡◌, ℕ, zero, suc, Bool, true, fal
 use Rattle.conn_rules.proofs.Prelude.{None, append_assoc, if◌then◌else◌, AllByRecursion, Channel, Input, Drain, Preparing, State, Live}
 use Rattle.conn_rules.proofs.Prelude.{Target, Connection, stays, commands, completes, goes_back, leaves, goes_on, ends, had_ended, OfRow}
 use Rattle.conn_rules.proofs.Prelude.{undone, target_in, used_channels, IsApart, AreApart}
-use Rattle.conn_rules.specs.Roles.{TargetRole, Roles, target_role, roles_of, RoleStep, after_step, with_target, step_by, MayBegin, ChangesRoles, ChangesRolesBy, target_channels, IsNew, StaysApart}
+use Rattle.conn_rules.specs.Roles.{TargetRole, Roles, target_role, roles_of, RoleStep, after_step, with_target, step_by, MayBegin, ChangesRoles, ChangesRolesBy, target_channels, IsNew, IsApartAfter}
 use Rattle.conn_rules.specs.Steps.{Row, done_at}
 use Rattle.conn_rules.proofs.Standing.{AllByRecursion-push}
 use Rattle.conn_rules.proofs.RolesAccount.{undone-still_draining}
@@ -68,12 +68,12 @@ undone-begins (d ∷ ds) serving = by d.is_done (undone-begins ds serving)
 abbrev pub channels_of : Roles → List Channel
 channels_of roles = undone roles.draining ++ roles.serving ∷ target_channels roles.target
 
-pub target_in-role : (state : State) → target_channels (target_role state) ≡ target_in state
-target_in-role (Live reference (Preparing target)) = refl
-target_in-role _ = refl
+pub target_in_role : (state : State) → target_channels (target_role state) ≡ target_in state
+target_in_role (Live reference (Preparing target)) = refl
+target_in_role _ = refl
 
 pub channels_of-roles : (s : Connection) → channels_of (roles_of s) ≡ used_channels s
-channels_of-roles s = ap (λ (targets : List Channel). undone s.draining ++ s.serving ∷ targets) (target_in-role s.state)
+channels_of-roles s = ap (λ (targets : List Channel). undone s.draining ++ s.serving ∷ targets) (target_in_role s.state)
 
 pub IsPart-step : (step : RoleStep) (roles : Roles) (target : Option TargetRole) → IsPart (undone roles.draining ++ roles.serving ∷ target_channels target) (channels_of (after_step step (record roles { target = target })))
 IsPart-step stays roles target = is_part_same _ (undone roles.draining ++ roles.serving ∷ target_channels target) refl
@@ -102,7 +102,7 @@ is_new_part : (offer : Option Channel) (old new : List Channel) → IsPart old n
 is_new_part None old new part is_new = tt
 is_new_part (Some c) old new part is_new = part.each (λ other. IsApart other c) is_new
 
-stays_apart_by : (s : Connection) (input : Input) (offer : Option Channel) (r : Row) → AreApart (used_channels s) → IsNew offer (used_channels s) → ChangesRoles s input offer r → StaysApart r
+stays_apart_by : (s : Connection) (input : Input) (offer : Option Channel) (r : Row) → AreApart (used_channels s) → IsNew offer (used_channels s) → ChangesRoles s input offer r → IsApartAfter r
 stays_apart_by s input offer r apart is_new (ends was_open shut over) = λ is_open. absurd (shut is_open)
 stays_apart_by s input offer r apart is_new (had_ended was_shut shut nothing) = λ is_open. absurd (shut is_open)
 stays_apart_by s input offer r apart is_new (goes_on was_open is_open on) = λ _.
@@ -116,6 +116,6 @@ stays_apart_by s input offer r apart is_new (goes_on was_open is_open on) = λ _
     part : IsPart (channels_of (roles_of s)) (channels_of after)
     part = IsPart-step (step_by input (roles_of s)) (roles_of s) (target_role s.state)
 
-pub stays_apart_row : (s : Connection) (input : Input) (offer : Option Channel) (o : Option Row) → AreApart (used_channels s) → IsNew offer (used_channels s) → ChangesRolesBy s input offer o → OfRow StaysApart o
+pub stays_apart_row : (s : Connection) (input : Input) (offer : Option Channel) (o : Option Row) → AreApart (used_channels s) → IsNew offer (used_channels s) → ChangesRolesBy s input offer o → OfRow IsApartAfter o
 stays_apart_row s input offer (Some r) apart is_new changes = stays_apart_by s input offer r apart is_new changes
 stays_apart_row s input offer None apart is_new none = tt

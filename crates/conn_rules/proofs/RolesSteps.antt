@@ -4,7 +4,7 @@ use Rattle.conn_rules.proofs.Prelude.{if◌then◌else◌, Contains-append_left,
 use Rattle.conn_rules.proofs.Prelude.{handing, cond_both, Zero, HoldState, Place, Input, Drain, Stage, Preparing, Draining, State, Live}
 use Rattle.conn_rules.proofs.Prelude.{Target, Connection, goes_back, leaves, IsOpen, first_channel, drain_at}
 use Rattle.conn_rules.specs.declared.input.Input.TheVariants as inputs
-use Rattle.conn_rules.specs.Roles.{target_role, roles_of, RoleStep, after_step, step_by, change_by, orders, step_orders, IsOfSwitch, brought, GoesOn, ChangesRoles}
+use Rattle.conn_rules.specs.Roles.{target_role, roles_of, RoleStep, after_step, step_by, change_by, orders, step_orders, IsOfSwitch, brought, RemainsOpen, ChangesRoles}
 use Rattle.conn_rules.specs.Steps.{Row, row, begin_waiting, request_for}
 use Rattle.conn_rules.proofs.DownlinkMessages.{AllByRecursion-append}
 use Rattle.conn_rules.specs.Roles.{still_draining, leaves_at}
@@ -37,7 +37,7 @@ changes_roles_changed step state s input offer outs t stage reference same is wa
     let begins = begins_by_waiting stage input offer reference after kind live in
     goes_on_by step state s input offer (row outs t then hand_held Zero then ask_for_held then begin_waiting stage reference offer) same is was_open
     (begins.stays_open (subst IsOpen (sym live) tt))
-    (subst (λ (down : HoldState). GoesOn step (roles_in state s) down input offer (row outs t then hand_held Zero then ask_for_held then begin_waiting stage reference offer)) hold
+    (subst (λ (down : HoldState). RemainsOpen step (roles_in state s) down input offer (row outs t then hand_held Zero then ask_for_held then begin_waiting stage reference offer)) hold
     (goes_on_begins step (roles_in state s) t.down input offer (outs ++ map (handing t.serving Zero) t.down.zero ++ request_for t.down.three t.serving) after
     (begin_waiting stage reference offer after).outs (begin_waiting stage reference offer after).next untold roles (orders-changed outs t ∙ ordered) (told_changed input outs t quiet) begins))
 

@@ -7,7 +7,7 @@ use Rattle.conn_rules.proofs.Prelude.{Channel, Message, handing, rf_channel_rele
 use Rattle.conn_rules.proofs.Prelude.{cond_both, Sapi, Zero, Three, chain_count, count, Place, INITIAL_LIMIT, change_command, Input, Drain}
 use Rattle.conn_rules.proofs.Prelude.{ShortMessageLink, Down, Asked, Up, Stage, Preparing, Changing, Draining, State, WaitActivation}
 use Rattle.conn_rules.proofs.Prelude.{WaitEstablish, WaitConfirm, Live, Closed, Removed, Connection, emptied, first_channel, is_at}
-use Rattle.conn_rules.proofs.Prelude.{drain_at, tenure_at, Stands, Reference, Due, WasAsked, Complete, RrCause, stays, commands, completes}
+use Rattle.conn_rules.proofs.Prelude.{drain_at, tenure_at, IsValid, Reference, Due, WasAsked, Complete, RrCause, stays, commands, completes}
 use Rattle.conn_rules.proofs.Prelude.{goes_back, refused, dismisses, IsOpen}
 use Rattle.conn_rules.specs.declared.input.Input.TheVariants as inputs
 use Rattle.conn_rules.specs.Steps.{Row, row, ◌then◌, end_outs, failing, dropping, without_station, may_begin, begin_outs, after_begin, begin, short_message, link_up, link_down, resting_stage, resting, moved}
@@ -15,7 +15,7 @@ use Rattle.conn_rules.specs.Table.{access, on_activation_ack, on_activation_nack
 use Rattle.conn_rules.proofs.StandingSteps.{by_state}
 use Rattle.conn_rules.specs.Roles.{target_role, roles_of, orders, brought, change_by, is_to_station, step_by, leaves_at, end_messages, ChangesRoles, ChangesRolesBy, to_stations, those_that_go}
 use Rattle.conn_rules.proofs.DownlinkSteps.{failing_shut}
-use Rattle.conn_rules.proofs.Roles.{roles_in, roles-known, goes_on_in, goes_on_by, ends_in, had_ended_in, none_in, changes_roles_by_row_if, IsUntold, ArePlain, are_plain_tenure, are_plain_request_where, orders-handing, told_handing, goes_on_plain, goes_on_begins, begins_by_begin, free_where, to_stations-end, ends_failing, ends_broken, ends_dropping, ends_broken_drop}
+use Rattle.conn_rules.proofs.Roles.{roles_in, roles_known, goes_on_in, goes_on_by, ends_in, had_ended_in, none_in, changes_roles_by_row_if, IsUntold, ArePlain, are_plain_tenure, are_plain_request_where, orders-handing, told_handing, goes_on_plain, goes_on_begins, begins_by_begin, free_where, to_stations-end, ends_failing, ends_broken, ends_dropping, ends_broken_drop}
 use Rattle.conn_rules.proofs.RolesSteps.{changes_roles_changed, changes_roles_refused, resting-roles, changes_roles_release}
 
 -- ---- rows that end a connection, or leave its roles
@@ -41,7 +41,7 @@ ends_it state s input offer cause more next is was_open shut none all_go =
 same_roles : (reference : ℕ) (stage : Stage) (s : Connection) (input : Input) (offer : Option Channel) (r : Row) → step_by input (roles_in (Live reference stage) s) ≡ stays → s.state ≡ Live reference stage → r.next.state ≡ s.state → roles_of r.next ≡ roles_of s → ArePlain r.outs → ChangesRoles s input offer r
 same_roles reference stage s input offer r none is state same plain =
     goes_on_by stays (Live reference stage) s input offer r none is tt (subst IsOpen (sym (state ∙ is)) tt)
-    (goes_on_plain (roles_in (Live reference stage) s) s.down input offer r (same ∙ roles-known (Live reference stage) s is) plain)
+    (goes_on_plain (roles_in (Live reference stage) s) s.down input offer r (same ∙ roles_known (Live reference stage) s is) plain)
 
 -- ---- channels are activated
 
@@ -89,7 +89,7 @@ link_up_roles reference stage s input offer none is =
     (record {
       begun = None;
       may = tt;
-      roles = roles-known (Live reference stage) s is;
+      roles = roles_known (Live reference stage) s is;
       ordered = orders-handing s.serving Three s.down.three;
       tells = told_handing s.down input s.serving Three s.down.three (λ m held.
           Contains-append_right s.down.zero (s.down.three ++ brought input) m (Contains-append_left s.down.three (brought input) m held));
@@ -165,7 +165,7 @@ dtap_roles WaitConfirm s at sapi message offer is =
     (λ _. cond_both (eqb (chain_count s.up) s.up.limit) _ _ (ChangesRoles s (inputs.Dtap at sapi message) offer)
     (λ _. fails WaitConfirm s (inputs.Dtap at sapi message) offer EQUIPMENT_FAILURE is tt (λ _. refl))
     (λ _. goes_on_in WaitConfirm s (inputs.Dtap at sapi message) offer _ is tt (subst IsOpen (sym is) tt)
-    (goes_on_plain (roles_in WaitConfirm s) s.down (inputs.Dtap at sapi message) offer _ (roles-known WaitConfirm s is) tt)))
+    (goes_on_plain (roles_in WaitConfirm s) s.down (inputs.Dtap at sapi message) offer _ (roles_known WaitConfirm s is) tt)))
     (λ _. refl)
 dtap_roles (Live reference stage) s at sapi message offer is = dtap_in_roles (tenure_at at s.serving s.draining) reference stage s at sapi message offer is
 dtap_roles _ s at sapi message offer is = refl
@@ -211,7 +211,7 @@ release_in_roles None reference stage s at offer found is = ap leaves_at found
 no_release : (s : Connection) (at : Place) (offer : Option Channel) → s.draining ≡ [] → ChangesRolesBy s (inputs.ReleaseAck at) offer None
 no_release s at offer none = ap (λ (ds : List Drain). leaves_at (drain_at at ds)) none
 
-release_ack_roles : (state : State) (s : Connection) (at : Place) (offer : Option Channel) → s.state ≡ state → Stands s → ChangesRolesBy s (inputs.ReleaseAck at) offer (on_release_ack state s at offer)
+release_ack_roles : (state : State) (s : Connection) (at : Place) (offer : Option Channel) → s.state ≡ state → IsValid s → ChangesRolesBy s (inputs.ReleaseAck at) offer (on_release_ack state s at offer)
 release_ack_roles (Live reference stage) s at offer is stands = release_in_roles (drain_at at s.draining) reference stage s at offer refl is
 release_ack_roles WaitActivation s at offer is stands = no_release s at offer (by_state WaitActivation s is stands).0.none_drains
 release_ack_roles WaitEstablish s at offer is stands = no_release s at offer (by_state WaitEstablish s is stands).0.none_drains
@@ -225,7 +225,7 @@ begin_roles : (reference : ℕ) (stage : Stage) (change : Change) (s : Connectio
 begin_roles reference stage change s input offer none kind is may =
     let begins = begins_by_begin input offer reference change s kind (free_where stage reference s is may) in
     goes_on_by stays (Live reference stage) s input offer (begin reference change offer s) none is tt (begins.stays_open (subst IsOpen (sym is) tt))
-    (goes_on_begins stays (roles_in (Live reference stage) s) s.down input offer [] s (begin_outs reference change offer) (after_begin reference change offer s) tt (roles-known (Live reference stage) s is) refl tt begins)
+    (goes_on_begins stays (roles_in (Live reference stage) s) s.down input offer [] s (begin_outs reference change offer) (after_begin reference change offer s) tt (roles_known (Live reference stage) s is) refl tt begins)
 
 move_roles : (state : State) (s : Connection) (offer : Option Channel) → s.state ≡ state → ChangesRolesBy s inputs.Move offer (on_move state s offer)
 move_roles (Live reference stage) s offer is =
@@ -270,7 +270,7 @@ handed_roles reference stage s sapi message offer is =
     (record {
       begun = None;
       may = tt;
-      roles = roles-known (Live reference stage) s is;
+      roles = roles_known (Live reference stage) s is;
       ordered = refl;
       tells = (Contains-append_right s.down.zero (s.down.three ++ message ∷ []) message (Contains-append_right s.down.three (message ∷ []) message (Contains-push [] message)), tt);
     })
@@ -344,28 +344,28 @@ switch_down_roles Removed s offer is = refl
 
 -- ---- the whole table
 
-pub ChangesRoles-row : (s : Connection) (input : Input) (offer : Option Channel) → Stands s → ChangesRolesBy s input offer (row_of s input offer)
+pub changes_roles_row : (s : Connection) (input : Input) (offer : Option Channel) → IsValid s → ChangesRolesBy s input offer (row_of s input offer)
 unfolding row_of
-ChangesRoles-row s (inputs.ActivationAck at) offer stands = activation_ack_roles s.state s at offer refl
-ChangesRoles-row s (inputs.ActivationNack at) offer stands = activation_nack_roles s.state s at offer refl
-ChangesRoles-row s (inputs.EstablishIndication at sapi message) offer stands = establish_indication_roles s.state s at sapi message offer refl
-ChangesRoles-row s (inputs.EstablishConfirm at sapi) offer stands = establish_confirm_roles s.state s at sapi offer refl
-ChangesRoles-row s (inputs.ReleaseIndication at sapi) offer stands = release_indication_roles s.state s at sapi offer refl
-ChangesRoles-row s (inputs.ErrorIndication at sapi) offer stands = error_indication_roles s.state s at sapi offer refl
-ChangesRoles-row s (inputs.ConnectionFailure at) offer stands = connection_failure_roles s.state s at offer refl
-ChangesRoles-row s (inputs.Dtap at sapi message) offer stands = dtap_roles s.state s at sapi message offer refl
-ChangesRoles-row s (inputs.Complete at change cause) offer stands = complete_roles s.state s at change cause offer refl
-ChangesRoles-row s (inputs.Failure at change cause) offer stands = failure_roles s.state s at change cause offer refl
-ChangesRoles-row s (inputs.ReleaseAck at) offer stands = release_ack_roles s.state s at offer refl stands
-ChangesRoles-row s inputs.Move offer stands = move_roles s.state s offer refl
-ChangesRoles-row s (inputs.ConnectionConfirm source) offer stands = confirm_roles s.state s source offer refl
-ChangesRoles-row s inputs.ConnectionRefused offer stands = refused_roles s.state s offer refl
-ChangesRoles-row s (inputs.Released source) offer stands = released_roles s.state s source offer refl
-ChangesRoles-row s (inputs.Downlink sapi message) offer stands = downlink_roles s.state s sapi message offer refl
-ChangesRoles-row s (inputs.AssignmentRequest is_speech) offer stands = assignment_request_roles s.state s is_speech offer refl
-ChangesRoles-row s inputs.CipherModeCommand offer stands = cipher_mode_command_roles s.state s offer refl
-ChangesRoles-row s inputs.ClearCommand offer stands = clear_command_roles s.state s offer refl
-ChangesRoles-row s inputs.Expiry offer stands = expiry_roles s.state s offer refl
-ChangesRoles-row s inputs.DrainExpiry offer stands = drain_expiry_roles s.state s offer refl
-ChangesRoles-row s (inputs.StationDown station) offer stands = station_down_roles s.state s station offer refl
-ChangesRoles-row s inputs.SwitchDown offer stands = switch_down_roles s.state s offer refl
+changes_roles_row s (inputs.ActivationAck at) offer stands = activation_ack_roles s.state s at offer refl
+changes_roles_row s (inputs.ActivationNack at) offer stands = activation_nack_roles s.state s at offer refl
+changes_roles_row s (inputs.EstablishIndication at sapi message) offer stands = establish_indication_roles s.state s at sapi message offer refl
+changes_roles_row s (inputs.EstablishConfirm at sapi) offer stands = establish_confirm_roles s.state s at sapi offer refl
+changes_roles_row s (inputs.ReleaseIndication at sapi) offer stands = release_indication_roles s.state s at sapi offer refl
+changes_roles_row s (inputs.ErrorIndication at sapi) offer stands = error_indication_roles s.state s at sapi offer refl
+changes_roles_row s (inputs.ConnectionFailure at) offer stands = connection_failure_roles s.state s at offer refl
+changes_roles_row s (inputs.Dtap at sapi message) offer stands = dtap_roles s.state s at sapi message offer refl
+changes_roles_row s (inputs.Complete at change cause) offer stands = complete_roles s.state s at change cause offer refl
+changes_roles_row s (inputs.Failure at change cause) offer stands = failure_roles s.state s at change cause offer refl
+changes_roles_row s (inputs.ReleaseAck at) offer stands = release_ack_roles s.state s at offer refl stands
+changes_roles_row s inputs.Move offer stands = move_roles s.state s offer refl
+changes_roles_row s (inputs.ConnectionConfirm source) offer stands = confirm_roles s.state s source offer refl
+changes_roles_row s inputs.ConnectionRefused offer stands = refused_roles s.state s offer refl
+changes_roles_row s (inputs.Released source) offer stands = released_roles s.state s source offer refl
+changes_roles_row s (inputs.Downlink sapi message) offer stands = downlink_roles s.state s sapi message offer refl
+changes_roles_row s (inputs.AssignmentRequest is_speech) offer stands = assignment_request_roles s.state s is_speech offer refl
+changes_roles_row s inputs.CipherModeCommand offer stands = cipher_mode_command_roles s.state s offer refl
+changes_roles_row s inputs.ClearCommand offer stands = clear_command_roles s.state s offer refl
+changes_roles_row s inputs.Expiry offer stands = expiry_roles s.state s offer refl
+changes_roles_row s inputs.DrainExpiry offer stands = drain_expiry_roles s.state s offer refl
+changes_roles_row s (inputs.StationDown station) offer stands = station_down_roles s.state s station offer refl
+changes_roles_row s inputs.SwitchDown offer stands = switch_down_roles s.state s offer refl

@@ -16,7 +16,7 @@ use Rattle.conn_messages.specs.SwitchMessage.{cipher_mode_reject, clear_request,
 use Rattle.conn_rules.proofs.Downlink.{of_row_so}
 use Rattle.conn_rules.proofs.DownlinkMessages.{AllByRecursion-append, AllByRecursion-filter}
 use Rattle.conn_rules.specs.declared.input.Input.TheVariants as inputs
-use Rattle.conn_rules.specs.Steps.{Row, row, ◌then◌, after_waiting, ask_for_held, begin, begin_outs, begin_waiting, done_at, dropping, end_outs, ending, failing, goes_to, hand_held, hold_down, hold_short_message, hold_up, leave, link_down, link_up, may_begin, moved, relay_held, request_for, request_where, resting, resting_stage, settled, settled_stage, shifted, short_message, target_release, tenure_outs, waiting_outs, without_station}
+use Rattle.conn_rules.specs.Steps.{Row, row, ◌then◌, after_waiting, ask_for_held, begin, begin_outs, begin_waiting, done_at, dropping, end_outs, ending, failing, is_for_station, hand_held, hold_down, hold_short_message, hold_up, leave, link_down, link_up, may_begin, moved, relay_held, request_for, request_where, resting, resting_stage, settled, settled_stage, shifted, short_message, target_release, tenure_outs, waiting_outs, without_station}
 use Rattle.conn_rules.specs.Table.{row_if, access, complete, dtap_in, dtap_on_target, failure, failure_outs, nack_outs, on_activation_ack, on_activation_nack, on_assignment_request, on_cipher_mode_command, on_clear_command, on_complete, on_confirm, on_connection_failure, on_downlink, on_drain_expiry, on_dtap, on_error_indication, on_establish_confirm, on_establish_indication, on_expiry, on_failure, on_move, on_refused, on_release_ack, on_release_indication, on_released, on_station_down, on_switch_down, refuse, release, release_in, row_of, speech_request}
 use Rattle.rsl_codec.specs.declared.values.ActivationType.{ActivationType}
 use Rattle.rsl_codec.specs.declared.values.HandoverReference.{HandoverReference}
@@ -229,7 +229,7 @@ module _ (k : Kinds) (P : Message → Type 0) (Q : State → RequestReference �
   of_removing state knows = (removed, ends state ABNORMAL_RELEASE knows)
 
   of_without : (station : ℕ) (r : Row) → Is r → Is (without_station station r)
-  of_without station r is = (is.0, AllByRecursion-filter P (λ message. not (goes_to station message)) r.outs is.1)
+  of_without station r is = (is.0, AllByRecursion-filter P (λ message. not (is_for_station station message)) r.outs is.1)
 
   of_hold_down : (state : State) (sapi : Sapi) (message : List ℕ) → Knows k state → Is (hold_down state sapi message s)
   of_hold_down state sapi message knows =
@@ -505,31 +505,31 @@ module _ (k : Kinds) (P : Message → Type 0) (Q : State → RequestReference �
   of_switch_down Removed knows = tt
   of_switch_down _ knows = of_dropping
 
-  pub row-puts : (input : Input) → Brings k input → OfRow (Keeps P Q) (row_of s input offer)
+  pub row_puts : (input : Input) → Brings k input → OfRow (Keeps P Q) (row_of s input offer)
   unfolding row_of
-  row-puts (inputs.ActivationAck at) brings = of_activation_ack s.state at parts.state
-  row-puts (inputs.ActivationNack at) brings = of_activation_nack s.state at parts.state
-  row-puts (inputs.EstablishIndication at sapi message) brings = of_establish_indication s.state at sapi message brings
-  row-puts (inputs.EstablishConfirm at sapi) brings = of_establish_confirm s.state at sapi
-  row-puts (inputs.ReleaseIndication at sapi) brings = of_release_indication s.state at sapi parts.state
-  row-puts (inputs.ErrorIndication at sapi) brings = of_error_indication s.state at sapi parts.state
-  row-puts (inputs.ConnectionFailure at) brings = of_connection_failure s.state at parts.state
-  row-puts (inputs.Dtap at sapi message) brings = of_dtap s.state at sapi message parts.state brings
-  row-puts (inputs.Complete at change cause) brings = of_complete s.state at change cause.0 parts.state
-  row-puts (inputs.Failure at change cause) brings = of_failure s.state at change cause.0 parts.state
-  row-puts (inputs.ReleaseAck at) brings = of_release_ack s.state at parts.state
-  row-puts inputs.Move brings = of_move s.state parts.state
-  row-puts (inputs.ConnectionConfirm source) brings = of_confirm s.state source parts.state brings
-  row-puts inputs.ConnectionRefused brings = of_refused s.state parts.state
-  row-puts (inputs.Released source) brings = of_released s.state source parts.state brings
-  row-puts (inputs.Downlink sapi message) brings = of_downlink s.state sapi message parts.state brings
-  row-puts (inputs.AssignmentRequest is_speech) brings = of_assignment_request s.state is_speech parts.state
-  row-puts inputs.CipherModeCommand brings = of_cipher_mode_command s.state parts.state
-  row-puts inputs.ClearCommand brings = of_clear_command s.state parts.state brings
-  row-puts inputs.Expiry brings = of_expiry s.state parts.state
-  row-puts inputs.DrainExpiry brings = of_drain_expiry s.state parts.state
-  row-puts (inputs.StationDown station) brings = of_station_down s.state station parts.state
-  row-puts inputs.SwitchDown brings = of_switch_down s.state parts.state
+  row_puts (inputs.ActivationAck at) brings = of_activation_ack s.state at parts.state
+  row_puts (inputs.ActivationNack at) brings = of_activation_nack s.state at parts.state
+  row_puts (inputs.EstablishIndication at sapi message) brings = of_establish_indication s.state at sapi message brings
+  row_puts (inputs.EstablishConfirm at sapi) brings = of_establish_confirm s.state at sapi
+  row_puts (inputs.ReleaseIndication at sapi) brings = of_release_indication s.state at sapi parts.state
+  row_puts (inputs.ErrorIndication at sapi) brings = of_error_indication s.state at sapi parts.state
+  row_puts (inputs.ConnectionFailure at) brings = of_connection_failure s.state at parts.state
+  row_puts (inputs.Dtap at sapi message) brings = of_dtap s.state at sapi message parts.state brings
+  row_puts (inputs.Complete at change cause) brings = of_complete s.state at change cause.0 parts.state
+  row_puts (inputs.Failure at change cause) brings = of_failure s.state at change cause.0 parts.state
+  row_puts (inputs.ReleaseAck at) brings = of_release_ack s.state at parts.state
+  row_puts inputs.Move brings = of_move s.state parts.state
+  row_puts (inputs.ConnectionConfirm source) brings = of_confirm s.state source parts.state brings
+  row_puts inputs.ConnectionRefused brings = of_refused s.state parts.state
+  row_puts (inputs.Released source) brings = of_released s.state source parts.state brings
+  row_puts (inputs.Downlink sapi message) brings = of_downlink s.state sapi message parts.state brings
+  row_puts (inputs.AssignmentRequest is_speech) brings = of_assignment_request s.state is_speech parts.state
+  row_puts inputs.CipherModeCommand brings = of_cipher_mode_command s.state parts.state
+  row_puts inputs.ClearCommand brings = of_clear_command s.state parts.state brings
+  row_puts inputs.Expiry brings = of_expiry s.state parts.state
+  row_puts inputs.DrainExpiry brings = of_drain_expiry s.state parts.state
+  row_puts (inputs.StationDown station) brings = of_station_down s.state station parts.state
+  row_puts inputs.SwitchDown brings = of_switch_down s.state parts.state
 
 -- ---- of causes alone, and of CLEAR COMPLETE
 
@@ -595,8 +595,8 @@ enters_any k = record {
   removes = λ before request is. tt;
 }
 
-pub row-messages : (P : Message → Type 0) (clears : Type 0) (s : Connection) (input : Input) (offer : Option Channel) → Puts (free clears) P s → (input ≡ inputs.ClearCommand → clears) → OfRow (λ r. AllByRecursion P r.outs) (row_of s input offer)
-row-messages P clears s input offer puts may =
+pub row_messages : (P : Message → Type 0) (clears : Type 0) (s : Connection) (input : Input) (offer : Option Channel) → Puts (free clears) P s → (input ≡ inputs.ClearCommand → clears) → OfRow (λ r. AllByRecursion P r.outs) (row_of s input offer)
+row_messages P clears s input offer puts may =
     let entered = enters_any (free clears) in
     of_row_so (Keeps P (λ state request. Unit {0})) (λ r. AllByRecursion P r.outs) (λ r kept. kept.1) (row_of s input offer)
-    (row-puts (free clears) P (λ state request. Unit {0}) s offer puts entered (free_parts clears s offer) tt input (free_brings clears input may))
+    (row_puts (free clears) P (λ state request. Unit {0}) s offer puts entered (free_parts clears s offer) tt input (free_brings clears input may))

@@ -139,14 +139,14 @@ stands_up_ended up stands = record {
 }
 
 -- a tenure begins
-count-begun : (ts : List Tenure) → tenures_count (ts ++ empty_tenure ∷ []) ≡ tenures_count ts
-count-begun [] = refl
-count-begun (t ∷ ts) = let rest = count-begun ts in omega arith
+count_begun : (ts : List Tenure) → tenures_count (ts ++ empty_tenure ∷ []) ≡ tenures_count ts
+count_begun [] = refl
+count_begun (t ∷ ts) = let rest = count_begun ts in omega arith
 
 pub stands_up_begun : (up : ChainState) → StandsUp up → StandsUp (record up { tenures = up.tenures ++ empty_tenure ∷ [] })
 stands_up_begun up stands =
     let within = stands.within in
-    let same = count-begun up.tenures in
+    let same = count_begun up.tenures in
     record { limit = stands.limit; within = omega arith; each = AllByRecursion-push IsHeldTenure up.tenures empty_tenure stands.each (tt, tt) }
 
 pub first_is_empty_begun : (ts : List Tenure) → FirstIsEmpty ts → FirstIsEmpty (ts ++ empty_tenure ∷ [])

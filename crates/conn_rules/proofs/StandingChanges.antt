@@ -2,7 +2,7 @@
 use Rattle.conn_rules.proofs.Prelude.{cond_both, ◌≡◌, ℕ, ◌+◌, ◌≤◌, false, List, [], ◌∷◌, ◌++◌, length, refl, ◌∙◌, arith, Option, Change}
 use Rattle.conn_rules.proofs.Prelude.{Channel, Zero, empty_tenure, HoldState, with_messages, ◌<◌, le_trans, length-append, DRAIN_LIMIT}
 use Rattle.conn_rules.proofs.Prelude.{Drain, ShortMessageLink, Stage, Active, Preparing, Changing, Draining, Live, Target, Connection}
-use Rattle.conn_rules.proofs.Prelude.{enter, FirstIsEmpty, DrainTime, IsAskedFor, Stands}
+use Rattle.conn_rules.proofs.Prelude.{enter, FirstIsEmpty, DrainTime, IsAskedFor, IsValid}
 use Rattle.conn_rules.specs.Steps.{Row, begin_waiting, resting_stage, resting, moved, hand_held, ask_for_held, link_for, relay_held, done_at, leave, settled, settled_stage, shifted}
 use Rattle.conn_rules.specs.Table.{complete, failure, release}
 use Rattle.conn_rules.proofs.Standing.{StandsDown, stands_down_without, StandsUp, stands_up_ended, stands_up_begun, first_is_empty_begun, oldest_drains_more, drain_time_more, first_is_empty_ended, drain_time_anew, drain_time_done_at, length-ended, length-done_at, nothing}
@@ -15,14 +15,14 @@ stands_but_resting [] down link few none asked = (refl, none, asked)
 stands_but_resting (d ∷ ds) down link few none asked = (omega arith, omega arith, none, asked)
 
 -- the target can't be had
-pub stands_nack : (reference : ℕ) (target : Target) (offer : Option Channel) (s : Connection) → s.state ≡ Live reference (Preparing target) → Stands s → Stands (begin_waiting (resting_stage s.draining) reference offer (resting reference s)).next
+pub stands_nack : (reference : ℕ) (target : Target) (offer : Option Channel) (s : Connection) → s.state ≡ Live reference (Preparing target) → IsValid s → IsValid (begin_waiting (resting_stage s.draining) reference offer (resting reference s)).next
 stands_nack reference target offer s is stands =
     let stood = in_stage reference (Preparing target) s is stands in
     stands_begin_waiting reference (resting_stage s.draining) offer (resting reference s) refl (alive reference (Preparing target) s is stands)
     (stands_but_resting s.draining s.down s.link stood.0 stood.1 stood.2)
 
 -- the mobile is back
-pub stands_failure : (reference : ℕ) (target : Target) (change : Change) (channel : Channel) (cause : ℕ) (offer : Option Channel) (s : Connection) → s.state ≡ Live reference (Changing target) → Stands s → Stands (failure reference change channel cause offer s).next
+pub stands_failure : (reference : ℕ) (target : Target) (change : Change) (channel : Channel) (cause : ℕ) (offer : Option Channel) (s : Connection) → s.state ≡ Live reference (Changing target) → IsValid s → IsValid (failure reference change channel cause offer s).next
 stands_failure reference target change channel cause offer s is stands =
     let lives = alive reference (Changing target) s is stands in
     let stood = in_stage reference (Changing target) s is stands in
@@ -31,7 +31,7 @@ stands_failure reference target change channel cause offer s is stands =
     (stands_but_resting s.draining (with_messages s.down Zero []) (link_for s.down.three s.link) stood.0 refl (is_asked_for_for s.link s.down.three))
 
 -- the target serves, and the channel that served drains
-pub stands_complete : (reference : ℕ) (target : Target) (change : Change) (channel : Channel) (cause : ℕ) (offer : Option Channel) (s : Connection) → s.state ≡ Live reference (Changing target) → Stands s → Stands (complete reference change channel cause offer s).next
+pub stands_complete : (reference : ℕ) (target : Target) (change : Change) (channel : Channel) (cause : ℕ) (offer : Option Channel) (s : Connection) → s.state ≡ Live reference (Changing target) → IsValid s → IsValid (complete reference change channel cause offer s).next
 stands_complete reference target change channel cause offer s is stands =
     let lives = alive reference (Changing target) s is stands in
     let stood = in_stage reference (Changing target) s is stands in
@@ -95,7 +95,7 @@ abbrev rests_then_begins : ℕ → Stage → Option Channel → List Drain → C
 rests_then_begins reference stage offer ds left =
     (begin_waiting (settled_stage stage (settled reference stage ds left).draining) reference offer (settled reference stage ds left)).next
 
-stands_settled : (reference : ℕ) (stage : Stage) (offer : Option Channel) (ds : List Drain) (left : Connection) → left.draining ≡ ds → left.state ≡ Live reference stage → AliveIn left → StandsBut (settled_stage stage left.draining) left.draining left.down left.link → Stands (rests_then_begins reference stage offer ds left)
+stands_settled : (reference : ℕ) (stage : Stage) (offer : Option Channel) (ds : List Drain) (left : Connection) → left.draining ≡ ds → left.state ≡ Live reference stage → AliveIn left → StandsBut (settled_stage stage left.draining) left.draining left.down left.link → IsValid (rests_then_begins reference stage offer ds left)
 stands_settled reference Active offer ds left are is lives but = stands_begin_waiting reference Active offer left is lives but
 stands_settled reference (Preparing target) offer ds left are is lives but = stands_begin_waiting reference (Preparing target) offer left is lives but
 stands_settled reference (Changing target) offer ds left are is lives but = stands_begin_waiting reference (Changing target) offer left is lives but
@@ -104,7 +104,7 @@ stands_settled reference Draining offer [] left are is lives but =
 stands_settled reference Draining offer (d ∷ ds) left are is lives but =
     stands_begin_waiting reference (settled_stage Draining left.draining) offer left (rw are is) lives but
 
-pub stands_release : (reference : ℕ) (stage : Stage) (place : ℕ) (offer : Option Channel) (s : Connection) → s.state ≡ Live reference stage → Stands s → Stands (release reference stage place offer s).next
+pub stands_release : (reference : ℕ) (stage : Stage) (place : ℕ) (offer : Option Channel) (s : Connection) → s.state ≡ Live reference stage → IsValid s → IsValid (release reference stage place offer s).next
 stands_release reference stage place offer s is stands =
     let lives = alive reference stage s is stands in
     let same : length (done_at place s.draining) ≡ length s.draining = length-done_at place s.draining in

@@ -4,8 +4,8 @@ use Rattle.conn_rules.proofs.Prelude.{◌∙◌, subst, arith, eqb, Option, Some
 use Rattle.conn_rules.proofs.Prelude.{Assignment, Channel, Sapi, Three, Tenure, chain_count, put_in, HoldState, count, ◌<◌, ltb-true}
 use Rattle.conn_rules.proofs.Prelude.{ltb-false, lit<, DOWN_LIMIT, DRAIN_LIMIT, UP_LIMIT, Drain, ShortMessageLink, Down, Asked, Up, Stage}
 use Rattle.conn_rules.proofs.Prelude.{Active, Preparing, Changing, Draining, State, WaitConfirm, Live, Closed, Removed, Target, Connection}
-use Rattle.conn_rules.proofs.Prelude.{enter, emptied, new_connection, FirstIsEmpty, OldestDrains, DrainTime, IsAskedFor, StandsIn, StandsBy}
-use Rattle.conn_rules.proofs.Prelude.{Stands, OfRow, ChainState}
+use Rattle.conn_rules.proofs.Prelude.{enter, emptied, new_connection, FirstIsEmpty, OldestDrains, DrainTime, IsAskedFor, IsValidStage, IsValidState}
+use Rattle.conn_rules.proofs.Prelude.{IsValid, OfRow, ChainState}
 use Rattle.conn_rules.specs.declared.state.Clearing.{Clearing}
 use Rattle.conn_rules.specs.Steps.{Row, failing, may_begin, begin, after_waiting, begin_waiting, hold_down, hold_short_message, short_message, link_for, link_up, link_down, hold_up, relay_held}
 use Rattle.conn_rules.specs.Table.{row_if}
@@ -22,13 +22,13 @@ pub record Holds (s : Connection) : Type 0 where
   pub down : StandsDown s.down
   pub up : StandsUp s.up
 
-pub holds_of : (s : Connection) → Stands s → Holds s
+pub holds_of : (s : Connection) → IsValid s → Holds s
 holds_of s stands = record {
   down = record { limit = stands.down_limit; within = stands.down_within; zero = stands.down_zero; three = stands.down_three };
   up = record { limit = stands.up_limit; within = stands.up_within; each = stands.up_messages };
 }
 
-stands_of : (s : Connection) → StandsBy s.state s.draining s.down s.up.tenures s.link s.waits → StandsDown s.down → StandsUp s.up → DrainTime s.draining s.drained → Stands s
+stands_of : (s : Connection) → IsValidState s.state s.draining s.down s.up.tenures s.link s.waits → StandsDown s.down → StandsUp s.up → DrainTime s.draining s.drained → IsValid s
 stands_of s state down up time = record {
   state = state;
   down_limit = down.limit;
@@ -43,33 +43,33 @@ stands_of s state down up time = record {
 
 -- ---- states that aren't live
 
-pub Stands-new : (number : ℕ) (channel : Channel) (request : _) (delay : ℕ) → Stands (new_connection number channel request delay)
+pub Stands-new : (number : ℕ) (channel : Channel) (request : _) (delay : ℕ) → IsValid (new_connection number channel request delay)
 Stands-new number channel request delay =
     stands_of (new_connection number channel request delay)
     (record { none_drains = refl; none_handed = refl; one_tenure = refl; none_waits = refl }, refl)
     (stands_down_new DOWN_LIMIT refl) (stands_up_new UP_LIMIT refl) refl
 
-pub stands_removed : (s : Connection) → Holds s → Stands (emptied Removed s)
+pub stands_removed : (s : Connection) → Holds s → IsValid (emptied Removed s)
 stands_removed s holds =
     stands_of (emptied Removed s) (record { none_drains = refl; none_handed = refl; one_tenure = refl; none_waits = refl })
     (stands_down_new s.down.limit holds.down.limit) (stands_up_new s.up.limit holds.up.limit) refl
 
-pub stands_closed : (clearing : Clearing) (s : Connection) → Holds s → Stands (emptied (Closed clearing) s)
+pub stands_closed : (clearing : Clearing) (s : Connection) → Holds s → IsValid (emptied (Closed clearing) s)
 stands_closed clearing s holds =
     stands_of (emptied (Closed clearing) s) (record { none_drains = refl; none_handed = refl; one_tenure = refl; none_waits = refl })
     (stands_down_new s.down.limit holds.down.limit) (stands_up_new s.up.limit holds.up.limit) refl
 
-pub stands_failing : (state : State) (s : Connection) (cause : ℕ) → Holds s → Stands (failing state s cause).next
+pub stands_failing : (state : State) (s : Connection) (cause : ℕ) → Holds s → IsValid (failing state s cause).next
 stands_failing (Live reference stage) s cause holds = stands_closed _ s holds
 stands_failing _ s cause holds = stands_closed _ s holds
 
 -- another state, of which the same is true
-pub stands_enter : (state : State) (s : Connection) → StandsBy state s.draining s.down s.up.tenures s.link s.waits → Stands s → Stands (enter state s)
+pub stands_enter : (state : State) (s : Connection) → IsValidState state s.draining s.down s.up.tenures s.link s.waits → IsValid s → IsValid (enter state s)
 stands_enter state s by stands = stands_of (enter state s) by (holds_of s stands).down (holds_of s stands).up stands.drain_time
 
 -- the state, where it is known
-pub by_state : (state : State) (s : Connection) → s.state ≡ state → Stands s → StandsBy state s.draining s.down s.up.tenures s.link s.waits
-by_state state s is stands = subst (λ (state : State). StandsBy state s.draining s.down s.up.tenures s.link s.waits) is stands.state
+pub by_state : (state : State) (s : Connection) → s.state ≡ state → IsValid s → IsValidState state s.draining s.down s.up.tenures s.link s.waits
+by_state state s is stands = subst (λ (state : State). IsValidState state s.draining s.down s.up.tenures s.link s.waits) is stands.state
 
 -- ---- live connections: what doesn't depend on the stage
 
@@ -90,18 +90,18 @@ with_chain lives same first up = record { each = same ∙ lives.each; first = fi
 abbrev pub AliveIn : Connection → Type 0
 AliveIn s = IsAlive s.draining s.drained s.down s.up
 
-pub alive : (reference : ℕ) (stage : Stage) (s : Connection) → s.state ≡ Live reference stage → Stands s → AliveIn s
+pub alive : (reference : ℕ) (stage : Stage) (s : Connection) → s.state ≡ Live reference stage → IsValid s → AliveIn s
 alive reference stage s is stands =
     let live = by_state (Live reference stage) s is stands in
     let holds = holds_of s stands in
     record { each = live.a_tenure_each; first = live.first; oldest = live.oldest; time = stands.drain_time; down = holds.down; up = holds.up }
 
-pub in_stage : (reference : ℕ) (stage : Stage) (s : Connection) → s.state ≡ Live reference stage → Stands s → StandsIn stage s.draining s.down s.link s.waits
+pub in_stage : (reference : ℕ) (stage : Stage) (s : Connection) → s.state ≡ Live reference stage → IsValid s → IsValidStage stage s.draining s.down s.link s.waits
 in_stage reference stage s is stands = (by_state (Live reference stage) s is stands).stands
 
-pub stands_live : (reference : ℕ) (stage : Stage) (s : Connection) → s.state ≡ Live reference stage → AliveIn s → StandsIn stage s.draining s.down s.link s.waits → Stands s
+pub stands_live : (reference : ℕ) (stage : Stage) (s : Connection) → s.state ≡ Live reference stage → AliveIn s → IsValidStage stage s.draining s.down s.link s.waits → IsValid s
 stands_live reference stage s is lives stands =
-    stands_of s (subst (λ (state : State). StandsBy state s.draining s.down s.up.tenures s.link s.waits) (sym is)
+    stands_of s (subst (λ (state : State). IsValidState state s.draining s.down s.up.tenures s.link s.waits) (sym is)
     (record { a_tenure_each = lives.each; first = lives.first; oldest = lives.oldest; stands = stands }))
     lives.down lives.up lives.time
 
@@ -114,19 +114,19 @@ StandsBut (Preparing target) draining down link = (length draining < DRAIN_LIMIT
 StandsBut (Changing target) draining down link = (length draining < DRAIN_LIMIT) × (link ≡ Down)
 StandsBut Draining draining down link = (1 ≤ length draining) × (length draining ≤ DRAIN_LIMIT) × (down.zero ≡ []) × IsAskedFor link down.three
 
-pub stands_but_of : (stage : Stage) (draining : List Drain) (down : HoldState) (link : ShortMessageLink) (waits : Bool) → StandsIn stage draining down link waits → StandsBut stage draining down link
+pub stands_but_of : (stage : Stage) (draining : List Drain) (down : HoldState) (link : ShortMessageLink) (waits : Bool) → IsValidStage stage draining down link waits → StandsBut stage draining down link
 stands_but_of Active draining down link waits stands = (stands.0, stands.1, stands.2)
 stands_but_of Draining draining down link waits stands = (stands.0, stands.1, stands.2, stands.3)
 stands_but_of _ draining down link waits stands = stands
 
 -- nothing waits
-stands_in_free : (stage : Stage) (draining : List Drain) (down : HoldState) (link : ShortMessageLink) → StandsBut stage draining down link → StandsIn stage draining down link false
+stands_in_free : (stage : Stage) (draining : List Drain) (down : HoldState) (link : ShortMessageLink) → StandsBut stage draining down link → IsValidStage stage draining down link false
 stands_in_free Active draining down link stands = (stands.0, stands.1, stands.2, refl)
 stands_in_free Draining draining down link stands = (stands.0, stands.1, stands.2, stands.3, λ waits. absurd (true≢false (sym waits)))
 stands_in_free _ draining down link stands = stands
 
 -- what waits may not begin
-pub stands_in_waiting : (stage : Stage) (draining : List Drain) (down : HoldState) (link : ShortMessageLink) → may_begin stage draining ≡ false → StandsBut stage draining down link → StandsIn stage draining down link true
+pub stands_in_waiting : (stage : Stage) (draining : List Drain) (down : HoldState) (link : ShortMessageLink) → may_begin stage draining ≡ false → StandsBut stage draining down link → IsValidStage stage draining down link true
 stands_in_waiting Active draining down link full stands = absurd (true≢false full)
 stands_in_waiting Draining draining down link full stands =
     let three = ltb-false (length draining) DRAIN_LIMIT full in
@@ -135,32 +135,32 @@ stands_in_waiting Draining draining down link full stands =
 stands_in_waiting _ draining down link full stands = stands
 
 -- a change begins
-stands_in_preparing : (stage : Stage) (target : Target) (draining : List Drain) (down : HoldState) (link : ShortMessageLink) (waits : Bool) → may_begin stage draining ≡ true → StandsBut stage draining down link → StandsIn (Preparing target) draining down link waits
+stands_in_preparing : (stage : Stage) (target : Target) (draining : List Drain) (down : HoldState) (link : ShortMessageLink) (waits : Bool) → may_begin stage draining ≡ true → StandsBut stage draining down link → IsValidStage (Preparing target) draining down link waits
 stands_in_preparing Active target draining down link waits may stands = (subst (λ (ds : List Drain). length ds < DRAIN_LIMIT) (sym stands.0) (lit< tt), stands.1, stands.2)
 stands_in_preparing Draining target draining down link waits may stands = (ltb-true (length draining) DRAIN_LIMIT may, stands.2, stands.3)
 stands_in_preparing _ target draining down link waits may stands = absurd (true≢false (sym may))
 
-pub stands_begin : (reference : ℕ) (stage : Stage) (change : Change) (offer : Option Channel) (s : Connection) → AliveIn s → may_begin stage s.draining ≡ true → StandsBut stage s.draining s.down s.link → Stands s → Stands (begin reference change offer s).next
+pub stands_begin : (reference : ℕ) (stage : Stage) (change : Change) (offer : Option Channel) (s : Connection) → AliveIn s → may_begin stage s.draining ≡ true → StandsBut stage s.draining s.down s.link → IsValid s → IsValid (begin reference change offer s).next
 stands_begin reference stage change (Some channel) s lives may but stands =
     let target : Target = record { change = change; channel = channel } in
     stands_live reference (Preparing target) (enter (Live reference (Preparing target)) s) refl lives (stands_in_preparing stage target s.draining s.down s.link s.waits may but)
 stands_begin reference stage change None s lives may but stands = stands
 
 -- the request that waits begins, where it may
-pub stands_begin_waiting : (reference : ℕ) (stage : Stage) (offer : Option Channel) (s : Connection) → s.state ≡ Live reference stage → AliveIn s → StandsBut stage s.draining s.down s.link → Stands (begin_waiting stage reference offer s).next
+pub stands_begin_waiting : (reference : ℕ) (stage : Stage) (offer : Option Channel) (s : Connection) → s.state ≡ Live reference stage → AliveIn s → StandsBut stage s.draining s.down s.link → IsValid (begin_waiting stage reference offer s).next
 stands_begin_waiting reference stage offer s is lives but =
     after s.waits (may_begin stage s.draining) refl refl
   where
-    waiting : (waits : Bool) → StandsIn stage s.draining s.down s.link waits → Stands (record s { waits = waits })
+    waiting : (waits : Bool) → IsValidStage stage s.draining s.down s.link waits → IsValid (record s { waits = waits })
     waiting waits stands = stands_live reference stage (record s { waits = waits }) is lives stands
 
-    after : (waits may : Bool) → s.waits ≡ waits → may_begin stage s.draining ≡ may → Stands (after_waiting (waits && may) reference offer s)
+    after : (waits may : Bool) → s.waits ≡ waits → may_begin stage s.draining ≡ may → IsValid (after_waiting (waits && may) reference offer s)
     after true true is_waiting may =
         stands_begin reference stage Assignment offer (record s { waits = false }) lives may but (waiting false (stands_in_free stage s.draining s.down s.link but))
     after true false is_waiting may =
-        subst (λ (waits : Bool). Stands (record s { waits = waits })) (sym is_waiting) (waiting true (stands_in_waiting stage s.draining s.down s.link may but))
+        subst (λ (waits : Bool). IsValid (record s { waits = waits })) (sym is_waiting) (waiting true (stands_in_waiting stage s.draining s.down s.link may but))
     after false _ is_waiting may =
-        subst (λ (waits : Bool). Stands (record s { waits = waits })) (sym is_waiting) (waiting false (stands_in_free stage s.draining s.down s.link but))
+        subst (λ (waits : Bool). IsValid (record s { waits = waits })) (sym is_waiting) (waiting false (stands_in_free stage s.draining s.down s.link but))
 
 -- ---- the links
 
@@ -177,29 +177,29 @@ pub is_asked_for_for : (link : ShortMessageLink) (three : List (List ℕ)) → I
 is_asked_for_for link [] = is_asked_for_nothing link
 is_asked_for_for link (first ∷ rest) = tt
 
-stands_in_link : (stage : Stage) (draining : List Drain) (down : HoldState) (link new : ShortMessageLink) (three : List (List ℕ)) (waits : Bool) → IsStill stage → IsAskedFor new three → StandsIn stage draining down link waits → StandsIn stage draining (record down { three = three }) new waits
+stands_in_link : (stage : Stage) (draining : List Drain) (down : HoldState) (link new : ShortMessageLink) (three : List (List ℕ)) (waits : Bool) → IsStill stage → IsAskedFor new three → IsValidStage stage draining down link waits → IsValidStage stage draining (record down { three = three }) new waits
 stands_in_link Active draining down link new three waits still asked stands = (stands.0, stands.1, asked, stands.3)
 stands_in_link (Preparing target) draining down link new three waits still asked stands = (stands.0, stands.1, asked)
 stands_in_link (Changing target) draining down link new three waits still asked stands = absurd still
 stands_in_link Draining draining down link new three waits still asked stands = (stands.0, stands.1, stands.2, asked, stands.4)
 
-pub asked_for : (stage : Stage) (draining : List Drain) (down : HoldState) (link : ShortMessageLink) (waits : Bool) → IsStill stage → StandsIn stage draining down link waits → IsAskedFor link down.three
+pub asked_for : (stage : Stage) (draining : List Drain) (down : HoldState) (link : ShortMessageLink) (waits : Bool) → IsStill stage → IsValidStage stage draining down link waits → IsAskedFor link down.three
 asked_for (Changing target) draining down link waits still stands = absurd still
 asked_for Draining draining down link waits still stands = stands.3
 asked_for _ draining down link waits still stands = stands.2
 
-pub none_held : (stage : Stage) (draining : List Drain) (down : HoldState) (link : ShortMessageLink) (waits : Bool) → IsStill stage → StandsIn stage draining down link waits → down.zero ≡ []
+pub none_held : (stage : Stage) (draining : List Drain) (down : HoldState) (link : ShortMessageLink) (waits : Bool) → IsStill stage → IsValidStage stage draining down link waits → down.zero ≡ []
 none_held (Changing target) draining down link waits still stands = absurd still
 none_held Draining draining down link waits still stands = stands.2
 none_held _ draining down link waits still stands = stands.1
 
-pub stands_link_up : (reference : ℕ) (stage : Stage) (s : Connection) → IsStill stage → s.state ≡ Live reference stage → Stands s → Stands (link_up s).next
+pub stands_link_up : (reference : ℕ) (stage : Stage) (s : Connection) → IsStill stage → s.state ≡ Live reference stage → IsValid s → IsValid (link_up s).next
 stands_link_up reference stage s still is stands =
     let lives = alive reference stage s is stands in
     stands_live reference stage (link_up s).next is (with_hold lives (stands_down_without Three s.down lives.down))
     (stands_in_link stage s.draining s.down s.link Up [] s.waits still refl (in_stage reference stage s is stands))
 
-pub stands_link_down : (reference : ℕ) (stage : Stage) (link : ShortMessageLink) (s : Connection) → s.link ≡ link → IsStill stage → s.state ≡ Live reference stage → Stands s → Stands (link_down link reference s).next
+pub stands_link_down : (reference : ℕ) (stage : Stage) (link : ShortMessageLink) (s : Connection) → s.link ≡ link → IsStill stage → s.state ≡ Live reference stage → IsValid s → IsValid (link_down link reference s).next
 stands_link_down reference stage Asked s was still is stands =
     let lives = alive reference stage s is stands in
     stands_live reference stage (link_down Asked reference s).next is (with_hold lives (stands_down_without Three s.down lives.down))
@@ -218,23 +218,23 @@ stands_link_down reference stage Up s was still is stands =
 -- ---- messages are held
 
 -- of the switch, while a channel changes
-pub stands_hold_down : (reference : ℕ) (target : Target) (sapi : Sapi) (message : List ℕ) (s : Connection) → s.state ≡ Live reference (Changing target) → IsLayer3 message → Stands s → Stands (hold_down (Live reference (Changing target)) sapi message s).next
+pub stands_hold_down : (reference : ℕ) (target : Target) (sapi : Sapi) (message : List ℕ) (s : Connection) → s.state ≡ Live reference (Changing target) → IsLayer3 message → IsValid s → IsValid (hold_down (Live reference (Changing target)) sapi message s).next
 stands_hold_down reference target sapi message s is carried stands =
     let lives = alive reference (Changing target) s is stands in
-    cond_both (eqb (count s.down) s.down.limit) _ _ (λ (r : Row). Stands r.next)
+    cond_both (eqb (count s.down) s.down.limit) _ _ (λ (r : Row). IsValid r.next)
     (λ full. stands_failing (Live reference (Changing target)) s EQUIPMENT_FAILURE (holds_of s stands))
     (λ room. stands_live reference (Changing target) _ is (with_hold lives (stands_down_put sapi message s.down lives.down room carried)) (in_stage reference (Changing target) s is stands))
 
 -- of the switch, for a link that isn't up
-stands_hold_short : (reference : ℕ) (stage : Stage) (message : List ℕ) (s : Connection) → IsStill stage → s.state ≡ Live reference stage → IsLayer3 message → Stands s → Stands (hold_short_message (Live reference stage) message s).next
+stands_hold_short : (reference : ℕ) (stage : Stage) (message : List ℕ) (s : Connection) → IsStill stage → s.state ≡ Live reference stage → IsLayer3 message → IsValid s → IsValid (hold_short_message (Live reference stage) message s).next
 stands_hold_short reference stage message s still is carried stands =
     let lives = alive reference stage s is stands in
-    cond_both (eqb (count s.down) s.down.limit) _ _ (λ (r : Row). Stands r.next)
+    cond_both (eqb (count s.down) s.down.limit) _ _ (λ (r : Row). IsValid r.next)
     (λ full. stands_failing (Live reference stage) s EQUIPMENT_FAILURE (holds_of s stands))
     (λ room. stands_live reference stage _ is (with_hold lives (stands_down_put Three message s.down lives.down room carried))
     (stands_in_link stage s.draining s.down s.link Asked (s.down.three ++ message ∷ []) s.waits still tt (in_stage reference stage s is stands)))
 
-pub stands_short_message : (reference : ℕ) (stage : Stage) (link : ShortMessageLink) (message : List ℕ) (s : Connection) → IsStill stage → s.state ≡ Live reference stage → IsLayer3 message → Stands s → Stands (short_message (Live reference stage) link message s).next
+pub stands_short_message : (reference : ℕ) (stage : Stage) (link : ShortMessageLink) (message : List ℕ) (s : Connection) → IsStill stage → s.state ≡ Live reference stage → IsLayer3 message → IsValid s → IsValid (short_message (Live reference stage) link message s).next
 stands_short_message reference stage Up message s still is carried stands = stands
 stands_short_message reference stage _ message s still is carried stands = stands_hold_short reference stage message s still is carried stands
 
@@ -243,29 +243,29 @@ first_is_empty_put_in : (place : ℕ) (sapi : Sapi) (message : List ℕ) (ts : L
 first_is_empty_put_in place sapi message [] first = first
 first_is_empty_put_in place sapi message (t ∷ ts) first = first
 
-pub stands_hold_up : (reference : ℕ) (stage : Stage) (place : ℕ) (sapi : Sapi) (message : List ℕ) (s : Connection) → s.state ≡ Live reference stage → IsLayer3 message → Stands s → Stands (hold_up (Live reference stage) (suc place) sapi message s).next
+pub stands_hold_up : (reference : ℕ) (stage : Stage) (place : ℕ) (sapi : Sapi) (message : List ℕ) (s : Connection) → s.state ≡ Live reference stage → IsLayer3 message → IsValid s → IsValid (hold_up (Live reference stage) (suc place) sapi message s).next
 stands_hold_up reference stage place sapi message s is carried stands =
     let lives = alive reference stage s is stands in
-    cond_both (eqb (chain_count s.up) s.up.limit) _ _ (λ (r : Row). Stands r.next)
+    cond_both (eqb (chain_count s.up) s.up.limit) _ _ (λ (r : Row). IsValid r.next)
     (λ full. stands_failing (Live reference stage) s EQUIPMENT_FAILURE (holds_of s stands))
     (λ room. stands_live reference stage _ is
     (with_chain lives (length-put_in (suc place) sapi message s.up.tenures) (first_is_empty_put_in place sapi message s.up.tenures lives.first) (stands_up_put (suc place) sapi message s.up lives.up room carried))
     (in_stage reference stage s is stands))
 
 -- the first messages wait for the switch
-pub stands_hold_first : (sapi : Sapi) (message : List ℕ) (s : Connection) → s.state ≡ WaitConfirm → IsLayer3 message → Stands s → Stands (hold_up WaitConfirm 0 sapi message s).next
+pub stands_hold_first : (sapi : Sapi) (message : List ℕ) (s : Connection) → s.state ≡ WaitConfirm → IsLayer3 message → IsValid s → IsValid (hold_up WaitConfirm 0 sapi message s).next
 stands_hold_first sapi message s is carried stands =
     let awaits = by_state WaitConfirm s is stands in
     let holds = holds_of s stands in
-    cond_both (eqb (chain_count s.up) s.up.limit) _ _ (λ (r : Row). Stands r.next)
+    cond_both (eqb (chain_count s.up) s.up.limit) _ _ (λ (r : Row). IsValid r.next)
     (λ full. stands_failing WaitConfirm s EQUIPMENT_FAILURE holds)
     (λ room. stands_of _
-    (subst (λ (state : State). StandsBy state s.draining s.down (put_in 0 sapi message s.up.tenures) s.link s.waits) (sym is)
+    (subst (λ (state : State). IsValidState state s.draining s.down (put_in 0 sapi message s.up.tenures) s.link s.waits) (sym is)
     (record { none_drains = awaits.none_drains; none_handed = awaits.none_handed; one_tenure = length-put_in 0 sapi message s.up.tenures ∙ awaits.one_tenure; down_link = awaits.down_link; none_waits = awaits.none_waits }))
     holds.down (stands_up_put 0 sapi message s.up holds.up room carried) stands.drain_time)
 
 -- the switch confirms the connection: they are relayed
-pub stands_confirmed : (reference : ℕ) (s : Connection) → s.state ≡ WaitConfirm → Stands s → Stands (relay_held reference (enter (Live reference Active) s)).next
+pub stands_confirmed : (reference : ℕ) (s : Connection) → s.state ≡ WaitConfirm → IsValid s → IsValid (relay_held reference (enter (Live reference Active) s)).next
 stands_confirmed reference s is stands =
     let awaits = by_state WaitConfirm s is stands in
     let holds = holds_of s stands in

@@ -29,11 +29,11 @@ equal_turned a b =
 both_turned : (a b x y : ℕ) → ((a == b) && (x == y)) ≡ ((b == a) && (y == x))
 both_turned a b x y = ap (λ (t : Bool). t && (x == y)) (equal_turned a b) ∙ ap (λ (t : Bool). (b == a) && t) (equal_turned x y)
 
-pub away-of : (at : Place) (c d : Channel) → IsApart c d → is_at at c ≡ true → is_at at d ≡ false
-away-of at c d apart here = subst (λ (p : Place). is_at p d ≡ false) (sym (same_place at c here)) apart
+pub away_of : (at : Place) (c d : Channel) → IsApart c d → is_at at c ≡ true → is_at at d ≡ false
+away_of at c d apart here = subst (λ (p : Place). is_at p d ≡ false) (sym (same_place at c here)) apart
 
-pub away-of_other : (at : Place) (c d : Channel) → IsApart c d → is_at at d ≡ true → is_at at c ≡ false
-away-of_other at c d apart here = away-of at d c (both_turned d.station c.station d.number c.number ∙ apart) here
+pub away_of_other : (at : Place) (c d : Channel) → IsApart c d → is_at at d ≡ true → is_at at c ≡ false
+away_of_other at c d apart here = away_of at d c (both_turned d.station c.station d.number c.number ∙ apart) here
 
 pub first_here : (at : Place) (c : Channel) (message : List ℕ) (future : Future) → is_at at c ≡ true → on_channel (first_at at message future) c ≡ message ∷ on_channel future c
 first_here at c message future here = cond-true _ _ _ (both_turned c.station at.station c.number at.number ∙ here)
@@ -48,7 +48,7 @@ AreAway at cs = AllByRecursion (λ c. is_at at c ≡ false) cs
 
 pub all_away : (at : Place) (c : Channel) (cs : List Channel) → is_at at c ≡ true → AllByRecursion (IsApart c) cs → AreAway at cs
 all_away at c [] here apart = tt
-all_away at c (d ∷ ds) here apart = (away-of at c d apart.0 here, all_away at c ds here apart.1)
+all_away at c (d ∷ ds) here apart = (away_of at c d apart.0 here, all_away at c ds here apart.1)
 
 pub all_behind : (P : Channel → Type 0) (xs ys : List Channel) → AllByRecursion P (xs ++ ys) → AllByRecursion P ys
 all_behind P [] ys all = all
@@ -91,9 +91,9 @@ pub not_true_from : (b : Bool) → not b ≡ true → b ≡ false
 not_true_from true is = sym is
 not_true_from false is = refl
 
-pub drain_at-drains : (at : Place) (ds : List Drain) (place : ℕ) → drain_at at ds ≡ Some place → DrainsAt at place ds
-drain_at-drains at [] place is = absurd cc
-drain_at-drains at (d ∷ ds) place is =
+pub drain_at_drains : (at : Place) (ds : List Drain) (place : ℕ) → drain_at at ds ≡ Some place → DrainsAt at place ds
+drain_at_drains at [] place is = absurd cc
+drain_at_drains at (d ∷ ds) place is =
     elim (cases_Bool (is_at at d.channel && not d.is_done)) [
       | inl here ↦
           let parts = and_parts (is_at at d.channel) (not d.is_done) here in
@@ -102,22 +102,22 @@ drain_at-drains at (d ∷ ds) place is =
           subst (λ (n : ℕ). DrainsAt at n (d ∷ ds)) first (parts.0, not_true_from d.is_done parts.1)
       | inr other ↦
           let later = behind (drain_at at ds) place (sym (cond-false _ _ _ other) ∙ is) in
-          subst (λ (n : ℕ). DrainsAt at n (d ∷ ds)) (sym later.2) (drain_at-drains at ds later.0 later.1)
+          subst (λ (n : ℕ). DrainsAt at n (d ∷ ds)) (sym later.2) (drain_at_drains at ds later.0 later.1)
     ]
 
 -- what is apart from an old channel isn't at its place, and neither are the channels behind that
 -- one
-pub drain-away : (at : Place) (c : Channel) (place : ℕ) (ds : List Drain) (rest : List Channel) → DrainsAt at place ds → AllByRecursion (IsApart c) (undone ds ++ rest) → is_at at c ≡ false
-drain-away at c place [] rest drains apart = absurd drains
-drain-away at c zero (d ∷ ds) rest drains apart =
-    away-of_other at c d.channel (all_first (IsApart c) d.is_done d.channel (undone ds) rest apart drains.1) drains.0
-drain-away at c (suc place) (d ∷ ds) rest drains apart = drain-away at c place ds rest drains (all_rest (IsApart c) d.is_done d.channel (undone ds) rest apart)
+pub drain_away : (at : Place) (c : Channel) (place : ℕ) (ds : List Drain) (rest : List Channel) → DrainsAt at place ds → AllByRecursion (IsApart c) (undone ds ++ rest) → is_at at c ≡ false
+drain_away at c place [] rest drains apart = absurd drains
+drain_away at c zero (d ∷ ds) rest drains apart =
+    away_of_other at c d.channel (all_first (IsApart c) d.is_done d.channel (undone ds) rest apart drains.1) drains.0
+drain_away at c (suc place) (d ∷ ds) rest drains apart = drain_away at c place ds rest drains (all_rest (IsApart c) d.is_done d.channel (undone ds) rest apart)
 
-pub drain-behind_away : (at : Place) (place : ℕ) (ds : List Drain) (rest : List Channel) → DrainsAt at place ds → AreApart (undone ds ++ rest) → AreAway at rest
-drain-behind_away at place [] rest drains apart = absurd drains
-drain-behind_away at zero (d ∷ ds) rest drains apart =
+pub drain_behind_away : (at : Place) (place : ℕ) (ds : List Drain) (rest : List Channel) → DrainsAt at place ds → AreApart (undone ds ++ rest) → AreAway at rest
+drain_behind_away at place [] rest drains apart = absurd drains
+drain_behind_away at zero (d ∷ ds) rest drains apart =
     all_away at d.channel rest drains.0 (all_behind (IsApart d.channel) (undone ds) rest (apart_first d.is_done d.channel (undone ds) rest drains.1 apart))
-drain-behind_away at (suc place) (d ∷ ds) rest drains apart = drain-behind_away at place ds rest drains (apart_rest d.is_done d.channel (undone ds) rest apart)
+drain_behind_away at (suc place) (d ∷ ds) rest drains apart = drain_behind_away at place ds rest drains (apart_rest d.is_done d.channel (undone ds) rest apart)
 
 -- ---- what may still come, where a message comes first
 

@@ -8,7 +8,7 @@ use Rattle.conn_rules.proofs.Prelude.{of_target, first_cleared, FIRST_SDCCH}
 use Rattle.std.proofs.lemmas.Bool.{true≢false}
 use Rattle.conn_messages.specs.declared.parameters.TheConstants.{SDCCH_SAPI_3_DLCI, SACCH_SAPI_3_DLCI}
 use Rattle.conn_rules.specs.Steps.{Row, row, ◌then◌, may_begin, begin, begin_waiting, waiting_outs, after_waiting, hand_held, ask_for_held, request_for, relay_held, tenure_outs, leave, resting_stage, settled, settled_stage, shifted}
-use Rattle.conn_rules.proofs.UplinkTenures.{empty-messages}
+use Rattle.conn_rules.proofs.UplinkTenures.{empty_messages}
 
 -- a row relays what it takes away of what was still to be relayed
 abbrev pub Gives : Sapi → Future → List (List ℕ) → Row → Type 0
@@ -76,8 +76,8 @@ relayed-tenure sapi reference c t ts =
     both Three = refl
 
 pub still_of-first : (sapi : Sapi) (future : Future) (serving : Channel) (ds : List Drain) (t : Tenure) (ts : List Tenure) → tenure_messages t sapi ++ still_of sapi future serving ds (empty_tenure ∷ ts) ≡ still_of sapi future serving ds (t ∷ ts)
-still_of-first sapi future serving [] t ts = rw (empty-messages sapi) refl
-still_of-first sapi future serving (d ∷ ds) t ts = rw (empty-messages sapi) refl
+still_of-first sapi future serving [] t ts = rw (empty_messages sapi) refl
+still_of-first sapi future serving (d ∷ ds) t ts = rw (empty_messages sapi) refl
 
 -- with what else is still to be relayed
 first_of : (sapi : Sapi) (future : Future) (reference : ℕ) (c serving : Channel) (ds : List Drain) (ts : List Tenure) (more : List (List ℕ)) → relayed sapi (tenure_outs reference c ts) ++ (still_of sapi future serving ds (first_cleared ts) ++ more) ≡ still_of sapi future serving ds ts ++ more
@@ -125,9 +125,9 @@ pub gives_begin_waiting : (sapi : Sapi) (future : Future) (stage : Stage) (refer
 gives_begin_waiting sapi future stage reference offer s is =
     gives_waiting sapi future reference offer s (s.waits && may_begin stage s.draining) (λ begins. ap (of_target future) is ∙ begins_untargeted future reference stage s.waits s.draining begins)
 
-pub resting-untargeted : (future : Future) (reference : ℕ) (ds : List Drain) → of_target future (Live reference (resting_stage ds)) ≡ []
-resting-untargeted future reference [] = refl
-resting-untargeted future reference (d ∷ ds) = refl
+pub resting_untargeted : (future : Future) (reference : ℕ) (ds : List Drain) → of_target future (Live reference (resting_stage ds)) ≡ []
+resting_untargeted future reference [] = refl
+resting_untargeted future reference (d ∷ ds) = refl
 
 -- ---- old channels leave
 
@@ -143,7 +143,7 @@ gives_leave_by sapi future reference (d ∷ ds) (t ∷ (u ∷ ts)) s first long 
       | inl done ↦
           let left : Connection = shifted ds (with_tenures (t ∷ (u ∷ ts)) s) in
           let up = still_of sapi future s.serving (d ∷ ds) (t ∷ (u ∷ ts)) ++ of_target future s.state in
-          let goes : Gives sapi future up (row [] left) = rw (first, empty-messages sapi, done) refl in
+          let goes : Gives sapi future up (row [] left) = rw (first, empty_messages sapi, done) refl in
           let relays = gives_then sapi future up (row [] left) (relay_held reference) goes (gives_relay_held sapi future reference left) in
           let others = gives_leave_by sapi future reference ds (empty_tenure ∷ ts) left refl (omega arith) in
           let all = gives_then sapi future up (row [] left then relay_held reference) (leave reference ds) relays others in

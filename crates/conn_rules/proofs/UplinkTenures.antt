@@ -5,7 +5,7 @@ use Rattle.conn_rules.proofs.Prelude.{append_assoc, inl, inr, cases_Bool, cond-t
 use Rattle.conn_rules.proofs.Prelude.{empty_tenure, tenure_messages, put_in, Drain, Changing, State, Live, is_at, tenure_at, Future}
 use Rattle.conn_rules.proofs.Prelude.{on_channel, still_of, of_target, first_at, undone, target_in, IsApart, AreApart, with_tenure_messages}
 use Rattle.conn_rules.specs.Steps.{done_at}
-use Rattle.conn_rules.proofs.UplinkPlaces.{DrainsAt, AreAway, same_place, away-of_other, first_here, first_away, all_away, all_behind, apart_behind, apart_rest, apart_first, drain_at-drains, drain-away, drain-behind_away, of_drain_away, still_of-away}
+use Rattle.conn_rules.proofs.UplinkPlaces.{DrainsAt, AreAway, same_place, away_of_other, first_here, first_away, all_away, all_behind, apart_behind, apart_rest, apart_first, drain_at_drains, drain_away, drain_behind_away, of_drain_away, still_of-away}
 
 -- ---- a message is held in the tenure of its channel
 
@@ -13,9 +13,9 @@ pub held : (t : Tenure) (sapi : Sapi) (these : List (List ℕ)) → tenure_messa
 held t Zero these = refl
 held t Three these = refl
 
-pub empty-messages : (sapi : Sapi) → tenure_messages empty_tenure sapi ≡ []
-empty-messages Zero = refl
-empty-messages Three = refl
+pub empty_messages : (sapi : Sapi) → tenure_messages empty_tenure sapi ≡ []
+empty_messages Zero = refl
+empty_messages Three = refl
 
 -- in the tenure of the serving channel, the last
 serving-put : (sapi : Sapi) (at : Place) (message : List ℕ) (future : Future) (serving : Channel) (ds : List Drain) (ts : List Tenure) (rest : List Channel) → is_at at serving ≡ true → AreApart (undone ds ++ serving ∷ rest) → still_of sapi future serving ds (put_in (length ds) sapi message ts) ≡ still_of sapi (first_at at message future) serving ds ts
@@ -25,7 +25,7 @@ serving-put sapi at message future serving [] (t ∷ ts) rest here apart =
 serving-put sapi at message future serving (d ∷ ds) [] rest here apart = refl
 serving-put sapi at message future serving (d ∷ ds) (t ∷ ts) rest here apart =
     let others = serving-put sapi at message future serving ds ts rest here (apart_rest d.is_done d.channel (undone ds) (serving ∷ rest) apart) in
-    let away : d.is_done ≡ false → is_at at d.channel ≡ false = λ undone_one. away-of_other at d.channel serving (all_behind (IsApart d.channel) (undone ds) (serving ∷ rest) (apart_first d.is_done d.channel (undone ds) (serving ∷ rest) undone_one apart)).0 here in
+    let away : d.is_done ≡ false → is_at at d.channel ≡ false = λ undone_one. away_of_other at d.channel serving (all_behind (IsApart d.channel) (undone ds) (serving ∷ rest) (apart_first d.is_done d.channel (undone ds) (serving ∷ rest) undone_one apart)).0 here in
     let first = of_drain_away at message future d.is_done d.channel away in
     rw (first, others) refl
 
@@ -39,14 +39,14 @@ drain_put sapi at message future serving zero (d ∷ ds) (t ∷ ts) rest drains 
     rw (held t sapi, drains.1, others, first_here at d.channel message future drains.0) (append_assoc (tenure_messages t sapi) (message ∷ []) (on_channel future d.channel ++ still_of sapi future serving ds ts))
 drain_put sapi at message future serving (suc place) (d ∷ ds) (t ∷ ts) rest drains apart =
     let others = drain_put sapi at message future serving place ds ts rest drains (apart_rest d.is_done d.channel (undone ds) (serving ∷ rest) apart) in
-    let away : d.is_done ≡ false → is_at at d.channel ≡ false = λ undone_one. drain-away at d.channel place ds (serving ∷ rest) drains (apart_first d.is_done d.channel (undone ds) (serving ∷ rest) undone_one apart) in
+    let away : d.is_done ≡ false → is_at at d.channel ≡ false = λ undone_one. drain_away at d.channel place ds (serving ∷ rest) drains (apart_first d.is_done d.channel (undone ds) (serving ∷ rest) undone_one apart) in
     let first = of_drain_away at message future d.is_done d.channel away in
     rw (first, others) refl
 
 -- the target is another channel
-target-away : (at : Place) (message : List ℕ) (future : Future) (state : State) → AreAway at (target_in state) → of_target (first_at at message future) state ≡ of_target future state
-target-away at message future (Live reference (Changing target)) away = first_away at target.channel message future away.0
-target-away at message future _ away = refl
+target_away : (at : Place) (message : List ℕ) (future : Future) (state : State) → AreAway at (target_in state) → of_target (first_at at message future) state ≡ of_target future state
+target_away at message future (Live reference (Changing target)) away = first_away at target.channel message future away.0
+target_away at message future _ away = refl
 
 pub tenure_put : (sapi : Sapi) (at : Place) (message : List ℕ) (future : Future) (serving : Channel) (ds : List Drain) (ts : List Tenure) (state : State) (place : ℕ) → AreApart (undone ds ++ serving ∷ target_in state) → tenure_at at serving ds ≡ Some place → still_of sapi future serving ds (put_in place sapi message ts) ++ of_target future state ≡ still_of sapi (first_at at message future) serving ds ts ++ of_target (first_at at message future) state
 tenure_put sapi at message future serving ds ts state place apart is =
@@ -54,31 +54,31 @@ tenure_put sapi at message future serving ds ts state place apart is =
       | inl here ↦
           let last : Some (length ds) ≡ Some place = sym (cond-true _ _ _ here) ∙ is in
           let same : place ≡ length ds = cc in
-          let target = target-away at message future state (all_away at serving (target_in state) here (apart_behind (undone ds) (serving ∷ target_in state) apart).0) in
+          let target = target_away at message future state (all_away at serving (target_in state) here (apart_behind (undone ds) (serving ∷ target_in state) apart).0) in
           rw (same, serving-put sapi at message future serving ds ts (target_in state) here apart, target) refl
       | inr other ↦
-          let drains = drain_at-drains at ds place (sym (cond-false _ _ _ other) ∙ is) in
-          let target = target-away at message future state (drain-behind_away at place ds (serving ∷ target_in state) drains apart).1 in
+          let drains = drain_at_drains at ds place (sym (cond-false _ _ _ other) ∙ is) in
+          let target = target_away at message future state (drain_behind_away at place ds (serving ∷ target_in state) drains apart).1 in
           rw (drain_put sapi at message future serving place ds ts (target_in state) drains apart, target) refl
     ]
 
 -- ---- an old channel is done, on which nothing comes any more
 
-pub done-still : (sapi : Sapi) (at : Place) (future : Future) (serving : Channel) (place : ℕ) (ds : List Drain) (ts : List Tenure) → future at ≡ [] → DrainsAt at place ds → still_of sapi future serving (done_at place ds) ts ≡ still_of sapi future serving ds ts
-done-still sapi at future serving place [] ts over drains = absurd drains
-done-still sapi at future serving zero (d ∷ ds) [] over drains = refl
-done-still sapi at future serving zero (d ∷ ds) (t ∷ ts) over drains =
+pub done_still : (sapi : Sapi) (at : Place) (future : Future) (serving : Channel) (place : ℕ) (ds : List Drain) (ts : List Tenure) → future at ≡ [] → DrainsAt at place ds → still_of sapi future serving (done_at place ds) ts ≡ still_of sapi future serving ds ts
+done_still sapi at future serving place [] ts over drains = absurd drains
+done_still sapi at future serving zero (d ∷ ds) [] over drains = refl
+done_still sapi at future serving zero (d ∷ ds) (t ∷ ts) over drains =
     let none : on_channel future d.channel ≡ [] = ap future (sym (same_place at d.channel drains.0)) ∙ over in
     rw (drains.1, none) refl
-done-still sapi at future serving (suc place) (d ∷ ds) [] over drains = refl
-done-still sapi at future serving (suc place) (d ∷ ds) (t ∷ ts) over drains =
-    rw (done-still sapi at future serving place ds ts over drains) refl
+done_still sapi at future serving (suc place) (d ∷ ds) [] over drains = refl
+done_still sapi at future serving (suc place) (d ∷ ds) (t ∷ ts) over drains =
+    rw (done_still sapi at future serving place ds ts over drains) refl
 
 -- ---- the target serves, and the channel that served drains
 
 pub moved_still : (sapi : Sapi) (future : Future) (serving target : Channel) (ds : List Drain) (ts : List Tenure) → length ts ≡ length ds + 1 → still_of sapi future target (ds ++ record { channel = serving; is_done = false } ∷ []) (ts ++ empty_tenure ∷ []) ≡ still_of sapi future serving ds ts ++ on_channel future target
 moved_still sapi future serving target [] (t ∷ []) long =
-    rw (empty-messages sapi) (sym (append_assoc (tenure_messages t sapi) (on_channel future serving) (on_channel future target)))
+    rw (empty_messages sapi) (sym (append_assoc (tenure_messages t sapi) (on_channel future serving) (on_channel future target)))
 moved_still sapi future serving target (d ∷ ds) (t ∷ ts) long =
     let others = moved_still sapi future serving target ds ts (omega arith) in
     rw others (simp append_assoc)

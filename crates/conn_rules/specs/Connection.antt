@@ -1,5 +1,6 @@
 -- A connection, as a record of its parts.
-use Rattle.std.specs.Prelude.{ℕ, suc, ◌==◌, ◌&&◌, not, Bool, false, if◌then◌else◌, List, [], ◌∷◌, length, Option, Some, None, option_map}
+use Rattle.std.specs.Prelude.{ℕ, suc, ◌==◌, ◌&&◌, not, Bool, false, if◌then◌else◌, List, [], ◌∷◌}
+use Rattle.std.specs.Prelude.{length, Option, Some, None, option_map}
 use Rattle.conn_messages.specs.declared.channel.Channel.{Channel}
 use Rattle.conn_messages.specs.declared.channel.Place.{Place}
 use Rattle.conn_rules.specs.declared.limits.TheConstants.{DOWN_LIMIT, UP_LIMIT}
@@ -75,12 +76,15 @@ is_at at channel = (at.station == channel.station) && (at.number == channel.numb
 -- the place in the list of the channel that is there and isn't done
 abbrev pub drain_at : Place → List Drain → Option ℕ
 drain_at at [] = None
-drain_at at (d ∷ ds) = if (is_at at d.channel && not d.is_done) then Some 0 else option_map (λ place. suc place) (drain_at at ds)
+drain_at at (d ∷ ds) =
+    if (is_at at d.channel && not d.is_done) then Some 0
+    else option_map (λ place. suc place) (drain_at at ds)
 
 -- the tenure of the channel that is there: those of draining channels come first, that of the
 -- serving one last
 abbrev pub tenure_at : Place → Channel → List Drain → Option ℕ
-tenure_at at serving draining = if is_at at serving then Some (length draining) else drain_at at draining
+tenure_at at serving draining =
+    if is_at at serving then Some (length draining) else drain_at at draining
 
 -- the channel of the first tenure
 abbrev pub first_channel : List Drain → Channel → Channel

@@ -1,6 +1,6 @@
 pub mod Connection
 pub mod Roles
-pub mod Standing
+pub mod Validity
 pub mod Steps
 pub mod Streams
 pub mod Table

@@ -7,7 +7,8 @@ use Rattle.conn_messages.specs.declared.message.Message.{Message}
 use Rattle.conn_messages.specs.declared.message.Message.TheVariants.{Station}
 use Rattle.conn_rules.specs.Connection.{Connection, is_at}
 use Rattle.conn_rules.specs.Roles.{channels_in_use}
-use Rattle.rsl_codec.specs.declared.rsl.Rsl.TheVariants.{ChannelActivation, DataRequest, EstablishRequest, RfChannelRelease}
+use Rattle.rsl_codec.specs.declared.rsl.Rsl.TheVariants.{ChannelActivation, DataRequest}
+use Rattle.rsl_codec.specs.declared.rsl.Rsl.TheVariants.{EstablishRequest, RfChannelRelease}
 
 -- which places are in use
 abbrev pub Using : Type 0
@@ -28,15 +29,20 @@ abbrev pub without_use : Place → Using → Using
 without_use at uses = λ other. not (same_place other at) && uses other
 
 abbrev pub used_after : Using → Message → Using
-used_after uses (Station station (ChannelActivation a)) = with_use (record { station = station; number = a.channel }) uses
-used_after uses (Station station (RfChannelRelease channel)) = without_use (record { station = station; number = channel }) uses
+used_after uses (Station station (ChannelActivation a)) =
+    with_use (record { station = station; number = a.channel }) uses
+used_after uses (Station station (RfChannelRelease channel)) =
+    without_use (record { station = station; number = channel }) uses
 used_after uses _ = uses
 
 -- what is for a channel goes to one that is in use then
 abbrev pub IsPutOn : Using → Message → Type 0
-IsPutOn uses (Station station (DataRequest d)) = uses (record { station = station; number = d.channel }) ≡ true
-IsPutOn uses (Station station (EstablishRequest l)) = uses (record { station = station; number = l.channel }) ≡ true
-IsPutOn uses (Station station (RfChannelRelease channel)) = uses (record { station = station; number = channel }) ≡ true
+IsPutOn uses (Station station (DataRequest d)) =
+    uses (record { station = station; number = d.channel }) ≡ true
+IsPutOn uses (Station station (EstablishRequest l)) =
+    uses (record { station = station; number = l.channel }) ≡ true
+IsPutOn uses (Station station (RfChannelRelease channel)) =
+    uses (record { station = station; number = channel }) ≡ true
 IsPutOn uses _ = Unit {0}
 
 -- one message after the other

@@ -1,6 +1,7 @@
 -- The roles of channels in a connection, and what rows do to them: the serving channel, the target
 -- of a change, old channels.
-use Rattle.std.specs.Prelude.{◌≡◌, ◌⊎◌, ℕ, Bool, true, false, not, ◌&&◌, if◌then◌else◌, List, [], ◌∷◌, ◌++◌, filter, Option, Some, None, Contains}
+use Rattle.std.specs.Prelude.{◌≡◌, ◌⊎◌, ℕ, Bool, true, false, not, ◌&&◌, if◌then◌else◌, List, []}
+use Rattle.std.specs.Prelude.{◌∷◌, ◌++◌, filter, Option, Some, None, Contains}
 use Rattle.std.specs.List.{AllByRecursion}
 use Rattle.std.specs.Option.{option_to_list}
 use Rattle.conn_messages.specs.declared.channel.Change.{Change}
@@ -9,7 +10,8 @@ use Rattle.conn_messages.specs.declared.channel.Channel.{Channel}
 use Rattle.conn_messages.specs.declared.channel.Place.{Place}
 use Rattle.conn_messages.specs.declared.message.Message.{Message}
 use Rattle.conn_messages.specs.declared.message.Message.TheVariants.{Station}
-use Rattle.conn_messages.specs.StationMessage.{change_activation, change_command, channel_release, rf_channel_release}
+use Rattle.conn_messages.specs.StationMessage.{change_activation, change_command, channel_release}
+use Rattle.conn_messages.specs.StationMessage.{rf_channel_release}
 use Rattle.conn_rules.specs.declared.input.Input.{Input}
 use Rattle.conn_rules.specs.declared.input.Input.TheVariants as inputs
 use Rattle.conn_rules.specs.declared.state.Drain.{Drain}
@@ -18,11 +20,12 @@ use Rattle.conn_rules.specs.declared.state.State.{State}
 use Rattle.conn_rules.specs.declared.state.State.TheVariants.{Live, Closed, Removed}
 use Rattle.conn_rules.specs.declared.state.Target.{Target}
 use Rattle.conn_rules.specs.Connection.{Connection, is_at, drain_at}
-use Rattle.conn_rules.specs.Steps.{Row, done_at, goes_to}
+use Rattle.conn_rules.specs.Steps.{Row, done_at, is_for_station}
 use Rattle.conn_rules.specs.Streams.{IsOpen, undone, IsApart, AreApart, target_in, used_channels}
 use Rattle.conn_rules.specs.Table.{same_change}
 use Rattle.hold_queue.specs.HoldState.{HoldState}
-use Rattle.rsl_codec.specs.declared.rsl.Rsl.TheVariants.{ChannelActivation, DataRequest, RfChannelRelease}
+use Rattle.rsl_codec.specs.declared.rsl.Rsl.TheVariants.{ChannelActivation, DataRequest}
+use Rattle.rsl_codec.specs.declared.rsl.Rsl.TheVariants.{RfChannelRelease}
 
 -- the target of a change, and whether the mobile was commanded to it
 pub record TargetRole : Type 0 where
@@ -36,8 +39,10 @@ pub record Roles : Type 0 where
   pub draining : List Drain
 
 abbrev pub target_role : State → Option TargetRole
-target_role (Live reference (Preparing target)) = Some (record { target = target; is_commanded = false })
-target_role (Live reference (Changing target)) = Some (record { target = target; is_commanded = true })
+target_role (Live reference (Preparing target)) =
+    Some (record { target = target; is_commanded = false })
+target_role (Live reference (Changing target)) =
+    Some (record { target = target; is_commanded = true })
 target_role _ = None
 
 -- those of a connection that is open
@@ -64,7 +69,13 @@ commanded None = None
 
 abbrev pub completed : Option TargetRole → Roles → Roles
 completed (Some t) roles =
-    record { serving = t.target.channel; target = None; draining = roles.draining ++ record { channel = roles.serving; is_done = false } ∷ [] }
+    record {
+      serving =
+          t.target.channel;
+      target = None;
+      draining = roles.draining
+          ++ record { channel = roles.serving; is_done = false } ∷ [];
+    }
 completed None roles = roles
 
 -- without the oldest ones that are done
@@ -77,12 +88,14 @@ after_step stays roles = roles
 after_step commands roles = record roles { target = commanded roles.target }
 after_step completes roles = completed roles.target roles
 after_step goes_back roles = record roles { target = None }
-after_step (leaves place) roles = record roles { draining = still_draining (done_at place roles.draining) }
+after_step (leaves place) roles =
+    record roles { draining = still_draining (done_at place roles.draining) }
 
 -- a change that begins has a target
 abbrev pub with_target : Option Target → Roles → Roles
 with_target None roles = roles
-with_target (Some target) roles = record roles { target = Some (record { target = target; is_commanded = false }) }
+with_target (Some target) roles =
+    record roles { target = Some (record { target = target; is_commanded = false }) }
 
 -- ---- which step an input brings
 
@@ -107,8 +120,10 @@ leaves_at None = stays
 abbrev pub step_by : Input → Roles → RoleStep
 step_by (inputs.ActivationAck at) roles = if awaits_at at roles.target then commands else stays
 step_by (inputs.ActivationNack at) roles = if awaits_at at roles.target then goes_back else stays
-step_by (inputs.Complete at change cause) roles = if (is_target_at at roles.target && changes_by change roles.target) then completes else stays
-step_by (inputs.Failure at change cause) roles = if (is_at at roles.serving && changes_by change roles.target) then goes_back else stays
+step_by (inputs.Complete at change cause) roles =
+    if (is_target_at at roles.target && changes_by change roles.target) then completes else stays
+step_by (inputs.Failure at change cause) roles =
+    if (is_at at roles.serving && changes_by change roles.target) then goes_back else stays
 step_by (inputs.ReleaseAck at) roles = leaves_at (drain_at at roles.draining)
 step_by _ roles = stays
 
@@ -120,7 +135,8 @@ change_by _ = Assignment
 -- a change begins with the offer, where none is under way
 abbrev pub MayBegin : Option Target → Input → Option Channel → Roles → Type 0
 MayBegin None input offer roles = Unit {0}
-MayBegin (Some target) input offer roles = (target.change ≡ change_by input) × (offer ≡ Some target.channel) × (roles.target ≡ None)
+MayBegin (Some target) input offer roles =
+    (target.change ≡ change_by input) × (offer ≡ Some target.channel) × (roles.target ≡ None)
 
 -- ---- what is put
 
@@ -149,7 +165,8 @@ begin_orders (Some target) = change_activation target.change target.channel ∷ 
 
 -- the COMMAND alone
 abbrev pub IsCommand : Option TargetRole → Channel → List Message → Type 0
-IsCommand (Some t) serving outs = outs ≡ change_command serving t.target.change t.target.channel ∷ []
+IsCommand (Some t) serving outs =
+    outs ≡ change_command serving t.target.change t.target.channel ∷ []
 IsCommand None serving outs = ⊥
 
 -- what the mobile gets is of the switch: it was held, or came now
@@ -158,7 +175,8 @@ brought (inputs.Downlink sapi message) = message ∷ []
 brought _ = []
 
 abbrev pub IsOfSwitch : HoldState → Input → Message → Type 0
-IsOfSwitch down input (Station station (DataRequest request)) = Contains (down.zero ++ (down.three ++ brought input)) request.l3
+IsOfSwitch down input (Station station (DataRequest request)) =
+    Contains (down.zero ++ (down.three ++ brought input)) request.l3
 IsOfSwitch down input _ = Unit {0}
 
 abbrev pub Tells : RoleStep → Roles → HoldState → Input → List Message → Type 0
@@ -166,7 +184,8 @@ Tells commands before down input outs = IsCommand before.target before.serving o
 Tells _ before down input outs = AllByRecursion (IsOfSwitch down input) outs
 
 -- A row of a connection that stays open: a step, then perhaps a change begins.
-pub record GoesOn (step : RoleStep) (before : Roles) (down : HoldState) (input : Input) (offer : Option Channel) (r : Row) : Type 0 where
+pub record RemainsOpen (step : RoleStep) (before : Roles) (down : HoldState) (input : Input)
+    (offer : Option Channel) (r : Row) : Type 0 where
   pub begun : Option Target
   pub may : MayBegin begun input offer (after_step step before)
   pub roles : roles_of r.next ≡ with_target begun (after_step step before)
@@ -190,11 +209,14 @@ target_releases None = []
 abbrev pub end_messages : RoleEnd → Roles → List Message
 end_messages refused roles = []
 end_messages drops roles = rf_channel_release roles.serving ∷ []
-end_messages (dismisses cause) roles = channel_release roles.serving cause ∷ rf_channel_release roles.serving ∷ target_releases roles.target
+end_messages (dismisses cause) roles =
+    channel_release roles.serving cause ∷ rf_channel_release roles.serving
+    ∷ target_releases roles.target
 
 -- it was dropped before the mobile came, or refused
 abbrev pub FitsEnd : RoleEnd → Roles → Input → Type 0
-FitsEnd refused roles (inputs.ActivationNack at) = (is_at at roles.serving ≡ true) × (roles.target ≡ None)
+FitsEnd refused roles (inputs.ActivationNack at) =
+    (is_at at roles.serving ≡ true) × (roles.target ≡ None)
 FitsEnd refused roles _ = ⊥
 FitsEnd drops roles input = roles.target ≡ None
 FitsEnd (dismisses cause) roles input = Unit {0}
@@ -209,7 +231,8 @@ to_stations outs = filter is_to_station outs
 
 -- a station whose link broke gets nothing
 abbrev pub those_that_go : Input → List Message → List Message
-those_that_go (inputs.StationDown station) outs = filter (λ message. not (goes_to station message)) outs
+those_that_go (inputs.StationDown station) outs =
+    filter (λ message. not (is_for_station station message)) outs
 those_that_go _ outs = outs
 
 -- A row that ends a connection.
@@ -222,10 +245,15 @@ pub record Ends (before : Roles) (input : Input) (r : Row) : Type 0 where
 
 -- What a row does to the roles: it goes on by the step that its input brings, it ends the
 -- connection, or the connection had ended.
-pub data ChangesRoles (s : Connection) (input : Input) (offer : Option Channel) (r : Row) : Type 0 where
-  goes_on : IsOpen s.state → IsOpen r.next.state → GoesOn (step_by input (roles_of s)) (roles_of s) s.down input offer r → ChangesRoles s input offer r
-  ends : IsOpen s.state → (IsOpen r.next.state → ⊥) → Ends (roles_of s) input r → ChangesRoles s input offer r
-  had_ended : (IsOpen s.state → ⊥) → (IsOpen r.next.state → ⊥) → to_stations r.outs ≡ [] → ChangesRoles s input offer r
+pub data ChangesRoles (s : Connection) (input : Input) (offer : Option Channel)
+    (r : Row) : Type 0 where
+  goes_on : IsOpen s.state → IsOpen r.next.state
+      → RemainsOpen (step_by input (roles_of s)) (roles_of s) s.down input offer r
+      → ChangesRoles s input offer r
+  ends : IsOpen s.state → (IsOpen r.next.state → ⊥) → Ends (roles_of s) input r
+      → ChangesRoles s input offer r
+  had_ended : (IsOpen s.state → ⊥) → (IsOpen r.next.state → ⊥) → to_stations r.outs ≡ []
+      → ChangesRoles s input offer r
 
 -- where no row fits, the input brings no step
 abbrev pub ChangesRolesBy : Connection → Input → Option Channel → Option Row → Type 0
@@ -252,11 +280,13 @@ channels_in_use s = channels_in s.state (roles_of s)
 pub data IsGivenUp (c : Channel) (input : Input) (outs : List Message) : Type 0 where
   released : Contains outs (rf_channel_release c) → IsGivenUp c input outs
   broke : input ≡ inputs.StationDown c.station → IsGivenUp c input outs
-  not_activated : (at : Place) → input ≡ inputs.ActivationNack at → is_at at c ≡ true → IsGivenUp c input outs
+  not_activated : (at : Place) → input ≡ inputs.ActivationNack at → is_at at c ≡ true
+      → IsGivenUp c input outs
 
 -- it is taken: it is the offer, and to be activated
 abbrev pub IsTaken : Channel → Input → Option Channel → List Message → Type 0
-IsTaken c input offer outs = (offer ≡ Some c) × Contains outs (change_activation (change_by input) c)
+IsTaken c input offer outs =
+    (offer ≡ Some c) × Contains outs (change_activation (change_by input) c)
 
 -- its release was acknowledged
 pub record IsAcknowledged (c : Channel) (input : Input) : Type 0 where
@@ -266,11 +296,16 @@ pub record IsAcknowledged (c : Channel) (input : Input) : Type 0 where
 
 -- The account of a connection's channels: what a row gives up and takes, and which old channels
 -- come and go.
-pub record KeepsAccount (s : Connection) (input : Input) (offer : Option Channel) (r : Row) : Type 0 where
-  pub gives_up : (c : Channel) → Contains (channels_in_use s) c → Contains (channels_in_use r.next) c ⊎ IsGivenUp c input r.outs
-  pub takes : (c : Channel) → Contains (channels_in_use r.next) c → Contains (channels_in_use s) c ⊎ IsTaken c input offer r.outs
-  pub begins_to_drain : IsOpen r.next.state → (c : Channel) → Contains (undone r.next.draining) c → Contains (undone s.draining) c ⊎ ((c ≡ s.serving) × Contains r.outs (rf_channel_release c))
-  pub drains : IsOpen r.next.state → (c : Channel) → Contains (undone s.draining) c → Contains (undone r.next.draining) c ⊎ IsAcknowledged c input
+pub record KeepsAccount (s : Connection) (input : Input) (offer : Option Channel)
+    (r : Row) : Type 0 where
+  pub gives_up : (c : Channel) → Contains (channels_in_use s) c
+      → Contains (channels_in_use r.next) c ⊎ IsGivenUp c input r.outs
+  pub takes : (c : Channel) → Contains (channels_in_use r.next) c
+      → Contains (channels_in_use s) c ⊎ IsTaken c input offer r.outs
+  pub begins_to_drain : IsOpen r.next.state → (c : Channel) → Contains (undone r.next.draining) c
+      → Contains (undone s.draining) c ⊎ ((c ≡ s.serving) × Contains r.outs (rf_channel_release c))
+  pub drains : IsOpen r.next.state → (c : Channel) → Contains (undone s.draining) c
+      → Contains (undone r.next.draining) c ⊎ IsAcknowledged c input
 
 -- ---- no two channels of a connection are the same
 
@@ -279,8 +314,8 @@ abbrev pub IsNew : Option Channel → List Channel → Type 0
 IsNew (Some c) channels = AllByRecursion (λ other. IsApart other c) channels
 IsNew None channels = Unit {0}
 
-abbrev pub StaysApart : Row → Type 0
-StaysApart r = IsOpen r.next.state → AreApart (used_channels r.next)
+abbrev pub IsApartAfter : Row → Type 0
+IsApartAfter r = IsOpen r.next.state → AreApart (used_channels r.next)
 
 -- ---- which channels a row knows
 
@@ -289,4 +324,5 @@ StaysApart r = IsOpen r.next.state → AreApart (used_channels r.next)
 pub record KeepsChannels (s : Connection) (offer : Option Channel) (r : Row) : Type 0 where
   pub number : r.next.number ≡ s.number
   pub serving : Contains (s.serving ∷ target_in s.state) r.next.serving
-  pub target : AllByRecursion (Contains (target_in s.state ++ option_to_list offer)) (target_in r.next.state)
+  pub target : AllByRecursion
+      (Contains (target_in s.state ++ option_to_list offer)) (target_in r.next.state)

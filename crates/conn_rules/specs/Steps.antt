@@ -1,13 +1,18 @@
 -- What rows are put together of: a row is the messages put, in order, and the connection after it.
-use Rattle.std.specs.Prelude.{ℕ, zero, suc, ◌==◌, ◌&&◌, nat_lt, Bool, true, false, not, if◌then◌else◌, List, [], ◌∷◌, ◌++◌, length, map, filter, drop, Option, Some, None}
-use Rattle.conn_messages.specs.declared.causes.TheConstants.{ABNORMAL_RELEASE, EQUIPMENT_FAILURE, NO_RADIO_RESOURCE}
+use Rattle.std.specs.Prelude.{ℕ, zero, suc, ◌==◌, ◌&&◌, nat_lt, Bool, true, false, not}
+use Rattle.std.specs.Prelude.{if◌then◌else◌, List, [], ◌∷◌, ◌++◌, length, map, filter, drop, Option}
+use Rattle.std.specs.Prelude.{Some, None}
+use Rattle.conn_messages.specs.declared.causes.TheConstants.{ABNORMAL_RELEASE, EQUIPMENT_FAILURE}
+use Rattle.conn_messages.specs.declared.causes.TheConstants.{NO_RADIO_RESOURCE}
 use Rattle.conn_messages.specs.declared.channel.Change.{Change}
 use Rattle.conn_messages.specs.declared.channel.Change.TheVariants.{Assignment, Handover}
 use Rattle.conn_messages.specs.declared.channel.Channel.{Channel}
 use Rattle.conn_messages.specs.declared.message.Message.{Message}
 use Rattle.conn_messages.specs.declared.message.Message.TheVariants.{Station}
-use Rattle.conn_messages.specs.StationMessage.{handing, channel_release, establish_request, rf_channel_release, change_activation}
-use Rattle.conn_messages.specs.SwitchMessage.{relaying, clear_request, assignment_failure, sapi_3_reject}
+use Rattle.conn_messages.specs.StationMessage.{handing, channel_release, establish_request}
+use Rattle.conn_messages.specs.StationMessage.{rf_channel_release, change_activation}
+use Rattle.conn_messages.specs.SwitchMessage.{relaying, clear_request, assignment_failure}
+use Rattle.conn_messages.specs.SwitchMessage.{sapi_3_reject}
 use Rattle.conn_rules.specs.declared.limits.TheConstants.{DRAIN_LIMIT}
 use Rattle.conn_rules.specs.declared.state.Clearing.TheVariants.{Due, Asked as WasAsked}
 use Rattle.conn_rules.specs.declared.state.Drain.{Drain}
@@ -45,7 +50,8 @@ target_release _ = []
 
 -- end: the mobile is dismissed with a cause, and the channels are released
 abbrev pub end_outs : State → Channel → ℕ → List Message
-end_outs state serving cause = channel_release serving cause ∷ rf_channel_release serving ∷ target_release state
+end_outs state serving cause =
+    channel_release serving cause ∷ rf_channel_release serving ∷ target_release state
 
 abbrev pub ending : State → Connection → ℕ → State → Row
 ending state s cause last = row (end_outs state s.serving cause) (emptied last s)
@@ -53,20 +59,23 @@ ending state s cause last = row (end_outs state s.serving cause) (emptied last s
 -- fail: the switch is asked to clear, once it confirmed the connection
 abbrev pub failing : State → Connection → ℕ → Row
 failing (Live reference stage) s cause =
-    row (clear_request reference cause ∷ end_outs (Live reference stage) s.serving ABNORMAL_RELEASE) (emptied (Closed (WasAsked reference)) s)
-failing state s cause = row (end_outs state s.serving ABNORMAL_RELEASE) (emptied (Closed (Due cause)) s)
+    row (clear_request reference cause
+    ∷ end_outs (Live reference stage) s.serving ABNORMAL_RELEASE) (emptied
+    (Closed (WasAsked reference)) s)
+failing state s cause =
+    row (end_outs state s.serving ABNORMAL_RELEASE) (emptied (Closed (Due cause)) s)
 
 -- drop: of a connection that the switch doesn't know
 abbrev pub dropping : Connection → Row
 dropping s = row (rf_channel_release s.serving ∷ []) (emptied Removed s)
 
 -- a station whose link is down gets nothing
-abbrev pub goes_to : ℕ → Message → Bool
-goes_to station (Station to message) = to == station
-goes_to station _ = false
+abbrev pub is_for_station : ℕ → Message → Bool
+is_for_station station (Station to message) = to == station
+is_for_station station _ = false
 
 abbrev pub without_station : ℕ → Row → Row
-without_station station r = row (filter (λ message. not (goes_to station message)) r.outs) r.next
+without_station station r = row (filter (λ message. not (is_for_station station message)) r.outs) r.next
 
 -- ---- changes begin
 
@@ -82,11 +91,13 @@ begin_outs reference Assignment None = assignment_failure reference NO_RADIO_RES
 begin_outs reference Handover None = []
 
 abbrev pub after_begin : ℕ → Change → Option Channel → Connection → Connection
-after_begin reference change (Some channel) s = enter (Live reference (Preparing (record { change = change; channel = channel }))) s
+after_begin reference change (Some channel) s =
+    enter (Live reference (Preparing (record { change = change; channel = channel }))) s
 after_begin reference change None s = s
 
 abbrev pub begin : ℕ → Change → Option Channel → Connection → Row
-begin reference change offer s = row (begin_outs reference change offer) (after_begin reference change offer s)
+begin reference change offer s =
+    row (begin_outs reference change offer) (after_begin reference change offer s)
 
 -- the request that waits, where it does
 abbrev pub waiting_outs : Bool → ℕ → Option Channel → List Message
@@ -94,12 +105,14 @@ waiting_outs true reference offer = begin_outs reference Assignment offer
 waiting_outs false reference offer = []
 
 abbrev pub after_waiting : Bool → ℕ → Option Channel → Connection → Connection
-after_waiting true reference offer s = after_begin reference Assignment offer (record s { waits = false })
+after_waiting true reference offer s =
+    after_begin reference Assignment offer (record s { waits = false })
 after_waiting false reference offer s = s
 
 abbrev pub begin_waiting : Stage → ℕ → Option Channel → Connection → Row
 begin_waiting stage reference offer s =
-    row (waiting_outs (s.waits && may_begin stage s.draining) reference offer) (after_waiting (s.waits && may_begin stage s.draining) reference offer s)
+    row (waiting_outs (s.waits && may_begin stage s.draining) reference offer)
+    (after_waiting (s.waits && may_begin stage s.draining) reference offer s)
 
 -- ---- where a change ends
 
@@ -124,11 +137,16 @@ moved reference channel s = record (enter (Live reference Draining) s) {
 abbrev pub hold_down : State → Sapi → List ℕ → Connection → Row
 hold_down state sapi message s =
     if count s.down == s.down.limit then failing state s EQUIPMENT_FAILURE
-    else row [] (record s { down = with_messages s.down sapi (messages s.down sapi ++ message ∷ []) })
+    else row [] (record s {
+      down =
+          with_messages s.down sapi (messages s.down sapi ++ message ∷ []);
+    })
 
 -- the held messages of a SAPI are handed
 abbrev pub hand_held : Sapi → Connection → Row
-hand_held sapi s = row (map (handing s.serving sapi) (messages s.down sapi)) (record s { down = with_messages s.down sapi [] })
+hand_held sapi s =
+    row (map (handing s.serving sapi) (messages s.down sapi))
+    (record s { down = with_messages s.down sapi [] })
 
 -- the link of SAPI 3 is asked for where it is down
 abbrev pub request_where : ShortMessageLink → Channel → List Message
@@ -155,7 +173,8 @@ link_for [] link = link
 link_for (first ∷ rest) link = Asked
 
 abbrev pub ask_for_held : Connection → Row
-ask_for_held s = row (request_for s.down.three s.serving) (record s { link = link_for s.down.three s.link })
+ask_for_held s =
+    row (request_for s.down.three s.serving) (record s { link = link_for s.down.three s.link })
 
 -- SAPI 3 comes up
 abbrev pub link_up : Connection → Row
@@ -163,7 +182,9 @@ link_up s = row [] (record s { link = Up }) then hand_held Three
 
 -- SAPI 3 goes down: where it was asked for, what waits for it is rejected
 abbrev pub link_down : ShortMessageLink → ℕ → Connection → Row
-link_down Asked reference s = row (sapi_3_reject reference s.serving ∷ []) (record s { link = Down; down = with_messages s.down Three [] })
+link_down Asked reference s =
+    row (sapi_3_reject reference s.serving
+    ∷ []) (record s { link = Down; down = with_messages s.down Three [] })
 link_down _ reference s = row [] (record s { link = Down })
 
 -- ---- the mobile's messages
@@ -172,16 +193,23 @@ link_down _ reference s = row [] (record s { link = Down })
 abbrev pub hold_up : State → ℕ → Sapi → List ℕ → Connection → Row
 hold_up state tenure sapi message s =
     if chain_count s.up == s.up.limit then failing state s EQUIPMENT_FAILURE
-    else row [] (record s { up = record s.up { tenures = put_in tenure sapi message s.up.tenures } })
+    else row [] (record s {
+      up =
+          record s.up { tenures = put_in tenure sapi message s.up.tenures };
+    })
 
 -- what is held of a channel is relayed, SAPI 0 first
 abbrev pub tenure_outs : ℕ → Channel → List Tenure → List Message
 tenure_outs reference channel [] = []
-tenure_outs reference channel (first ∷ rest) = map (relaying reference channel Zero) first.zero ++ map (relaying reference channel Three) first.three
+tenure_outs reference channel (first ∷ rest) =
+    map (relaying reference channel Zero) first.zero
+    ++ map (relaying reference channel Three) first.three
 
 -- the first tenure is relayed
 abbrev pub relay_held : ℕ → Connection → Row
-relay_held reference s = row (tenure_outs reference (first_channel s.draining s.serving) s.up.tenures) (record s { up = record s.up { tenures = first_cleared s.up.tenures } })
+relay_held reference s =
+    row (tenure_outs reference (first_channel s.draining s.serving) s.up.tenures)
+    (record s { up = record s.up { tenures = first_cleared s.up.tenures } })
 
 -- ---- old channels
 
@@ -192,13 +220,17 @@ done_at (suc place) (d ∷ ds) = d ∷ done_at place ds
 
 -- the oldest leaves, and its tenure with it; the drain time of the next begins
 abbrev pub shifted : List Drain → Connection → Connection
-shifted draining s = record s { draining = draining; up = record s.up { tenures = drop 1 s.up.tenures }; drained = 0 }
+shifted draining s =
+    record s { draining = draining; up = record s.up { tenures = drop 1 s.up.tenures }; drained = 0 }
 
 -- while the oldest is done, it leaves, and what is held of the next is relayed
 abbrev pub leave : ℕ → List Drain → Connection → Row
 leave reference [] s = row [] (record s { draining = [] })
 leave reference (d ∷ ds) s =
-    if d.is_done then (row [] (shifted ds s) then relay_held reference then leave reference ds) else row [] (record s { draining = d ∷ ds })
+    if d.is_done then (row [] (shifted ds s) then relay_held reference then leave reference ds) else row [] (record s {
+      draining =
+          d ∷ ds;
+    })
 
 -- Draining without an old channel is Active
 abbrev pub settled_stage : Stage → List Drain → Stage

@@ -1,13 +1,16 @@
 -- What rows do to the streams of messages: to those of the mobile that are relayed, and to those of
 -- the switch that are handed.
-use Rattle.std.specs.Prelude.{◌≡◌, ℕ, ◌%◌, ◌==◌, ◌&&◌, ◌||◌, not, Bool, true, false, if◌then◌else◌, List, [], ◌∷◌, ◌++◌, filter, Option, Some, None}
+use Rattle.std.specs.Prelude.{◌≡◌, ℕ, ◌%◌, ◌==◌, ◌&&◌, ◌||◌, not, Bool, true, false, if◌then◌else◌}
+use Rattle.std.specs.Prelude.{List, [], ◌∷◌, ◌++◌, filter, Option, Some, None}
 use Rattle.std.specs.List.{flat_map, AllByRecursion}
 use Rattle.bssmap_codec.specs.declared.bssap.Bssap.TheVariants.{Management, Transfer}
-use Rattle.bssmap_codec.specs.declared.bssmap.Bssmap.TheVariants.{CompleteLayer3Information, SapiNReject}
+use Rattle.bssmap_codec.specs.declared.bssmap.Bssmap.TheVariants.{CompleteLayer3Information}
+use Rattle.bssmap_codec.specs.declared.bssmap.Bssmap.TheVariants.{SapiNReject}
 use Rattle.conn_messages.specs.declared.channel.Channel.{Channel}
 use Rattle.conn_messages.specs.declared.channel.Place.{Place}
 use Rattle.conn_messages.specs.declared.message.Message.{Message}
-use Rattle.conn_messages.specs.declared.message.Message.TheVariants.{Station, Request, Data, ReleaseComplete}
+use Rattle.conn_messages.specs.declared.message.Message.TheVariants.{Station, Request, Data}
+use Rattle.conn_messages.specs.declared.message.Message.TheVariants.{ReleaseComplete}
 use Rattle.conn_rules.specs.declared.input.Input.{Input}
 use Rattle.conn_rules.specs.declared.input.Input.TheVariants as inputs
 use Rattle.conn_rules.specs.declared.state.Clearing.TheVariants.{Complete}
@@ -49,7 +52,8 @@ is_dtap (first ∷ rest) = not (first % 16 == RADIO_RESOURCE)
 
 -- relayed is DTAP, and the initial message, which is of SAPI 0
 abbrev pub relayed_by : Sapi → Message → List (List ℕ)
-relayed_by sapi (Data reference (Transfer dlci message)) = if is_of sapi dlci then message ∷ [] else []
+relayed_by sapi (Data reference (Transfer dlci message)) =
+    if is_of sapi dlci then message ∷ [] else []
 relayed_by Zero (Request (Management (CompleteLayer3Information cell initial))) = initial ∷ []
 relayed_by sapi _ = []
 
@@ -58,16 +62,18 @@ relayed sapi outs = flat_map (relayed_by sapi) outs
 
 -- handed is DTAP in a DATA REQUEST
 abbrev pub handed_by : Sapi → Message → List (List ℕ)
-handed_by sapi (Station station (DataRequest request)) = if (is_of sapi request.link && is_dtap request.l3) then request.l3 ∷ [] else []
+handed_by sapi (Station station (DataRequest request)) =
+    if (is_of sapi request.link && is_dtap request.l3) then request.l3 ∷ [] else []
 handed_by sapi _ = []
 
 abbrev pub handed : Sapi → List Message → List (List ℕ)
 handed sapi outs = flat_map (handed_by sapi) outs
 
 -- what is handed goes to this channel
-abbrev pub GoesTo : Channel → Message → Type 0
-GoesTo c (Station station (DataRequest request)) = is_dtap request.l3 ≡ true → (station ≡ c.station) × (request.channel ≡ c.number)
-GoesTo c _ = Unit {0}
+abbrev pub IsHandedTo : Channel → Message → Type 0
+IsHandedTo c (Station station (DataRequest request)) =
+    is_dtap request.l3 ≡ true → (station ≡ c.station) × (request.channel ≡ c.number)
+IsHandedTo c _ = Unit {0}
 
 -- ---- the uplink: what is held, and what may still come on each channel
 
@@ -83,7 +89,8 @@ abbrev pub still_of : Sapi → Future → Channel → List Drain → List Tenure
 still_of sapi future serving draining [] = []
 still_of sapi future serving [] (t ∷ ts) = tenure_messages t sapi ++ on_channel future serving
 still_of sapi future serving (d ∷ ds) (t ∷ ts) =
-    tenure_messages t sapi ++ ((if d.is_done then [] else on_channel future d.channel) ++ still_of sapi future serving ds ts)
+    tenure_messages t sapi ++ ((if d.is_done then [] else on_channel future d.channel)
+    ++ still_of sapi future serving ds ts)
 
 -- the target's messages count from the COMMAND on
 abbrev pub of_target : Future → State → List (List ℕ)
@@ -91,18 +98,21 @@ of_target future (Live reference (Changing target)) = on_channel future target.c
 of_target future _ = []
 
 abbrev pub still_to_relay : Sapi → Future → Connection → List (List ℕ)
-still_to_relay sapi future s = still_of sapi future s.serving s.draining s.up.tenures ++ of_target future s.state
+still_to_relay sapi future s =
+    still_of sapi future s.serving s.draining s.up.tenures ++ of_target future s.state
 
 -- a message comes first on its channel
 abbrev pub first_at : Place → List ℕ → Future → Future
 first_at at message future place =
-    if (place.station == at.station && place.number == at.number) then message ∷ future place else future place
+    if (place.station == at.station && place.number == at.number) then message ∷ future place
+    else future place
 
 -- what may come on each channel from this input on
 abbrev pub from_input : Sapi → Input → Future → Future
 from_input Zero (inputs.Dtap at Zero message) future = first_at at message future
 from_input Three (inputs.Dtap at Three message) future = first_at at message future
-from_input Zero (inputs.EstablishIndication at Zero (Some initial)) future = first_at at initial future
+from_input Zero (inputs.EstablishIndication at Zero (Some initial)) future =
+    first_at at initial future
 from_input sapi _ future = future
 
 -- nothing comes any more on a channel that an input ends; nothing comes on a target before the
@@ -142,7 +152,8 @@ AreApart (c ∷ cs) = AllByRecursion (IsApart c) cs × AreApart cs
 -- input's message among it.
 abbrev pub KeepsUplink : Sapi → Future → Connection → Input → Row → Type 0
 KeepsUplink sapi future s input r =
-    IsOpen r.next.state → relayed sapi r.outs ++ still_to_relay sapi future r.next ≡ still_to_relay sapi (from_input sapi input future) s
+    IsOpen r.next.state → relayed sapi r.outs ++ still_to_relay sapi future r.next
+    ≡ still_to_relay sapi (from_input sapi input future) s
 
 -- ---- the downlink
 
@@ -168,8 +179,10 @@ without_rejected Three outs list = if rejects outs then [] else list
 -- What a row hands, then what is held, is what was held, then what came, without what was rejected.
 pub record KeepsDownlink (sapi : Sapi) (s : Connection) (input : Input) (r : Row) : Type 0 where
   pub stream : IsOpen r.next.state →
-      handed sapi r.outs ++ filter is_dtap (messages r.next.down sapi) ≡ without_rejected sapi r.outs (filter is_dtap (messages s.down sapi ++ received_by sapi input))
-  pub serving : AllByRecursion (GoesTo r.next.serving) r.outs
+      handed sapi r.outs ++ filter is_dtap (messages r.next.down sapi)
+      ≡ without_rejected sapi r.outs (filter is_dtap (messages s.down sapi
+      ++ received_by sapi input))
+  pub serving : AllByRecursion (IsHandedTo r.next.serving) r.outs
 
 -- the mobile was commanded to another channel and hasn't answered
 abbrev pub IsChanging : State → Type 0

@@ -14,4 +14,5 @@ drained_after ms (d ∷ ds) drained = saturated (drained + ms)
 
 -- so many milliseconds pass: for the state's timer, and for the drain time
 abbrev pub after_pass : ℕ → Connection → Connection
-after_pass ms s = record s { waited = saturated (s.waited + ms); drained = drained_after ms s.draining s.drained }
+after_pass ms s =
+    record s { waited = saturated (s.waited + ms); drained = drained_after ms s.draining s.drained }

@@ -1,11 +1,12 @@
 //! Laws: each contract states what holds of the definitions that it names. Their bodies are empty.
 
-ghost use Rattle.std.specs.Prelude.{ℕ, Option};
+ghost use Rattle.std.specs.Prelude.{Option};
 ghost use Rattle.conn_messages.specs.declared.channel.Channel.{Channel};
 ghost use Rattle.conn_rules.specs.declared.input.Input.{Input};
 ghost use Rattle.conn_rules.specs.Connection.{Connection};
-ghost use Rattle.conn_rules.specs.Standing.{Stands};
-ghost use Rattle.conn_rules.specs.Streams.{AreApart, Ends, Future, KeepsUplink, OfRow, used_channels};
+ghost use Rattle.conn_rules.specs.Validity.{IsValid};
+ghost use Rattle.conn_rules.specs.Streams.{AreApart, Ends, Future, KeepsUplink, OfRow};
+ghost use Rattle.conn_rules.specs.Streams.{used_channels};
 ghost use Rattle.conn_rules.specs.Table.{row_of};
 ghost use Rattle.dtap_codec.specs.declared.sapi.Sapi.{Sapi};
 
@@ -18,6 +19,8 @@ ghost use Rattle.dtap_codec.specs.declared.sapi.Sapi.{Sapi};
 /// nothing comes on a target before its ACTIVATION ACK. It is a law on the definitions that the
 /// calls' contracts cite.
 pub fn uplink_is_kept()
-    ensures { (s : Connection) (input : Input) (offer : Option Channel) (sapi : Sapi) (future : Future) → Stands s
-        → AreApart (used_channels s) → Ends future s.state input → OfRow (KeepsUplink sapi future s input) (row_of s input offer) }
+    ensures { (s : Connection) (input : Input) (offer : Option Channel) (sapi : Sapi)
+        (future : Future) → IsValid s
+        → AreApart (used_channels s) → Ends future s.state input
+        → OfRow (KeepsUplink sapi future s input) (row_of s input offer) }
 {}

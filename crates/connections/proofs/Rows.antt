@@ -1,5 +1,6 @@
 -- Definitions against literal values: two cells, and connections with the numbers 7 and 9.
 use Rattle.std.proofs.Common.{◌≡◌, ℕ, zero, suc, true, false, List, [], ◌∷◌, length, map, Option, Some, None, codes, refl, sym, ap, arith, true≢false}
+use Rattle.octets.proofs.Hex.{hex}
 use Rattle.conn_fsm.specs.PlanState.{PlanState}
 use Rattle.conn_messages.specs.declared.channel.Change.TheVariants.{Handover}
 use Rattle.conn_messages.specs.declared.channel.Channel.{Channel}
@@ -35,7 +36,7 @@ abbrev channel : ℕ → ℕ → Channel
 channel station number = record {
   station = station;
   number = number;
-  cell = 0x00 ∷ 0x00 ∷ 0xf1 ∷ 0x10 ∷ 0x00 ∷ 0x01 ∷ 0x00 ∷ 0x01 ∷ [];
+  cell = hex "00 00 f1 10 00 01 00 01";
   description = record { arfcn = 20; ncc = 1; bcc = 1 };
   reference = record { 0 = 0 };
 }

@@ -2,7 +2,7 @@ ghost use Rattle.std.specs.Prelude.{◌≡◌, ◌==◌, ◌++◌, None, IfOk, O
 ghost use Rattle.std.specs.Map.{lookup};
 ghost use Rattle.std.specs.Option.{ForSome, is_some};
 ghost use Rattle.conn_fsm.specs.Doing.{AreSound, outs_in};
-ghost use Rattle.conn_rules.specs.Standing.{IsCarried};
+ghost use Rattle.conn_rules.specs.Validity.{IsCarried};
 ghost use Rattle.controller_model.specs.Life.{aged, with_report};
 ghost use Rattle.connections.specs.Entries.{IsKept, IsOffer};
 ghost use Rattle.connections.specs.Index.{Settles, is_gone};

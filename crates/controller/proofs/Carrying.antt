@@ -10,7 +10,7 @@ use Rattle.controller.specs.Doing.{Turns}
 use Rattle.controller.specs.Many.{AreReady, Due, PlannedState, all_due, carried_out, frames_of, planned_for}
 use Rattle.controller.proofs.Dues.{break_dues, break_ready, still_ready, time_dues, time_ready}
 use Rattle.controller_model.specs.Controller.{freed_station, with_down}
-use Rattle.controller_model.specs.Life.{break_of, on_break, tick, told}
+use Rattle.controller_model.specs.Life.{break_of, on_break, tick, with_own_input}
 use Rattle.controller_model.proofs.Others.{found_leaves}
 
 -- ---- a loop over planned steps, which make this controller and these frames in the end
@@ -62,7 +62,7 @@ tick_ready ms c start ds rising dues is =
 
 -- what the connections make of it, before the channels of the station go
 abbrev pub told_all : ℕ → Controller → Turn
-told_all source c = each (told (break_of source)) (with_down source c) c.entries
+told_all source c = each (with_own_input (break_of source)) (with_down source c) c.entries
 
 pub break_done : (source : ℕ) (c start after : Controller) (ds : List Due) (outs reserved outs_after : List Out) → AreRising c.entries → ds ≡ all_due (Break source) c.settings.timers c.entries → start ≡ with_down source c → reserved ≡ outs →
     Turns (each carried_out start ds) start after reserved outs_after → Turns (told_all source c) c after outs outs_after

@@ -13,7 +13,7 @@ use Rattle.connections.specs.Entries.{IsAbove}
 use Rattle.controller.specs.declared.many.Cause.{Cause}
 use Rattle.controller.specs.declared.many.Cause.TheVariants.{Time, Break}
 use Rattle.controller.specs.Many.{Due, due, due_with, all_due, carried_out, IsReadyFor, AreReady}
-use Rattle.controller_model.specs.Life.{break_of, expiry, on_expiry, row_in, timed, told}
+use Rattle.controller_model.specs.Life.{break_of, expiry, on_expiry, row_in, timed, with_own_input}
 use Rattle.controller_model.proofs.Others.{told_leaves}
 use Rattle.settings.specs.declared.timers.Timers.{Timers}
 
@@ -74,8 +74,8 @@ after_due : (o : Option Input) (s : Connection) (e : Entry) (c : Controller) (ds
     turn ((on_expiry o c e).outs ++ rest.outs) rest.next ≡ each carried_out c (due_with o s ++ ds)
 after_due None s e c ds rest found same = same
 after_due (Some input) s e c ds rest found same =
-    subst (λ (o : Option Entry). turn ((told input c e).outs ++ rest.outs) rest.next ≡ turn ((concerning_too input c o).outs ++ (each carried_out (concerning_too input c o).next ds).outs) (each carried_out (concerning_too input c o).next ds).next) (sym found)
-    (ap (λ (t : Turn). turn ((told input c e).outs ++ t.outs) t.next) same)
+    subst (λ (o : Option Entry). turn ((with_own_input input c e).outs ++ rest.outs) rest.next ≡ turn ((concerning_too input c o).outs ++ (each carried_out (concerning_too input c o).next ds).outs) (each carried_out (concerning_too input c o).next ds).next) (sym found)
+    (ap (λ (t : Turn). turn ((with_own_input input c e).outs ++ t.outs) t.next) same)
 
 each_due : (cause : Cause) (p : Parameters) (step : Controller → Entry → Turn) (now : Entry → Entry) →
     ((c : Controller) (x : Entry) → c.settings ≡ p → step c (now x) ≡ on_expiry (due cause p.timers x.connection) c (now x)) →
@@ -143,10 +143,10 @@ same_map : (es : List Entry) → map (λ (x : Entry). x) es ≡ es
 same_map es = map-id es
 
 pub break_dues : (source : ℕ) (c : Controller) (es : List Entry) → AreRising es → c.entries ≡ es →
-    each (told (break_of source)) c es ≡ each carried_out c (all_due (Break source) c.settings.timers es)
+    each (with_own_input (break_of source)) c es ≡ each carried_out c (all_due (Break source) c.settings.timers es)
 break_dues source c es rising is =
-    subst (λ (xs : List Entry). each (told (break_of source)) c xs ≡ each carried_out c (all_due (Break source) c.settings.timers es)) (same_map es)
-    (each_due (Break source) c.settings (told (break_of source)) (λ x. x) (λ d x at. refl) (λ x. refl) es c refl
+    subst (λ (xs : List Entry). each (with_own_input (break_of source)) c xs ≡ each carried_out c (all_due (Break source) c.settings.timers es)) (same_map es)
+    (each_due (Break source) c.settings (with_own_input (break_of source)) (λ x. x) (λ d x at. refl) (λ x. refl) es c refl
     (subst (λ (xs : List Entry). AreThere xs c.entries) (sym (same_map es)) (subst (AreThere es) (sym is) (rising_there es rising))))
 
 pub break_ready : (source : ℕ) (timers : Timers) (es : List Entry) → AreRising es → AreReady (all_due (Break source) timers es) es

@@ -14,7 +14,7 @@ use Rattle.controller_model.proofs.LifeLaws.SilenceLife.{life_is_silent}
 use Rattle.controller_model.proofs.LifeLaws.SoundLife.{life_sends_all}
 use Rattle.controller_model.proofs.LifeLaws.UplinkLife.{life_conserves_up}
 use Rattle.controller_model.proofs.LifeLaws.UsingLife.{life_uses}
-use Rattle.controller_model.specs.LifeLaws.Sending.{ComesInOctets, IsSent}
+use Rattle.controller_model.specs.LifeLaws.Sending.{IsOctetStep, IsSent}
 use Rattle.controller_model.specs.LifeLaws.Using.{AreUsed}
 use Rattle.controller_model.specs.Life.{life}
 use Rattle.settings.specs.Parameters.{AreAllowed}
@@ -49,5 +49,5 @@ channels_of p steps c outs allowed is number = next_of (λ (d : Controller). Own
 pub used_of : (p : Parameters) (steps : List Step) (c : Controller) (outs : List Out) → AreAllowed p → (c ≡ (life p steps).next) × (outs ≡ (life p steps).outs) → AreUsed c
 used_of p steps c outs allowed is = next_of AreUsed p steps c outs is (life_uses p steps allowed)
 
-pub sent_of : (p : Parameters) (steps : List Step) (c : Controller) (outs : List Out) → AreAllowed p → (c ≡ (life p steps).next) × (outs ≡ (life p steps).outs) → AllByRecursion ComesInOctets steps → AllByRecursion IsSent outs
+pub sent_of : (p : Parameters) (steps : List Step) (c : Controller) (outs : List Out) → AreAllowed p → (c ≡ (life p steps).next) × (outs ≡ (life p steps).outs) → AllByRecursion IsOctetStep steps → AllByRecursion IsSent outs
 sent_of p steps c outs allowed is octets = subst (AllByRecursion IsSent) (sym is.1) (life_sends_all p steps allowed octets)

@@ -4,6 +4,7 @@ use Rattle.controller.proofs.Prelude.{◌≡◌, ℕ, Bool, true, false, List, [
 use Rattle.controller.proofs.Prelude.{WaitActivation, WaitEstablish, WaitConfirm, Live, Connection, ConnectionsState, Controller, Entry}
 use Rattle.controller.proofs.Prelude.{turn}
 use Rattle.std.proofs.Common.{replicate}
+use Rattle.octets.proofs.Hex.{hex}
 use Rattle.conn_messages.specs.declared.channel.Change.TheVariants.{Assignment, Handover}
 use Rattle.conn_rules.specs.declared.input.Input.TheVariants as inputs
 use Rattle.conn_rules.specs.declared.state.Stage.TheVariants.{Preparing, Changing, Draining}
@@ -12,7 +13,7 @@ use Rattle.controller_model.specs.Life.{new_entry, pong, step}
 use Rattle.controller_model.proofs.Lives.{on_stream, usual_settings}
 use Rattle.controller_model.proofs.OnLiterals.{on_literals}
 use Rattle.controller.specs.declared.many.Cause.TheVariants.{Time, Break}
-use Rattle.controller.specs.Doing.{Stays, Turns, by_offer, fits_in, fits_with}
+use Rattle.controller.specs.Doing.{IsUnchanged, Turns, by_offer, fits_in, fits_with}
 use Rattle.controller.specs.Many.{AreReady, Due, IsReadyFor, all_due, due, due_of}
 use Rattle.controller.specs.Offers.{HasCell, awaits, may_begin}
 use Rattle.controller.specs.Rest.{is_at_rest}
@@ -63,16 +64,16 @@ answers_behind = (refl, refl)
 
 -- ---- a refusal: all is as before
 
-is_as_before : Stays counted counted (pong 2 ∷ []) (pong 2 ∷ [])
+is_as_before : IsUnchanged counted counted (pong 2 ∷ []) (pong 2 ∷ [])
 is_as_before = (refl, refl)
 
-counts_no_refusal : Stays fresh counted [] [] → ⊥
+counts_no_refusal : IsUnchanged fresh counted [] [] → ⊥
 counts_no_refusal stays = one_is_not_none (ap (λ (c : Controller). c.ignored) stays.0)
 
-puts_nothing_when_refused : Stays fresh fresh [] (pong 1 ∷ []) → ⊥
+puts_nothing_when_refused : IsUnchanged fresh fresh [] (pong 1 ∷ []) → ⊥
 puts_nothing_when_refused stays = one_is_not_none (ap first stays.1)
 
-drops_nothing_when_refused : Stays fresh fresh (pong 1 ∷ []) [] → ⊥
+drops_nothing_when_refused : IsUnchanged fresh fresh (pong 1 ∷ []) [] → ⊥
 drops_nothing_when_refused stays = none_is_not_one (ap first stays.1)
 
 -- ---- connections with these numbers, on 41 of cell 1
@@ -81,7 +82,7 @@ abbrev channel : ℕ → ℕ → Channel
 channel station number = record {
   station = station;
   number = number;
-  cell = 0x00 ∷ 0x00 ∷ 0xf1 ∷ 0x10 ∷ 0x00 ∷ 0x01 ∷ 0x00 ∷ 0x01 ∷ [];
+  cell = hex "00 00 f1 10 00 01 00 01";
   description = record { arfcn = 20; ncc = 1; bcc = 1 };
   reference = record { 0 = 0 };
 }

@@ -14,8 +14,8 @@ abbrev pub Turns : Turn → Controller → Controller → List Out → List Out 
 Turns t old new outs outs_after = (new ≡ t.next) × (outs_after ≡ outs ++ t.outs)
 
 -- nothing changed
-abbrev pub Stays : Controller → Controller → List Out → List Out → Type 0
-Stays old new outs outs_after = (new ≡ old) × (outs_after ≡ outs)
+abbrev pub IsUnchanged : Controller → Controller → List Out → List Out → Type 0
+IsUnchanged old new outs outs_after = (new ≡ old) × (outs_after ≡ outs)
 
 -- whether a row fits
 abbrev pub fits_in : Controller → Input → Option Entry → Bool

@@ -3,7 +3,7 @@ ghost use Rattle.conn_messages.specs.Out.{IsLawfulMessage, outs_of};
 ghost use Rattle.conn_messages.specs.StationMessage.{access_activation};
 ghost use Rattle.connections.specs.Entries.{IsOfCell};
 ghost use Rattle.controller_model.specs.Life as words;
-ghost use Rattle.controller.specs.Doing.{Stays, Turns};
+ghost use Rattle.controller.specs.Doing.{IsUnchanged, Turns};
 
 use crate::controller::Controller;
 use conn_fsm::{Channel, Outputs};
@@ -27,7 +27,7 @@ impl Controller {
         requires { station ≢ 0 }
         ensures ok { OnOk result (Turns (words.asked self.old station request delay)
             self.old self.new outputs.old.outs outputs.new.outs) }
-        ensures err { OnErr result (Stays self.old self.new outputs.old.outs outputs.new.outs) }
+        ensures err { OnErr result (IsUnchanged self.old self.new outputs.old.outs outputs.new.outs) }
     {
         if !self.may_open() {
             self.ignore();
@@ -60,7 +60,7 @@ impl Controller {
         requires channel { IsOfCell self.old.settings channel }
         ensures ok { OnOk result (Turns (words.with_connection self.old channel request delay)
             self.old self.new outputs.old.outs outputs.new.outs) }
-        ensures err { OnErr result (Stays self.old self.new outputs.old.outs outputs.new.outs) }
+        ensures err { OnErr result (IsUnchanged self.old self.new outputs.old.outs outputs.new.outs) }
     {
         let number = self.next_number;
         let made = activation_frames(self.alloc, number, &channel, outputs)?;

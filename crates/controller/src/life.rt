@@ -4,21 +4,21 @@ ghost use Rattle.conn_messages.specs.declared.parameters.TheConstants.{SWITCH_LI
 ghost use Rattle.controller_model.specs.LifeLaws.Acts.{ActsOn};
 ghost use Rattle.controller_model.specs.LifeLaws.Concern.{FrameLeaves};
 ghost use Rattle.controller_model.specs.LifeLaws.Downlink.{DownlinkIsConserved};
-ghost use Rattle.controller_model.specs.LifeLaws.End.{IsThere, SilenceIsKept, StaysSilent};
+ghost use Rattle.controller_model.specs.LifeLaws.End.{IsThere, SilenceIsKept, IsSilentThrough};
 ghost use Rattle.controller_model.specs.LifeLaws.Handing.{HandsInPlace};
 ghost use Rattle.controller_model.specs.LifeLaws.History.{connection_of};
 ghost use Rattle.controller_model.specs.LifeLaws.Naming.{NamesItsMobile};
 ghost use Rattle.controller_model.specs.LifeLaws.Numbers.{IsNumbered};
 ghost use Rattle.controller_model.specs.LifeLaws.Owning.{LinkedOf, OwnsOpen};
 ghost use Rattle.controller_model.specs.LifeLaws.Placing.{KeepsToChannels};
-ghost use Rattle.controller_model.specs.LifeLaws.Reach.{GoesToUp};
-ghost use Rattle.controller_model.specs.LifeLaws.Sending.{ComesInOctets, IsSent};
+ghost use Rattle.controller_model.specs.LifeLaws.Reach.{PutsOnUpLinks};
+ghost use Rattle.controller_model.specs.LifeLaws.Sending.{IsOctetStep, IsSent};
 ghost use Rattle.controller_model.specs.LifeLaws.Uplink.{UplinkIsConserved};
 ghost use Rattle.controller_model.specs.LifeLaws.Using.{AreUsed};
 ghost use Rattle.controller_model.specs.declared.step.Step.{Step as StepValue};
-ghost use Rattle.controller_model.specs.Controller.{each, is_up, new_controller, turn};
+ghost use Rattle.controller_model.specs.Controller.{each, is_up, turn};
 ghost use Rattle.controller_model.specs.Life as words;
-ghost use Rattle.controller.specs.Doing.{Stays, Turns};
+ghost use Rattle.controller.specs.Doing.{IsUnchanged, Turns};
 ghost use Rattle.ipa_framing.specs.declared.frame.Frame.{Frame as FrameValue};
 ghost use Rattle.settings.specs.Parameters.{AreAllowed};
 
@@ -55,7 +55,7 @@ pub fn run(
         SilenceIsKept number settings steps.items (turn both.1.outs both.0)) }
     ensures closed { IfOk result (λ both. (rest : List StepValue) (number : ℕ) → 1 ≤ number →
         number < both.0.next_number → (IsThere (connection_of both.0 number) → ⊥) →
-        StaysSilent number both.0 rest) }
+        IsSilentThrough number both.0 rest) }
 
     // Told by the messages alone: nothing is handed from the COMMAND until COMPLETE, FAILURE or a
     // clear; else it goes to the channel that serves; and once CLEAR COMPLETE was put only RLC is
@@ -83,7 +83,7 @@ pub fn run(
         ActsOn number both.0 next) }
     ensures placed { IfOk result (λ both. (next : StepValue) (number : ℕ) → 1 ≤ number →
         KeepsToChannels number both.0 next) }
-    ensures reach { IfOk result (λ both. (next : StepValue) → GoesToUp both.0 next) }
+    ensures reach { IfOk result (λ both. (next : StepValue) → PutsOnUpLinks both.0 next) }
     ensures named { IfOk result (λ both. (next : StepValue) (number : ℕ) → 1 ≤ number →
         NamesItsMobile number both.0 next) }
     ensures others { IfOk result (λ both. (number source : ℕ) (frame : FrameValue) → 1 ≤ number →
@@ -91,7 +91,7 @@ pub fn run(
 
     // Where what came was octets, each frame has 2,048 octets at most, and is read as the message
     // that was put.
-    ensures sent { IfOk result (λ both. AllByRecursion ComesInOctets steps.items →
+    ensures sent { IfOk result (λ both. AllByRecursion IsOctetStep steps.items →
         AllByRecursion IsSent both.1.outs) }
 {
     live(alloc, settings, steps)
@@ -125,7 +125,7 @@ impl Controller {
     pub fn run_one(&mut self, step: Step, outputs: &mut Outputs) -> Result<(), Memory>
         ensures ok { OnOk result (Turns (words.step self.old step)
             self.old self.new outputs.old.outs outputs.new.outs) }
-        ensures err { OnErr result (Stays self.old self.new outputs.old.outs outputs.new.outs) }
+        ensures err { OnErr result (IsUnchanged self.old self.new outputs.old.outs outputs.new.outs) }
     {
         match step {
             Step::Take(item) => self.step(item, outputs).map_err(|_| Memory),

@@ -1,6 +1,7 @@
 -- How rows of the controller are told: what came, and what each step puts; two cells.
 use Rattle.controller_model.proofs.Prelude.{ℕ, List, [], ◌∷◌, map, Option, codes, option_map, false, Out, State, Parameters, ChannelState}
 use Rattle.controller_model.proofs.Prelude.{Step, Take, Controller, entry_of, channel_state, place_at, step}
+use Rattle.octets.proofs.Hex.{hex}
 use Rattle.ruled_relay.specs.declared.item.What.TheVariants as whats
 
 -- a frame that goes out: its link and body
@@ -52,8 +53,8 @@ usual_settings = record {
   timers = record { t3101_ms = 3000; t3103_ms = 5000; t3107_ms = 5000; drain_ms = 2000 };
   handover = record { rxlev_window = 10; rxqual_window = 1; neighbour_window = 10; interval = 6; hysteresis = 3 };
   cells =
-      record { listen = codes "127.0.0.1:3003"; location_area_code = 1; cell_identity = 1; arfcn = 20; bsic = record { ncc = 1; bcc = 1 }; channels = 0x41 ∷ 0x49 ∷ 0x0a ∷ [] }
-      ∷ record { listen = codes "127.0.0.1:3004"; location_area_code = 1; cell_identity = 2; arfcn = 30; bsic = record { ncc = 2; bcc = 2 }; channels = 0x41 ∷ 0x0a ∷ [] }
+      record { listen = codes "127.0.0.1:3003"; location_area_code = 1; cell_identity = 1; arfcn = 20; bsic = record { ncc = 1; bcc = 1 }; channels = hex "41 49 0a" }
+      ∷ record { listen = codes "127.0.0.1:3004"; location_area_code = 1; cell_identity = 2; arfcn = 30; bsic = record { ncc = 2; bcc = 2 }; channels = hex "41 0a" }
       ∷ [];
 }
 

@@ -6,7 +6,7 @@ use Rattle.controller_model.proofs.Prelude.{Releasing, Word, Asks, OnChannel, Re
 use Rattle.controller_model.proofs.Prelude.{Controller, Entry, Turn, turn, ignoring, has_number, entry_of, with_entry, channel_state}
 use Rattle.controller_model.proofs.Prelude.{holder, freed, by_row, by_fitting, row_in, concerning, concerning_too, entry_after, given}
 use Rattle.controller_model.proofs.Prelude.{may_open, new_entry, frees, entry_at, on_freed, on_state, measures, on_decision, measured}
-use Rattle.controller_model.proofs.Prelude.{with_report, on_report, on_word, told, aged, all_aged, expiry, timed, concerned, Leaves}
+use Rattle.controller_model.proofs.Prelude.{with_report, on_report, on_word, with_own_input, aged, all_aged, expiry, timed, concerned, Leaves}
 use Rattle.controller_model.proofs.Prelude.{decision_over}
 use Rattle.conn_rules.specs.declared.input.Input.TheVariants as inputs
 use Rattle.controller_model.specs.Life.{on_expiry}
@@ -98,7 +98,7 @@ word_leaves m source _ c other = refl
 
 -- ---- breaks and time: one connection after the other
 
-pub told_leaves : (m : ℕ) (input : Input) (c : Controller) (e : Entry) → m ≢ e.connection.number → Leaves m c (told input c e).next
+pub told_leaves : (m : ℕ) (input : Input) (c : Controller) (e : Entry) → m ≢ e.connection.number → Leaves m c (with_own_input input c e).next
 told_leaves m input c e other = fitting_leaves m (turn [] c) e (row_in c e.connection input) c refl (keeps_number e.connection input _) other
 
 expiry_leaves : (m : ℕ) (o : Option Input) (c : Controller) (e : Entry) → m ≢ e.connection.number → Leaves m c (on_expiry o c e).next

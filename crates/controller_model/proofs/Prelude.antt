@@ -37,15 +37,15 @@ pub use Rattle.conn_rules.proofs.Downlink.{IsSilent-row, KeepsDownlink-row}
 pub use Rattle.conn_rules.proofs.DownlinkMessages.{AllByRecursion-append, AllByRecursion-filter, AllByRecursion-so, AreParting, IsParting}
 pub use Rattle.conn_rules.proofs.DownlinkSteps.{Does, failing_shut}
 pub use Rattle.conn_rules.proofs.RolesAccount.{KeepsAccount-by, both_true as both_hold, undone-still_draining}
-pub use Rattle.conn_rules.proofs.RolesTable.{ChangesRoles-row}
+pub use Rattle.conn_rules.proofs.RolesTable.{changes_roles_row}
 pub use Rattle.conn_rules.proofs.RowPuts.{either, where_fits, Brings, Enters, HasReference, Kinds, Parts, Puts, any_cause, free}
-pub use Rattle.conn_rules.proofs.RowPuts.{free_brings, free_parts, row-messages, row-puts}
+pub use Rattle.conn_rules.proofs.RowPuts.{free_brings, free_parts, row_messages, row_puts}
 pub use Rattle.conn_rules.proofs.StandingSteps.{by_state, Stands-new}
-pub use Rattle.conn_rules.proofs.UplinkPlaces.{AreAway, drain_at-drains, same_place, DrainsAt, all_away, all_behind, apart_behind}
-pub use Rattle.conn_rules.proofs.UplinkPlaces.{apart_first, apart_rest, away-of, away-of_other, drain-away, drain-behind_away}
+pub use Rattle.conn_rules.proofs.UplinkPlaces.{AreAway, drain_at_drains, same_place, DrainsAt, all_away, all_behind, apart_behind}
+pub use Rattle.conn_rules.proofs.UplinkPlaces.{apart_first, apart_rest, away_of, away_of_other, drain_away, drain_behind_away}
 pub use Rattle.conn_rules.specs.Connection.{Connection, drain_at, emptied, enter, first_channel, is_at, new_connection, tenure_at}
 pub use Rattle.conn_rules.specs.Putting.{ArePutOn, IsPutOn, PutsOnOwn, Using, used_after, uses_of}
-pub use Rattle.conn_rules.specs.Roles.{ChangesRoles, GoesOn, MayBegin, RoleEnd, RoleStep, Roles, TargetRole, after_step, awaits_at}
+pub use Rattle.conn_rules.specs.Roles.{ChangesRoles, RemainsOpen, MayBegin, RoleEnd, RoleStep, Roles, TargetRole, after_step, awaits_at}
 pub use Rattle.conn_rules.specs.Roles.{begin_orders, changes_by, channels_in, channels_in_use, end_messages, is_order, leaves_at, orders}
 pub use Rattle.conn_rules.specs.Roles.{roles_of, step_by, step_orders, target_channels, target_role, those_that_go, to_stations}
 pub use Rattle.conn_rules.specs.Roles.{with_target, ChangesRolesBy, IsGivenUp, IsNew, KeepsChannels, is_target_at, is_to_station}
@@ -53,12 +53,12 @@ pub use Rattle.conn_rules.specs.Roles.{target_orders}
 pub use Rattle.conn_rules.specs.Roles.ChangesRoles.{ends, goes_on, had_ended}
 pub use Rattle.conn_rules.specs.Roles.RoleEnd.{dismisses, drops, refused}
 pub use Rattle.conn_rules.specs.Roles.RoleStep.{commands, completes, goes_back, leaves, stays}
-pub use Rattle.conn_rules.specs.Standing.{IsCarried, Stands, DrainTime, IsHeldTenure}
+pub use Rattle.conn_rules.specs.Validity.{IsCarried, IsValid, DrainTime, IsHeldTenure}
 pub use Rattle.conn_rules.specs.Steps.{Row, after_waiting, ask_for_held, begin, begin_waiting, done_at, dropping, failing}
-pub use Rattle.conn_rules.specs.Steps.{goes_to, hand_held, hold_down, hold_short_message, hold_up, leave, link_down, link_up, may_begin}
+pub use Rattle.conn_rules.specs.Steps.{is_for_station, hand_held, hold_down, hold_short_message, hold_up, leave, link_down, link_up, may_begin}
 pub use Rattle.conn_rules.specs.Steps.{moved, relay_held, request_for, request_where, resting, resting_stage, row, settled, settled_stage}
 pub use Rattle.conn_rules.specs.Steps.{shifted, short_message, waiting_outs, without_station, ◌then◌, begin_outs, tenure_outs}
-pub use Rattle.conn_rules.specs.Streams.{AreApart, Future, GoesTo, IsApart, IsChanging, IsOpen, OfRow, from_input, is_dtap, of_target}
+pub use Rattle.conn_rules.specs.Streams.{AreApart, Future, IsHandedTo, IsApart, IsChanging, IsOpen, OfRow, from_input, is_dtap, of_target}
 pub use Rattle.conn_rules.specs.Streams.{relayed, still_of, target_in, undone, used_channels, Ends, IsFinal, IsReleaseComplete, IsSilent}
 pub use Rattle.conn_rules.specs.Streams.{KeepsDownlink, KeepsUplink, OnlyReleases, handed, handed_by as handed_by_message}
 pub use Rattle.conn_rules.specs.Streams.{handed as handed_of, is_of, of_prepared, on_channel, received_by, rejects, relayed_by}
@@ -89,7 +89,7 @@ pub use Rattle.controller_model.specs.Controller.{place_of, put_back, remaining,
 pub use Rattle.controller_model.specs.Life.{aged, all_aged, break_of, by_fitting, by_row, concerning, concerning_too, entry_after, entry_at}
 pub use Rattle.controller_model.specs.Life.{on_expiry as expires, expiry, fits, frees, given, is_measured, life, may_open, measured}
 pub use Rattle.controller_model.specs.Life.{measures, new_averages, new_entry, on_break, on_decision, on_freed, on_report, on_state}
-pub use Rattle.controller_model.specs.Life.{on_what, on_word, pong, row_in, step, timed, told, with_connection, with_report}
+pub use Rattle.controller_model.specs.Life.{on_what, on_word, pong, row_in, step, timed, with_own_input, with_connection, with_report}
 pub use Rattle.controller_model.specs.LifeLaws.Acts.{Acts, ActsOn, Brought, FitsNone, IsAged, IsBrought, IsTimer, brought_by, brought_in}
 pub use Rattle.controller_model.specs.LifeLaws.Acts.{brought_with, if_held, kept, kept_in, passed}
 pub use Rattle.controller_model.specs.LifeLaws.Acts.Acts.{ages, goes, opens, rests}
@@ -98,15 +98,15 @@ pub use Rattle.controller_model.specs.LifeLaws.Concern.{FrameLeaves, IsLeft}
 pub use Rattle.controller_model.specs.LifeLaws.Downlink.{ConservesDownlink, DownlinkIsConserved, IsPart, Switched, confirms, counted}
 pub use Rattle.controller_model.specs.LifeLaws.Downlink.{is_confirm, left_over, nothing_switched, requests, switched, with_moment}
 pub use Rattle.controller_model.specs.LifeLaws.End.{AllAreRead, AllKeepSilence, GoToServing, HasNoStream, IsAway, IsThere, KeepsSilence}
-pub use Rattle.controller_model.specs.LifeLaws.End.{OnlyReleasesAfter, SilenceIsKept, StaysSilent}
+pub use Rattle.controller_model.specs.LifeLaws.End.{OnlyReleasesAfter, SilenceIsKept, IsSilentThrough}
 pub use Rattle.controller_model.specs.LifeLaws.History.{IsHistory, Moment, all_messages, connection_of, is_for, outs_for, word_by, word_in}
 pub use Rattle.controller_model.specs.LifeLaws.Naming.{Names, NamesItsMobile, NamesOf, SameRequest}
 pub use Rattle.controller_model.specs.LifeLaws.Numbers.{AreRising, IsAbove, IsBelow, IsNumbered}
 pub use Rattle.controller_model.specs.LifeLaws.Owning.{AreIn, LinkedOf, Owns, OwnsOpen, is_link_up, used_in}
 pub use Rattle.controller_model.specs.LifeLaws.Placing.{KeepsToChannels, used_by}
-pub use Rattle.controller_model.specs.LifeLaws.Reach.{GoesToUp}
+pub use Rattle.controller_model.specs.LifeLaws.Reach.{PutsOnUpLinks}
 pub use Rattle.controller_model.specs.LifeLaws.Seen.{messages_on, passed_by}
-pub use Rattle.controller_model.specs.LifeLaws.Sending.{ComesInOctets, IsMessage, IsOfOctets, IsSent, SendsMessages}
+pub use Rattle.controller_model.specs.LifeLaws.Sending.{IsOctetStep, IsMessage, IsOfOctets, IsSent, SendsMessages}
 pub use Rattle.controller_model.specs.LifeLaws.Uplink.{Tenure, UplinkIsConserved, acknowledged, after_input, after_moment, after_word}
 pub use Rattle.controller_model.specs.LifeLaws.Uplink.{begin_first, begin_next, beginning, ended, heard, is_on, is_same, joined, of_sapi}
 pub use Rattle.controller_model.specs.LifeLaws.Uplink.{performs, service, with_message}

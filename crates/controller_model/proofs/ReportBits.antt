@@ -9,7 +9,7 @@ use Rattle.dtap_codec.specs.Bits.{Field, field, width_of, number_of, Fit}
 use Rattle.dtap_codec.specs.declared.report.Neighbour.{Neighbour}
 use Rattle.dtap_codec.specs.Report.{IsReport, Writes, entries_fields, report_fields}
 use Rattle.dtap_codec.proofs.Fields.{number_of-below, together}
-use Rattle.dtap_codec.proofs.Reports.{bit-is_one, bit-is_zero, same_report}
+use Rattle.dtap_codec.proofs.Reports.{bit_is_one, bit_is_zero, same_report}
 use Rattle.controller_model.specs.Reports.{report_reading}
 
 -- ---- a number, cut into fields of these widths
@@ -59,7 +59,7 @@ report_widths =
 fields_are : (n : ℕ) → report_fields (bits 1 119 n) (bits 1 111 n) (report_in n) ≡ cut report_widths n
 unfolding cut total
 fields_are n =
-    rw (sym (bit-is_one (bits 1 126 n) (mod-lt (n / 2 ^ 126) (pow_pos 1))), sym (bit-is_zero (bits 1 118 n) (mod-lt (n / 2 ^ 118) (pow_pos 1)))) refl
+    rw (sym (bit_is_one (bits 1 126 n) (mod-lt (n / 2 ^ 126) (pow_pos 1))), sym (bit_is_zero (bits 1 118 n) (mod-lt (n / 2 ^ 118) (pow_pos 1)))) refl
 
 writes : (n : ℕ) → n < 2 ^ 128 → Writes n (report_in n)
 unfolding total

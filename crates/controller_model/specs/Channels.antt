@@ -1,5 +1,7 @@
 -- The channels of the cells, and which of them a connection is given or offered.
-use Rattle.std.specs.Prelude.{ℕ, ◌+◌, ◌-◌, ◌*◌, ◌/◌, ◌%◌, ◌&&◌, nat_lt, Bool, true, false, if◌then◌else◌, List, [], ◌∷◌, find, slice_get, slice_index_or, Option, None, option_map}
+use Rattle.std.specs.Prelude.{ℕ, ◌+◌, ◌-◌, ◌*◌, ◌/◌, ◌%◌, ◌&&◌, nat_lt, Bool, true, false}
+use Rattle.std.specs.Prelude.{if◌then◌else◌, List, [], ◌∷◌, find, slice_get, slice_index_or, Option}
+use Rattle.std.specs.Prelude.{None, option_map}
 use Rattle.std.specs.Option.{option_and_then}
 use Rattle.controller_model.specs.Prelude.{Channel, Input, Connection, row_of, Parameters}
 use Rattle.conn_rules.specs.Table.{serving_after}
@@ -27,8 +29,10 @@ digits high low = 16 * high + low
 
 abbrev pub cell_identifier : Network → CellParameters → List ℕ
 cell_identifier n cell =
-    0 ∷ digits (digit_at n.mcc 1) (digit_at n.mcc 0) ∷ digits (third_digit n.mnc) (digit_at n.mcc 2) ∷ digits (digit_at n.mnc 1) (digit_at n.mnc 0)
-    ∷ (cell.location_area_code / 256) ∷ (cell.location_area_code % 256) ∷ (cell.cell_identity / 256) ∷ (cell.cell_identity % 256) ∷ []
+    0 ∷ digits (digit_at n.mcc 1) (digit_at n.mcc 0) ∷ digits (third_digit n.mnc) (digit_at n.mcc 2)
+    ∷ digits (digit_at n.mnc 1) (digit_at n.mnc 0)
+    ∷ (cell.location_area_code / 256) ∷ (cell.location_area_code % 256) ∷ (cell.cell_identity / 256)
+    ∷ (cell.cell_identity % 256) ∷ []
 
 -- ---- channels
 
@@ -59,19 +63,25 @@ is_free channels station number = is_unused (state_in channels (place_at station
 
 -- the first free channel of this kind in a cell, in the order of the settings
 abbrev pub free_in : List (List ChannelState) → ℕ → ChannelKind → CellParameters → Option ℕ
-free_in channels station kind cell = find (λ number. is_alike kind (kind_of number) && is_free channels station number) cell.channels
+free_in channels station kind cell =
+    find (λ number. is_alike kind (kind_of number) && is_free channels station number) cell.channels
 
-abbrev pub channel_of_kind : Parameters → List (List ChannelState) → ℕ → ℕ → ChannelKind → CellParameters → Option Channel
-channel_of_kind p channels station reference kind cell = option_map (channel_in p station reference cell) (free_in channels station kind cell)
+abbrev pub channel_of_kind : Parameters → List (List ChannelState) → ℕ → ℕ → ChannelKind
+    → CellParameters → Option Channel
+channel_of_kind p channels station reference kind cell =
+    option_map (channel_in p station reference cell) (free_in channels station kind cell)
 
 -- the same in the cell of a station, from 1
-abbrev pub free_channel : Parameters → List (List ChannelState) → ℕ → ℕ → ChannelKind → Option Channel
+abbrev pub free_channel : Parameters → List (List ChannelState) → ℕ → ℕ → ChannelKind
+    → Option Channel
 free_channel p channels station reference kind =
-    option_and_then (channel_of_kind p channels station reference kind) (slice_get p.cells (station - 1))
+    option_and_then (channel_of_kind p channels station reference kind) (slice_get p.cells (station
+    - 1))
 
 -- none where its link is down
 abbrev pub first_free : Controller → ℕ → ℕ → ChannelKind → Option Channel
-first_free c station reference kind = if is_up c station then free_channel c.settings c.channels station reference kind else None
+first_free c station reference kind =
+    if is_up c station then free_channel c.settings c.channels station reference kind else None
 
 -- for access
 abbrev pub access_channel : Controller → ℕ → Option Channel

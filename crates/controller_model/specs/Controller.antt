@@ -1,12 +1,16 @@
 -- The controller, as a record of plain lists.
-use Rattle.std.specs.Prelude.{ℕ, ◌+◌, ◌==◌, min, Bool, true, false, if◌then◌else◌, List, [], ◌∷◌, ◌++◌, length, replicate, unwrap_or, find, slice_get, slice_index_or, set, Option, Some, None}
-use Rattle.controller_model.specs.Prelude.{Channel, Place, Message, Out, State, Connection, Parameters}
+use Rattle.std.specs.Prelude.{ℕ, ◌+◌, ◌==◌, min, Bool, true, false, if◌then◌else◌, List, [], ◌∷◌}
+use Rattle.std.specs.Prelude.{◌++◌, length, replicate, unwrap_or, find, slice_get, slice_index_or}
+use Rattle.std.specs.Prelude.{set, Option, Some, None}
+use Rattle.controller_model.specs.Prelude.{Channel, Place, Message, Out, State, Connection}
+use Rattle.controller_model.specs.Prelude.{Parameters}
 use Rattle.conn_messages.specs.declared.uses.ChannelUse.{ChannelUse}
 use Rattle.conn_messages.specs.declared.uses.ChannelUse.TheVariants.{Activated, Released, Unchanged}
 use Rattle.conn_messages.specs.ChannelUse.{use_by}
 use Rattle.conn_rules.specs.declared.state.State.TheVariants.{Removed}
 use Rattle.controller_model.specs.declared.channel_state.ChannelState.{ChannelState}
-use Rattle.controller_model.specs.declared.channel_state.ChannelState.TheVariants.{Free, InUse, Releasing}
+use Rattle.controller_model.specs.declared.channel_state.ChannelState.TheVariants.{Free, InUse}
+use Rattle.controller_model.specs.declared.channel_state.ChannelState.TheVariants.{Releasing}
 use Rattle.controller_model.specs.declared.limits.TheConstants.{CHANNEL_NUMBERS, MAX_IGNORED}
 use Rattle.ho_decision.specs.State.{State as Averages}
 
@@ -62,7 +66,9 @@ ignoring c = turn [] (record c { ignored = min (c.ignored + 1) MAX_IGNORED })
 -- the same step of each of a list, one after the other
 abbrev pub each : {X : Type 0} → (Controller → X → Turn) → Controller → List X → Turn
 each step c [] = turn [] c
-each step c (x ∷ xs) = turn ((step c x).outs ++ (each step (step c x).next xs).outs) (each step (step c x).next xs).next
+each step c (x ∷ xs) =
+    turn ((step c x).outs ++ (each step (step c x).next xs).outs)
+    (each step (step c x).next xs).next
 
 -- ---- links
 
@@ -89,7 +95,9 @@ remaining state e = e ∷ []
 -- in the place of the entry of its number
 abbrev pub put_back : Entry → List Entry → List Entry
 put_back e [] = []
-put_back e (x ∷ xs) = if has_number e.connection.number x then remaining e.connection.state e ++ xs else x ∷ put_back e xs
+put_back e (x ∷ xs) =
+    if has_number e.connection.number x then remaining e.connection.state e ++ xs
+    else x ∷ put_back e xs
 
 abbrev pub with_entry : Entry → Controller → Controller
 with_entry e c = record c { entries = put_back e c.entries }
@@ -116,7 +124,8 @@ holder (InUse number) = Some number
 holder (Releasing number) = Some number
 
 abbrev pub with_state : Place → ChannelState → List (List ChannelState) → List (List ChannelState)
-with_state at state channels = set channels at.station (set (slice_index_or channels at.station []) at.number state)
+with_state at state channels =
+    set channels at.station (set (slice_index_or channels at.station []) at.number state)
 
 abbrev pub freed : Place → Controller → Controller
 freed at c = record c { channels = with_state at Free c.channels }

@@ -1,10 +1,12 @@
 -- The controller over what it takes: what each item and each tick puts, and what it makes of the
 -- controller.
-use Rattle.std.specs.Prelude.{ℕ, ◌+◌, ◌%◌, ◌==◌, ◌&&◌, nat_le, Bool, true, false, if◌then◌else◌, List, [], ◌∷◌, ◌++◌, count_by, fold, map, Option, Some, None}
+use Rattle.std.specs.Prelude.{ℕ, ◌+◌, ◌%◌, ◌==◌, ◌&&◌, nat_le, Bool, true, false, if◌then◌else◌}
+use Rattle.std.specs.Prelude.{List, [], ◌∷◌, ◌++◌, count_by, fold, map, Option, Some, None}
 use Rattle.std.specs.Option.{is_some, option_and_then}
 use Rattle.conn_messages.specs.declared.channel.Change.{Change}
 use Rattle.conn_messages.specs.declared.channel.Change.TheVariants.{Assignment, Handover}
-use Rattle.controller_model.specs.Prelude.{Channel, Place, Message, Out, SWITCH_LINK, outs_of, Input, State, Connection, row_of, What}
+use Rattle.controller_model.specs.Prelude.{Channel, Place, Message, Out, SWITCH_LINK, outs_of}
+use Rattle.controller_model.specs.Prelude.{Input, State, Connection, row_of, What}
 use Rattle.controller_model.specs.Prelude.{Report, RequestReference, Parameters}
 use Rattle.conn_messages.specs.declared.uses.ChannelUse.{ChannelUse}
 use Rattle.conn_messages.specs.declared.uses.ChannelUse.TheVariants.{Activated}
@@ -13,7 +15,8 @@ use Rattle.conn_messages.specs.Out.{out_of}
 use Rattle.conn_messages.specs.StationMessage.{access_activation}
 use Rattle.conn_rules.specs.declared.input.Input.TheVariants as inputs
 use Rattle.conn_rules.specs.declared.state.Stage.TheVariants.{Preparing, Changing}
-use Rattle.conn_rules.specs.declared.state.State.TheVariants.{WaitActivation, WaitEstablish, WaitConfirm, Live}
+use Rattle.conn_rules.specs.declared.state.State.TheVariants.{WaitActivation, WaitEstablish}
+use Rattle.conn_rules.specs.declared.state.State.TheVariants.{WaitConfirm, Live}
 use Rattle.conn_rules.specs.Connection.{new_connection, is_at}
 use Rattle.conn_rules.specs.Steps.{Row}
 use Rattle.conn_rules.specs.Timers.{after_pass}
@@ -25,9 +28,13 @@ use Rattle.controller_model.specs.declared.limits.TheConstants.{MAX_CONNECTION_N
 use Rattle.controller_model.specs.declared.step.Step.{Step}
 use Rattle.controller_model.specs.declared.step.Step.TheVariants.{Take, Tick}
 use Rattle.controller_model.specs.declared.word.Word.{Word}
-use Rattle.controller_model.specs.declared.word.Word.TheVariants.{Nothing, Ping, Asks, OnChannel, Reports, OnConnection}
+use Rattle.controller_model.specs.declared.word.Word.TheVariants.{Nothing, Ping, Asks, OnChannel}
+use Rattle.controller_model.specs.declared.word.Word.TheVariants.{Reports, OnConnection}
 use Rattle.controller_model.specs.Channels.{access_channel, handover_offer, request_offer}
-use Rattle.controller_model.specs.Controller.{Controller, Entry, Turn, turn, each, new_controller, ignoring, is_up, with_down, entry_of, with_entry, place_of, channel_state, holder, freed, freed_station, channels_after}
+use Rattle.controller_model.specs.Controller.{Controller, Entry, Turn, turn, each, new_controller}
+use Rattle.controller_model.specs.Controller.{ignoring, is_up, with_down, entry_of, with_entry}
+use Rattle.controller_model.specs.Controller.{place_of, channel_state, holder, freed, freed_station}
+use Rattle.controller_model.specs.Controller.{channels_after}
 use Rattle.controller_model.specs.Reading.{word_of}
 use Rattle.controller_model.specs.Reports.{decision_over}
 use Rattle.ho_decision.specs.declared.decision.Decision.{Decision}
@@ -45,24 +52,31 @@ abbrev pub new_averages : Parameters → Channel → Averages
 new_averages p serving = new_state (handover_settings_of p serving.station)
 
 abbrev pub averages_after : Parameters → Channel → Channel → Averages → Averages
-averages_after p before after averages = if is_at (place_of before) after then averages else new_averages p after
+averages_after p before after averages =
+    if is_at (place_of before) after then averages else new_averages p after
 
 abbrev pub entry_after : Parameters → Entry → Row → Entry
-entry_after p e r = record { connection = r.next; averages = averages_after p e.connection.serving r.next.serving e.averages }
+entry_after p e r =
+    record {
+      connection = r.next;
+      averages = averages_after p e.connection.serving r.next.serving e.averages;
+    }
 
 abbrev pub begins_handover : ChannelUse → Bool
 begins_handover (Activated at why) = why.0 == ASYNCHRONOUS_HANDOVER.0
 begins_handover _ = false
 
 abbrev pub handovers_after : ℕ → List Message → ℕ
-handovers_after handovers messages = (handovers + count_by (λ m. begins_handover (use_by m)) messages) % 256
+handovers_after handovers messages =
+    (handovers + count_by (λ m. begins_handover (use_by m)) messages) % 256
 
 -- what it puts goes out; the connection, its channels and the handovers begun are as after it
 abbrev pub by_row : Entry → Row → Controller → Turn
-by_row e r c = turn (outs_of e.connection.number r.outs) (with_entry (entry_after c.settings e r) (record c {
-  channels = fold (channels_after e.connection.number) c.channels r.outs;
-  handovers = handovers_after c.handovers r.outs;
-}))
+by_row e r c =
+    turn (outs_of e.connection.number r.outs) (with_entry (entry_after c.settings e r) (record c {
+      channels = fold (channels_after e.connection.number) c.channels r.outs;
+      handovers = handovers_after c.handovers r.outs;
+    }))
 
 -- the row that fits; else this
 abbrev pub by_fitting : Turn → Entry → Option Row → Controller → Turn
@@ -86,15 +100,20 @@ concerning_too input c (Some e) = by_fitting (turn [] c) e (row_in c e.connectio
 
 abbrev pub new_entry : Parameters → ℕ → Channel → RequestReference → ℕ → Entry
 new_entry p number channel request delay =
-    record { connection = new_connection number channel request delay; averages = new_averages p channel }
+    record {
+      connection =
+          new_connection number channel request delay;
+      averages = new_averages p channel;
+    }
 
 -- the next connection, with a channel that is activated
 abbrev pub with_connection : Controller → Channel → RequestReference → ℕ → Turn
-with_connection c channel request delay = turn (out_of c.next_number (access_activation channel) ∷ []) (record c {
-  channels = channels_after c.next_number c.channels (access_activation channel);
-  entries = c.entries ++ new_entry c.settings c.next_number channel request delay ∷ [];
-  next_number = c.next_number + 1;
-})
+with_connection c channel request delay =
+    turn (out_of c.next_number (access_activation channel) ∷ []) (record c {
+      channels = channels_after c.next_number c.channels (access_activation channel);
+      entries = c.entries ++ new_entry c.settings c.next_number channel request delay ∷ [];
+      next_number = c.next_number + 1;
+    })
 
 abbrev pub given : Controller → RequestReference → ℕ → Option Channel → Turn
 given c request delay None = ignoring c
@@ -105,7 +124,8 @@ abbrev pub may_open : Controller → Bool
 may_open c = is_up c SWITCH_LINK && nat_le c.next_number MAX_CONNECTION_NUMBER
 
 abbrev pub asked : Controller → ℕ → RequestReference → ℕ → Turn
-asked c station request delay = if may_open c then given c request delay (access_channel c station) else ignoring c
+asked c station request delay =
+    if may_open c then given c request delay (access_channel c station) else ignoring c
 
 -- ---- what comes on a channel
 
@@ -144,7 +164,9 @@ measures at e = is_at at e.connection.serving && is_measured e.connection.state
 -- a move begins a handover where it may
 abbrev pub on_decision : Decision → Controller → Entry → Turn
 on_decision Stay c e = turn [] c
-on_decision (Move cell) c e = by_fitting (turn [] c) e (row_of e.connection inputs.Move (handover_offer c e.connection.serving cell)) c
+on_decision (Move cell) c e =
+    by_fitting (turn [] c) e (row_of e.connection inputs.Move
+    (handover_offer c e.connection.serving cell)) c
 
 abbrev pub decided : ℕ → Controller → Entry → Turn
 decided number c e = on_decision (decision_over e.averages.settings e.averages.reports number) c e
@@ -153,40 +175,47 @@ abbrev pub with_report : ℕ → Report → Entry → Entry
 with_report number report e = record e { averages = after_report e.averages report number }
 
 abbrev pub measured : ℕ → Report → Controller → Entry → Turn
-measured number report c e = decided number (with_entry (with_report number report e) c) (with_report number report e)
+measured number report c e =
+    decided number (with_entry (with_report number report e) c) (with_report number report e)
 
 abbrev pub on_report : Place → ℕ → Report → Controller → Option Entry → Turn
 on_report at number report c None = ignoring c
-on_report at number report c (Some e) = if measures at e then measured number report c e else ignoring c
+on_report at number report c (Some e) =
+    if measures at e then measured number report c e else ignoring c
 
 -- ---- frames
 
 abbrev pub pong : ℕ → Out
-pong source = record { to = source; conn = 0; frame = record { stream = CCM_STREAM; body = PONG ∷ [] } }
+pong source =
+    record { to = source; conn = 0; frame = record { stream = CCM_STREAM; body = PONG ∷ [] } }
 
 abbrev pub on_word : ℕ → Word → Controller → Turn
 on_word source Nothing c = ignoring c
 on_word source Ping c = turn (pong source ∷ []) c
 on_word source (Asks request delay) c = asked c source request delay
-on_word source (OnChannel at input) c = on_state (channel_state c at) at input c (entry_at c (channel_state c at))
-on_word source (Reports at number report) c = on_report at number report c (entry_at c (channel_state c at))
+on_word source (OnChannel at input) c =
+    on_state (channel_state c at) at input c (entry_at c (channel_state c at))
+on_word source (Reports at number report) c =
+    on_report at number report c (entry_at c (channel_state c at))
 on_word source (OnConnection number input) c = concerning input c (entry_of c number)
 
 -- ---- links break
 
 -- an input of the controller's own, which nobody ignores
-abbrev pub told : Input → Controller → Entry → Turn
-told input c e = concerning_too input c (Some e)
+abbrev pub with_own_input : Input → Controller → Entry → Turn
+with_own_input input c e = concerning_too input c (Some e)
 
 abbrev pub break_of : ℕ → Input
 break_of source = if source == SWITCH_LINK then inputs.SwitchDown else inputs.StationDown source
 
 -- the connections learn of it, and the channels of a station go
 abbrev pub without_link : ℕ → Turn → Turn
-without_link source t = turn t.outs (if source == SWITCH_LINK then t.next else freed_station source t.next)
+without_link source t =
+    turn t.outs (if source == SWITCH_LINK then t.next else freed_station source t.next)
 
 abbrev pub on_break : ℕ → Controller → Turn
-on_break source c = without_link source (each (told (break_of source)) (with_down source c) c.entries)
+on_break source c =
+    without_link source (each (with_own_input (break_of source)) (with_down source c) c.entries)
 
 -- ---- an item: after the break of its link, and where there is none, it is ignored
 
@@ -227,7 +256,7 @@ expiry timers s =
 
 abbrev pub on_expiry : Option Input → Controller → Entry → Turn
 on_expiry None c e = turn [] c
-on_expiry (Some input) c e = told input c e
+on_expiry (Some input) c e = with_own_input input c e
 
 abbrev pub timed : Controller → Entry → Turn
 timed c e = on_expiry (expiry c.settings.timers e.connection) c e

@@ -1,7 +1,8 @@
 -- Which connection a frame concerns.
 use Rattle.std.specs.Prelude.{◌≡◌, ℕ, Option, Some, None}
 use Rattle.controller_model.specs.declared.word.Word.{Word}
-use Rattle.controller_model.specs.declared.word.Word.TheVariants.{Nothing, Ping, Asks, OnChannel, Reports, OnConnection}
+use Rattle.controller_model.specs.declared.word.Word.TheVariants.{Nothing, Ping, Asks, OnChannel}
+use Rattle.controller_model.specs.declared.word.Word.TheVariants.{Reports, OnConnection}
 use Rattle.controller_model.specs.Controller.{Controller, entry_of, channel_state, holder}
 
 -- a channel's messages concern the connection that has it; CHANNEL REQUIRED makes the next one

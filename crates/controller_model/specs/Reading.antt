@@ -1,7 +1,9 @@
 -- What a frame says to the controller.
-use Rattle.std.specs.Prelude.{ℕ, ◌%◌, ◌/◌, ◌==◌, ◌&&◌, ◌||◌, Bool, true, false, not, if◌then◌else◌, List, [], ◌∷◌, Option, Some, None, Result, Ok, Err}
+use Rattle.std.specs.Prelude.{ℕ, ◌%◌, ◌/◌, ◌==◌, ◌&&◌, ◌||◌, Bool, true, false, not, if◌then◌else◌}
+use Rattle.std.specs.Prelude.{List, [], ◌∷◌, Option, Some, None, Result, Ok, Err}
 use Rattle.bssmap_codec.specs.declared.bssap.Bssap.{Bssap}
-use Rattle.controller_model.specs.Prelude.{Management, Place, SWITCH_LINK, Input, is_dtap, Report, Sapi, Zero, Three}
+use Rattle.controller_model.specs.Prelude.{Management, Place, SWITCH_LINK, Input, is_dtap, Report}
+use Rattle.controller_model.specs.Prelude.{Sapi, Zero, Three}
 use Rattle.bssmap_codec.specs.declared.bssap.Bssap.TheVariants.{Transfer}
 use Rattle.bssmap_codec.specs.declared.bssmap.Bssmap.{Bssmap}
 use Rattle.bssmap_codec.specs.declared.bssmap.Bssmap.TheVariants as bssmap
@@ -14,15 +16,19 @@ use Rattle.bssmap_codec.specs.Values.{is_speech_type}
 use Rattle.conn_messages.specs.declared.channel.Change.TheVariants.{Assignment, Handover}
 use Rattle.conn_rules.specs.declared.input.Input.TheVariants as inputs
 use Rattle.controller_model.specs.declared.word.Word.{Word}
-use Rattle.controller_model.specs.declared.word.Word.TheVariants.{Nothing, Ping, Asks, OnChannel, Reports, OnConnection}
+use Rattle.controller_model.specs.declared.word.Word.TheVariants.{Nothing, Ping, Asks, OnChannel}
+use Rattle.controller_model.specs.declared.word.Word.TheVariants.{Reports, OnConnection}
 use Rattle.controller_model.specs.Controller.{place_at}
 use Rattle.controller_model.specs.Reports.{report_reading}
 use Rattle.dtap_codec.specs.declared.rr.RrMessage.{RrMessage}
-use Rattle.dtap_codec.specs.declared.rr.RrMessage.TheVariants.{AssignmentComplete, HandoverComplete, AssignmentFailure, HandoverFailure, MeasurementReport}
+use Rattle.dtap_codec.specs.declared.rr.RrMessage.TheVariants.{AssignmentComplete, HandoverComplete}
+use Rattle.dtap_codec.specs.declared.rr.RrMessage.TheVariants.{AssignmentFailure, HandoverFailure}
+use Rattle.dtap_codec.specs.declared.rr.RrMessage.TheVariants.{MeasurementReport}
 use Rattle.dtap_codec.specs.declared.rr_fault.RrFault.{RrFault}
 use Rattle.dtap_codec.specs.RrReading.{rr_reading}
 use Rattle.ipa_framing.specs.declared.frame.Frame.{Frame}
-use Rattle.ipa_framing.specs.declared.streams.TheConstants.{RSL_STREAM, SCCP_STREAM, CCM_STREAM, PING}
+use Rattle.ipa_framing.specs.declared.streams.TheConstants.{RSL_STREAM, SCCP_STREAM, CCM_STREAM}
+use Rattle.ipa_framing.specs.declared.streams.TheConstants.{PING}
 use Rattle.rsl_codec.specs.declared.fault.RslFault.{RslFault}
 use Rattle.rsl_codec.specs.declared.link_identifier.TheConstants.{MAIN_LINK_SAPI_0}
 use Rattle.rsl_codec.specs.declared.rsl.Rsl.{Rsl}
@@ -75,16 +81,30 @@ result_word at number (Some l3) = report_word at number (rr_reading l3)
 
 abbrev pub rsl_word : ℕ → Rsl → Word
 rsl_word station (rsl.ChannelRequired r) = Asks r.reference r.access_delay.0
-rsl_word station (rsl.ChannelActivationAck a) = OnChannel (place_at station a.channel) (inputs.ActivationAck (place_at station a.channel))
-rsl_word station (rsl.ChannelActivationNack f) = OnChannel (place_at station f.channel) (inputs.ActivationNack (place_at station f.channel))
-rsl_word station (rsl.EstablishIndication e) = of_sapi (place_at station e.channel) (sapi_of e.link) (λ s. inputs.EstablishIndication (place_at station e.channel) s e.l3)
-rsl_word station (rsl.EstablishConfirm l) = of_sapi (place_at station l.channel) (sapi_of l.link) (λ s. inputs.EstablishConfirm (place_at station l.channel) s)
-rsl_word station (rsl.ReleaseIndication l) = of_sapi (place_at station l.channel) (sapi_of l.link) (λ s. inputs.ReleaseIndication (place_at station l.channel) s)
-rsl_word station (rsl.ErrorIndication e) = of_sapi (place_at station e.channel) (sapi_of e.link) (λ s. inputs.ErrorIndication (place_at station e.channel) s)
-rsl_word station (rsl.ConnectionFailure f) = OnChannel (place_at station f.channel) (inputs.ConnectionFailure (place_at station f.channel))
-rsl_word station (rsl.DataIndication d) = data_word (is_dtap d.l3) (place_at station d.channel) (sapi_of d.link) d.l3
-rsl_word station (rsl.MeasurementResult m) = result_word (place_at station m.channel) m.number.0 m.l3
-rsl_word station (rsl.RfChannelReleaseAck channel) = OnChannel (place_at station channel) (inputs.ReleaseAck (place_at station channel))
+rsl_word station (rsl.ChannelActivationAck a) =
+    OnChannel (place_at station a.channel) (inputs.ActivationAck (place_at station a.channel))
+rsl_word station (rsl.ChannelActivationNack f) =
+    OnChannel (place_at station f.channel) (inputs.ActivationNack (place_at station f.channel))
+rsl_word station (rsl.EstablishIndication e) =
+    of_sapi (place_at station e.channel) (sapi_of e.link)
+    (λ s. inputs.EstablishIndication (place_at station e.channel) s e.l3)
+rsl_word station (rsl.EstablishConfirm l) =
+    of_sapi (place_at station l.channel) (sapi_of l.link)
+    (λ s. inputs.EstablishConfirm (place_at station l.channel) s)
+rsl_word station (rsl.ReleaseIndication l) =
+    of_sapi (place_at station l.channel) (sapi_of l.link)
+    (λ s. inputs.ReleaseIndication (place_at station l.channel) s)
+rsl_word station (rsl.ErrorIndication e) =
+    of_sapi (place_at station e.channel) (sapi_of e.link)
+    (λ s. inputs.ErrorIndication (place_at station e.channel) s)
+rsl_word station (rsl.ConnectionFailure f) =
+    OnChannel (place_at station f.channel) (inputs.ConnectionFailure (place_at station f.channel))
+rsl_word station (rsl.DataIndication d) =
+    data_word (is_dtap d.l3) (place_at station d.channel) (sapi_of d.link) d.l3
+rsl_word station (rsl.MeasurementResult m) =
+    result_word (place_at station m.channel) m.number.0 m.l3
+rsl_word station (rsl.RfChannelReleaseAck channel) =
+    OnChannel (place_at station channel) (inputs.ReleaseAck (place_at station channel))
 rsl_word station _ = Nothing
 
 abbrev pub station_word : ℕ → Result Rsl RslFault → Word
@@ -94,7 +114,8 @@ station_word station (Err fault) = Nothing
 -- ---- the switch's
 
 abbrev pub management_word : ℕ → Bssmap → Word
-management_word number (bssmap.AssignmentRequest channel_type) = OnConnection number (inputs.AssignmentRequest (is_speech_type channel_type.0))
+management_word number (bssmap.AssignmentRequest channel_type) =
+    OnConnection number (inputs.AssignmentRequest (is_speech_type channel_type.0))
 management_word number (bssmap.ClearCommand cause) = OnConnection number inputs.ClearCommand
 management_word number bssmap.CipherModeCommand = OnConnection number inputs.CipherModeCommand
 management_word number _ = Nothing
@@ -105,13 +126,17 @@ dlci_sapi dlci = if dlci % 8 == 0 then Zero else Three
 
 abbrev pub bssap_word : ℕ → Result Bssap InterfaceFault → Word
 bssap_word number (Ok (Management message)) = management_word number message
-bssap_word number (Ok (Transfer dlci message)) = OnConnection number (inputs.Downlink (dlci_sapi dlci) message)
+bssap_word number (Ok (Transfer dlci message)) =
+    OnConnection number (inputs.Downlink (dlci_sapi dlci) message)
 bssap_word number (Err fault) = Nothing
 
 abbrev pub switch_word : Result Sccp InterfaceFault → Word
-switch_word (Ok (sccp.ConnectionConfirm destination source)) = OnConnection destination (inputs.ConnectionConfirm source)
-switch_word (Ok (sccp.ConnectionRefused destination)) = OnConnection destination inputs.ConnectionRefused
-switch_word (Ok (sccp.Released destination source)) = OnConnection destination (inputs.Released source)
+switch_word (Ok (sccp.ConnectionConfirm destination source)) =
+    OnConnection destination (inputs.ConnectionConfirm source)
+switch_word (Ok (sccp.ConnectionRefused destination)) =
+    OnConnection destination inputs.ConnectionRefused
+switch_word (Ok (sccp.Released destination source)) =
+    OnConnection destination (inputs.Released source)
 switch_word (Ok (sccp.DataForm1 destination user)) = bssap_word destination (bssap_reading user)
 switch_word _ = Nothing
 

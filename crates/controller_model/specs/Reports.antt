@@ -1,5 +1,6 @@
 -- Measurement reports, and what is decided over them.
-use Rattle.std.specs.Prelude.{ℕ, ◌+◌, ◌/◌, ◌%◌, ◌^◌, ◌==◌, ◌&&◌, nat_le, Bool, true, false, not, List, [], ◌∷◌, find, filter, map, Option, Some, None}
+use Rattle.std.specs.Prelude.{ℕ, ◌+◌, ◌/◌, ◌%◌, ◌^◌, ◌==◌, ◌&&◌, nat_le, Bool, true, false, not}
+use Rattle.std.specs.Prelude.{List, [], ◌∷◌, find, filter, map, Option, Some, None}
 use Rattle.std.specs.List.{list_all}
 use Rattle.std.specs.Int.{from_be_bytes, w128}
 use Rattle.dtap_codec.specs.declared.report.Neighbour.{Neighbour}
@@ -17,7 +18,13 @@ bits width behind number = (number / 2 ^ behind) % 2 ^ width
 
 abbrev pub entry_in : ℕ → ℕ → Neighbour
 entry_in behind number =
-    record { rxlev = bits 6 (behind + 11) number; bcch_freq = bits 5 (behind + 6) number; bsic = bits 6 behind number }
+    record {
+      rxlev =
+          bits 6 (behind + 11) number;
+      bcch_freq = bits 5 (behind
+          + 6) number;
+      bsic = bits 6 behind number;
+    }
 
 abbrev pub report_in : ℕ → Report
 report_in number = record {
@@ -44,7 +51,8 @@ places_from first (x ∷ xs) = first ∷ places_from (first + 1) xs
 
 -- another cell, whose average reaches the bound
 abbrev pub reaches : Settings → List Report → ℕ → Bool
-reaches s reports place = not (place + 1 == s.serving) && nat_le (bound s reports) (average_at s reports place)
+reaches s reports place = not (place + 1 == s.serving) && nat_le (bound s reports)
+    (average_at s reports place)
 
 -- such cells, by their places
 abbrev pub reaching : Settings → List Report → List ℕ
@@ -52,7 +60,8 @@ reaching s reports = filter (reaches s reports) (places_from 0 s.cells)
 
 -- no average of these cells exceeds that of this one
 abbrev pub is_greatest : Settings → List Report → List ℕ → ℕ → Bool
-is_greatest s reports places place = list_all (λ other. nat_le (average_at s reports other) (average_at s reports place)) places
+is_greatest s reports places place =
+    list_all (λ other. nat_le (average_at s reports other) (average_at s reports place)) places
 
 -- the first one of greatest average
 abbrev pub best : Settings → List Report → Option ℕ

@@ -1,5 +1,6 @@
 -- What is seen of the controller, and of what it put.
-use Rattle.std.specs.Prelude.{ℕ, ◌==◌, ◌&&◌, not, Bool, if◌then◌else◌, List, [], ◌∷◌, filter, length, Option, Some, None, Result, Ok}
+use Rattle.std.specs.Prelude.{ℕ, ◌==◌, ◌&&◌, not, Bool, if◌then◌else◌, List, [], ◌∷◌, filter}
+use Rattle.std.specs.Prelude.{length, Option, Some, None, Result, Ok}
 use Rattle.std.specs.List.{flat_map}
 use Rattle.std.specs.Option.{option_and_then}
 use Rattle.bssmap_codec.specs.declared.bssap.Bssap.{Bssap}
@@ -40,7 +41,8 @@ forwarded_message sapi message = record { sapi = sapi; message = message } ∷ [
 
 abbrev pub forwarded_in : Result Bssap InterfaceFault → List Forwarded
 forwarded_in (Ok (Transfer dlci message)) = forwarded_message (dlci_sapi dlci) message
-forwarded_in (Ok (Management (CompleteLayer3Information cell initial))) = forwarded_message Zero initial
+forwarded_in (Ok (Management (CompleteLayer3Information cell initial))) =
+    forwarded_message Zero initial
 forwarded_in _ = []
 
 abbrev pub forwarded_by : Result Sccp InterfaceFault → List Forwarded
@@ -50,15 +52,18 @@ forwarded_by _ = []
 
 -- the messages of the mobile that were passed on to the switch, the initial one first
 unfoldable pub forwarded : List Out → ℕ → List Forwarded
-forwarded outs conn = flat_map (λ out. forwarded_by (sccp_reading out.frame.body)) (filter (to_switch conn) outs)
+forwarded outs conn =
+    flat_map (λ out. forwarded_by (sccp_reading out.frame.body)) (filter (to_switch conn) outs)
 
 abbrev pub handed_by : Sapi → Result Rsl RslFault → List (List ℕ)
-handed_by sapi (Ok (DataRequest request)) = if is_of sapi request.link && is_dtap request.l3 then request.l3 ∷ [] else []
+handed_by sapi (Ok (DataRequest request)) =
+    if is_of sapi request.link && is_dtap request.l3 then request.l3 ∷ [] else []
 handed_by sapi _ = []
 
 -- the messages of the switch that were handed to the mobile
 unfoldable pub handed : List Out → ℕ → Sapi → List (List ℕ)
-handed outs conn sapi = flat_map (λ out. handed_by sapi (rsl_reading out.frame.body)) (filter (to_station conn) outs)
+handed outs conn sapi =
+    flat_map (λ out. handed_by sapi (rsl_reading out.frame.body)) (filter (to_station conn) outs)
 
 -- ---- the state
 

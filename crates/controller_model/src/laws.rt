@@ -1,4 +1,4 @@
-ghost use Rattle.std.specs.Prelude.{◌≡◌, ◌≢◌, ℕ, List, Option, Some, None, option_map, take};
+ghost use Rattle.std.specs.Prelude.{◌≡◌, ◌≢◌, ℕ, List, Option, Some, option_map, take};
 ghost use Rattle.conn_messages.specs.declared.channel.Channel.{Channel};
 ghost use Rattle.conn_rules.specs.declared.input.Input.{Input};
 ghost use Rattle.conn_rules.specs.Connection.{Connection};
@@ -6,7 +6,7 @@ ghost use Rattle.conn_rules.specs.Streams.{OfRow};
 ghost use Rattle.conn_rules.specs.Table.{row_of};
 ghost use Rattle.controller_model.specs.declared.word.Word.{Word};
 ghost use Rattle.controller_model.specs.Controller.{Controller, Entry, entry_of};
-ghost use Rattle.controller_model.specs.Life.{aged, all_aged, on_word, timed, told};
+ghost use Rattle.controller_model.specs.Life.{aged, all_aged, on_word, timed, with_own_input};
 ghost use Rattle.controller_model.specs.Ownership.{Leaves, concerned};
 ghost use Rattle.controller_model.specs.Reports.{decision_over, report_reading};
 ghost use Rattle.dtap_codec.specs.declared.report.Report.{Report};
@@ -24,20 +24,26 @@ pub fn report_is_read()
 
 /// The decision over reports is the one that they and the settings have.
 pub fn decision_is_one()
-    ensures { (s : Settings) (reports : List Report) (number : ℕ) (d : Decision) → Decides s reports number d
+    ensures { (s : Settings) (reports : List Report) (number : ℕ) (d : Decision)
+        → Decides s reports number d
         → d ≡ decision_over s reports number }
 {}
 
 /// A row of the table leaves its connection's number.
 pub fn row_keeps_number()
-    ensures { (s : Connection) (input : Input) (offer : Option Channel) → OfRow (λ r. r.next.number ≡ s.number) (row_of s input offer) }
+    ensures { (s : Connection) (input : Input) (offer : Option Channel)
+        → OfRow (λ r. r.next.number ≡ s.number) (row_of s input offer) }
 {}
 
 /// A frame concerns one connection at most, and leaves all others. So does the break of a link, and
 /// the passing of time, in what it does to each connection.
 pub fn others_are_left()
-    ensures frames { (m source : ℕ) (word : Word) (c : Controller) → concerned c word ≢ Some m → Leaves m c (on_word source word c).next }
-    ensures breaks { (m : ℕ) (input : Input) (c : Controller) (e : Entry) → m ≢ e.connection.number → Leaves m c (told input c e).next }
-    ensures ages { (m ms : ℕ) (c : Controller) → entry_of (all_aged ms c) m ≡ option_map (aged ms) (entry_of c m) }
-    ensures time { (m : ℕ) (c : Controller) (e : Entry) → m ≢ e.connection.number → Leaves m c (timed c e).next }
+    ensures frames { (m source : ℕ) (word : Word) (c : Controller) → concerned c word ≢ Some m
+        → Leaves m c (on_word source word c).next }
+    ensures breaks { (m : ℕ) (input : Input) (c : Controller) (e : Entry) → m ≢ e.connection.number
+        → Leaves m c (with_own_input input c e).next }
+    ensures ages { (m ms : ℕ) (c : Controller) → entry_of (all_aged ms c) m
+        ≡ option_map (aged ms) (entry_of c m) }
+    ensures time { (m : ℕ) (c : Controller) (e : Entry) → m ≢ e.connection.number
+        → Leaves m c (timed c e).next }
 {}

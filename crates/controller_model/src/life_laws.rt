@@ -4,15 +4,15 @@ ghost use Rattle.std.specs.Prelude.{ℕ, ◌≤◌, ◌<◌, List};
 ghost use Rattle.controller_model.specs.LifeLaws.Acts.{ActsOn};
 ghost use Rattle.controller_model.specs.LifeLaws.Concern.{FrameLeaves};
 ghost use Rattle.controller_model.specs.LifeLaws.Downlink.{DownlinkIsConserved};
-ghost use Rattle.controller_model.specs.LifeLaws.End.{IsThere, SilenceIsKept, StaysSilent};
+ghost use Rattle.controller_model.specs.LifeLaws.End.{IsThere, SilenceIsKept, IsSilentThrough};
 ghost use Rattle.controller_model.specs.LifeLaws.Handing.{HandsInPlace};
 ghost use Rattle.controller_model.specs.LifeLaws.History.{connection_of};
 ghost use Rattle.controller_model.specs.LifeLaws.Naming.{NamesItsMobile};
 ghost use Rattle.controller_model.specs.LifeLaws.Owning.{LinkedOf, OwnsOpen};
 ghost use Rattle.controller_model.specs.LifeLaws.Uplink.{UplinkIsConserved};
 ghost use Rattle.controller_model.specs.LifeLaws.Placing.{KeepsToChannels};
-ghost use Rattle.controller_model.specs.LifeLaws.Reach.{GoesToUp};
-ghost use Rattle.controller_model.specs.LifeLaws.Sending.{ComesInOctets, SendsMessages};
+ghost use Rattle.controller_model.specs.LifeLaws.Reach.{PutsOnUpLinks};
+ghost use Rattle.controller_model.specs.LifeLaws.Sending.{IsOctetStep, SendsMessages};
 ghost use Rattle.controller_model.specs.LifeLaws.Using.{AreUsed};
 ghost use Rattle.std.specs.List.{AllByRecursion};
 ghost use Rattle.controller_model.specs.Controller.{is_up};
@@ -33,7 +33,8 @@ pub fn numbers_rise()
 /// report on its channel, by a link that breaks, or by a timer. Else it begins, or stays as it is,
 /// its timers aside.
 pub fn steps_are_rows()
-    ensures { (p : Parameters) (steps : List Step) (s : Step) (number : ℕ) → 1 ≤ number → ActsOn number (life p steps).next s }
+    ensures { (p : Parameters) (steps : List Step) (s : Step) (number : ℕ) → 1 ≤ number
+        → ActsOn number (life p steps).next s }
 {}
 
 /// While the mobile of a connection changes its channel nothing is handed to it, and nothing by the
@@ -42,9 +43,12 @@ pub fn steps_are_rows()
 /// put, and nothing once the connection is gone. What a step relays and hands is what is read from
 /// its frames, with settings that are allowed and where what came was octets.
 pub fn silence_is_kept()
-    ensures steps { (p : Parameters) (steps : List Step) (number : ℕ) → 1 ≤ number → SilenceIsKept number p steps (life p steps) }
-    ensures end { (p : Parameters) (steps rest : List Step) (number : ℕ) → 1 ≤ number → number < (life p steps).next.next_number
-        → (IsThere (connection_of (life p steps).next number) → ⊥) → StaysSilent number (life p steps).next rest }
+    ensures steps { (p : Parameters) (steps : List Step) (number : ℕ) → 1 ≤ number
+        → SilenceIsKept number p steps (life p steps) }
+    ensures end { (p : Parameters) (steps rest : List Step) (number : ℕ) → 1 ≤ number
+        → number < (life p steps).next.next_number
+        → (IsThere (connection_of (life p steps).next number) → ⊥)
+        → IsSilentThrough number (life p steps).next rest }
 {}
 
 /// The same told by what came and what was put, step by step. From the step that puts ASSIGNMENT
@@ -53,7 +57,8 @@ pub fn silence_is_kept()
 /// the first of the service list; once CLEAR COMPLETE was put only RLC is put. What a step hands is
 /// what is read from its frames, with settings that are allowed and where what came was octets.
 pub fn messages_are_handed_in_place()
-    ensures { (p : Parameters) (steps : List Step) (number : ℕ) → 1 ≤ number → HandsInPlace number p steps (life p steps) }
+    ensures { (p : Parameters) (steps : List Step) (number : ℕ) → 1 ≤ number
+        → HandsInPlace number p steps (life p steps) }
 {}
 
 /// Of each SAPI, what was handed to the mobile of a connection, then what is held for it, is what
@@ -62,7 +67,8 @@ pub fn messages_are_handed_in_place()
 /// each message at most once and in its order. What was handed is what is read from the frames to
 /// stations, with settings that are allowed and where what came was octets.
 pub fn downlink_is_conserved()
-    ensures { (p : Parameters) (steps : List Step) (number : ℕ) → 1 ≤ number → DownlinkIsConserved number p steps (life p steps) }
+    ensures { (p : Parameters) (steps : List Step) (number : ℕ) → 1 ≤ number
+        → DownlinkIsConserved number p steps (life p steps) }
 {}
 
 /// Of each SAPI, what was relayed of a connection to the switch, the initial message first, then
@@ -71,7 +77,8 @@ pub fn downlink_is_conserved()
 /// channel in the order in which they came to serve; as long as the connection is open. What was
 /// relayed is what is read from the frames to the switch, where what came was octets.
 pub fn uplink_is_conserved()
-    ensures { (p : Parameters) (steps : List Step) (number : ℕ) → AreAllowed p → 1 ≤ number → UplinkIsConserved number p steps (life p steps) }
+    ensures { (p : Parameters) (steps : List Step) (number : ℕ) → AreAllowed p → 1 ≤ number
+        → UplinkIsConserved number p steps (life p steps) }
 {}
 
 /// A connection that is open has its serving channel and its target in use, its old channels
@@ -79,9 +86,11 @@ pub fn uplink_is_conserved()
 /// one connection's at most.
 pub fn channels_are_owned()
     ensures channels { (p : Parameters) (steps : List Step) (number : ℕ) → AreAllowed p
-        → OwnsOpen (life p steps).next.channels (life p steps).next.links number (connection_of (life p steps).next number) }
+        → OwnsOpen (life p steps).next.channels (life p steps).next.links number
+        (connection_of (life p steps).next number) }
     ensures switch { (p : Parameters) (steps : List Step) (number : ℕ) → 1 ≤ number
-        → LinkedOf (is_up (life p steps).next SWITCH_LINK) (connection_of (life p steps).next number) }
+        → LinkedOf (is_up (life p steps).next SWITCH_LINK)
+        (connection_of (life p steps).next number) }
 {}
 
 /// A channel is in use by a connection exactly where it is the serving channel or the target of the
@@ -94,13 +103,15 @@ pub fn channels_are_used()
 /// Each frame that a step puts goes to a link that is there and is up after the step: none to the
 /// link that it breaks.
 pub fn frames_go_to_links_that_are_up()
-    ensures { (p : Parameters) (steps : List Step) (s : Step) → AreAllowed p → GoesToUp (life p steps).next s }
+    ensures { (p : Parameters) (steps : List Step) (s : Step) → AreAllowed p
+        → PutsOnUpLinks (life p steps).next s }
 {}
 
 /// Each frame that a step puts has 2,048 octets at most, so none is refused; and whoever gets it
 /// reads the message that was put, or it is PONG. The octets of a frame that came are below 256.
 pub fn frames_are_read_as_put()
-    ensures { (p : Parameters) (steps : List Step) (s : Step) → AreAllowed p → AllByRecursion ComesInOctets steps → ComesInOctets s
+    ensures { (p : Parameters) (steps : List Step) (s : Step) → AreAllowed p
+        → AllByRecursion IsOctetStep steps → IsOctetStep s
         → SendsMessages (life p steps).next s }
 {}
 
@@ -108,7 +119,8 @@ pub fn frames_are_read_as_put()
 /// Of any other the connection and its averages stay as they were, no frame is put for it, and its
 /// channels stay as they were, in use or releasing.
 pub fn others_are_left_alone()
-    ensures { (p : Parameters) (steps : List Step) (number source : ℕ) (frame : FrameValue) → AreAllowed p → 1 ≤ number
+    ensures { (p : Parameters) (steps : List Step) (number source : ℕ) (frame : FrameValue)
+        → AreAllowed p → 1 ≤ number
         → FrameLeaves number (life p steps).next source frame }
 {}
 
@@ -116,11 +128,13 @@ pub fn others_are_left_alone()
 /// that moment: one that it used before the step, or activated in it, and didn't release since. So
 /// it isn't another connection's.
 pub fn messages_keep_to_channels()
-    ensures { (p : Parameters) (steps : List Step) (s : Step) (number : ℕ) → AreAllowed p → 1 ≤ number → KeepsToChannels number (life p steps).next s }
+    ensures { (p : Parameters) (steps : List Step) (s : Step) (number : ℕ) → AreAllowed p
+        → 1 ≤ number → KeepsToChannels number (life p steps).next s }
 {}
 
 /// An IMMEDIATE ASSIGNMENT that a step puts for a connection assigns its serving channel to the
 /// mobile of its request; and the request of a connection stays the same.
 pub fn assignments_name_their_mobile()
-    ensures { (p : Parameters) (steps : List Step) (s : Step) (number : ℕ) → 1 ≤ number → NamesItsMobile number (life p steps).next s }
+    ensures { (p : Parameters) (steps : List Step) (s : Step) (number : ℕ) → 1 ≤ number
+        → NamesItsMobile number (life p steps).next s }
 {}

@@ -1,12 +1,13 @@
 -- Rows: what literal frames are read as, and what they make of channels.
 use Rattle.std.proofs.Common.{Bool, true, false, [], Some, None, refl, sym, replicate, arith, true≢false, ◌≡◌, ℕ, List, ◌∷◌, map}
+use Rattle.octets.proofs.Hex.{hex}
 use Rattle.conn_messages.specs.declared.out.Out.{Out}
 use Rattle.controller_model.specs.Controller.{place_at, free_channels, state_in}
 use Rattle.controller_model.specs.declared.channel_state.ChannelState.{ChannelState}
 use Rattle.controller_model.specs.declared.channel_state.ChannelState.TheVariants.{Free, InUse, Releasing}
 use Rattle.controller_model.specs.declared.word.Word.TheVariants.{Ping, Asks, OnChannel, Reports, OnConnection}
 use Rattle.controller_parts.specs.Following.{channels_by, handovers_by}
-use Rattle.controller_parts.specs.Words.{ComesFrom, IsCarriedWord}
+use Rattle.controller_parts.specs.Words.{IsFromSource, IsCarriedWord}
 use Rattle.dtap_codec.specs.declared.report.Report.{Report}
 use Rattle.dtap_codec.specs.declared.sapi.Sapi.TheVariants.{Zero}
 use Rattle.conn_rules.specs.declared.input.Input.TheVariants as inputs
@@ -14,27 +15,27 @@ use Rattle.conn_rules.specs.declared.input.Input.TheVariants as inputs
 -- ---- what holds of each word that a frame is read as
 
 -- on its own channel alone
-of_its_station : ComesFrom 2 (OnChannel (place_at 2 0x41) (inputs.ReleaseAck (place_at 2 0x41)))
+of_its_station : IsFromSource 2 (OnChannel (place_at 2 0x41) (inputs.ReleaseAck (place_at 2 0x41)))
 of_its_station = (refl, λ e. omega (arith, e))
 
-of_another_station : ComesFrom 2 (OnChannel (place_at 1 0x41) (inputs.ReleaseAck (place_at 1 0x41))) → ⊥
+of_another_station : IsFromSource 2 (OnChannel (place_at 1 0x41) (inputs.ReleaseAck (place_at 1 0x41))) → ⊥
 of_another_station h = omega (arith, h.0)
 
 -- the switch has no channel, and asks for none
-of_the_switch : ComesFrom 0 (OnChannel (place_at 0 0x41) (inputs.ReleaseAck (place_at 0 0x41))) → ⊥
+of_the_switch : IsFromSource 0 (OnChannel (place_at 0 0x41) (inputs.ReleaseAck (place_at 0 0x41))) → ⊥
 of_the_switch h = h.1 refl
 
-asked_by_a_station : ComesFrom 1 (Asks (record { access = 0x7f; frame = 0x0102 }) 5)
+asked_by_a_station : IsFromSource 1 (Asks (record { access = 0x7f; frame = 0x0102 }) 5)
 asked_by_a_station e = omega (arith, e)
 
-asked_by_the_switch : ComesFrom 0 (Asks (record { access = 0x7f; frame = 0x0102 }) 5) → ⊥
+asked_by_the_switch : IsFromSource 0 (Asks (record { access = 0x7f; frame = 0x0102 }) 5) → ⊥
 asked_by_the_switch h = h refl
 
 -- a station knows no connection
-connection_of_the_switch : ComesFrom 0 (OnConnection 1 inputs.ClearCommand)
+connection_of_the_switch : IsFromSource 0 (OnConnection 1 inputs.ClearCommand)
 connection_of_the_switch = refl
 
-connection_of_a_station : ComesFrom 1 (OnConnection 1 inputs.ClearCommand) → ⊥
+connection_of_a_station : IsFromSource 1 (OnConnection 1 inputs.ClearCommand) → ⊥
 connection_of_a_station h = omega (arith, h)
 
 -- 1 to 251 octets
@@ -66,17 +67,17 @@ valid_report = refl
 no_invalid_report : IsCarriedWord (Reports (place_at 1 0x41) 5 (report false)) → ⊥
 no_invalid_report h = true≢false (sym h)
 
-report_of_its_station : ComesFrom 1 (Reports (place_at 1 0x41) 5 (report true))
+report_of_its_station : IsFromSource 1 (Reports (place_at 1 0x41) 5 (report true))
 report_of_its_station = (refl, λ e. omega (arith, e))
 
-report_of_another_station : ComesFrom 2 (Reports (place_at 1 0x41) 5 (report true)) → ⊥
+report_of_another_station : IsFromSource 2 (Reports (place_at 1 0x41) 5 (report true)) → ⊥
 report_of_another_station h = omega (arith, h.0)
 
-report_of_the_switch : ComesFrom 0 (Reports (place_at 0 0x41) 5 (report true)) → ⊥
+report_of_the_switch : IsFromSource 0 (Reports (place_at 0 0x41) 5 (report true)) → ⊥
 report_of_the_switch h = h.1 refl
 
 -- whoever asks whether this end is there
-asked_by_either : ComesFrom 0 Ping × ComesFrom 1 Ping
+asked_by_either : IsFromSource 0 Ping × IsFromSource 1 Ping
 asked_by_either = (tt, tt)
 
 -- ---- channels: two links of stations behind the switch's, which has no channels
@@ -93,24 +94,24 @@ states channels = map (state_in channels) (place_at 1 0x41 ∷ place_at 1 0x0a �
 
 -- CHANNEL ACTIVATION of 41 for access, of 0A for an assignment, of 41 for a handover
 abbrev access : Out
-access = to_station 1 (0x08 ∷ 0x21 ∷ 0x01 ∷ 0x41 ∷ 0x03 ∷ 0x00 ∷ 0x06 ∷ 0x04 ∷ 0x00 ∷ 0x03 ∷ 0x01 ∷ 0x00 ∷ [])
+access = to_station 1 (hex "08 21 01 41 03 00 06 04 00 03 01 00")
 
 abbrev assignment : Out
-assignment = to_station 1 (0x08 ∷ 0x21 ∷ 0x01 ∷ 0x0a ∷ 0x03 ∷ 0x01 ∷ 0x06 ∷ 0x04 ∷ 0x00 ∷ 0x01 ∷ 0x08 ∷ 0x01 ∷ [])
+assignment = to_station 1 (hex "08 21 01 0a 03 01 06 04 00 01 08 01")
 
 abbrev handover : Out
-handover = to_station 2 (0x08 ∷ 0x21 ∷ 0x01 ∷ 0x41 ∷ 0x03 ∷ 0x02 ∷ 0x06 ∷ 0x04 ∷ 0x00 ∷ 0x03 ∷ 0x01 ∷ 0x00 ∷ 0x09 ∷ 0x00 ∷ [])
+handover = to_station 2 (hex "08 21 01 41 03 02 06 04 00 03 01 00 09 00")
 
 -- RF CHANNEL RELEASE of 41
 abbrev release : ℕ → Out
-release station = to_station station (0x08 ∷ 0x2e ∷ 0x01 ∷ 0x41 ∷ [])
+release station = to_station station (hex "08 2e 01 41")
 
 -- DATA REQUEST on 41, and a frame to the switch whose octets are those of a release
 abbrev relayed : Out
-relayed = to_station 1 (0x03 ∷ 0x01 ∷ 0x01 ∷ 0x41 ∷ 0x02 ∷ 0x00 ∷ 0x0b ∷ 0x00 ∷ 0x02 ∷ 0x83 ∷ 0x02 ∷ [])
+relayed = to_station 1 (hex "03 01 01 41 02 00 0b 00 02 83 02")
 
 abbrev to_switch : Out
-to_switch = record { to = 0; conn = 7; frame = record { stream = 0xfd; body = 0x08 ∷ 0x2e ∷ 0x01 ∷ 0x41 ∷ [] } }
+to_switch = record { to = 0; conn = 7; frame = record { stream = 0xfd; body = hex "08 2e 01 41" } }
 
 is_in_use : states (channels_by 7 all_free (access ∷ [])) ≡ InUse 7 ∷ Free ∷ Free ∷ []
 is_in_use = refl

@@ -4,7 +4,7 @@ use Rattle.bssmap_codec.specs.Layer3.{IsLayer3}
 use Rattle.conn_messages.specs.declared.parameters.TheConstants.{SWITCH_LINK}
 use Rattle.conn_rules.specs.declared.input.Input.{Input}
 use Rattle.conn_rules.specs.declared.input.Input.TheVariants as inputs
-use Rattle.conn_rules.specs.Standing.{IsCarried}
+use Rattle.conn_rules.specs.Validity.{IsCarried}
 use Rattle.conn_rules.specs.Streams.{is_dtap}
 use Rattle.controller_model.specs.declared.word.Word.{Word}
 use Rattle.controller_model.specs.declared.word.Word.TheVariants.{Nothing, Reports}
@@ -18,7 +18,7 @@ use Rattle.dtap_codec.specs.declared.rr_fault.RrFault.{RrFault}
 use Rattle.dtap_codec.specs.declared.sapi.Sapi.{Sapi}
 use Rattle.dtap_codec.specs.declared.sapi.Sapi.TheVariants.{Zero}
 use Rattle.dtap_codec.specs.RrReading.{rr_reading}
-use Rattle.controller_parts.specs.Words.{ComesFrom, IsCarriedWord}
+use Rattle.controller_parts.specs.Words.{IsFromSource, IsCarriedWord}
 use Rattle.rsl_codec.specs.declared.rsl.Rsl.{Rsl}
 use Rattle.rsl_codec.specs.declared.rsl.Rsl.TheVariants as rsl
 use Rattle.rsl_codec.specs.Rsl.{IsL3, IsRsl, l3_of}
@@ -26,7 +26,7 @@ use Rattle.rsl_codec.specs.Rsl.{IsL3, IsRsl, l3_of}
 -- ---- a station's
 
 abbrev Suits : ℕ → Word → Type 0
-Suits station w = IsCarriedWord w × ComesFrom station w
+Suits station w = IsCarriedWord w × IsFromSource station w
 
 layer3 : (message : List ℕ) → IsL3 (Some message) → IsLayer3 message
 layer3 message h = (omega (arith, h.0), h.1)
@@ -85,5 +85,5 @@ if_known P (Err fault) w e h = tt
 pub station_carried : {F : Type 0} (station : ℕ) (octets : List ℕ) (v : Rsl) (r : Result Word F) → station ≢ SWITCH_LINK → IsRsl octets v → IfOk r (λ w. w ≡ rsl_word station v) → IfOk r IsCarriedWord
 station_carried station octets v r ne is e = if_known IsCarriedWord r (rsl_word station v) e (told_suits station v ne is.lawful.1).0
 
-pub station_comes : {F : Type 0} (station : ℕ) (octets : List ℕ) (v : Rsl) (r : Result Word F) → station ≢ SWITCH_LINK → IsRsl octets v → IfOk r (λ w. w ≡ rsl_word station v) → IfOk r (ComesFrom station)
-station_comes station octets v r ne is e = if_known (ComesFrom station) r (rsl_word station v) e (told_suits station v ne is.lawful.1).1
+pub station_comes : {F : Type 0} (station : ℕ) (octets : List ℕ) (v : Rsl) (r : Result Word F) → station ≢ SWITCH_LINK → IsRsl octets v → IfOk r (λ w. w ≡ rsl_word station v) → IfOk r (IsFromSource station)
+station_comes station octets v r ne is e = if_known (IsFromSource station) r (rsl_word station v) e (told_suits station v ne is.lawful.1).1

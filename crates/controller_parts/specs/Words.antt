@@ -1,7 +1,7 @@
 -- What holds of each word that a frame is read as.
 use Rattle.std.specs.Prelude.{◌≡◌, ◌≢◌, ℕ, true}
 use Rattle.conn_messages.specs.declared.parameters.TheConstants.{SWITCH_LINK}
-use Rattle.conn_rules.specs.Standing.{IsCarried}
+use Rattle.conn_rules.specs.Validity.{IsCarried}
 use Rattle.controller_model.specs.declared.word.Word.{Word}
 use Rattle.controller_model.specs.declared.word.Word.TheVariants.{Asks, OnChannel, Reports, OnConnection}
 use Rattle.rsl_codec.specs.declared.rsl.Rsl.{Rsl}
@@ -15,15 +15,15 @@ IsCarriedWord (OnConnection number input) = IsCarried input
 IsCarriedWord _ = Unit {0}
 
 -- a channel is of the station that spoke; stations speak of channels, and the switch of connections
-abbrev pub ComesFrom : ℕ → Word → Type 0
-ComesFrom source (Asks request delay) = source ≢ SWITCH_LINK
-ComesFrom source (OnChannel at input) = (at.station ≡ source) × (source ≢ SWITCH_LINK)
-ComesFrom source (Reports at number report) = (at.station ≡ source) × (source ≢ SWITCH_LINK)
-ComesFrom source (OnConnection number input) = source ≡ SWITCH_LINK
-ComesFrom source _ = Unit {0}
+abbrev pub IsFromSource : ℕ → Word → Type 0
+IsFromSource source (Asks request delay) = source ≢ SWITCH_LINK
+IsFromSource source (OnChannel at input) = (at.station ≡ source) × (source ≢ SWITCH_LINK)
+IsFromSource source (Reports at number report) = (at.station ≡ source) × (source ≢ SWITCH_LINK)
+IsFromSource source (OnConnection number input) = source ≡ SWITCH_LINK
+IsFromSource source _ = Unit {0}
 
 -- no layer 3 message of it goes on
-abbrev pub IsTold : Rsl → Type 0
-IsTold (EstablishIndication e) = ⊥
-IsTold (DataIndication d) = ⊥
-IsTold _ = Unit {0}
+abbrev pub CarriesNoLayer3 : Rsl → Type 0
+CarriesNoLayer3 (EstablishIndication e) = ⊥
+CarriesNoLayer3 (DataIndication d) = ⊥
+CarriesNoLayer3 _ = Unit {0}

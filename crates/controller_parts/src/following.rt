@@ -1,9 +1,8 @@
-ghost use Rattle.std.specs.Prelude.{◌≡◌, ◌≤◌, ℕ, List, fold, count_by, length};
+ghost use Rattle.std.specs.Prelude.{◌≡◌, ◌≤◌, ℕ, List, fold, count_by};
 ghost use Rattle.std.specs.List.{AllByRecursion};
 ghost use Rattle.conn_messages.specs.declared.message.Message.{Message};
 ghost use Rattle.conn_messages.specs.ChannelUse.{use_by};
 ghost use Rattle.conn_messages.specs.Out.{IsLawfulMessage, outs_of};
-ghost use Rattle.conn_messages.specs.UseOctets.{use_of};
 ghost use Rattle.controller_model.specs.Controller.{after_use, channels_after};
 ghost use Rattle.controller_model.specs.Life as words;
 ghost use Rattle.controller_parts.specs.Following.{channels_by, handovers_by};

@@ -1,6 +1,6 @@
 ghost use Rattle.std.specs.Prelude.{◌≡◌, IfOk};
 ghost use Rattle.controller_model.specs.Reading.{management_of_link, word_of};
-ghost use Rattle.controller_parts.specs.Words.{ComesFrom, IsCarriedWord};
+ghost use Rattle.controller_parts.specs.Words.{IsFromSource, IsCarriedWord};
 
 use crate::station::station_word;
 use crate::switch::switch_word;
@@ -22,7 +22,7 @@ pub fn read_word(alloc: Global, source: u16, frame: &Frame) -> Result<Word, Memo
     // A layer 3 message in it has 1 to 251 octets, and a report is valid.
     ensures carried { IfOk result IsCarriedWord }
     // A station speaks of its own channels and requests, the switch of connections.
-    ensures comes { IfOk result (ComesFrom source) }
+    ensures comes { IfOk result (IsFromSource source) }
 {
     let body = frame.body.as_slice();
     if frame.stream == CCM_STREAM {

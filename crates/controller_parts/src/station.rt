@@ -1,7 +1,7 @@
 ghost use Rattle.std.specs.Prelude.{◌≡◌, ◌≢◌, IfOk};
 ghost use Rattle.conn_messages.specs.declared.parameters.TheConstants.{SWITCH_LINK};
 ghost use Rattle.controller_model.specs.Controller.{place_at as channel_at};
-ghost use Rattle.controller_parts.specs.Words.{ComesFrom, IsCarriedWord, IsTold};
+ghost use Rattle.controller_parts.specs.Words.{IsFromSource, IsCarriedWord, CarriesNoLayer3};
 ghost use Rattle.controller_model.specs.Reading as reading;
 ghost use Rattle.rsl_codec.specs.RslReading.{rsl_reading};
 ghost use Rattle.rsl_codec.specs.declared.rsl.Rsl.TheVariants as rsl;
@@ -32,7 +32,7 @@ pub(crate) fn station_word(alloc: Global, station: u16, body: &[u8]) -> Result<W
     ensures word { IfOk result
         (λ word. word ≡ reading.station_word station (rsl_reading body.now)) }
     ensures carried { IfOk result IsCarriedWord }
-    ensures comes { IfOk result (ComesFrom station) }
+    ensures comes { IfOk result (IsFromSource station) }
 {
     match Rsl::read(alloc, body) {
         Ok(message) => rsl_word(alloc, station, message),
@@ -56,7 +56,7 @@ fn rsl_word(alloc: Global, station: u16, message: Rsl) -> Result<Word, Memory>
 
 // What a message says of which no part goes on.
 fn told_word(alloc: Global, station: u16, message: &Rsl) -> Result<Word, Memory>
-    requires { IsTold message.now }
+    requires { CarriesNoLayer3 message.now }
     ensures { IfOk result (λ word. word ≡ reading.rsl_word station message.now) }
 {
     Ok(match message {

@@ -1,5 +1,5 @@
 ghost use Rattle.std.specs.Prelude.{IfOk};
-ghost use Rattle.conn_rules.specs.Standing.{IsCarried};
+ghost use Rattle.conn_rules.specs.Validity.{IsCarried};
 
 use crate::frames::{Line, are, frame};
 use conn_fsm::{Channel, Conn, Input, Outputs};

@@ -4,7 +4,7 @@ use Rattle.std.specs.Prelude.{MatchResult}
 use Rattle.std.proofs.lemmas.Bool.{false≢true}
 use Rattle.std.specs.Result.{IsErr}
 use lib.ListN.{get_elem?}
-use Rattle.controller_worker.specs.Going.{Fits, Goes, GoesOn, GoesPart, State, ended_of, mark_at}
+use Rattle.controller_worker.specs.Advancing.{Fits, Advances, Extends, AdvancesPartly, State, ended_of, mark_at}
 use Rattle.controller_worker.specs.Steps.{frames_to, items_of, over, whats_of}
 use Rattle.controller_worker.specs.Taking.{HasTaken}
 use Rattle.controller_worker.proofs.Histories.{items_both, next_both, outs_both, ticked_both, whats_both}
@@ -37,8 +37,8 @@ taken_both a b c xs ys f g = (
 
 -- ---- one link
 
-pub on_both : (a b c : State) (link : ℕ) (fs fs' : List Frame) (ss ss' ts ts' : List What) (p q r : PutterView) → GoesOn a b link fs ss ts p q → GoesOn b c link fs' ss' ts' q r
-    → GoesOn a c link (fs ++ fs') (ss ++ ss') (ts ++ ts') p r
+pub on_both : (a b c : State) (link : ℕ) (fs fs' : List Frame) (ss ss' ts ts' : List What) (p q r : PutterView) → Extends a b link fs ss ts p q → Extends b c link fs' ss' ts' q r
+    → Extends a c link (fs ++ fs') (ss ++ ss') (ts ++ ts') p r
 on_both a b c link fs fs' ss ss' ts ts' p q r f g = record {
   queue = g.queue ∙ f.queue;
   fits = λ fs₀ ss₀ ts₀ h.
@@ -57,7 +57,7 @@ frames_of_both a link xs ys b is =
     ap (λ c. frames_to link (over a xs).outs ++ frames_to link (over c ys).outs) is
     ∙ sym (ap (λ os. frames_to link os) (outs_both a xs ys) ∙ frames_both link (over a xs).outs (over (over a xs).next ys).outs)
 
-pub goes_both : (last : List Item) (a b c : State) → Goes [] a b → Goes last b c → Goes last a c
+pub goes_both : (last : List Item) (a b c : State) → Advances [] a b → Advances last b c → Advances last a c
 goes_both last a b c f g = record {
   steps = f.steps ++ g.steps;
   controller = g.controller ∙ ap (λ d. (over d g.steps).next) f.controller ∙ sym (next_both a.controller f.steps g.steps);
@@ -72,7 +72,7 @@ goes_both last a b c f g = record {
       let later = g.links link r here in
       let before = f.links link later.0 later.1 in
       let k = on_both a b c link (frames_to link (over a.controller f.steps).outs) (frames_to link (over b.controller g.steps).outs) (whats_of link (items_of f.steps)) (whats_of link (items_of g.steps)) (whats_of link f.items) (whats_of link g.items) before.0 later.0 r before.2 later.2 in
-      let R : List Frame → List What → List What → Type 0 = λ x y z. GoesOn a c link x y z before.0 r in
+      let R : List Frame → List What → List What → Type 0 = λ x y z. Extends a c link x y z before.0 r in
       let xs = frames_to link (over a.controller f.steps).outs ++ frames_to link (over b.controller g.steps).outs in
       let ys = whats_of link (items_of f.steps) ++ whats_of link (items_of g.steps) in (
         before.0,
@@ -83,14 +83,14 @@ goes_both last a b c f g = record {
       );
 }
 
-pub goes_both_part : (a b c : State) → Goes [] a b → GoesPart b c → GoesPart a c
+pub goes_both_part : (a b c : State) → Advances [] a b → AdvancesPartly b c → AdvancesPartly a c
 goes_both_part a b c f g = (g.0, g.1, goes_both g.0 a b c f g.2)
 
-pub part_of_goes : (a b : State) → Goes [] a b → GoesPart a b
+pub part_of_goes : (a b : State) → Advances [] a b → AdvancesPartly a b
 part_of_goes a b f = ([], omega arith, f)
 
 -- nothing was put, and no step done
-pub on_still : (old new : State) (link : ℕ) (p : PutterView) → new.ended ≡ old.ended → mark_at new.marks link ≡ mark_at old.marks link → GoesOn old new link [] [] [] p p
+pub on_still : (old new : State) (link : ℕ) (p : PutterView) → new.ended ≡ old.ended → mark_at new.marks link ≡ mark_at old.marks link → Extends old new link [] [] [] p p
 on_still old new link p ended mark = record {
   queue = refl;
   fits = λ fs ss ts f.
@@ -102,7 +102,7 @@ on_still old new link p ended mark = record {
 }
 
 pub goes_still : (last : List Item) (old new : State) → new.controller ≡ old.controller → new.putters ≡ old.putters → new.ended ≡ old.ended
-    → ((link : ℕ) → mark_at new.marks link ≡ mark_at old.marks link) → HasTaken old.desk last new.desk → new.told + old.gathered ≡ old.told + new.gathered → Goes last old new
+    → ((link : ℕ) → mark_at new.marks link ≡ mark_at old.marks link) → HasTaken old.desk last new.desk → new.told + old.gathered ≡ old.told + new.gathered → Advances last old new
 goes_still last old new controller putters ended marks desk time = record {
   steps = [];
   controller = controller;
@@ -114,16 +114,16 @@ goes_still last old new controller putters ended marks desk time = record {
   links = λ link p here. (p, ap (λ ps. get_elem? ps link) (sym putters) ∙ here, on_still old new link p ended (marks link));
 }
 
-pub goes_none : (s : State) → Goes [] s s
+pub goes_none : (s : State) → Advances [] s s
 goes_none s = goes_still [] s s refl refl refl (λ link. refl) (taken_none s.desk) refl
 
 -- ---- calls that may run out of memory
 
 module _ {X E : Type 0} where
-  pub by_both : (r : Result X E) (a b c : State) → Goes [] a b → MatchResult r (λ _. Goes [] b c) (λ _. GoesPart b c) → MatchResult r (λ _. Goes [] a c) (λ _. GoesPart a c)
+  pub by_both : (r : Result X E) (a b c : State) → Advances [] a b → MatchResult r (λ _. Advances [] b c) (λ _. AdvancesPartly b c) → MatchResult r (λ _. Advances [] a c) (λ _. AdvancesPartly a c)
   by_both (Ok x) a b c f g = goes_both [] a b c f g
   by_both (Err e) a b c f g = goes_both_part a b c f g
 
-  pub by_err : (r : Result X E) (a b : State) → IsErr r → GoesPart a b → MatchResult r (λ _. Goes [] a b) (λ _. GoesPart a b)
+  pub by_err : (r : Result X E) (a b : State) → IsErr r → AdvancesPartly a b → MatchResult r (λ _. Advances [] a b) (λ _. AdvancesPartly a b)
   by_err (Ok x) a b is f = absurd (false≢true is)
   by_err (Err e) a b is f = f

@@ -7,7 +7,7 @@ use lib.ListN.{get_elem?}
 use Rattle.atomic_table.proofs.Lists.{at_set}
 use Rattle.controller_worker.specs.declared.mark.Mark.{Mark}
 use Rattle.controller_worker.specs.declared.limits.TheConstants.{MAX_REFUSALS, TICK_MS}
-use Rattle.controller_worker.specs.Going.{Carries, Ends, Finishes, Fits, Goes, GoesOn, GoesPart, IsSettled, PutsEnd, State, mark_at}
+use Rattle.controller_worker.specs.Advancing.{Carries, Ends, Finishes, Fits, Advances, Extends, AdvancesPartly, IsSettled, PutsEnd, State, mark_at}
 use Rattle.controller_worker.specs.Links.{AreSent, is_given_up, lines}
 use Rattle.controller_worker.specs.Steps.{frames_to, items_of, over, whats_of}
 use Rattle.controller_worker.specs.Taking.{HasTaken}
@@ -32,14 +32,14 @@ ends_both a b c f g = record {
   settled = λ h. g.settled (f.settled h);
 }
 
-on_ends : (a b c : State) (link : ℕ) (fs : List Frame) (ss ts : List What) (p q r : PutterView) → GoesOn a b link fs ss ts p q → GoesOn b c link [] [] [] q r → GoesOn a c link fs ss ts p r
+on_ends : (a b c : State) (link : ℕ) (fs : List Frame) (ss ts : List What) (p q r : PutterView) → Extends a b link fs ss ts p q → Extends b c link [] [] [] q r → Extends a c link fs ss ts p r
 on_ends a b c link fs ss ts p q r f g =
-    let R : List Frame → List What → List What → Type 0 = λ x y z. GoesOn a c link x y z p r in
+    let R : List Frame → List What → List What → Type 0 = λ x y z. Extends a c link x y z p r in
     subst (λ x. R x ss ts) (append-nil fs)
     (subst (λ y. R (fs ++ []) y ts) (append-nil ss)
     (subst (λ z. R (fs ++ []) (ss ++ []) z) (append-nil ts) (on_both a b c link fs [] ss [] ts [] p q r f g)))
 
-pub goes_ends : (last : List Item) (a b c : State) → Goes last a b → Ends b c → Goes last a c
+pub goes_ends : (last : List Item) (a b c : State) → Advances last a b → Ends b c → Advances last a c
 goes_ends last a b c f g = record {
   steps = f.steps;
   controller = ap (λ s. s.controller) g.kept ∙ f.controller;
@@ -57,7 +57,7 @@ goes_ends last a b c f g = record {
       );
 }
 
-pub ends_part : (a b c : State) → GoesPart a b → Ends b c → GoesPart a c
+pub ends_part : (a b c : State) → AdvancesPartly a b → Ends b c → AdvancesPartly a c
 ends_part a b c f g = (f.0, f.1, goes_ends f.0 a b c f.2 g)
 
 -- one outbox gets its mark
@@ -129,6 +129,6 @@ finishes_ends a b f e = record {
   gathered = let g = ap (λ s. s.gathered) e.kept in let h = f.gathered in omega arith;
 }
 
-pub finishes_on : (a b : State) → Finishes a → Goes [] a b → IsSettled b → b.gathered < TICK_MS → Finishes b
+pub finishes_on : (a b : State) → Finishes a → Advances [] a b → IsSettled b → b.gathered < TICK_MS → Finishes b
 finishes_on a b f goes settled gathered =
     record { settled = settled; down = λ link h. goes.down link (f.down link (let n = goes.count in omega arith)); gathered = gathered }

@@ -4,7 +4,7 @@ use Rattle.std.proofs.lemmas.List.{map-append}
 use Rattle.std.proofs.lemmas.Bool.{false≢true}
 use Rattle.std.proofs.lemmas.Bool.Decides.{nat_tests}
 use Rattle.controller_worker.specs.declared.limits.TheConstants.{MAX_REFUSALS}
-use Rattle.controller_worker.specs.Going.{Sends}
+use Rattle.controller_worker.specs.Advancing.{Sends}
 use Rattle.controller_worker.specs.Links.{AreSent, is_given_up, lines}
 use Rattle.ipa_framing.specs.declared.frame.Frame.{Frame}
 use Rattle.ruled_relay.specs.declared.outbox.Line.{Line}

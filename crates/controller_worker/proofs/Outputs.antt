@@ -7,7 +7,7 @@ use Rattle.std.proofs.lemmas.List.Elements.{filter-append}
 use mathlib.Core.Option.{some}
 use lib.ListN.{get_elem?}
 use Rattle.atomic_table.proofs.Lists.{at_set}
-use Rattle.controller_worker.specs.Going.{Carries, Sends, SendsAll, not_ended}
+use Rattle.controller_worker.specs.Advancing.{Carries, Sends, SendsAll, not_ended}
 use Rattle.controller_worker.specs.Steps.{frames_to}
 use Rattle.conn_messages.specs.declared.out.Out.{Out}
 use Rattle.ipa_framing.specs.declared.frame.Frame.{Frame}

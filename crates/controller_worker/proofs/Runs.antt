@@ -6,7 +6,7 @@ use mathlib.Core.Option.{some}
 use lib.ListN.{get_elem?}
 use Rattle.controller_worker.specs.declared.mark.Mark.{Mark}
 use Rattle.controller_worker.specs.Call.{AreNew, IsNew, Parts, Runs, Serves}
-use Rattle.controller_worker.specs.Going.{Ends, Finishes, Fits, Goes, GoesOn, GoesPart, IsSettled, State, ended_of, mark_at, unmarked}
+use Rattle.controller_worker.specs.Advancing.{Ends, Finishes, Fits, Advances, Extends, AdvancesPartly, IsSettled, State, ended_of, mark_at, unmarked}
 use Rattle.controller_worker.specs.Links.{AreSent, is_given_up}
 use Rattle.controller_worker.specs.Steps.{frames_to, items_of, over, whats_of}
 use Rattle.controller_worker.proofs.Marking.{ends_part, settled_by}
@@ -47,7 +47,7 @@ same_bool false false f g = refl
 
 serves : (fault : Option IoFault) (old new : State) (link : ℕ) (steps : List Step) (frames : List Frame) (items : List Item) (p q : PutterView)
     → IsNew p → mark_at old.marks link ≡ unmarked → old.ended ≡ 0 → get_elem? new.putters link ≡ some q → new.ended ≡ length new.putters
-    → (fault ≡ None → Finishes new) → GoesOn old new link frames (whats_of link (items_of steps)) (whats_of link items) p q
+    → (fault ≡ None → Finishes new) → Extends old new link frames (whats_of link (items_of steps)) (whats_of link items) p q
     → Serves fault steps frames items link p q
 serves fault old new link steps frames items p q is_new none unended here ended finishes goes =
     let room : link < length new.putters = within new.putters link q here in
@@ -70,7 +70,7 @@ serves fault old new link steps frames items p q is_new none unended here ended 
       down = λ no. c.down ((finishes no).down link room);
     }
 
-pub runs : (fault : Option IoFault) (last : List Item) (old new : State) (n : ℕ) → AreNew old.putters → old.marks ≡ replicate n unmarked → old.ended ≡ 0 → old.gathered ≡ 0 → Goes last old new
+pub runs : (fault : Option IoFault) (last : List Item) (old new : State) (n : ℕ) → AreNew old.putters → old.marks ≡ replicate n unmarked → old.ended ≡ 0 → old.gathered ≡ 0 → Advances last old new
     → new.ended ≡ length new.putters → length last ≤ 1 → (fault ≡ None → last ≡ []) → (fault ≡ None → Finishes new) → Runs fault (parts_of old) (parts_of new)
 runs fault last old new n fresh none unended start goes ended one no_last finishes = record {
   steps = goes.steps;
@@ -92,7 +92,7 @@ runs fault last old new n fresh none unended start goes ended one no_last finish
       );
 }
 
-pub runs_whole : (old new : State) (n : ℕ) → AreNew old.putters → old.marks ≡ replicate n unmarked → old.ended ≡ 0 → old.gathered ≡ 0 → Goes [] old new → Finishes new → new.ended ≡ length new.putters
+pub runs_whole : (old new : State) (n : ℕ) → AreNew old.putters → old.marks ≡ replicate n unmarked → old.ended ≡ 0 → old.gathered ≡ 0 → Advances [] old new → Finishes new → new.ended ≡ length new.putters
     → Runs None (parts_of old) (parts_of new)
 runs_whole old new n fresh none unended start goes finishes ended =
     runs None [] old new n fresh none unended start goes ended (omega arith) (λ no. refl) (λ no. finishes)
@@ -100,7 +100,7 @@ runs_whole old new n fresh none unended start goes finishes ended =
 no_fault : (fault : IoFault) → Some fault ≡ None → ⊥
 no_fault fault e = cc
 
-pub runs_part : (fault : IoFault) (old mid new : State) (n : ℕ) → AreNew old.putters → old.marks ≡ replicate n unmarked → old.ended ≡ 0 → old.gathered ≡ 0 → GoesPart old mid → Ends mid new
+pub runs_part : (fault : IoFault) (old mid new : State) (n : ℕ) → AreNew old.putters → old.marks ≡ replicate n unmarked → old.ended ≡ 0 → old.gathered ≡ 0 → AdvancesPartly old mid → Ends mid new
     → new.ended ≡ length new.putters → Runs (Some fault) (parts_of old) (parts_of new)
 runs_part fault old mid new n fresh none unended start goes ends ended =
     let p = ends_part old mid new goes ends in

@@ -7,7 +7,7 @@ use mathlib.Core.Option.{some, some-injective}
 use lib.ListN.{get_elem?}
 use Rattle.atomic_table.proofs.Lists.{at_index, at_set}
 use Rattle.controller_worker.specs.declared.mark.Mark.{Mark}
-use Rattle.controller_worker.specs.Going.{DoesStep, Fits, Goes, GoesPart, IsPending, IsSettled, Sends, SendsAll, State, Stands, ended_of, mark_at, not_ended, noted, unmarked, with_added}
+use Rattle.controller_worker.specs.Advancing.{DoesStep, Fits, Advances, AdvancesPartly, IsPending, IsSettled, Sends, SendsAll, State, IsValid, ended_of, mark_at, not_ended, noted, unmarked, with_added}
 use Rattle.controller_worker.specs.Links.{AreStepped, HasDown, is_given_up}
 use Rattle.controller_worker.specs.Steps.{frames_to, over, whats_of}
 use Rattle.controller_worker.specs.Taking.{HasTaken}
@@ -107,7 +107,7 @@ stepped_to old c putters marks gathered = record {
 }
 
 pub goes_ticked : (old : State) (c : Controller) (putters : List PutterView) (ms gathered : ℕ) → c ≡ (words.step old.controller (Tick ms)).next
-    → SendsAll (ended_of old) old.putters (words.step old.controller (Tick ms)).outs putters → gathered + ms ≡ old.gathered → Goes [] old (stepped_to old c putters old.marks gathered)
+    → SendsAll (ended_of old) old.putters (words.step old.controller (Tick ms)).outs putters → gathered + ms ≡ old.gathered → Advances [] old (stepped_to old c putters old.marks gathered)
 goes_ticked old c putters ms gathered next sent time = record {
   steps = Tick ms ∷ [];
   controller = next;
@@ -138,7 +138,7 @@ added_down source ms link h =
 
 pub goes_added : (old : State) (c : Controller) (putters : List PutterView) (source : ℕ)
     → let s : Step = Take (record { source = source; what = whats.Down }) in c ≡ (words.step old.controller s).next → SendsAll (ended_of old) old.putters (words.step old.controller s).outs putters
-    → IsPending old source → source < length old.marks → Goes [] old (stepped_to old c putters (with_added source old.marks) old.gathered)
+    → IsPending old source → source < length old.marks → Advances [] old (stepped_to old c putters (with_added source old.marks) old.gathered)
 goes_added old c putters source next sent pending room =
     let item : Item = record { source = source; what = whats.Down } in
     let s : Step = Take item in
@@ -206,7 +206,7 @@ took_one old new item same takes = (
 
 pub goes_taken : (old : State) (desk : Row) (c : Controller) (putters : List PutterView) (item : Item) (b : Bool) → queues_of desk ≡ queues_of old.desk → TakesItem old.desk item desk
     → c ≡ (words.step old.controller (Take item)).next → SendsAll (ended_of old) old.putters (words.step old.controller (Take item)).outs putters → (b ≡ true → item.what ≡ whats.Down)
-    → item.source < length old.marks → Goes [] old (record (stepped_to old c putters (noted b item.source old.marks) old.gathered) { desk = desk })
+    → item.source < length old.marks → Advances [] old (record (stepped_to old c putters (noted b item.source old.marks) old.gathered) { desk = desk })
 goes_taken old desk c putters item b queues takes next sent is_down room = record {
   steps = Take item ∷ [];
   controller = next;
@@ -245,7 +245,7 @@ goes_taken old desk c putters item b queues takes next sent is_down room = recor
 
 -- ---- what holds between calls
 
-pub stands_on : (s : Step) (old new : State) → Stands old → DoesStep s old new → Stands new
+pub stands_on : (s : Step) (old new : State) → IsValid old → DoesStep s old new → IsValid new
 stands_on s old new stands does =
     let d : new.desk ≡ old.desk = ap (λ y. y.desk) does.kept in
     let m : new.marks ≡ old.marks = ap (λ y. y.marks) does.kept in
@@ -277,7 +277,7 @@ does_nothing s old c before outs first next put none =
       kept = refl;
     }
 
-pub does_sent : (s : Step) (old new : State) (c : Controller) (before outs : List Out) → Stands old → before ≡ [] → c ≡ (words.step old.controller s).next → outs ≡ before ++ (words.step old.controller s).outs
+pub does_sent : (s : Step) (old new : State) (c : Controller) (before outs : List Out) → IsValid old → before ≡ [] → c ≡ (words.step old.controller s).next → outs ≡ before ++ (words.step old.controller s).outs
     → (outs ≡ [] → ⊥) → SendsAll not_ended old.putters outs new.putters → new ≡ record old { controller = c; putters = new.putters } → DoesStep s old new
 does_sent s old new c before outs stands first next put some_outs sent is =
     let all : outs ≡ (words.step old.controller s).outs = put ∙ ap (λ b. b ++ (words.step old.controller s).outs) first in
@@ -289,26 +289,26 @@ does_sent s old new c before outs stands first next put some_outs sent is =
 
 -- ---- the same, of a state before and after the step
 
-pub step_ticked : (old mid : State) (ms gathered : ℕ) → DoesStep (Tick ms) old mid → gathered + ms ≡ mid.gathered → Goes [] old (record mid { gathered = gathered })
+pub step_ticked : (old mid : State) (ms gathered : ℕ) → DoesStep (Tick ms) old mid → gathered + ms ≡ mid.gathered → Advances [] old (record mid { gathered = gathered })
 step_ticked old mid ms gathered does time =
-    subst (λ (y : State). Goes [] old (record y { gathered = gathered })) (sym does.kept)
+    subst (λ (y : State). Advances [] old (record y { gathered = gathered })) (sym does.kept)
     (goes_ticked old mid.controller mid.putters ms gathered does.controller does.sent (time ∙ ap (λ y. y.gathered) does.kept))
 
-pub step_added : (old mid : State) (source : ℕ) → DoesStep (Take (record { source = source; what = whats.Down })) old mid → IsPending old source → Stands old
-    → Goes [] old (record mid { marks = with_added source mid.marks })
+pub step_added : (old mid : State) (source : ℕ) → DoesStep (Take (record { source = source; what = whats.Down })) old mid → IsPending old source → IsValid old
+    → Advances [] old (record mid { marks = with_added source mid.marks })
 step_added old mid source does pending stands =
-    subst (λ (y : State). Goes [] old (record y { marks = with_added source y.marks })) (sym does.kept)
+    subst (λ (y : State). Advances [] old (record y { marks = with_added source y.marks })) (sym does.kept)
     (goes_added old mid.controller mid.putters source does.controller does.sent pending (let h = pending.there in let e = stands.marks in omega arith))
 
 pub step_taken : (old : State) (desk : Row) (mid : State) (item : Item) (b : Bool) → queues_of desk ≡ queues_of old.desk → TakesItem old.desk item desk
     → DoesStep (Take item) (record old { desk = desk }) mid → (b ≡ true → item.what ≡ whats.Down) → item.source < length old.marks
-    → Goes [] old (record mid { marks = noted b item.source mid.marks })
+    → Advances [] old (record mid { marks = noted b item.source mid.marks })
 step_taken old desk mid item b queues takes does is_down room =
-    subst (λ (y : State). Goes [] old (record y { marks = noted b item.source y.marks })) (sym does.kept)
+    subst (λ (y : State). Advances [] old (record y { marks = noted b item.source y.marks })) (sym does.kept)
     (goes_taken old desk mid.controller mid.putters item b queues takes does.controller does.sent is_down room)
 
 -- an item was taken whose step ran out of memory
-pub goes_lost : (old : State) (desk : Row) (item : Item) → queues_of desk ≡ queues_of old.desk → TakesItem old.desk item desk → GoesPart old (record old { desk = desk })
+pub goes_lost : (old : State) (desk : Row) (item : Item) → queues_of desk ≡ queues_of old.desk → TakesItem old.desk item desk → AdvancesPartly old (record old { desk = desk })
 goes_lost old desk item queues takes =
     (item ∷ [], omega arith, goes_still (item ∷ []) old (record old { desk = desk }) refl refl refl (λ link. refl) (took_one old.desk desk item queues takes) refl)
 
@@ -334,7 +334,7 @@ mark_here ms at m room is = sym (get_or_read ms at m room is unmarked)
 same_putter : (ps : List PutterView) (at : ℕ) (p q : PutterView) → get_elem? ps at ≡ some p → get_elem? ps at ≡ some q → p ≡ q
 same_putter ps at p q e f = some-injective p q (sym e ∙ f)
 
-pub is_pending : (s : State) (link at at' : ℕ) (p : PutterView) (m : Mark) → Stands s → at ≡ link → at' ≡ link → link < length s.putters → p ≡ get_or s.putters at p → m ≡ get_or s.marks at' m
+pub is_pending : (s : State) (link at at' : ℕ) (p : PutterView) (m : Mark) → IsValid s → at ≡ link → at' ≡ link → link < length s.putters → p ≡ get_or s.putters at p → m ≡ get_or s.marks at' m
     → (is_given_up p && not m.added) ≡ true → IsPending s link
 is_pending s link at at' p m stands is is' room putter mark pends =
     let e = stands.marks in
@@ -346,7 +346,7 @@ is_pending s link at at' p m stands is is' room putter mark pends =
       given_up = λ k q there same. ap (λ y. is_given_up y) (same_putter s.putters at q p (subst (λ i. get_elem? s.putters i ≡ some q) (same ∙ sym is) there) here) ∙ h.0;
     }
 
-pub not_pending : (s : State) (link at at' : ℕ) (p : PutterView) (m : Mark) → Stands s → at ≡ link → at' ≡ link → link < length s.putters → p ≡ get_or s.putters at p → m ≡ get_or s.marks at' m
+pub not_pending : (s : State) (link at at' : ℕ) (p : PutterView) (m : Mark) → IsValid s → at ≡ link → at' ≡ link → link < length s.putters → p ≡ get_or s.putters at p → m ≡ get_or s.marks at' m
     → (is_given_up p && not m.added) ≡ false → IsSettledTo link s → IsSettledTo (link + 1) s
 not_pending s link at at' p m stands is is' room putter mark pends so_far k q there below up =
     let e = stands.marks in
@@ -363,28 +363,28 @@ all_settled s n all so_far link p here up = so_far link p here (let h = within s
 
 -- ---- the same, as the code has it
 
-pub stands_marked : (s : State) (ms : List Mark) → Stands s → length ms ≡ length s.marks → Stands (record s { marks = ms })
+pub stands_marked : (s : State) (ms : List Mark) → IsValid s → length ms ≡ length s.marks → IsValid (record s { marks = ms })
 stands_marked s ms stands same = record { sources = stands.sources; marks = same ∙ stands.marks; rest = stands.rest }
 
 pub length_added : (source : ℕ) (ms : List Mark) → length (with_added source ms) ≡ length ms
 length_added source ms = length_set ms source (record { added = true; down = (mark_at ms source).down })
 
-pub code_added : (old mid : State) (source at : ℕ) (ms : List Mark) → DoesStep (Take (record { source = source; what = whats.Down })) old mid → IsPending old source → Stands old → at ≡ source
-    → ms ≡ with_added at mid.marks → Goes [] old (record mid { marks = ms })
+pub code_added : (old mid : State) (source at : ℕ) (ms : List Mark) → DoesStep (Take (record { source = source; what = whats.Down })) old mid → IsPending old source → IsValid old → at ≡ source
+    → ms ≡ with_added at mid.marks → Advances [] old (record mid { marks = ms })
 code_added old mid source at ms does pending stands is marks =
-    subst (λ y. Goes [] old (record mid { marks = y })) (sym (marks ∙ ap (λ i. with_added i mid.marks) is)) (step_added old mid source does pending stands)
+    subst (λ y. Advances [] old (record mid { marks = y })) (sym (marks ∙ ap (λ i. with_added i mid.marks) is)) (step_added old mid source does pending stands)
 
 pub code_taken : (old : State) (desk : Row) (mid : State) (item : Item) (b : Bool) (at : ℕ) (ms : List Mark) → queues_of desk ≡ queues_of old.desk → TakesItem old.desk item desk
-    → DoesStep (Take item) (record old { desk = desk }) mid → (b ≡ true → item.what ≡ whats.Down) → Stands old → at ≡ item.source → ms ≡ noted b at mid.marks
-    → Goes [] old (record mid { marks = ms })
+    → DoesStep (Take item) (record old { desk = desk }) mid → (b ≡ true → item.what ≡ whats.Down) → IsValid old → at ≡ item.source → ms ≡ noted b at mid.marks
+    → Advances [] old (record mid { marks = ms })
 code_taken old desk mid item b at ms queues takes does is_down stands is marks =
     let room = within old.desk item.source takes.0 takes.1 in
     let e = stands.sources in
     let f = stands.marks in
-    subst (λ y. Goes [] old (record mid { marks = y })) (sym (marks ∙ ap (λ i. noted b i mid.marks) is))
+    subst (λ y. Advances [] old (record mid { marks = y })) (sym (marks ∙ ap (λ i. noted b i mid.marks) is))
     (step_taken old desk mid item b queues takes does is_down (omega arith))
 
-pub room_for : (old : State) (desk : Row) (mid : State) (item : Item) → TakesItem old.desk item desk → DoesStep (Take item) (record old { desk = desk }) mid → Stands old
+pub room_for : (old : State) (desk : Row) (mid : State) (item : Item) → TakesItem old.desk item desk → DoesStep (Take item) (record old { desk = desk }) mid → IsValid old
     → item.source < length mid.marks
 room_for old desk mid item takes does stands =
     let room = within old.desk item.source takes.0 takes.1 in
@@ -392,7 +392,7 @@ room_for old desk mid item takes does stands =
     let f = stands.marks in
     let m : length mid.marks ≡ length old.marks = ap (λ y. length y.marks) does.kept in omega arith
 
-pub stands_taken : (old : State) (desk : Row) (item : Item) → TakesItem old.desk item desk → Stands old → Stands (record old { desk = desk })
+pub stands_taken : (old : State) (desk : Row) (item : Item) → TakesItem old.desk item desk → IsValid old → IsValid (record old { desk = desk })
 stands_taken old desk item takes stands = record {
   sources = ap (λ r. length r) takes.2 ∙ length_set old.desk item.source _ ∙ stands.sources;
   marks = stands.marks;

@@ -6,7 +6,7 @@ use lib.ListN.{get_elem?}
 use Rattle.controller_worker.specs.declared.call.HasRelayed.{HasRelayed}
 use Rattle.controller_worker.specs.declared.limits.TheConstants.{TICK_MS}
 use Rattle.controller_worker.specs.declared.mark.Marks.{Marks}
-use Rattle.controller_worker.specs.Going.{unmarked}
+use Rattle.controller_worker.specs.Advancing.{unmarked}
 use Rattle.controller_worker.specs.Links.{AreSent, AreStepped, HasDown, is_given_up, lines}
 use Rattle.controller_worker.specs.Steps.{frames_to, items_of, over, ticked, whats_of}
 use Rattle.controller_worker.specs.Taking.{HasTaken}

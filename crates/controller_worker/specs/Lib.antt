@@ -1,5 +1,5 @@
 pub mod Call
-pub mod Going
+pub mod Advancing
 pub mod Links
 pub mod Seen
 pub mod Steps

@@ -1,7 +1,7 @@
 -- The call worker as contracts see it.
 use Rattle.std.specs.Prelude.{ℕ}
 use Rattle.controller_worker.specs.declared.worker.CallWorker.{CallWorker}
-use Rattle.controller_worker.specs.Going.{State}
+use Rattle.controller_worker.specs.Advancing.{State}
 
 abbrev pub seen : {K : Type 0} → (K → ℕ) → CallWorker K → State
 seen told w = record {

@@ -1,7 +1,7 @@
 ghost use Rattle.std.specs.Prelude.{◌≡◌, ◌<◌, ◌↔◌, length, IsTrue, OnOk, replicate, vec_len};
 ghost use Rattle.controller_worker.specs.Call.{AreNew, AreUnmarked, IsMemory, Runs, relayed_parts};
-ghost use Rattle.controller_worker.specs.Going.{AreAllDown, Finishes, GoesOrStops, IsSettled};
-ghost use Rattle.controller_worker.specs.Going.{Stands, unmarked};
+ghost use Rattle.controller_worker.specs.Advancing.{AreAllDown, Finishes, GoesOrStops, IsSettled};
+ghost use Rattle.controller_worker.specs.Advancing.{IsValid, unmarked};
 ghost use Rattle.controller_worker.specs.Seen.{seen};
 
 use crate::clock::Clock;
@@ -98,10 +98,10 @@ impl<K: Clock> CallWorker<K> {
 
     // Until a `Down` of each link was taken.
     fn take_all<R: Wait>(&mut self, rt: &R) -> Result<(), Memory>
-        requires stands { Stands (seen K.told self.old) }
+        requires stands { IsValid (seen K.told self.old) }
         requires settled { IsSettled (seen K.told self.old) }
         requires gathered { self.old.gathered < TICK_MS }
-        ensures stands { Stands (seen K.told self.new) }
+        ensures stands { IsValid (seen K.told self.new) }
         ensures goes { GoesOrStops result (seen K.told self.old) (seen K.told self.new) }
         ensures finishes { OnOk result (Finishes (seen K.told self.new)) }
     {
@@ -117,7 +117,7 @@ impl<K: Clock> CallWorker<K> {
     }
 
     fn are_all_down(&self) -> bool
-        requires { Stands (seen K.told self.now) }
+        requires { IsValid (seen K.told self.now) }
         ensures { IsTrue result ↔ AreAllDown (seen K.told self.now) }
     {
         for mark in &self.marks {

@@ -1,6 +1,6 @@
 //! The mark behind the last frame, put into each outbox.
 ghost use Rattle.std.specs.Prelude.{◌≡◌, length, OnOk, vec_len};
-ghost use Rattle.controller_worker.specs.Going.{Ends, Finishes, GoesOrStops, PutsEnd, Stands};
+ghost use Rattle.controller_worker.specs.Advancing.{Ends, Finishes, GoesOrStops, PutsEnd, IsValid};
 ghost use Rattle.controller_worker.specs.Seen.{seen};
 
 use crate::clock::Clock;
@@ -14,7 +14,7 @@ impl<K: Clock> CallWorker<K> {
     /// Puts the mark into each outbox. While one refuses it time is passed on and items are taken,
     /// as long as nothing can come of them.
     pub(crate) fn end_meanwhile<R: Wait>(&mut self, rt: &R) -> Result<(), Memory>
-        requires stands { Stands (seen K.told self.old) }
+        requires stands { IsValid (seen K.told self.old) }
         requires finishes { Finishes (seen K.told self.old) }
         ensures goes { GoesOrStops result (seen K.told self.old) (seen K.told self.new) }
         ensures finishes { OnOk result (Finishes (seen K.told self.new)) }

@@ -1,5 +1,4 @@
-ghost use Rattle.std.specs.Prelude.{◌≡◌, replicate, IfOk};
-ghost use Rattle.controller_worker.specs.Going.{unmarked};
+ghost use Rattle.std.specs.Prelude.{◌≡◌, IfOk};
 ghost use Rattle.controller_worker.specs.Call.{AreUnmarked};
 
 use octets::Memory;

@@ -1,6 +1,6 @@
 //! The outputs of a step, into the outboxes of their links.
 ghost use Rattle.std.specs.Prelude.{◌≡◌, [], ◌∷◌, false};
-ghost use Rattle.controller_worker.specs.Going.{Sends, SendsAll, not_ended};
+ghost use Rattle.controller_worker.specs.Advancing.{Sends, SendsAll, not_ended};
 ghost use Rattle.controller_worker.specs.Links.{is_given_up as given_up};
 
 use crate::limits::MAX_REFUSALS;

@@ -1,10 +1,10 @@
 //! Steps of the controller: an item that was taken, time that has gathered, or the `Down` of a link
 //! that was given up.
-ghost use Rattle.std.specs.Prelude.{◌≡◌, ◌+◌, ◌<◌, ◌^◌, ◌↔◌, [], min, length, IsTrue, MatchOption};
+ghost use Rattle.std.specs.Prelude.{◌≡◌, ◌+◌, ◌<◌, ◌^◌, ◌↔◌, [], min, IsTrue, MatchOption};
 ghost use Rattle.std.specs.Prelude.{OnOk, OnErr, vec_len};
-ghost use Rattle.controller_worker.specs.Going.{DoesStep, Goes, GoesOrStops, IsPending, IsSettled};
-ghost use Rattle.controller_worker.specs.Going.{SendsAll, Stands, not_ended, noted, pends};
-ghost use Rattle.controller_worker.specs.Going.{with_added};
+ghost use Rattle.controller_worker.specs.Advancing.{DoesStep, Advances, GoesOrStops, IsPending, IsSettled};
+ghost use Rattle.controller_worker.specs.Advancing.{SendsAll, IsValid, not_ended, noted, pends};
+ghost use Rattle.controller_worker.specs.Advancing.{with_added};
 ghost use Rattle.controller_worker.specs.Seen.{seen};
 ghost use Rattle.ruled_relay.specs.declared.item.What.TheVariants as whats;
 
@@ -23,10 +23,10 @@ impl<K: Clock> CallWorker<K> {
     /// Asks the clock, passes on what has gathered once that is a tick, and takes an item, if there
     /// is one. Says whether there was.
     pub(crate) fn turn<R: Wait>(&mut self, rt: &R) -> Result<bool, Memory>
-        requires stands { Stands (seen K.told self.old) }
+        requires stands { IsValid (seen K.told self.old) }
         requires settled { IsSettled (seen K.told self.old) }
         requires gathered { self.old.gathered < TICK_MS }
-        ensures stands { Stands (seen K.told self.new) }
+        ensures stands { IsValid (seen K.told self.new) }
         ensures goes { GoesOrStops result (seen K.told self.old) (seen K.told self.new) }
         ensures settled { OnOk result (IsSettled (seen K.told self.new)) }
         ensures gathered { OnOk result (self.new.gathered < TICK_MS) }
@@ -37,10 +37,10 @@ impl<K: Clock> CallWorker<K> {
 
     // In two ticks where it is over a `u32`.
     fn pass_time<R: Wait>(&mut self, rt: &R) -> Result<(), Memory>
-        requires stands { Stands (seen K.told self.old) }
+        requires stands { IsValid (seen K.told self.old) }
         requires settled { IsSettled (seen K.told self.old) }
         requires gathered { self.old.gathered < TICK_MS }
-        ensures stands { Stands (seen K.told self.new) }
+        ensures stands { IsValid (seen K.told self.new) }
         ensures goes { GoesOrStops result (seen K.told self.old) (seen K.told self.new) }
         ensures settled { OnOk result (IsSettled (seen K.told self.new)) }
         ensures gathered { OnOk result (self.new.gathered < TICK_MS) }
@@ -58,7 +58,7 @@ impl<K: Clock> CallWorker<K> {
 
     fn ask_clock(&mut self)
         requires { self.old.gathered < TICK_MS }
-        ensures goes { Goes [] (seen K.told self.old) (seen K.told self.new) }
+        ensures goes { Advances [] (seen K.told self.old) (seen K.told self.new) }
         ensures same { seen K.told self.new ≡ record (seen K.told self.old) {
           told = K.told self.new.clock;
           gathered = self.new.gathered;
@@ -70,8 +70,8 @@ impl<K: Clock> CallWorker<K> {
 
     // Passes on as much of what has gathered as a tick can.
     fn tick<R: Wait>(&mut self, rt: &R) -> Result<(), Memory>
-        requires stands { Stands (seen K.told self.old) }
-        ensures stands { Stands (seen K.told self.new) }
+        requires stands { IsValid (seen K.told self.old) }
+        ensures stands { IsValid (seen K.told self.new) }
         ensures goes { GoesOrStops result (seen K.told self.old) (seen K.told self.new) }
         ensures settled { OnOk result (IsSettled (seen K.told self.new)) }
         ensures gathered { OnOk result
@@ -84,9 +84,9 @@ impl<K: Clock> CallWorker<K> {
     }
 
     fn take<R: Wait>(&mut self, rt: &R) -> Result<bool, Memory>
-        requires stands { Stands (seen K.told self.old) }
+        requires stands { IsValid (seen K.told self.old) }
         requires settled { IsSettled (seen K.told self.old) }
-        ensures stands { Stands (seen K.told self.new) }
+        ensures stands { IsValid (seen K.told self.new) }
         ensures goes { GoesOrStops result (seen K.told self.old) (seen K.told self.new) }
         ensures settled { OnOk result (IsSettled (seen K.told self.new)) }
         ensures gathered { self.new.gathered ≡ self.old.gathered }
@@ -105,8 +105,8 @@ impl<K: Clock> CallWorker<K> {
     // Of each link whose outbox was given up and whose `Down` wasn't added yet, the `Down` is the
     // next step. Its writer is told, so that it shuts the link once it has written what waits.
     fn add_downs<R: Wait>(&mut self, rt: &R) -> Result<(), Memory>
-        requires stands { Stands (seen K.told self.old) }
-        ensures stands { Stands (seen K.told self.new) }
+        requires stands { IsValid (seen K.told self.old) }
+        ensures stands { IsValid (seen K.told self.new) }
         ensures goes { GoesOrStops result (seen K.told self.old) (seen K.told self.new) }
         ensures settled { OnOk result (IsSettled (seen K.told self.new)) }
         ensures gathered { self.new.gathered ≡ self.old.gathered }
@@ -125,7 +125,7 @@ impl<K: Clock> CallWorker<K> {
 
     // The first link whose outbox was given up and whose `Down` wasn't added.
     fn pending(&self) -> Option<u16>
-        requires { Stands (seen K.told self.now) }
+        requires { IsValid (seen K.told self.now) }
         ensures { MatchOption result (IsSettled (seen K.told self.now))
             (λ link. IsPending (seen K.told self.now) link) }
     {
@@ -141,10 +141,10 @@ impl<K: Clock> CallWorker<K> {
 
     // Does a step, and puts its outputs into the outboxes. A refusal changes nothing.
     fn do_step<R: Wait>(&mut self, rt: &R, step: Step) -> Result<(), Memory>
-        requires { Stands (seen K.told self.old) }
+        requires { IsValid (seen K.told self.old) }
         ensures ok { OnOk result (DoesStep step (seen K.told self.old) (seen K.told self.new)) }
         ensures err { OnErr result (seen K.told self.new ≡ seen K.told self.old) }
-        ensures stands { Stands (seen K.told self.new) }
+        ensures stands { IsValid (seen K.told self.new) }
     {
         let mut outputs = Outputs::new(self.alloc);
         self.controller.run_one(step, &mut outputs)?;

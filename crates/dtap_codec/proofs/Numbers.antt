@@ -9,10 +9,10 @@ use Rattle.dtap_codec.specs.declared.number.Modulus.TheVariants.{Four, Two}
 use Rattle.dtap_codec.specs.Places.{with_numbers_from, IsClear, AreClear}
 
 -- the number has no part in what a message is
-pub is_flow-with_number : (n : ℕ) (message : List ℕ) → is_flow_message (with_number n message) ≡ is_flow_message message
-is_flow-with_number n [] = refl
-is_flow-with_number n (first ∷ []) = refl
-is_flow-with_number n (first ∷ second ∷ rest) = refl
+pub is_flow_with_number : (n : ℕ) (message : List ℕ) → is_flow_message (with_number n message) ≡ is_flow_message message
+is_flow_with_number n [] = refl
+is_flow_with_number n (first ∷ []) = refl
+is_flow_with_number n (first ∷ second ∷ rest) = refl
 
 -- clearing forgets the number that was written
 pub without_number-with_number : (n : ℕ) (message : List ℕ) → without_number (with_number n message) ≡ without_number message

@@ -7,15 +7,15 @@ use Rattle.dtap_codec.specs.Report.{bit, entries_fields, report_fields, Writes}
 use Rattle.dtap_codec.proofs.Fields.{widths, same_fields}
 
 -- a bit that is read as a flag
-pub bit-is_one : (n : ℕ) → n < 2 → n ≡ bit (eqb n 1)
-bit-is_one zero h = refl
-bit-is_one (suc zero) h = refl
-bit-is_one (suc (suc n)) h = absurd (omega arith)
+pub bit_is_one : (n : ℕ) → n < 2 → n ≡ bit (eqb n 1)
+bit_is_one zero h = refl
+bit_is_one (suc zero) h = refl
+bit_is_one (suc (suc n)) h = absurd (omega arith)
 
-pub bit-is_zero : (n : ℕ) → n < 2 → n ≡ bit (not (eqb n 0))
-bit-is_zero zero h = refl
-bit-is_zero (suc zero) h = refl
-bit-is_zero (suc (suc n)) h = absurd (omega arith)
+pub bit_is_zero : (n : ℕ) → n < 2 → n ≡ bit (not (eqb n 0))
+bit_is_zero zero h = refl
+bit_is_zero (suc zero) h = refl
+bit_is_zero (suc (suc n)) h = absurd (omega arith)
 
 same_bit : (a b : Bool) → bit a ≡ bit b → a ≡ b
 same_bit true true e = refl

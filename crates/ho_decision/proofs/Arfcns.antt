@@ -105,30 +105,30 @@ or_assoc true b c = refl
 or_assoc false b c = refl
 
 -- a number that is put in
-any-insert : (p : ℕ → Bool) (k b : ℕ) (xs : List ℕ) → list_any p (insert xs k b) ≡ (list_any p xs || p b)
-any-insert p zero b xs = or_comm (p b) (list_any p xs)
-any-insert p (suc k) b [] = or_comm (p b) false
-any-insert p (suc k) b (x ∷ xs) =
-    ap (λ r. p x || r) (any-insert p k b xs) ∙ or_assoc (p x) (list_any p xs) (p b)
+any_insert : (p : ℕ → Bool) (k b : ℕ) (xs : List ℕ) → list_any p (insert xs k b) ≡ (list_any p xs || p b)
+any_insert p zero b xs = or_comm (p b) (list_any p xs)
+any_insert p (suc k) b [] = or_comm (p b) false
+any_insert p (suc k) b (x ∷ xs) =
+    ap (λ r. p x || r) (any_insert p k b xs) ∙ or_assoc (p x) (list_any p xs) (p b)
 
 -- one that is there already
-any-there : (t : Bool) (a b : ℕ) (xs : List ℕ) → (b == a) ≡ t → list_any (λ x. x == b) xs ≡ true → list_any (λ x. x == a) xs ≡ (list_any (λ x. x == a) xs || t)
-any-there false a b xs e there = or_comm false (list_any (λ x. x == a) xs)
-any-there true a b xs e there =
+any_there : (t : Bool) (a b : ℕ) (xs : List ℕ) → (b == a) ≡ t → list_any (λ x. x == b) xs ≡ true → list_any (λ x. x == a) xs ≡ (list_any (λ x. x == a) xs || t)
+any_there false a b xs e there = or_comm false (list_any (λ x. x == a) xs)
+any_there true a b xs e there =
     let P : ℕ → Type 0 = λ n. list_any (λ x. x == n) xs ≡ true in
     let here : list_any (λ x. x == a) xs ≡ true = subst P (eqb-true b a e) there in
     here ∙ ap (λ r. r || true) (sym here)
 
-any-by : (t : Bool) (a b : ℕ) (xs : List ℕ) → list_any (λ x. x == b) xs ≡ t → list_any (λ x. x == a) (cond t xs (insert xs (place xs b) b)) ≡ (list_any (λ x. x == a) xs || (b == a))
-any-by true a b xs there = any-there (b == a) a b xs refl there
-any-by false a b xs none = any-insert (λ x. x == a) (place xs b) b xs
+any_by : (t : Bool) (a b : ℕ) (xs : List ℕ) → list_any (λ x. x == b) xs ≡ t → list_any (λ x. x == a) (cond t xs (insert xs (place xs b) b)) ≡ (list_any (λ x. x == a) xs || (b == a))
+any_by true a b xs there = any_there (b == a) a b xs refl there
+any_by false a b xs none = any_insert (λ x. x == a) (place xs b) b xs
 
-any-fold : (a : ℕ) (xs : List ℕ) (cells : List Cell) → list_any (λ x. x == a) (fold with_cell xs cells) ≡ (list_any (λ x. x == a) xs || list_any (λ c. c.arfcn == a) cells)
-any-fold a xs [] = or_comm false (list_any (λ x. x == a) xs)
-any-fold a xs (cell ∷ cells) =
-    any-fold a (with_cell xs cell) cells
-    ∙ ap (λ r. r || list_any (λ c. c.arfcn == a) cells) (any-by (list_any (λ x. x == cell.arfcn) xs) a cell.arfcn xs refl)
+any_fold : (a : ℕ) (xs : List ℕ) (cells : List Cell) → list_any (λ x. x == a) (fold with_cell xs cells) ≡ (list_any (λ x. x == a) xs || list_any (λ c. c.arfcn == a) cells)
+any_fold a xs [] = or_comm false (list_any (λ x. x == a) xs)
+any_fold a xs (cell ∷ cells) =
+    any_fold a (with_cell xs cell) cells
+    ∙ ap (λ r. r || list_any (λ c. c.arfcn == a) cells) (any_by (list_any (λ x. x == cell.arfcn) xs) a cell.arfcn xs refl)
     ∙ sym (or_assoc (list_any (λ x. x == a) xs) (cell.arfcn == a) (list_any (λ c. c.arfcn == a) cells))
 
 pub other_arfcns-members : (s : Settings) (a : ℕ) → list_any (λ x. x == a) (other_arfcns s) ≡ list_any (λ c. c.arfcn == a) (others s)
-other_arfcns-members s a = any-fold a [] (others s)
+other_arfcns-members s a = any_fold a [] (others s)

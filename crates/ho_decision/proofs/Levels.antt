@@ -89,7 +89,7 @@ sum_same f g xs same =
     omega (arith, up, down)
 
 -- the average of what is measured is that of the cell's level
-pub level-average : (s : Settings) (reports : List Report) (cell : Cell) → average (value_of (level_of s cell)) s.parameters.neighbour_window reports ≡ neighbour_average s reports cell
-level-average s reports cell =
+pub level_average : (s : Settings) (reports : List Report) (cell : Cell) → average (value_of (level_of s cell)) s.parameters.neighbour_window reports ≡ neighbour_average s reports cell
+level_average s reports cell =
     let w = s.parameters.neighbour_window in
     ap (λ n. n / length (last w reports)) (sum_same (value_of (level_of s cell)) (level_in (other_arfcns s) cell) (last w reports) (level_same s cell))

@@ -1,5 +1,4 @@
 ghost use Rattle.std.specs.Prelude.{◌≡◌, ◌<◌, ◌≤◌, ◌-◌, IfOk, OnOk, fold};
-ghost use Rattle.std.specs.Prelude.{drop as dropped, take as taken};
 ghost use Rattle.ho_decision.specs.Settings.{with_arfcn, with_cell};
 
 use octets::Memory;

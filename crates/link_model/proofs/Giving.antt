@@ -18,25 +18,25 @@ made_told : (told : Bool) (base : BaseState) (message : Rsl) → (cond told (aft
 made_told true base message = refl
 made_told false base message = sym (append-nil base.messages)
 
-first-behind : (messages : List Rsl) → option_to_list (first_of_messages messages) ++ messages_behind_first messages ≡ messages
-first-behind [] = refl
-first-behind (first ∷ others) = refl
+first_behind : (messages : List Rsl) → option_to_list (first_of_messages messages) ++ messages_behind_first messages ≡ messages
+first_behind [] = refl
+first_behind (first ∷ others) = refl
 
 -- each call appends what it makes, and gives out the first
-given-call : (base : BaseState) (call : BaseCall) → messages_given_by_call base call ++ (after_call base call).messages ≡ base.messages ++ messages_made_by_call base call
-given-call base (activates channel) = made_unless (refusal_of_activate base channel) base (after_activate base channel) (activation_ack channel) refl
-given-call base (establishes channel sapi message) = made_unless (refusal_unless_active base channel) base (after_establish base channel sapi message) (establish_indication channel sapi message) refl
-given-call base (brings_up channel sapi message) = made_unless (refusal_unless_active base channel) base (after_up base channel sapi message) (data_indication channel sapi message) refl
-given-call base (releases channel) = refl
-given-call base (tells message) = made_told (is_told message) base message
-given-call base gives_next = first-behind base.messages ∙ sym (append-nil base.messages)
+given_call : (base : BaseState) (call : BaseCall) → messages_given_by_call base call ++ (after_call base call).messages ≡ base.messages ++ messages_made_by_call base call
+given_call base (activates channel) = made_unless (refusal_of_activate base channel) base (after_activate base channel) (activation_ack channel) refl
+given_call base (establishes channel sapi message) = made_unless (refusal_unless_active base channel) base (after_establish base channel sapi message) (establish_indication channel sapi message) refl
+given_call base (brings_up channel sapi message) = made_unless (refusal_unless_active base channel) base (after_up base channel sapi message) (data_indication channel sapi message) refl
+given_call base (releases channel) = refl
+given_call base (tells message) = made_told (is_told message) base message
+given_call base gives_next = first_behind base.messages ∙ sym (append-nil base.messages)
 
-pub given-calls : (base : BaseState) (calls : List BaseCall) → messages_given base calls ++ (after_calls base calls).messages ≡ base.messages ++ messages_made base calls
-given-calls base [] = sym (append-nil base.messages)
-given-calls base (call ∷ calls) =
+pub given_calls : (base : BaseState) (calls : List BaseCall) → messages_given base calls ++ (after_calls base calls).messages ≡ base.messages ++ messages_made base calls
+given_calls base [] = sym (append-nil base.messages)
+given_calls base (call ∷ calls) =
     let next : BaseState = after_call base call in
     append_assoc (messages_given_by_call base call) (messages_given next calls) (after_calls next calls).messages
-    ∙ ap (λ (xs : List Rsl). messages_given_by_call base call ++ xs) (given-calls next calls)
+    ∙ ap (λ (xs : List Rsl). messages_given_by_call base call ++ xs) (given_calls next calls)
     ∙ sym (append_assoc (messages_given_by_call base call) next.messages (messages_made next calls))
-    ∙ ap (λ (xs : List Rsl). xs ++ messages_made next calls) (given-call base call)
+    ∙ ap (λ (xs : List Rsl). xs ++ messages_made next calls) (given_call base call)
     ∙ append_assoc base.messages (messages_made_by_call base call) (messages_made next calls)

@@ -12,7 +12,7 @@ use Rattle.link_model.specs.BaseCalls.{BaseCall, state_unless, after_call, after
 use Rattle.link_model.specs.BaseCalls.BaseCall.{activates, establishes, brings_up, releases, tells, gives_next}
 use Rattle.link_model.specs.Tenures.{is_brought_on, is_bound_of, Tenures}
 use Rattle.link_model.specs.Tenures.Tenures.{over, begins, brings, ends, apart}
-use Rattle.link_model.proofs.Giving.{given-calls}
+use Rattle.link_model.proofs.Giving.{given_calls}
 use Rattle.rsl_codec.specs.declared.rsl.Rsl.{Rsl}
 use Rattle.rsl_codec.specs.declared.rsl.Rsl.TheVariants as messages
 
@@ -132,4 +132,4 @@ tenures_calls channel base (call ∷ calls) = tenures_append (messages_made (aft
 -- what a new end gave out, with what waits, is what it made
 pub Tenures-given : (channel station : ℕ) (calls : List BaseCall) → Tenures channel false (messages_given (new_base station) calls ++ (after_calls (new_base station) calls).messages) (is_active (after_calls (new_base station) calls).active channel)
 Tenures-given channel station calls =
-    subst (λ (xs : List Rsl). Tenures channel false xs (is_active (after_calls (new_base station) calls).active channel)) (sym (given-calls (new_base station) calls)) (tenures_calls channel (new_base station) calls)
+    subst (λ (xs : List Rsl). Tenures channel false xs (is_active (after_calls (new_base station) calls).active channel)) (sym (given_calls (new_base station) calls)) (tenures_calls channel (new_base station) calls)

@@ -1,5 +1,6 @@
 -- What the calls of a base station end do: each appends its message.
-use Rattle.std.specs.Prelude.{ℕ, Bool, true, false, not, ◌==◌, Option, Some, None, List, [], ◌∷◌, ◌++◌, filter, if◌then◌else◌}
+use Rattle.std.specs.Prelude.{ℕ, Bool, true, false, not, ◌==◌, Option, Some, None, List, [], ◌∷◌}
+use Rattle.std.specs.Prelude.{◌++◌, filter, if◌then◌else◌}
 use Rattle.std.specs.List.{list_any}
 use Rattle.dtap_codec.specs.declared.sapi.Sapi.{Sapi}
 use Rattle.link_model.specs.declared.fault.LinkFault.{LinkFault}
@@ -7,7 +8,9 @@ use Rattle.link_model.specs.declared.fault.LinkFault.TheVariants.{NotActive, Bus
 use Rattle.link_model.specs.BaseState.{BaseState}
 use Rattle.link_model.specs.Message.{activation_ack, establish_indication, data_indication}
 use Rattle.rsl_codec.specs.declared.rsl.Rsl.{Rsl}
-use Rattle.rsl_codec.specs.declared.rsl.Rsl.TheVariants.{EstablishConfirm, ReleaseIndication, ChannelRequired, HandoverDetection, MeasurementResult, RfChannelReleaseAck}
+use Rattle.rsl_codec.specs.declared.rsl.Rsl.TheVariants.{EstablishConfirm, ReleaseIndication}
+use Rattle.rsl_codec.specs.declared.rsl.Rsl.TheVariants.{ChannelRequired, HandoverDetection}
+use Rattle.rsl_codec.specs.declared.rsl.Rsl.TheVariants.{MeasurementResult, RfChannelReleaseAck}
 
 -- no channel is active, and nothing was made
 abbrev pub new_base : ℕ → BaseState
@@ -24,19 +27,23 @@ abbrev pub refusal_of_activate : BaseState → ℕ → Option LinkFault
 refusal_of_activate base channel = if is_active base.active channel then Some Busy else None
 
 abbrev pub after_activate : BaseState → ℕ → BaseState
-after_activate base channel = after_tell (record base { active = base.active ++ channel ∷ [] }) (activation_ack channel)
+after_activate base channel =
+    after_tell (record base { active = base.active ++ channel ∷ [] }) (activation_ack channel)
 
 abbrev pub refusal_unless_active : BaseState → ℕ → Option LinkFault
 refusal_unless_active base channel = if is_active base.active channel then None else Some NotActive
 
 abbrev pub after_establish : BaseState → ℕ → Sapi → Option (List ℕ) → BaseState
-after_establish base channel sapi message = after_tell base (establish_indication channel sapi message)
+after_establish base channel sapi message =
+    after_tell base (establish_indication channel sapi message)
 
 abbrev pub after_up : BaseState → ℕ → Sapi → List ℕ → BaseState
 after_up base channel sapi message = after_tell base (data_indication channel sapi message)
 
 abbrev pub after_release : BaseState → ℕ → BaseState
-after_release base channel = after_tell (record base { active = filter (λ number. not (number == channel)) base.active }) (RfChannelReleaseAck channel)
+after_release base channel =
+    after_tell (record base { active = filter (λ number. not (number == channel)) base.active })
+    (RfChannelReleaseAck channel)
 
 -- the kinds of message that `tell` makes
 abbrev pub is_told : Rsl → Bool

@@ -1,9 +1,12 @@
 -- A life of a base station end: any list of calls, in any order, up to a `take_down`.
-use Rattle.std.specs.Prelude.{ℕ, Option, Some, None, List, [], ◌∷◌, ◌++◌, option_to_list, if◌then◌else◌}
+use Rattle.std.specs.Prelude.{ℕ, Option, Some, None, List, [], ◌∷◌, ◌++◌, option_to_list}
+use Rattle.std.specs.Prelude.{if◌then◌else◌}
 use Rattle.dtap_codec.specs.declared.sapi.Sapi.{Sapi}
 use Rattle.link_model.specs.declared.fault.LinkFault.{LinkFault}
 use Rattle.link_model.specs.BaseState.{BaseState}
-use Rattle.link_model.specs.Base.{refusal_of_activate, after_activate, refusal_unless_active, after_establish, after_up, after_release, is_told, after_tell, first_message, after_next}
+use Rattle.link_model.specs.Base.{refusal_of_activate, after_activate, refusal_unless_active}
+use Rattle.link_model.specs.Base.{after_establish, after_up, after_release, is_told, after_tell}
+use Rattle.link_model.specs.Base.{first_message, after_next}
 use Rattle.link_model.specs.Message.{activation_ack, establish_indication, data_indication}
 use Rattle.rsl_codec.specs.declared.rsl.Rsl.{Rsl}
 use Rattle.rsl_codec.specs.declared.rsl.Rsl.TheVariants.{RfChannelReleaseAck}
@@ -22,9 +25,13 @@ state_unless (Some fault) old new = old
 state_unless None old new = new
 
 abbrev pub after_call : BaseState → BaseCall → BaseState
-after_call base (activates channel) = state_unless (refusal_of_activate base channel) base (after_activate base channel)
-after_call base (establishes channel sapi message) = state_unless (refusal_unless_active base channel) base (after_establish base channel sapi message)
-after_call base (brings_up channel sapi message) = state_unless (refusal_unless_active base channel) base (after_up base channel sapi message)
+after_call base (activates channel) =
+    state_unless (refusal_of_activate base channel) base (after_activate base channel)
+after_call base (establishes channel sapi message) =
+    state_unless (refusal_unless_active base channel) base
+    (after_establish base channel sapi message)
+after_call base (brings_up channel sapi message) =
+    state_unless (refusal_unless_active base channel) base (after_up base channel sapi message)
 after_call base (releases channel) = after_release base channel
 after_call base (tells message) = if is_told message then after_tell base message else base
 after_call base gives_next = after_next base
@@ -40,9 +47,12 @@ message_unless None message = message ∷ []
 
 -- what a call makes
 abbrev pub messages_made_by_call : BaseState → BaseCall → List Rsl
-messages_made_by_call base (activates channel) = message_unless (refusal_of_activate base channel) (activation_ack channel)
-messages_made_by_call base (establishes channel sapi message) = message_unless (refusal_unless_active base channel) (establish_indication channel sapi message)
-messages_made_by_call base (brings_up channel sapi message) = message_unless (refusal_unless_active base channel) (data_indication channel sapi message)
+messages_made_by_call base (activates channel) =
+    message_unless (refusal_of_activate base channel) (activation_ack channel)
+messages_made_by_call base (establishes channel sapi message) =
+    message_unless (refusal_unless_active base channel) (establish_indication channel sapi message)
+messages_made_by_call base (brings_up channel sapi message) =
+    message_unless (refusal_unless_active base channel) (data_indication channel sapi message)
 messages_made_by_call base (releases channel) = RfChannelReleaseAck channel ∷ []
 messages_made_by_call base (tells message) = if is_told message then message ∷ [] else []
 messages_made_by_call base gives_next = []
@@ -50,7 +60,8 @@ messages_made_by_call base gives_next = []
 -- what all these calls make, in order
 abbrev pub messages_made : BaseState → List BaseCall → List Rsl
 messages_made base [] = []
-messages_made base (call ∷ calls) = messages_made_by_call base call ++ messages_made (after_call base call) calls
+messages_made base (call ∷ calls) =
+    messages_made_by_call base call ++ messages_made (after_call base call) calls
 
 -- what a call gives out
 abbrev pub messages_given_by_call : BaseState → BaseCall → List Rsl
@@ -60,4 +71,5 @@ messages_given_by_call base _ = []
 -- what all these calls give out, in order
 abbrev pub messages_given : BaseState → List BaseCall → List Rsl
 messages_given base [] = []
-messages_given base (call ∷ calls) = messages_given_by_call base call ++ messages_given (after_call base call) calls
+messages_given base (call ∷ calls) =
+    messages_given_by_call base call ++ messages_given (after_call base call) calls

@@ -4,7 +4,8 @@ use Rattle.dtap_codec.specs.declared.sapi.Sapi.{Sapi}
 use Rattle.dtap_codec.specs.declared.sapi.Sapi.TheVariants.{Zero, Three}
 use Rattle.rsl_codec.specs.declared.link_identifier.TheConstants.{MAIN_LINK_SAPI_0}
 use Rattle.rsl_codec.specs.declared.rsl.Rsl.{Rsl}
-use Rattle.rsl_codec.specs.declared.rsl.Rsl.TheVariants.{DataIndication, EstablishIndication, ChannelActivationAck}
+use Rattle.rsl_codec.specs.declared.rsl.Rsl.TheVariants.{DataIndication, EstablishIndication}
+use Rattle.rsl_codec.specs.declared.rsl.Rsl.TheVariants.{ChannelActivationAck}
 use Rattle.rsl_codec.specs.LinkIdentifier.{short_message_link}
 
 -- SAPI 0 takes the main link, SAPI 3 that of an SDCCH and the SACCH of a TCH
@@ -13,10 +14,13 @@ link_on channel Zero = MAIN_LINK_SAPI_0
 link_on channel Three = short_message_link channel
 
 abbrev pub activation_ack : ℕ → Rsl
-activation_ack channel = ChannelActivationAck (record { channel = channel; frame = Some (record { 0 = 0 }) })
+activation_ack channel =
+    ChannelActivationAck (record { channel = channel; frame = Some (record { 0 = 0 }) })
 
 abbrev pub establish_indication : ℕ → Sapi → Option (List ℕ) → Rsl
-establish_indication channel sapi message = EstablishIndication (record { channel = channel; link = link_on channel sapi; l3 = message })
+establish_indication channel sapi message =
+    EstablishIndication (record { channel = channel; link = link_on channel sapi; l3 = message })
 
 abbrev pub data_indication : ℕ → Sapi → List ℕ → Rsl
-data_indication channel sapi message = DataIndication (record { channel = channel; link = link_on channel sapi; l3 = message })
+data_indication channel sapi message =
+    DataIndication (record { channel = channel; link = link_on channel sapi; l3 = message })

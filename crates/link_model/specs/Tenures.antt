@@ -2,7 +2,8 @@
 use Rattle.std.specs.Prelude.{◌≡◌, ℕ, Bool, true, false, ◌==◌, List, [], ◌∷◌}
 use Rattle.link_model.specs.Message.{activation_ack}
 use Rattle.rsl_codec.specs.declared.rsl.Rsl.{Rsl}
-use Rattle.rsl_codec.specs.declared.rsl.Rsl.TheVariants.{DataIndication, EstablishIndication, ChannelActivationAck, RfChannelReleaseAck}
+use Rattle.rsl_codec.specs.declared.rsl.Rsl.TheVariants.{DataIndication, EstablishIndication}
+use Rattle.rsl_codec.specs.declared.rsl.Rsl.TheVariants.{ChannelActivationAck, RfChannelReleaseAck}
 
 -- an ESTABLISH INDICATION, or a DATA INDICATION, as DTAP is, of the channel
 abbrev pub is_brought_on : ℕ → Rsl → Bool
@@ -21,7 +22,12 @@ is_bound_of channel _ = false
 -- tenure alone. The messages lead from within a tenure, or from outside, to within one, or outside.
 pub data Tenures (channel : ℕ) : Bool → List Rsl → Bool → Type 0 where
   over : (within : Bool) → Tenures channel within [] within
-  begins : {end : Bool} {messages : List Rsl} → Tenures channel true messages end → Tenures channel false (activation_ack channel ∷ messages) end
-  brings : {end : Bool} {message : Rsl} {messages : List Rsl} → is_brought_on channel message ≡ true → Tenures channel true messages end → Tenures channel true (message ∷ messages) end
-  ends : {within end : Bool} {messages : List Rsl} → Tenures channel false messages end → Tenures channel within (RfChannelReleaseAck channel ∷ messages) end
-  apart : {within end : Bool} {message : Rsl} {messages : List Rsl} → is_brought_on channel message ≡ false → is_bound_of channel message ≡ false → Tenures channel within messages end → Tenures channel within (message ∷ messages) end
+  begins : {end : Bool} {messages : List Rsl} → Tenures channel true messages end
+      → Tenures channel false (activation_ack channel ∷ messages) end
+  brings : {end : Bool} {message : Rsl} {messages : List Rsl} → is_brought_on channel message ≡ true
+      → Tenures channel true messages end → Tenures channel true (message ∷ messages) end
+  ends : {within end : Bool} {messages : List Rsl} → Tenures channel false messages end
+      → Tenures channel within (RfChannelReleaseAck channel ∷ messages) end
+  apart : {within end : Bool} {message : Rsl} {messages : List Rsl}
+      → is_brought_on channel message ≡ false → is_bound_of channel message ≡ false
+      → Tenures channel within messages end → Tenures channel within (message ∷ messages) end

@@ -1,7 +1,8 @@
 ghost use Rattle.std.specs.Prelude.{◌≡◌, None, Ok, Err, is_some, option_map, if◌then◌else◌};
 ghost use Rattle.std.specs.Result.{result_map_both};
 ghost use Rattle.std.specs.Borrow.{sem};
-ghost use Rattle.link_model.specs.AirLink.{give_answer, after_give, offered_message, after_reach, after_ack, is_reached, is_empty, message_in};
+ghost use Rattle.link_model.specs.AirLink.{give_answer, after_give, offered_message, after_reach};
+ghost use Rattle.link_model.specs.AirLink.{after_ack, is_reached, is_empty, message_in};
 ghost use Rattle.link_model.specs.RestsAfterReach.{RestsAfterReach};
 
 use octets::Octets;
@@ -52,7 +53,8 @@ impl AirLink {
     /// Gives a message to the link. It is handed back, and nothing changes, where one stands in the
     /// air already.
     pub fn give(&mut self, message: Vec<u8>) -> Result<(), Vec<u8>>
-        ensures answer { result_map_both (λ _. tt) (λ message. message.items) result ≡ give_answer self.old message.items }
+        ensures answer { result_map_both (λ _. tt) (λ message. message.items) result
+            ≡ give_answer self.old message.items }
         ensures after { self.new ≡ after_give self.old message.items }
     {
         if !self.is_empty() {

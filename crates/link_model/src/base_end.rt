@@ -1,7 +1,11 @@
-ghost use Rattle.std.specs.Prelude.{◌≡◌, ◌≤◌, true, None, [], OnOk, OnErr, option_map, filter, not, ◌==◌};
+ghost use Rattle.std.specs.Prelude.{◌≡◌, ◌≤◌, true, None, [], OnOk, OnErr, option_map, filter, not};
+ghost use Rattle.std.specs.Prelude.{◌==◌};
 ghost use Rattle.octets.specs.Refusal.{RefusesBy};
 ghost use Rattle.link_model.specs.Message.{link_on};
-ghost use Rattle.link_model.specs.Base.{is_active, new_base, after_activate, refusal_of_activate, refusal_unless_active, after_establish, after_up, after_release, is_told, after_tell, first_message, after_next, after_take_down};
+ghost use Rattle.link_model.specs.Base.{is_active, new_base, after_activate, refusal_of_activate};
+ghost use Rattle.link_model.specs.Base.{refusal_unless_active, after_establish, after_up};
+ghost use Rattle.link_model.specs.Base.{after_release, is_told, after_tell, first_message};
+ghost use Rattle.link_model.specs.Base.{after_next, after_take_down};
 
 use crate::LinkFault;
 use dtap_codec::Sapi;
@@ -86,7 +90,8 @@ impl BaseEnd {
         sapi: Sapi,
         message: Option<&[u8]>,
     ) -> Result<(), LinkFault>
-        ensures ok { OnOk result (self.new ≡ after_establish self.old channel sapi (option_map (λ octets. octets.now) message.entry)) }
+        ensures ok { OnOk result (self.new ≡ after_establish self.old channel sapi
+            (option_map (λ octets. octets.now) message.entry)) }
         ensures refused { RefusesBy LinkFault.Memory result (refusal_unless_active self.old channel) }
         ensures err { OnErr result (self.new ≡ self.old) }
     {

@@ -22,5 +22,7 @@ pub fn keeps_tenures()
 
 /// What is given out are the messages that were made, each once and in order.
 pub fn gives_in_order()
-    ensures { (base : BaseState) (calls : List BaseCall) → messages_given base calls ++ (after_calls base calls).messages ≡ base.messages ++ messages_made base calls }
+    ensures { (base : BaseState) (calls : List BaseCall)
+        → messages_given base calls ++ (after_calls base calls).messages
+        ≡ base.messages ++ messages_made base calls }
 {}

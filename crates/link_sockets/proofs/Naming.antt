@@ -6,8 +6,8 @@ use Rattle.std.specs.List.{range_with_len}
 use Rattle.link_sockets.specs.Naming.{AreNamed, place_of}
 use Rattle.link_sockets.specs.declared.name.LinkName.{LinkName}
 
-range-push : (n : ℕ) → range_with_len 0 (n + 1) ≡ range_with_len 0 n ++ n ∷ []
-range-push n =
+range_push : (n : ℕ) → range_with_len 0 (n + 1) ≡ range_with_len 0 n ++ n ∷ []
+range_push n =
     let count : 0 + n ≡ n = omega (arith) in
     sym (map-id (range_with_len 0 (n + 1))) ∙ map-range_with_len_more (λ (k : ℕ). k) 0 n n count ∙ ap (λ (list : List ℕ). list ++ n ∷ []) (map-id (range_with_len 0 n))
 
@@ -16,7 +16,7 @@ pub AreNamed-push : (names : List LinkName) (name : LinkName) → AreNamed names
 AreNamed-push names name named next =
     let places : map place_of (names ++ name ∷ []) ≡ range_with_len 0 (length names) ++ length names ∷ [] =
     map_push place_of names name ∙ ap (λ (list : List ℕ). list ++ place_of name ∷ []) named ∙ ap (λ (k : ℕ). range_with_len 0 (length names) ++ k ∷ []) next in
-    places ∙ sym (range-push (length names)) ∙ ap (range_with_len 0) (sym (length_push names name))
+    places ∙ sym (range_push (length names)) ∙ ap (range_with_len 0) (sym (length_push names name))
 
 -- the same of what has names
 pub AreNamed-push_of : {X : Type 0} (name_in : X → LinkName) → (xs : List X) (x : X) (place : ℕ) →

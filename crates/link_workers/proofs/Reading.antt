@@ -20,7 +20,7 @@ use Rattle.link_workers.specs.declared.unread.UnreadLink.{UnreadLink}
 use Rattle.link_workers.specs.declared.unread.UnreadLink.TheVariants.{Endless, Device, Refused}
 use Rattle.link_workers.specs.Faults.{fault_of_frame}
 use Rattle.link_workers.specs.Unread.{fault_for, fault_in}
-use Rattle.link_workers.specs.Reading.{AsksGate, BreaksOff, Ends, IsTold, Parts, Puts, PutsAll, PutsDown, ReadsOn, Serves, StopsBefore, after_letting, frames_text, given, having_put, shutting}
+use Rattle.link_workers.specs.Reading.{AsksGate, BreaksOff, Ends, IsReported, Parts, Puts, PutsAll, PutsDown, ReadsOn, Serves, StopsBefore, after_letting, frames_text, given, having_put, shutting}
 
 -- ---- parts of a stream
 
@@ -288,13 +288,13 @@ serves start end limit refused last now old mid new (Err unread) before fault al
 -- ---- what the device is told
 
 -- the fault is the earlier one, or that the gate is shut
-told_same : (before fault told : Option IoFault) {A B : Type 0} → IsTold before told → (A × (fault ≡ before)) ⊎ (B × (fault ≡ Some faults.GateShut)) → IsTold fault told
-told_same before fault told is (inl same) = subst (λ (f : Option IoFault). IsTold f told) (sym same.1) is
-told_same before fault told is (inr shut) = subst (λ (f : Option IoFault). IsTold f told) (sym shut.1) tt
+told_same : (before fault told : Option IoFault) {A B : Type 0} → IsReported before told → (A × (fault ≡ before)) ⊎ (B × (fault ≡ Some faults.GateShut)) → IsReported fault told
+told_same before fault told is (inl same) = subst (λ (f : Option IoFault). IsReported f told) (sym same.1) is
+told_same before fault told is (inr shut) = subst (λ (f : Option IoFault). IsReported f told) (sym shut.1) tt
 
-pub is_told : (limit refused now : ℕ) (old new : PassView) (before fault told : Option IoFault) → IfSome before (λ f. told ≡ Some f) → PutsDown limit refused now old new before fault → IsTold fault told
+pub is_told : (limit refused now : ℕ) (old new : PassView) (before fault told : Option IoFault) → IfSome before (λ f. told ≡ Some f) → PutsDown limit refused now old new before fault → IsReported fault told
 is_told limit refused now old new None fault told is down = told_same None fault told tt down.1
-is_told limit refused now old new (Some faults.GateShut) fault told is down = subst (λ (f : Option IoFault). IsTold f told) (sym down.2) tt
+is_told limit refused now old new (Some faults.GateShut) fault told is down = subst (λ (f : Option IoFault). IsReported f told) (sym down.2) tt
 is_told limit refused now old new (Some faults.ReadFailed) fault told is down = told_same (Some faults.ReadFailed) fault told is down.1
 is_told limit refused now old new (Some faults.WriteFailed) fault told is down = told_same (Some faults.WriteFailed) fault told is down.1
 is_told limit refused now old new (Some faults.FrameFault) fault told is down = told_same (Some faults.FrameFault) fault told is down.1

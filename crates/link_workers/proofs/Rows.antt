@@ -2,6 +2,7 @@
 -- what the switch replies.
 use Rattle.std.proofs.Common.{◌≡◌, ℕ, ◌^◌, List, [], ◌∷◌, ◌++◌, replicate, true, false, Some, None, Ok, refl, arith}
 use Rattle.std.specs.Prelude.{◌≢◌}
+use Rattle.octets.proofs.Hex.{hex}
 use Rattle.ipa_framing.specs.declared.frame.Frame.{Frame}
 use Rattle.ipa_framing.specs.declared.fault.FrameFault.TheVariants as framing
 use Rattle.bssmap_codec.specs.declared.fault.InterfaceFault.TheVariants as interface
@@ -18,7 +19,7 @@ use Rattle.link_workers.specs.declared.unread.UnreadLink.TheVariants.{Endless, R
 use Rattle.link_workers.specs.declared.writing.Wrote.TheVariants.{Octets}
 use Rattle.link_workers.specs.Faults.{fault_of_frame, fault_of_reply}
 use Rattle.link_workers.specs.Unread.{IsUnread, fault_for}
-use Rattle.link_workers.specs.Reading.{AsksGate, Ends, IsTold, Parts, Serves, after_letting, frames_text, given, having_put, shutting}
+use Rattle.link_workers.specs.Reading.{AsksGate, Ends, IsReported, Parts, Serves, after_letting, frames_text, given, having_put, shutting}
 use Rattle.link_workers.specs.Writing.{Delivers, IsWriterFault, WritesOnce, end_if, having_taken, lines}
 use Rattle.link_workers.specs.Switching.{Stops, WritesReplies, after_all, all_replies, message_in, messages, replies_text}
 
@@ -29,34 +30,34 @@ abbrev ping : Frame
 ping = frame 0xfe (0x00 ∷ [])
 
 abbrev ping_octets : List ℕ
-ping_octets = 0x00 ∷ 0x01 ∷ 0xfe ∷ 0x00 ∷ []
+ping_octets = hex "00 01 fe 00"
 
 -- ---- a reader
 
-frames_of_two : frames_text (ping ∷ frame 0x00 (0x07 ∷ 0x08 ∷ []) ∷ []) ≡ 0x00 ∷ 0x01 ∷ 0xfe ∷ 0x00 ∷ 0x00 ∷ 0x02 ∷ 0x00 ∷ 0x07 ∷ 0x08 ∷ []
+frames_of_two : frames_text (ping ∷ frame 0x00 (hex "07 08") ∷ []) ≡ hex "00 01 fe 00 00 02 00 07 08"
 frames_of_two = refl
 
 given_of_two : given (ping ∷ frame 0x00 [] ∷ []) ≡ GivenFrame ping ∷ GivenFrame (frame 0x00 []) ∷ []
 given_of_two = refl
 
-a_frame_and_a_rest : Parts (0x00 ∷ 0x01 ∷ 0xfe ∷ 0x00 ∷ 0x00 ∷ []) (ping ∷ []) (0x00 ∷ [])
+a_frame_and_a_rest : Parts (hex "00 01 fe 00 00") (ping ∷ []) (0x00 ∷ [])
 a_frame_and_a_rest = record { whole = refl; each = (omega arith, tt) }
 
 -- a device learns of every fault but a gate that stayed shut; of a link that came to its end it
 -- learns nothing that is said here
-told_of_a_fault : IsTold (Some FrameFault) (Some FrameFault)
+told_of_a_fault : IsReported (Some FrameFault) (Some FrameFault)
 told_of_a_fault = refl
 
-not_told : IsTold (Some ReadFailed) None → ⊥
+not_told : IsReported (Some ReadFailed) None → ⊥
 not_told bad = absurd (cc bad)
 
-told_of_another : IsTold (Some Memory) (Some FrameFault) → ⊥
+told_of_another : IsReported (Some Memory) (Some FrameFault) → ⊥
 told_of_another bad = absurd (cc bad)
 
-gate_stayed_shut : IsTold (Some GateShut) None
+gate_stayed_shut : IsReported (Some GateShut) None
 gate_stayed_shut = tt
 
-at_its_end : IsTold None None
+at_its_end : IsReported None None
 at_its_end = tt
 
 put_behind : (p : PassView) → (having_put p (Down ∷ [])).put ≡ p.put ++ Down ∷ []
@@ -97,10 +98,10 @@ ends_unread bad = absurd (cc bad.1)
 ends_whole_frame_left : Ends (Some ReadFailed) ping_octets (Some []) → ⊥
 ends_whole_frame_left bad = omega (arith, bad.1)
 
-ends_too_long : Ends (Some FrameFault) (0x08 ∷ 0x01 ∷ []) (Some (0x07 ∷ []))
+ends_too_long : Ends (Some FrameFault) (hex "08 01") (Some (0x07 ∷ []))
 ends_too_long = omega arith
 
-ends_longest : Ends (Some FrameFault) (0x08 ∷ 0x00 ∷ []) (Some (0x07 ∷ [])) → ⊥
+ends_longest : Ends (Some FrameFault) (hex "08 00") (Some (0x07 ∷ [])) → ⊥
 ends_longest bad = omega (arith, bad)
 
 no_reader_gives_up : Ends (Some GivenUp) [] (Some []) → ⊥
@@ -149,15 +150,15 @@ longer_is_a_fault = λ all. omega (arith, all.1.0)
 no_writer_reads : IsWriterFault ReadFailed (ping ∷ []) → ⊥
 no_writer_reads bad = bad
 
-takes_one : WritesOnce (Some []) (Some (0x07 ∷ [])) (0x07 ∷ 0x08 ∷ []) (Ok (Octets 1))
+takes_one : WritesOnce (Some []) (Some (0x07 ∷ [])) (hex "07 08") (Ok (Octets 1))
 takes_one = (omega arith, omega arith, refl)
 
-takes_none : WritesOnce (Some []) (Some []) (0x07 ∷ 0x08 ∷ []) (Ok (Octets 0)) → ⊥
+takes_none : WritesOnce (Some []) (Some []) (hex "07 08") (Ok (Octets 0)) → ⊥
 takes_none bad = omega (arith, bad.0)
 
 -- a device that takes one octet at a time, and fails at its fourth write
-three_octets_taken : (t : TakerView) → Delivers (Some []) (Some (0x00 ∷ 0x01 ∷ 0xfe ∷ [])) t (having_taken t (FrameLine ping ∷ End ∷ [])) (Some WriteFailed)
-three_octets_taken t = record { frames = ping ∷ []; takes = refl; writes = (tt, (0x00 ∷ 0x01 ∷ 0xfe ∷ [], 0x00 ∷ [], refl, refl)) }
+three_octets_taken : (t : TakerView) → Delivers (Some []) (Some (hex "00 01 fe")) t (having_taken t (FrameLine ping ∷ End ∷ [])) (Some WriteFailed)
+three_octets_taken t = record { frames = ping ∷ []; takes = refl; writes = (tt, (hex "00 01 fe", 0x00 ∷ [], refl, refl)) }
 
 all_octets_taken : (t : TakerView) → Delivers (Some (0x07 ∷ [])) (Some (0x07 ∷ ping_octets)) t (having_taken t (FrameLine ping ∷ End ∷ [])) None
 all_octets_taken t = record { frames = ping ∷ []; takes = refl; writes = ((omega arith, tt), refl) }
@@ -182,13 +183,12 @@ no_messages : messages (ping ∷ frame 0x00 (0x01 ∷ []) ∷ []) ≡ []
 no_messages = refl
 
 -- connection confirm: the first connection is 800001
-confirms : replies_text (all_replies new_switch (ConnectionRequest 1 None ∷ [])) ≡ 0x00 ∷ 0x09 ∷ 0xfd ∷ 0x02 ∷ 0x00 ∷ 0x00 ∷ 0x01 ∷ 0x80 ∷ 0x00 ∷ 0x01 ∷ 0x02 ∷ 0x00 ∷ []
+confirms : replies_text (all_replies new_switch (ConnectionRequest 1 None ∷ [])) ≡ hex "00 09 fd 02 00 00 01 80 00 01 02 00"
 confirms = refl
 
 -- the second request meets the switch as the first left it
 confirms_two : replies_text (all_replies new_switch (ConnectionRequest 1 None ∷ ReleaseComplete 1 2 ∷ ConnectionRequest 5 None ∷ []))
-    ≡ 0x00 ∷ 0x09 ∷ 0xfd ∷ 0x02 ∷ 0x00 ∷ 0x00 ∷ 0x01 ∷ 0x80 ∷ 0x00 ∷ 0x01 ∷ 0x02 ∷ 0x00
-    ∷ 0x00 ∷ 0x09 ∷ 0xfd ∷ 0x02 ∷ 0x00 ∷ 0x00 ∷ 0x05 ∷ 0x80 ∷ 0x00 ∷ 0x02 ∷ 0x02 ∷ 0x00 ∷ []
+    ≡ hex "00 09 fd 02 00 00 01 80 00 01 02 00 00 09 fd 02 00 00 05 80 00 02 02 00"
 confirms_two = refl
 
 after_two : (after_all new_switch (ConnectionRequest 1 None ∷ ConnectionRequest 5 None ∷ [])).connections ≢ []
@@ -200,8 +200,8 @@ stops_unread bad = absurd (cc bad.1)
 stops_shut : Stops (Some GateShut) [] (Some []) → ⊥
 stops_shut bad = bad
 
-begins_with_a_fault : WritesReplies (Some WriteFailed) (ReleaseComplete 1 2 ∷ []) (Some []) (Some (0x00 ∷ 0x07 ∷ []))
-begins_with_a_fault = (0x00 ∷ 0x07 ∷ [], 0xfd ∷ 0x05 ∷ 0x00 ∷ 0x00 ∷ 0x01 ∷ 0x00 ∷ 0x00 ∷ 0x02 ∷ [], refl, refl)
+begins_with_a_fault : WritesReplies (Some WriteFailed) (ReleaseComplete 1 2 ∷ []) (Some []) (Some (hex "00 07"))
+begins_with_a_fault = (hex "00 07", hex "fd 05 00 00 01 00 00 02", refl, refl)
 
-whole_without_a_write_that_failed : WritesReplies (Some ReadFailed) (ReleaseComplete 1 2 ∷ []) (Some []) (Some (0x00 ∷ 0x07 ∷ [])) → ⊥
+whole_without_a_write_that_failed : WritesReplies (Some ReadFailed) (ReleaseComplete 1 2 ∷ []) (Some []) (Some (hex "00 07")) → ⊥
 whole_without_a_write_that_failed bad = absurd (cc bad)

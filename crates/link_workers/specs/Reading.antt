@@ -80,10 +80,10 @@ pub record Serves (start end : Option (List ℕ)) (limit refused now : ℕ) (old
 
 -- The device was told of the fault; not where the gate stayed shut, since it may have refused
 -- `Down` alone.
-abbrev pub IsTold : Option IoFault → Option IoFault → Type 0
-IsTold None told = Unit {0}
-IsTold (Some GateShut) told = Unit {0}
-IsTold (Some fault) told = told ≡ Some fault
+abbrev pub IsReported : Option IoFault → Option IoFault → Type 0
+IsReported None told = Unit {0}
+IsReported (Some GateShut) told = Unit {0}
+IsReported (Some fault) told = told ≡ Some fault
 
 -- ---- what the parts of a reader do
 

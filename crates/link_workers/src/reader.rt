@@ -2,7 +2,7 @@ ghost use Rattle.std.specs.Prelude.{◌≡◌, ◌≢◌, ◌⊎◌, ◌++◌, �
 ghost use Rattle.ipa_framing.specs.declared.frame.Frame.{Frame as FrameValue};
 ghost use Rattle.ipa_framing.specs.Frame.{IsPartial, IsTooLong, Splits};
 ghost use Rattle.link_workers.specs.declared.fault.IoFault.TheVariants.{ReadFailed};
-ghost use Rattle.link_workers.specs.Reading.{IsTold, Parts, PutsAll, PutsDown, PutsWhole, Serves};
+ghost use Rattle.link_workers.specs.Reading.{IsReported, Parts, PutsAll, PutsDown, PutsWhole, Serves};
 ghost use Rattle.link_workers.specs.Unread.{IsUnread};
 
 use crate::framing::{BLOCK, read_on};
@@ -44,7 +44,7 @@ pub fn serve_reader<I: LinkReader, G: Gate, R: Wait>(
 ) -> HasRead<I, G>
     ensures serves { Serves (I.remaining reader) (I.remaining result.reader) limit
         (G.refused gate) (G.refused result.gate) pass result.pass result.fault }
-    ensures told { IsTold result.fault (I.told result.reader) }
+    ensures told { IsReported result.fault (I.told result.reader) }
 {
     let mut gated = GatedPass { gate, pass, limit };
     let fault = fault_of(put_all(rt, alloc, &mut reader, &mut gated));

@@ -20,17 +20,17 @@ use Rattle.mobile_end.specs.DataLinkState.{DataLinkState}
 use Rattle.dtap_codec.specs.Places.{Rise}
 use Rattle.dtap_codec.proofs.Rising.{Rise-front, Rise-of_flow}
 use Rattle.mobile_end.specs.DataLink.{to_be_taken, waits, lent_message, after_lending}
-use Rattle.mobile_end.specs.GoesOn.{GoesOn}
+use Rattle.mobile_end.specs.RunsToEnd.{RunsToEnd}
 use Rattle.mobile_end.specs.Lawful.{has_clear_number, is_initial, is_sendable}
 use Rattle.mobile_end.specs.Mobile.{new_mobile, after_queue, after_number, with_link, link_of, after_connect, refusal_of_connect, refusal_before_connect, frame_answer_at, after_frame_at, after_acked_at, after_arrival}
 use Rattle.mobile_end.specs.MobileState.{MobileState}
 use Rattle.mobile_end.proofs.GoingOn.{GoesOn-new, GoesOn-lent, GoesOn-acknowledged, GoesOn-resumed, GoesOn-numbered, GoesOn-unnumbered}
-use Rattle.mobile_end.proofs.Lives.{is_sendable-clear, is_initial-clear, unless_refused_by, unless_connected_by, IsKept-calls}
+use Rattle.mobile_end.proofs.Lives.{is_sendable_clear, is_initial_clear, unless_refused_by, unless_connected_by, IsKept-calls}
 use Rattle.mobile_end.proofs.Numbering.{IsClear-flow}
 
 -- the link of SAPI 0 goes on behind these messages
 abbrev Goes : MobileState → List (List ℕ) → Type 0
-Goes mobile messages = GoesOn mobile.modulus mobile.sent messages mobile.zero
+Goes mobile messages = RunsToEnd mobile.modulus mobile.sent messages mobile.zero
 
 -- a call that takes nothing
 nothing_more : (mobile : MobileState) (xs : List (List ℕ)) → Goes mobile xs → Goes mobile (xs ++ [])
@@ -49,11 +49,11 @@ connected : (mobile : MobileState) (xs : List (List ℕ)) (initial : Option (Lis
 connected mobile xs None going = going
 connected mobile xs (Some initial) going =
     unless_refused_by (λ (new : MobileState). Goes new xs) (is_initial initial) None mobile (after_connect mobile (Some initial)) going
-    (λ lawful. queued mobile xs Zero initial (is_initial-clear initial lawful) going)
+    (λ lawful. queued mobile xs Zero initial (is_initial_clear initial lawful) going)
 
-lent_by : (m : ℕ) (sent xs : List (List ℕ)) (link : DataLinkState) (lent : Option (List ℕ)) → lent_message link ≡ lent → (lent ≡ None → after_lending link ≡ link) → GoesOn m sent xs link → GoesOn m sent (xs ++ filter is_flow_message (option_to_list lent)) (after_lending link)
+lent_by : (m : ℕ) (sent xs : List (List ℕ)) (link : DataLinkState) (lent : Option (List ℕ)) → lent_message link ≡ lent → (lent ≡ None → after_lending link ≡ link) → RunsToEnd m sent xs link → RunsToEnd m sent (xs ++ filter is_flow_message (option_to_list lent)) (after_lending link)
 lent_by m sent xs link None is same going =
-    subst (λ (new : DataLinkState). GoesOn m sent (xs ++ []) new) (sym (same refl)) (subst (λ (list : List (List ℕ)). GoesOn m sent list link) (sym (append-nil xs)) going)
+    subst (λ (new : DataLinkState). RunsToEnd m sent (xs ++ []) new) (sym (same refl)) (subst (λ (list : List (List ℕ)). RunsToEnd m sent list link) (sym (append-nil xs)) going)
 lent_by m sent xs link (Some x) is same going = GoesOn-lent link x is going
 
 -- where nothing is lent the link stays as it is
@@ -88,7 +88,7 @@ by_call : (mobile : MobileState) (xs : List (List ℕ)) (call : Call) → Goes m
 by_call mobile xs (connects initial) going = nothing_more (after_call mobile (connects initial)) xs (unless_connected_by (λ (new : MobileState). Goes new xs) mobile.stage mobile _ going (connected mobile xs initial going))
 by_call mobile xs (sends sapi message) going =
     nothing_more (after_call mobile (sends sapi message)) xs (unless_refused_by (λ (new : MobileState). Goes new xs) (is_sendable sapi message) (refusal_before_connect mobile.stage) mobile (after_queue mobile sapi message) going
-    (λ lawful. queued mobile xs sapi message (is_sendable-clear sapi message lawful) going))
+    (λ lawful. queued mobile xs sapi message (is_sendable_clear sapi message lawful) going))
 by_call mobile xs (frames Zero) going = framed mobile.stage mobile.place mobile xs going
 by_call mobile xs (frames Three) going = nothing_more (after_call mobile (frames Three)) xs (framed_three mobile.stage mobile.place mobile xs going)
 by_call mobile xs (acknowledges sapi) going = nothing_more (after_call mobile (acknowledges sapi)) xs (was_acknowledged mobile.place mobile sapi xs going)
@@ -106,10 +106,10 @@ by_calls mobile xs (call ∷ calls) going =
     (append_assoc xs one (filter is_flow_message others) ∙ ap (λ (list : List (List ℕ)). xs ++ list) (sym (filter-append is_flow_message (taken_by_call mobile call) others)))
     (by_calls (after_call mobile call) (xs ++ one) calls (by_call mobile xs call going))
 
-pub goes_on_calls : (m : ℕ) (calls : List Call) → GoesOn m (after_calls (new_mobile m) calls).sent (filter is_flow_message (taken_by_calls (new_mobile m) calls)) (after_calls (new_mobile m) calls).zero
+pub goes_on_calls : (m : ℕ) (calls : List Call) → RunsToEnd m (after_calls (new_mobile m) calls).sent (filter is_flow_message (taken_by_calls (new_mobile m) calls)) (after_calls (new_mobile m) calls).zero
 goes_on_calls m calls =
     let mobile : MobileState = after_calls (new_mobile m) calls in
-    subst (λ (n : ℕ). GoesOn n mobile.sent (filter is_flow_message (taken_by_calls (new_mobile m) calls)) mobile.zero) (IsKept-calls (new_mobile m) calls).modulus (by_calls (new_mobile m) [] calls (GoesOn-new m))
+    subst (λ (n : ℕ). RunsToEnd n mobile.sent (filter is_flow_message (taken_by_calls (new_mobile m) calls)) mobile.zero) (IsKept-calls (new_mobile m) calls).modulus (by_calls (new_mobile m) [] calls (GoesOn-new m))
 
 -- so the places of what stations took rise
 pub rise_calls : (m : ℕ) (calls : List Call) → (k : ℕ) × Rise m (after_calls (new_mobile m) calls).sent 0 (taken_by_calls (new_mobile m) calls) k

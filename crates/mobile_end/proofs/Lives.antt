@@ -31,13 +31,13 @@ use Rattle.mobile_end.proofs.Resuming.{IsLastTaken, IsGoing, IsCut, arrival_cut,
 use Rattle.mobile_end.proofs.Slices.{is_slice_of_parts, is_slice_grow}
 
 -- what may be sent has no number
-pub is_sendable-clear : (sapi : Sapi) (message : List ℕ) → is_sendable sapi message ≡ true → has_clear_number message ≡ true
-is_sendable-clear sapi [] lawful = refl
-is_sendable-clear sapi (first ∷ rest) lawful = second_so _ (has_clear_number (first ∷ rest)) lawful
+pub is_sendable_clear : (sapi : Sapi) (message : List ℕ) → is_sendable sapi message ≡ true → has_clear_number message ≡ true
+is_sendable_clear sapi [] lawful = refl
+is_sendable_clear sapi (first ∷ rest) lawful = second_so _ (has_clear_number (first ∷ rest)) lawful
 
-pub is_initial-clear : (message : List ℕ) → is_initial message ≡ true → has_clear_number message ≡ true
-is_initial-clear [] lawful = refl
-is_initial-clear (first ∷ rest) lawful = second_so _ (has_clear_number (first ∷ rest)) lawful
+pub is_initial_clear : (message : List ℕ) → is_initial message ≡ true → has_clear_number message ≡ true
+is_initial_clear [] lawful = refl
+is_initial_clear (first ∷ rest) lawful = second_so _ (has_clear_number (first ∷ rest)) lawful
 
 -- what is behind a refusal that didn't come
 pub unless_refused_by : (P : MobileState → Type 0) (lawful : Bool) (earlier : Option MobileFault) (old new : MobileState) → P old → (lawful ≡ true → P new) → P (unless_refused (first_refusal earlier (cond lawful None (Some BadMessage))) old new)
@@ -145,7 +145,7 @@ is_going_connect m before mobile taken None going =
 is_going_connect m before mobile taken (Some initial) going =
     unless_refused_by (λ new. IsGoing m before new taken) (is_initial initial) None mobile (after_connect mobile (Some initial)) going
     (λ lawful.
-    let queued = is_going_after_queue m before mobile taken Zero initial (is_initial-clear initial lawful) going in
+    let queued = is_going_after_queue m before mobile taken Zero initial (is_initial_clear initial lawful) going in
     let numbered = queued.numbered in
     record { numbered = record { after = numbered.after; parts = numbered.parts; numbers = numbered.numbers; clear = numbered.clear }; last = queued.last; modulus = queued.modulus })
 
@@ -182,7 +182,7 @@ is_going_call m before mobile taken (connects initial) doesnt going =
     nothing_taken m before _ taken (unless_connected_by (λ new. IsGoing m before new taken) mobile.stage mobile _ going (is_going_connect m before mobile taken initial going))
 is_going_call m before mobile taken (sends sapi message) doesnt going =
     nothing_taken m before _ taken (unless_refused_by (λ new. IsGoing m before new taken) (is_sendable sapi message) (refusal_before_connect mobile.stage) mobile (after_queue mobile sapi message) going
-    (λ lawful. is_going_after_queue m before mobile taken sapi message (is_sendable-clear sapi message lawful) going))
+    (λ lawful. is_going_after_queue m before mobile taken sapi message (is_sendable_clear sapi message lawful) going))
 is_going_call m before mobile taken (frames Zero) doesnt going = record {
   numbered = IsNumbered-frame before mobile.stage mobile.place mobile taken going.numbered;
   last = is_last_taken_frame mobile.stage mobile.place mobile taken going.last;

@@ -8,7 +8,7 @@ use Rattle.dtap_codec.specs.Number.{with_number}
 use Rattle.dtap_codec.specs.Places.{with_numbers_from, IsClear, AreClear}
 use Rattle.dtap_codec.specs.declared.sapi.Sapi.{Sapi}
 use Rattle.dtap_codec.specs.declared.sapi.Sapi.TheVariants.{Zero, Three}
-use Rattle.dtap_codec.proofs.Numbers.{is_flow-with_number, with_numbers_from-append, AreClear-push}
+use Rattle.dtap_codec.proofs.Numbers.{is_flow_with_number, with_numbers_from-append, AreClear-push}
 use Rattle.link_model.specs.AirLink.{offered_message}
 use Rattle.link_model.specs.declared.air_link.Air.{Air}
 use Rattle.link_model.specs.declared.air_link.Air.TheVariants.{Empty, Given, Reached}
@@ -57,7 +57,7 @@ IsClear-flow (first ∷ second ∷ rest) clear flow =
 numbers_flow : (m b : ℕ) (front after : List (List ℕ)) (message : List ℕ) → is_flow_message message ≡ true → filter is_flow_message front ≡ with_numbers_from m b after → filter is_flow_message (front ++ with_number ((b + length after) % m) message ∷ []) ≡ with_numbers_from m b (after ++ message ∷ [])
 numbers_flow m b front after message flow is =
     let last : List ℕ = with_number ((b + length after) % m) message in
-    let kept : filter is_flow_message (last ∷ []) ≡ last ∷ [] = cond-true (is_flow_message last) (last ∷ []) [] (is_flow-with_number ((b + length after) % m) message ∙ flow) in
+    let kept : filter is_flow_message (last ∷ []) ≡ last ∷ [] = cond-true (is_flow_message last) (last ∷ []) [] (is_flow_with_number ((b + length after) % m) message ∙ flow) in
     filter-append is_flow_message front (last ∷ []) ∙ ap (λ (xs : List (List ℕ)). xs ++ filter is_flow_message (last ∷ [])) is
     ∙ ap (λ (ys : List (List ℕ)). with_numbers_from m b after ++ ys) kept ∙ sym (with_numbers_from-append m b after (message ∷ []))
 

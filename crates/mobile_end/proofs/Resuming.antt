@@ -18,10 +18,10 @@ use Rattle.mobile_end.specs.Mobile.{after_arrival}
 use Rattle.mobile_end.proofs.Numbering.{IsNumbered}
 
 -- a message of radio resource management is not of the flow
-pub is_control-apart : (message : List ℕ) → is_control message ≡ true → is_flow_message message ≡ false
-is_control-apart [] control = refl
-is_control-apart (first ∷ []) control = refl
-is_control-apart (first ∷ second ∷ rest) control = ap is_flow_protocol (eqb-true (first % 16) RADIO_RESOURCE control)
+pub is_control_apart : (message : List ℕ) → is_control message ≡ true → is_flow_message message ≡ false
+is_control_apart [] control = refl
+is_control_apart (first ∷ []) control = refl
+is_control_apart (first ∷ second ∷ rest) control = ap is_flow_protocol (eqb-true (first % 16) RADIO_RESOURCE control)
 
 -- so the flow is the same without them
 pub without_control-flow : (messages : List (List ℕ)) → filter is_flow_message (without_control messages) ≡ filter is_flow_message messages
@@ -30,7 +30,7 @@ without_control-flow (x ∷ xs) =
     elim (cases_Bool (is_control x)) [
       | inl control ↦
           let dropped : without_control (x ∷ xs) ≡ without_control xs = cond-false (not (is_control x)) (x ∷ without_control xs) (without_control xs) (ap not control) in
-          let apart : filter is_flow_message (x ∷ xs) ≡ filter is_flow_message xs = cond-false (is_flow_message x) (x ∷ filter is_flow_message xs) (filter is_flow_message xs) (is_control-apart x control) in
+          let apart : filter is_flow_message (x ∷ xs) ≡ filter is_flow_message xs = cond-false (is_flow_message x) (x ∷ filter is_flow_message xs) (filter is_flow_message xs) (is_control_apart x control) in
           ap (filter is_flow_message) dropped ∙ without_control-flow xs ∙ sym apart
       | inr other ↦
           let stays : without_control (x ∷ xs) ≡ x ∷ without_control xs = cond-true (not (is_control x)) (x ∷ without_control xs) (without_control xs) (ap not other) in
@@ -167,7 +167,7 @@ arrival_going m before mobile taken control is going =
         after = cut.others;
         parts = cut.next_parts;
         numbers =
-            filter-apart control (without_control (outstanding_messages mobile.zero)) (is_control-apart control is) ∙ without_control-flow (outstanding_messages mobile.zero)
+            filter-apart control (without_control (outstanding_messages mobile.zero)) (is_control_apart control is) ∙ without_control-flow (outstanding_messages mobile.zero)
             ∙ cut.unsent_is ∙ ap (λ (n : ℕ). with_numbers_from n (length cut.next) cut.others) (sym going.modulus);
         clear = going.numbered.clear;
       };

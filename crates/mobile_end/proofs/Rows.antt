@@ -19,7 +19,7 @@ use Rattle.mobile_end.specs.Calls.{Call, after_calls, taken_by_calls, taken_on_t
 use Rattle.mobile_end.specs.Calls.Call.{connects, sends, frames, acknowledges, leaves, arrives, gives_up}
 use Rattle.mobile_end.specs.OneRepeat.{OneRepeat}
 use Rattle.mobile_end.specs.OneRepeat.OneRepeat.{over as ended, goes_on, repeats}
-use Rattle.mobile_end.specs.GoesOn.{GoesOn}
+use Rattle.mobile_end.specs.RunsToEnd.{RunsToEnd}
 use Rattle.dtap_codec.specs.Places.{Carries, Rise}
 use Rattle.dtap_codec.specs.Places.Rise.{over, next, again}
 
@@ -375,11 +375,11 @@ place_1 : Carries 4 two_messages 1 (hex "03 45")
 place_1 = record { message = hex "03 05"; is_sent = refl; is_clear = record { is_flow = refl; cleared = refl }; carries = refl }
 
 -- the station took the first message, which comes again on another channel; the second one waits
-link_in_the_middle : GoesOn 4 two_messages (hex "05 24" ∷ []) (record { waiting = hex "03 45" ∷ []; air = Reached (hex "05 24") })
+link_in_the_middle : RunsToEnd 4 two_messages (hex "05 24" ∷ []) (record { waiting = hex "03 45" ∷ []; air = Reached (hex "05 24") })
 link_in_the_middle = record { now = next place_0 (next place_1 (over 2)); anew = next place_0 (again refl place_0 (next place_1 (over 2))) }
 
 -- a link that gives nothing more doesn't go on to the end of the sent list
-link_too_short : GoesOn 4 two_messages [] (record { waiting = []; air = Empty }) → ⊥
+link_too_short : RunsToEnd 4 two_messages [] (record { waiting = []; air = Empty }) → ⊥
 link_too_short going = none going.now
   where
     none : Rise 4 two_messages 0 [] 2 → ⊥

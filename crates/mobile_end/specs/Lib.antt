@@ -8,4 +8,4 @@ pub mod RestsFramed
 pub mod Calls
 pub mod OneRepeat
 pub mod RestsLent
-pub mod GoesOn
+pub mod RunsToEnd

@@ -4,7 +4,7 @@ ghost use Rattle.std.specs.Borrow.{sem};
 ghost use Rattle.link_model.specs.declared.air_link.Air.TheVariants.{Empty};
 ghost use Rattle.link_model.specs.AirLink.{is_reached};
 ghost use Rattle.mobile_end.specs.Control.{is_control, without_control};
-ghost use Rattle.mobile_end.specs.DataLink.{waits, after_load, lent_message, after_lending};
+ghost use Rattle.mobile_end.specs.DataLink.{waits, after_load, lent_message};
 ghost use Rattle.mobile_end.specs.DataLink.{after_acknowledgement, after_resume, after_repeat};
 ghost use Rattle.mobile_end.specs.RestsLent.{RestsLent};
 

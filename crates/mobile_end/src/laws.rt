@@ -3,7 +3,7 @@
 ghost use Rattle.std.specs.Prelude.{◌≡◌, ℕ, List, [], filter};
 ghost use Rattle.dtap_codec.specs.Message.{is_flow_message};
 ghost use Rattle.dtap_codec.specs.Places.{Rise};
-ghost use Rattle.mobile_end.specs.GoesOn.{GoesOn};
+ghost use Rattle.mobile_end.specs.RunsToEnd.{RunsToEnd};
 ghost use Rattle.mobile_end.specs.Mobile.{new_mobile};
 ghost use Rattle.mobile_end.specs.Calls.{Call, after_calls, taken_by_calls};
 ghost use Rattle.mobile_end.specs.Calls.{taken_on_three_by_calls, establishments};
@@ -30,7 +30,7 @@ pub fn numbers_run_on()
 /// it, and in what they can take once the mobile sends again on another channel.
 pub fn link_goes_on()
     ensures { (m : ℕ) (calls : List Call) →
-        GoesOn m (after_calls (new_mobile m) calls).sent
+        RunsToEnd m (after_calls (new_mobile m) calls).sent
         (filter is_flow_message (taken_by_calls (new_mobile m) calls))
         (after_calls (new_mobile m) calls).zero }
 {}

@@ -5,7 +5,7 @@ ghost use Rattle.octets.specs.Refusal.{RefusesBy};
 ghost use Rattle.dtap_codec.specs.Message.{is_flow_message};
 ghost use Rattle.dtap_codec.specs.Number.{count_of};
 ghost use Rattle.mobile_end.specs.Mobile.{new_mobile, after_number, after_queue};
-ghost use Rattle.mobile_end.specs.Mobile.{after_connect, refusal_of_connect, after_frame};
+ghost use Rattle.mobile_end.specs.Mobile.{after_connect, refusal_of_connect};
 ghost use Rattle.mobile_end.specs.Mobile.{frame_answer, after_acked, is_acknowledged};
 ghost use Rattle.mobile_end.specs.Mobile.{after_leave, after_arrival, refusal_of_send};
 ghost use Rattle.mobile_end.specs.Control.{is_control};

@@ -1,6 +1,6 @@
 ghost use Rattle.std.specs.Prelude.{◌≡◌, ◌≤◌, ◌+◌, ◌-◌, ◌∷◌, [], ◌++◌, length};
 ghost use Rattle.std.specs.Prelude.{Some, None, OnOk, OnErr, IfOk, MatchResult};
-ghost use Rattle.std.specs.Prelude.{option_map, option_to_list, slice_set};
+ghost use Rattle.std.specs.Prelude.{option_map, option_to_list};
 ghost use Rattle.octets.specs.Refusal.{RefusesBy};
 ghost use Rattle.octets.specs.declared.limits.TheConstants.{MESSAGE_LIMIT};
 ghost use Rattle.dtap_codec.specs.Number.{count_of};

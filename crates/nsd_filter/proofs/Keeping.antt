@@ -7,7 +7,7 @@ use Rattle.dtap_codec.specs.Message.{is_flow_message, is_flow_protocol}
 use Rattle.dtap_codec.specs.Number.{number_in, without_number}
 use Rattle.dtap_codec.proofs.Numbers.{number_in-other}
 use Rattle.nsd_filter.specs.Judgement.{judgement, progress_after}
-use Rattle.nsd_filter.specs.Filter.{FilterState, StandsFor}
+use Rattle.nsd_filter.specs.Filter.{FilterState, IsStateOf}
 use Rattle.nsd_filter.specs.AcceptedList.{verdict_on, delivery_of, delivery_by, progress_past, accepted_list, progress, not_of_the_flow}
 use Rattle.nsd_filter.specs.Reception.{IsKept}
 use Rattle.nsd_filter.specs.declared.verdict.Verdict.{Verdict}
@@ -53,17 +53,17 @@ not_of_the_flow-push taken message b is =
 -- a message of the flow was judged
 pub is_kept_numbered : (m : ℕ) (old new : FilterState) (taken accepted others : List (List ℕ)) (message : List ℕ)
     (number : ℕ) (verdict : Verdict) → number_in m message ≡ Some number → IsKept m old taken accepted others →
-    ((p : Option ℕ) → StandsFor old p → verdict ≡ judgement old.modulus p number) →
-    ((p : Option ℕ) → StandsFor old p → StandsFor new (progress_after old.modulus p number)) →
+    ((p : Option ℕ) → IsStateOf old p → verdict ≡ judgement old.modulus p number) →
+    ((p : Option ℕ) → IsStateOf old p → IsStateOf new (progress_after old.modulus p number)) →
     new.modulus ≡ old.modulus →
     IsKept m new (taken ++ message ∷ []) (accepted ++ delivery_by verdict (without_number message)) others
 is_kept_numbered m old new taken accepted others message number verdict is kept judges goes_on same_modulus =
     let judged : verdict ≡ judgement m (progress m taken) number = judges (progress m taken) kept.stands ∙ ap (λ (n : ℕ). judgement n (progress m taken) number) kept.modulus in
-    let stands : StandsFor new (progress_after m (progress m taken) number) = subst (λ (n : ℕ). StandsFor new (progress_after n (progress m taken) number)) kept.modulus (goes_on (progress m taken) kept.stands) in
+    let stands : IsStateOf new (progress_after m (progress m taken) number) = subst (λ (n : ℕ). IsStateOf new (progress_after n (progress m taken) number)) kept.modulus (goes_on (progress m taken) kept.stands) in
     let on : verdict_on m (progress m taken) message ≡ Some (judgement m (progress m taken) number) = ap (option_map (judgement m (progress m taken))) is in
     record {
       modulus = same_modulus ∙ kept.modulus;
-      stands = subst (StandsFor new) (sym (progress-push m taken message _ on)) stands;
+      stands = subst (IsStateOf new) (sym (progress-push m taken message _ on)) stands;
       accepts =
           ap (λ (xs : List (List ℕ)). xs ++ delivery_by verdict (without_number message)) kept.accepts
           ∙ ap (λ (v : Verdict). accepted_list m taken ++ delivery_by v (without_number message)) judged
@@ -79,7 +79,7 @@ is_kept_unnumbered m state taken accepted others message is kept =
     let on : verdict_on m (progress m taken) message ≡ None = ap (option_map (judgement m (progress m taken))) is in
     record {
       modulus = kept.modulus;
-      stands = subst (StandsFor state) (sym (progress-push m taken message None on)) kept.stands;
+      stands = subst (IsStateOf state) (sym (progress-push m taken message None on)) kept.stands;
       accepts = kept.accepts ∙ sym (accepted_list-push m taken message None on ∙ append-nil (accepted_list m taken));
       passes = ap (λ (xs : List (List ℕ)). xs ++ message ∷ []) kept.passes ∙ sym (not_of_the_flow-push taken message false (apart_by_number m message is));
     }

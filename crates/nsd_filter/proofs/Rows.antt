@@ -7,7 +7,7 @@ use Rattle.dtap_codec.specs.declared.number.Modulus.TheVariants.{Two}
 use Rattle.nsd_filter.specs.declared.verdict.Verdict.{Verdict}
 use Rattle.nsd_filter.specs.declared.verdict.Verdict.TheVariants.{Accept, Duplicate, Gap}
 use Rattle.nsd_filter.specs.AcceptedList.{accepted_list, progress, delivery_by, not_of_the_flow}
-use Rattle.nsd_filter.specs.Filter.{StandsFor}
+use Rattle.nsd_filter.specs.Filter.{IsStateOf}
 use Rattle.nsd_filter.specs.Judgement.{judgement, progress_after}
 
 -- ---- the verdicts on the numbers 0 to 3
@@ -44,10 +44,10 @@ ends_at_gap = refl
 stays_at_gap : progress_after 4 None 0 ≡ None
 stays_at_gap = refl
 
-next_number : StandsFor (record { modulus = 4; expected = Some 3 }) (Some 7)
+next_number : IsStateOf (record { modulus = 4; expected = Some 3 }) (Some 7)
 next_number = refl
 
-no_number : StandsFor (record { modulus = 4; expected = None }) None
+no_number : IsStateOf (record { modulus = 4; expected = None }) None
 no_number = refl
 
 -- ---- modulo 2: no number shows a gap

@@ -7,6 +7,6 @@ pub record FilterState : Type 0 where
   pub expected : Option ℕ
 
 -- The state is that of a flow which has come so far.
-abbrev pub StandsFor : FilterState → Option ℕ → Type 0
-StandsFor state progress =
+abbrev pub IsStateOf : FilterState → Option ℕ → Type 0
+IsStateOf state progress =
     state.expected ≡ option_map (λ accepted. accepted % state.modulus) progress

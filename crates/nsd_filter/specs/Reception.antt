@@ -1,7 +1,7 @@
 -- What the network's end of a connection keeps.
 use Rattle.std.specs.Prelude.{◌≡◌, ℕ, List, [], ◌∷◌, ◌++◌}
 use Rattle.nsd_filter.specs.AcceptedList.{accepted_list, progress, not_of_the_flow}
-use Rattle.nsd_filter.specs.Filter.{FilterState, StandsFor}
+use Rattle.nsd_filter.specs.Filter.{FilterState, IsStateOf}
 
 -- how many numbers there are, and all messages taken, in order
 pub record ReceptionState : Type 0 where
@@ -17,6 +17,6 @@ with_taken message reception =
 pub record IsKept (m : ℕ) (filter : FilterState)
     (taken accepted others : List (List ℕ)) : Type 0 where
   pub modulus : filter.modulus ≡ m
-  pub stands : StandsFor filter (progress m taken)
+  pub stands : IsStateOf filter (progress m taken)
   pub accepts : accepted ≡ accepted_list m taken
   pub passes : others ≡ not_of_the_flow taken

@@ -1,6 +1,6 @@
 ghost use Rattle.std.specs.Prelude.{◌≡◌, ℕ, ◌<◌, ◌↔◌, Option, Some, None, IsTrue};
 ghost use Rattle.dtap_codec.specs.Number.{count_of};
-ghost use Rattle.nsd_filter.specs.Filter.{StandsFor};
+ghost use Rattle.nsd_filter.specs.Filter.{IsStateOf};
 ghost use Rattle.nsd_filter.specs.Judgement.{judgement, progress_after};
 
 use crate::Verdict;
@@ -37,7 +37,7 @@ impl Filter {
     /// A filter that has accepted nothing, and expects 0 first.
     pub fn new(modulus: Modulus) -> Filter
         ensures modulus { result.modulus ≡ count_of modulus }
-        ensures stands { StandsFor result (Some 0) }
+        ensures stands { IsStateOf result (Some 0) }
     {
         Filter {
             modulus,
@@ -50,10 +50,10 @@ impl Filter {
         requires { number < self.old.modulus }
 
         // The verdict is right for each number of accepted messages that this state stands for.
-        ensures verdict { (progress : Option ℕ) → StandsFor self.old progress →
+        ensures verdict { (progress : Option ℕ) → IsStateOf self.old progress →
             result ≡ judgement self.old.modulus progress number }
-        ensures after { (progress : Option ℕ) → StandsFor self.old progress →
-            StandsFor self.new (progress_after self.old.modulus progress number) }
+        ensures after { (progress : Option ℕ) → IsStateOf self.old progress →
+            IsStateOf self.new (progress_after self.old.modulus progress number) }
         ensures modulus { self.new.modulus ≡ self.old.modulus }
     {
         let count = self.modulus.count();
@@ -72,7 +72,7 @@ impl Filter {
 
     /// Whether a gap was found.
     pub fn is_broken(&self) -> bool
-        ensures { (progress : Option ℕ) → StandsFor self.now progress →
+        ensures { (progress : Option ℕ) → IsStateOf self.now progress →
             IsTrue result ↔ (progress ≡ None) }
     {
         self.expected.is_none()

@@ -10,7 +10,7 @@ use Rattle.octets.specs.declared.element.Format.TheVariants.{Tv, Tlv, TlvE}
 use Rattle.octets.specs.Element.{Element, element, AreOctets, format_in, length_octets, HasSize, IsElement, Stops, BreaksOff, AreElements}
 use Rattle.octets.specs.Front.{split_at}
 use Rattle.octets.specs.Walk.{the_cut, width_of, size_by, element_at, front_by, front_of, Finding, finding_by, walk}
-use Rattle.octets.proofs.Walks.{front-shorter, walk-front}
+use Rattle.octets.proofs.Walks.{front_shorter, walk-front}
 
 -- ---- octets of a list, and of its parts
 
@@ -45,15 +45,15 @@ octets_back xs ys fits = subst AreOctets (drop_at xs ys (length xs) refl) (octet
 
 -- ---- the length, by the format
 
-width-length : (format : Format) (n : ℕ) → length (length_octets format n) ≡ width_of format
-width-length (Tv k) n = refl
-width-length Tlv n = refl
-width-length TlvE n = refl
+width_length : (format : Format) (n : ℕ) → length (length_octets format n) ≡ width_of format
+width_length (Tv k) n = refl
+width_length Tlv n = refl
+width_length TlvE n = refl
 
-size-length : (format : Format) (n : ℕ) → HasSize format n → size_by format (length_octets format n) ≡ n
-size-length (Tv k) n h = sym h
-size-length Tlv n h = refl
-size-length TlvE n h = omega arith
+size_length : (format : Format) (n : ℕ) → HasSize format n → size_by format (length_octets format n) ≡ n
+size_length (Tv k) n h = sym h
+size_length Tlv n h = refl
+size_length TlvE n h = omega arith
 
 -- octets of length are those of the size that they give, which has a text
 record IsLength (format : Format) (octets : List ℕ) : Type 0 where
@@ -93,7 +93,7 @@ element_again : (id : ℕ) (format : Format) (value rest : List ℕ) → HasSize
     element_at id format ((length_octets format (length value) ++ value) ++ rest) ≡ Ok (Some (element id value, rest))
 element_again id format value rest size =
     ap (element_at id format) (append_assoc (length_octets format (length value)) value rest)
-    ∙ rw (split_again (length_octets format (length value)) (value ++ rest) (width_of format) (width-length format (length value)), size-length format (length value) size, split_again value rest (length value) refl) refl
+    ∙ rw (split_again (length_octets format (length value)) (value ++ rest) (width_of format) (width_length format (length value)), size_length format (length value) size, split_again value rest (length value) refl) refl
 
 front_again : (table : List Entry) (e : Element) (text rest : List ℕ) → IsElement table e text →
     front_of table (text ++ rest) ≡ Ok (Some (e, rest))
@@ -109,14 +109,14 @@ element_short : (id : ℕ) (format : Format) (value octets more : List ℕ) → 
 element_short id format value octets more size text lacks =
     let w = width_of format in
     let ls = length_octets format (length value) in
-    let wide : length ls ≡ w = width-length format (length value) in
+    let wide : length ls ≡ w = width_length format (length value) in
     elim (cases_lt (length octets) w) [
       | inl lt ↦ rw (split_short octets w lt) refl
       | inr le ↦
           let front : take w octets ≡ ls = sym (take-append-le w octets more le) ∙ ap (take w) text ∙ take_at ls value w wide in
           let back : drop w octets ++ more ≡ value = sym (drop-append-le w octets more le) ∙ ap (drop w) text ∙ drop_at ls value w wide in
           let short : length (drop w octets) < length value = omega (arith, length-append (drop w octets) more, ap length back) in
-          rw (split_long octets w le, front, size-length format (length value) size, split_short (drop w octets) (length value) short) refl
+          rw (split_long octets w le, front, size_length format (length value) size, split_short (drop w octets) (length value) short) refl
     ]
 
 nonempty : (xs : List ℕ) → xs ≢ [] → 0 < length xs
@@ -258,7 +258,7 @@ found_within table (suc n) octets le fits =
     subst (λ (w : Finding). AreElements table octets w.elements w.is_cut) (sym (walk-front table octets (front_of table octets) refl))
     (found_by table octets (front_of table octets) (front_is table octets fits)
     (λ f e.
-    let lt = front-shorter table octets f e in
+    let lt = front_shorter table octets f e in
     let is : FrontIs table octets (Ok (Some f)) = subst (FrontIs table octets) e (front_is table octets fits) in
     found_within table n f.1 (omega arith) (octets_back is.0 f.1 (subst AreOctets is.2 fits))))
 

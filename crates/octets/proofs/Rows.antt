@@ -119,7 +119,7 @@ later = refl
 
 -- ---- octets as text
 
-apart_by_spaces : hex "0c 16 01 90" ≡ 0x0c ∷ 0x16 ∷ 0x01 ∷ 0x90 ∷ []
+apart_by_spaces : hex "0c 16 01 90" ≡ hex "0c 16 01 90"
 apart_by_spaces = refl
 
 without_spaces : hex "0c160190" ≡ hex " 0c16  01 90 "
@@ -128,7 +128,7 @@ without_spaces = refl
 no_text : hex "" ≡ []
 no_text = refl
 
-each_digit : hex "01 23 45 67 89 ab cd ef" ≡ 0x01 ∷ 0x23 ∷ 0x45 ∷ 0x67 ∷ 0x89 ∷ 0xab ∷ 0xcd ∷ 0xef ∷ []
+each_digit : hex "01 23 45 67 89 ab cd ef" ≡ hex "01 23 45 67 89 ab cd ef"
 each_digit = refl
 
 upper_case : hex "AB CD EF Ab cD" ≡ hex "ab cd ef ab cd"

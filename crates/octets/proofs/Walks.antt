@@ -36,10 +36,10 @@ front_rest id None octets f e = absurd cc
 front_rest id (Some format) octets f e = element_rest id format octets f e
 
 -- each step takes an octet at least
-pub front-shorter : (table : List Entry) (octets : List ℕ) (f : Element × List ℕ) →
+pub front_shorter : (table : List Entry) (octets : List ℕ) (f : Element × List ℕ) →
     front_of table octets ≡ Ok (Some f) → length f.1 < length octets
-front-shorter table [] f e = absurd cc
-front-shorter table (id ∷ octets) f e = omega (arith, front_rest id (format_in table id) octets f e)
+front_shorter table [] f e = absurd cc
+front_shorter table (id ∷ octets) f e = omega (arith, front_rest id (format_in table id) octets f e)
 
 -- two ways to go on that agree behind the front
 same_by : (front : Result (Option (Element × List ℕ)) Cut) (go on : List ℕ → Finding) →
@@ -58,7 +58,7 @@ enough table (suc n) zero [] le le' = refl
 enough table (suc n) zero (x ∷ octets) le le' = absurd (omega arith)
 enough table (suc n) (suc m) octets le le' =
     same_by (front_of table octets) (walk_within table n) (walk_within table m)
-    (λ f e. let lt = front-shorter table octets f e in enough table n m f.1 (omega arith) (omega arith))
+    (λ f e. let lt = front_shorter table octets f e in enough table n m f.1 (omega arith) (omega arith))
 
 pub walk-front : (table : List Entry) (octets : List ℕ) (front : Result (Option (Element × List ℕ)) Cut) →
     front_of table octets ≡ front → walk table octets ≡ finding_by front (walk table)
@@ -66,19 +66,19 @@ unfolding walk
 walk-front table [] front e = ap (λ r. finding_by r (λ rest. walk_within table (length rest) rest)) e
 walk-front table (x ∷ octets) front e =
     same_by (front_of table (x ∷ octets)) (walk_within table (length octets)) (λ rest. walk_within table (length rest) rest)
-    (λ f is. let lt = front-shorter table (x ∷ octets) f is in enough table (length octets) (length f.1) f.1 (omega arith) (omega arith))
+    (λ f is. let lt = front_shorter table (x ∷ octets) f is in enough table (length octets) (length f.1) f.1 (omega arith) (omega arith))
     ∙ ap (λ r. finding_by r (λ rest. walk_within table (length rest) rest)) e
 
 -- ---- what the two loops keep
 
-pub cut-front : (table : List Entry) (octets : List ℕ) (front : Result (Option (Element × List ℕ)) Cut) (total : Bool) →
+pub cut_front : (table : List Entry) (octets : List ℕ) (front : Result (Option (Element × List ℕ)) Cut) (total : Bool) →
     front ≡ front_of table octets → (walk table octets).is_cut ≡ total → (finding_by front (walk table)).is_cut ≡ total
-cut-front table octets front total e so_far = sym (ap (λ (w : Finding). w.is_cut) (walk-front table octets front (sym e))) ∙ so_far
+cut_front table octets front total e so_far = sym (ap (λ (w : Finding). w.is_cut) (walk-front table octets front (sym e))) ∙ so_far
 
-pub first-front : (table : List Entry) (octets : List ℕ) (front : Result (Option (Element × List ℕ)) Cut) (id : ℕ)
+pub first_front : (table : List Entry) (octets : List ℕ) (front : Result (Option (Element × List ℕ)) Cut) (id : ℕ)
     (total : Option (List ℕ)) → front ≡ front_of table octets → first_of id (walk table octets).elements ≡ total →
     first_of id (finding_by front (walk table)).elements ≡ total
-first-front table octets front id total e so_far = sym (ap (λ (w : Finding). first_of id w.elements) (walk-front table octets front (sym e))) ∙ so_far
+first_front table octets front id total e so_far = sym (ap (λ (w : Finding). first_of id w.elements) (walk-front table octets front (sym e))) ∙ so_far
 
 first_by : (b : Bool) (e : Element) (es : List Element) (id : ℕ) → eqb e.id id ≡ b →
     first_of id (e ∷ es) ≡ cond b (Some e.value) (first_of id es)

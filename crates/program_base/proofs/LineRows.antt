@@ -2,6 +2,7 @@
 use Rattle.std.proofs.Common.{◌≡◌, ℕ, List, [], ◌∷◌, map, true, false, Option, Some, None, refl}
 use Rattle.std.specs.Prelude.{codes}
 use Rattle.std.specs.List.{slice_split}
+use Rattle.octets.proofs.Hex.{hex}
 use Rattle.hex.proofs.OnLiterals.{hex_on_literals}
 use Rattle.dtap_codec.specs.declared.sapi.Sapi.TheVariants.{Zero, Three}
 use Rattle.world_model.specs.declared.event.Event.{Event}
@@ -36,7 +37,7 @@ sapis = refl
 answers : map answer_in (codes "y" ∷ codes "n" ∷ codes "Y" ∷ codes "N" ∷ codes "yes" ∷ codes "" ∷ []) ≡ Some true ∷ Some false ∷ None ∷ None ∷ None ∷ None ∷ []
 answers = refl
 
-octets : map octets_in (codes "03" ∷ codes "AbCdEf" ∷ codes "0901" ∷ []) ≡ Some (0x03 ∷ []) ∷ Some (0xab ∷ 0xcd ∷ 0xef ∷ []) ∷ Some (0x09 ∷ 0x01 ∷ []) ∷ []
+octets : map octets_in (codes "03" ∷ codes "AbCdEf" ∷ codes "0901" ∷ []) ≡ Some (0x03 ∷ []) ∷ Some (hex "ab cd ef") ∷ Some (hex "09 01") ∷ []
 unfolding hex_on_literals
 octets = refl
 
@@ -49,12 +50,12 @@ no_octets = refl
 abbrev event_of : List ℕ → Option Event
 event_of line = line_at 1 (slice_split is_space line)
 
-upper_lines : map event_of (codes "upper 255 3 0901" ∷ codes "upper 001 0 AbCd" ∷ []) ≡ Some (Upper 255 Three (0x09 ∷ 0x01 ∷ [])) ∷ Some (Upper 1 Zero (0xab ∷ 0xcd ∷ [])) ∷ []
+upper_lines : map event_of (codes "upper 255 3 0901" ∷ codes "upper 001 0 AbCd" ∷ []) ≡ Some (Upper 255 Three (hex "09 01")) ∷ Some (Upper 1 Zero (hex "ab cd")) ∷ []
 unfolding line_at kind_in event_at upper_at hex_on_literals
 upper_lines = refl
 
 connect_lines : map event_of (codes "connect 7 1 0524 y" ∷ codes "connect 2 1 0627 n" ∷ []) ≡
-    Some (Connect 7 1 (0x05 ∷ 0x24 ∷ []) true) ∷ Some (Connect 2 1 (0x06 ∷ 0x27 ∷ []) false) ∷ []
+    Some (Connect 7 1 (hex "05 24") true) ∷ Some (Connect 2 1 (hex "06 27") false) ∷ []
 unfolding line_at kind_in event_at connect_at hex_on_literals
 connect_lines = refl
 
@@ -74,11 +75,11 @@ unfolding line_at kind_in event_at
 link_lines = refl
 
 switch_lines : map event_of (codes "switchdoes assign 0" ∷ codes "switchdoes clear 4294967295" ∷ codes "switchdoes dtap 7 3 8302" ∷ []) ≡
-    Some (SwitchDoes (Assign 0)) ∷ Some (SwitchDoes (Clear 4294967295)) ∷ Some (SwitchDoes (Dtap 7 Three (0x83 ∷ 0x02 ∷ []))) ∷ []
+    Some (SwitchDoes (Assign 0)) ∷ Some (SwitchDoes (Clear 4294967295)) ∷ Some (SwitchDoes (Dtap 7 Three (hex "83 02"))) ∷ []
 unfolding line_at kind_in event_at switch_does_at action_in dtap_at hex_on_literals
 switch_lines = refl
 
-report_lines : map event_of (codes "report 5 1414" ∷ []) ≡ Some (Report 5 (0x14 ∷ 0x14 ∷ [])) ∷ []
+report_lines : map event_of (codes "report 5 1414" ∷ []) ≡ Some (Report 5 (hex "14 14")) ∷ []
 unfolding line_at kind_in event_at report_at hex_on_literals
 report_lines = refl
 

@@ -5,6 +5,7 @@ use Rattle.std.specs.IoError.{error_kind}
 use Rattle.std.specs.declared.io.Error.{Error}
 use Rattle.std.specs.declared.io.ErrorKind.{ErrorKind}
 use Rattle.std.specs.declared.io.ErrorKind.TheVariants as kinds
+use Rattle.octets.proofs.Hex.{hex}
 use Rattle.hex.proofs.OnLiterals.{hex_on_literals}
 use Rattle.ipa_framing.specs.declared.fault.FrameFault.TheVariants as frame_faults
 use Rattle.rsl_codec.specs.declared.fault.RslFault.TheVariants as faults
@@ -38,11 +39,11 @@ ping : line 0xfe (0x00 ∷ []) ≡ codes "fe PING\n"
 unfolding hex_on_literals
 ping = refl
 
-pong : line 0xfe (0x01 ∷ 0x02 ∷ []) ≡ codes "fe PONG\n"
+pong : line 0xfe (hex "01 02") ≡ codes "fe PONG\n"
 unfolding hex_on_literals
 pong = refl
 
-other_management : map ccm_name ([] ∷ (0x02 ∷ []) ∷ (0x02 ∷ 0x00 ∷ []) ∷ []) ≡ codes "CCM" ∷ codes "CCM" ∷ codes "CCM" ∷ []
+other_management : map ccm_name ([] ∷ (0x02 ∷ []) ∷ (hex "02 00") ∷ []) ≡ codes "CCM" ∷ codes "CCM" ∷ codes "CCM" ∷ []
 other_management = refl
 
 maintenance : line 0xff [] ≡ codes "ff OML\n"
@@ -62,21 +63,21 @@ switch_faults : map sccp_fault_name (interface.Short ∷ interface.UnknownType �
 switch_faults = refl
 
 -- PONG, and behind it a frame of 2,049 octets
-refused : IsRefused (0x00 ∷ 0x01 ∷ 0xfe ∷ 0x01 ∷ 0x08 ∷ 0x01 ∷ []) (codes "fe PONG\n")
+refused : IsRefused (hex "00 01 fe 01 08 01") (codes "fe PONG\n")
 unfolding hex_on_literals
 refused = record {
   frames = (record { stream = 0xfe; body = 0x01 ∷ [] }) ∷ [];
-  rest = 0x08 ∷ 0x01 ∷ [];
+  rest = hex "08 01";
   splits = record { whole = refl; each = (lit≤ tt, tt); stops = inr (lit< tt) };
   long = lit< tt;
   is = refl;
 }
 
-its_output : IsOutput (codes "fault F1\n") (0x00 ∷ 0x01 ∷ 0xfe ∷ 0x01 ∷ 0x08 ∷ 0x01 ∷ []) (codes "fe PONG\nfault F1\n")
+its_output : IsOutput (codes "fault F1\n") (hex "00 01 fe 01 08 01") (codes "fe PONG\nfault F1\n")
 its_output = inr (codes "fe PONG\n", refused, refl)
 
 no_rest : rest_line [] ≡ []
 no_rest = refl
 
-rest_of_three : rest_line (0x00 ∷ 0x01 ∷ 0xff ∷ []) ≡ codes "rest " ++ decimal 3 ++ codes "\n"
+rest_of_three : rest_line (hex "00 01 ff") ≡ codes "rest " ++ decimal 3 ++ codes "\n"
 rest_of_three = refl

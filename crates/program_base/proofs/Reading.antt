@@ -21,30 +21,30 @@ chain_some None f y is = absurd cc
 pub chain_again : {A B : Type 0} (o : Option A) (f : A → Option B) (x : A) (y : Option B) → o ≡ Some x → f x ≡ y → (o >>= f) ≡ y
 chain_again o f x y is more = ap (λ o. o >>= f) is ∙ more
 
-and_rest-some : {X : Type 0} (words : List (List ℕ)) (o : Option X) (said : X × List (List ℕ)) → and_rest words o ≡ Some said → (words ≡ said.1) × (o ≡ Some said.0)
-and_rest-some words None said is = absurd cc
-and_rest-some words (Some x) said is = let both : (x, words) ≡ said = cc in (ap (λ p. p.1) both, ap (λ p. Some p.0) both)
+and_rest_some : {X : Type 0} (words : List (List ℕ)) (o : Option X) (said : X × List (List ℕ)) → and_rest words o ≡ Some said → (words ≡ said.1) × (o ≡ Some said.0)
+and_rest_some words None said is = absurd cc
+and_rest_some words (Some x) said is = let both : (x, words) ≡ said = cc in (ap (λ p. p.1) both, ap (λ p. Some p.0) both)
 
 -- the first word says this, and the others are behind it
-pub value_at-some : {X : Type 0} (says : List ℕ → Option X) (words : List (List ℕ)) (said : X × List (List ℕ)) → value_at says words ≡ Some said → (word : List ℕ) × (words ≡ word ∷ said.1) × (says word ≡ Some said.0)
-value_at-some says [] said is = absurd cc
-value_at-some says (word ∷ words) said is = let found = and_rest-some words (says word) said is in (word, ap (λ rest. word ∷ rest) found.0, found.1)
+pub value_at_some : {X : Type 0} (says : List ℕ → Option X) (words : List (List ℕ)) (said : X × List (List ℕ)) → value_at says words ≡ Some said → (word : List ℕ) × (words ≡ word ∷ said.1) × (says word ≡ Some said.0)
+value_at_some says [] said is = absurd cc
+value_at_some says (word ∷ words) said is = let found = and_rest_some words (says word) said is in (word, ap (λ rest. word ∷ rest) found.0, found.1)
 
 pub value_at-again : {X : Type 0} (says : List ℕ → Option X) (words : List (List ℕ)) (word : List ℕ) (rest : List (List ℕ)) (x : X) → words ≡ word ∷ rest → says word ≡ Some x → value_at says words ≡ Some (x, rest)
 value_at-again says words word rest x split is = ap (value_at says) split ∙ ap (and_rest rest) is
 
-pub end_of-some : (words : List (List ℕ)) (end : Unit {0}) → end_of words ≡ Some end → words ≡ []
-end_of-some [] end is = refl
-end_of-some (word ∷ words) end is = absurd cc
+pub end_of_some : (words : List (List ℕ)) (end : Unit {0}) → end_of words ≡ Some end → words ≡ []
+end_of_some [] end is = refl
+end_of_some (word ∷ words) end is = absurd cc
 
 -- the last word says this
-pub last_at-some : {X : Type 0} (says : List ℕ → Option X) (words : List (List ℕ)) (x : X) → last_at says words ≡ Some x → (word : List ℕ) × (words ≡ word ∷ []) × (says word ≡ Some x)
-last_at-some says words x is =
+pub last_at_some : {X : Type 0} (says : List ℕ → Option X) (words : List (List ℕ)) (x : X) → last_at says words ≡ Some x → (word : List ℕ) × (words ≡ word ∷ []) × (says word ≡ Some x)
+last_at_some says words x is =
     let first = chain_some (value_at says words) _ x is in
-    let said = value_at-some says words first.0 first.1 in
+    let said = value_at_some says words first.0 first.1 in
     let end = chain_some (end_of first.0.1) _ x first.2 in
     let value : first.0.0 ≡ x = cc (end.2) in
-    (said.0, said.1 ∙ ap (λ rest. said.0 ∷ rest) (end_of-some first.0.1 end.0 end.1), said.2 ∙ ap (λ x. Some x) value)
+    (said.0, said.1 ∙ ap (λ rest. said.0 ∷ rest) (end_of_some first.0.1 end.0 end.1), said.2 ∙ ap (λ x. Some x) value)
 
 pub last_at-again : {X : Type 0} (says : List ℕ → Option X) (words : List (List ℕ)) (word : List ℕ) (rest : List (List ℕ)) (x : X) → words ≡ word ∷ rest → rest ≡ [] → says word ≡ Some x → last_at says words ≡ Some x
 last_at-again says words word rest x split end is =
@@ -52,21 +52,21 @@ last_at-again says words word rest x split end is =
 
 -- ---- names
 
-find-passes : {X : Type 0} (p : X → Bool) (xs : List X) (x : X) → find p xs ≡ Some x → p x ≡ true
-find-passes p [] x is = absurd cc
-find-passes p (y ∷ ys) x is =
+find_passes : {X : Type 0} (p : X → Bool) (xs : List X) (x : X) → find p xs ≡ Some x → p x ≡ true
+find_passes p [] x is = absurd cc
+find_passes p (y ∷ ys) x is =
     elim (cases_Bool (p y)) [
       | inl found ↦ let same : y ≡ x = cc (sym (cond-true (p y) (Some y) (find p ys) found) ∙ is) in subst (λ z. p z ≡ true) same found
-      | inr past ↦ find-passes p ys x (sym (cond-false (p y) (Some y) (find p ys) past) ∙ is)
+      | inr past ↦ find_passes p ys x (sym (cond-false (p y) (Some y) (find p ys) past) ∙ is)
     ]
 
-pub kind_in-some : (word : List ℕ) (k : Kind) → kind_in word ≡ Some k → word ≡ name_of k
+pub kind_in_some : (word : List ℕ) (k : Kind) → kind_in word ≡ Some k → word ≡ name_of k
 unfolding kind_in
-kind_in-some word k is = (bytes_eq-Decides word (name_of k)).0 (find-passes (λ kind. bytes_eq word (name_of kind)) all_kinds k is)
+kind_in_some word k is = (bytes_eq-Decides word (name_of k)).0 (find_passes (λ kind. bytes_eq word (name_of kind)) all_kinds k is)
 
-pub action_in-some : (word : List ℕ) (a : Action) → action_in word ≡ Some a → word ≡ name_of_action a
+pub action_in_some : (word : List ℕ) (a : Action) → action_in word ≡ Some a → word ≡ name_of_action a
 unfolding action_in
-action_in-some word a is = (bytes_eq-Decides word (name_of_action a)).0 (find-passes (λ action. bytes_eq word (name_of_action action)) (action.Assign ∷ action.Clear ∷ action.Dtap ∷ []) a is)
+action_in_some word a is = (bytes_eq-Decides word (name_of_action a)).0 (find_passes (λ action. bytes_eq word (name_of_action action)) (action.Assign ∷ action.Clear ∷ action.Dtap ∷ []) a is)
 
 pub kind_in-name : (k : Kind) → kind_in (name_of k) ≡ Some k
 unfolding kind_in

@@ -1,4 +1,4 @@
-ghost use Rattle.std.specs.Prelude.{◌≡◌, true, Some, is_some, IfOk};
+ghost use Rattle.std.specs.Prelude.{◌≡◌, true, is_some, IfOk};
 ghost use Rattle.hex.specs.Hex.{is_hex_digit};
 ghost use Rattle.std.specs.List.{list_all};
 ghost use Rattle.program_base.specs.Words.{Reads, octets_in};

@@ -1,5 +1,5 @@
 ghost use Rattle.std.specs.Prelude.{◌≡◌, ◌≢◌, false, IfOk, option_map, string_bytes};
-ghost use Rattle.clap.specs.Words.{app_of, kind_of, new_rule, rule_of, subcommand_of};
+ghost use Rattle.clap.specs.Words.{app_of, new_rule, rule_of, subcommand_of};
 ghost use Rattle.clap.specs.Words.{subcommand_rows_of};
 ghost use Rattle.clap.specs.declared.builder.command.Command.TheViews.{out-Command as fields_of};
 ghost use Rattle.clap.specs.declared.error.Error.{Error as Complaint};

@@ -1,6 +1,7 @@
 -- Tables against their first fault: each fault, and of two faults that are neighbours in the order
 -- the first.
 use Rattle.std.proofs.Common.{◌≡◌, ℕ, pos, true, List, [], ◌∷◌, Option, Some, None, codes, zero, suc, refl}
+use Rattle.octets.proofs.Hex.{hex}
 use Rattle.toml.specs.Data.{Data, string, integer, boolean, array, table, Items, no_items, item, Members, no_members, member}
 use Rattle.settings.specs.declared.fault.SettingsFault.{SettingsFault}
 use Rattle.settings.specs.declared.fault.SettingsFault.TheVariants.{Unknown, Missing, BadType, BadValue, Repeated}
@@ -64,10 +65,10 @@ cell_with listen lac ci arfcn bsic channels =
     (member (codes "arfcn") (number arfcn) (member (codes "bsic") (number bsic) (member (codes "channels") (array (numbers channels)) no_members))))))
 
 abbrev first_cell : Data
-first_cell = cell_with (words (codes "a")) 1 2 20 9 (0x41 ∷ 0x0a ∷ [])
+first_cell = cell_with (words (codes "a")) 1 2 20 9 (hex "41 0a")
 
 abbrev second_cell : Data
-second_cell = cell_with (words (codes "b")) 1 3 30 18 (0x41 ∷ 0x0a ∷ [])
+second_cell = cell_with (words (codes "b")) 1 3 30 18 (hex "41 0a")
 
 abbrev two_cells : Data
 two_cells = array (items (first_cell ∷ second_cell ∷ []))
@@ -251,14 +252,14 @@ earlier_cell_first = refl
 
 -- ---- what stands twice
 
-cells_before_repeated : with_cells (cell_with (words (codes "a")) 1 2 20 9 (0x41 ∷ 0x41 ∷ []) ∷ cell_with (words (codes "b")) 1 2 20 9 [] ∷ []) ≡ Some (BadValue keys.Channels)
+cells_before_repeated : with_cells (cell_with (words (codes "a")) 1 2 20 9 (hex "41 41") ∷ cell_with (words (codes "b")) 1 2 20 9 [] ∷ []) ≡ Some (BadValue keys.Channels)
 cells_before_repeated = refl
 
-repeated_channel : with_cells (first_cell ∷ cell_with (words (codes "b")) 1 2 30 18 (0x41 ∷ 0x0a ∷ 0x41 ∷ []) ∷ []) ≡ Some (Repeated keys.Channels)
+repeated_channel : with_cells (first_cell ∷ cell_with (words (codes "b")) 1 2 30 18 (hex "41 0a 41") ∷ []) ≡ Some (Repeated keys.Channels)
 repeated_channel = refl
 
 -- a channel twice in the second cell, where both have one address
-channels_before_listen : with_cells (first_cell ∷ cell_with (words (codes "a")) 1 2 30 18 (0x41 ∷ 0x41 ∷ []) ∷ []) ≡ Some (Repeated keys.Channels)
+channels_before_listen : with_cells (first_cell ∷ cell_with (words (codes "a")) 1 2 30 18 (hex "41 41") ∷ []) ≡ Some (Repeated keys.Channels)
 channels_before_listen = refl
 
 -- the last two cells have one address, the first two one ARFCN and BSIC

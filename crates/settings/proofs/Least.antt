@@ -33,12 +33,12 @@ lesser_first known name (other ∷ names) below =
       | inr miss ↦ rw (miss, not_less name other below.0) refl
     ]
 
-pub least-first : (known : List Key) (es : List (Name × Value)) → IsStrictlySortedBy string_cmp (keys_of es)
+pub least_first : (known : List Key) (es : List (Name × Value)) → IsStrictlySortedBy string_cmp (keys_of es)
     → option_map string_bytes (first_unknown known (keys_of es)) ≡ least_unknown known (members_view es)
 unfolding IsStrictlySortedBy
-least-first known [] rising = refl
-least-first known (e ∷ es) rising =
+least_first known [] rising = refl
+least_first known (e ∷ es) rising =
     elim (cases_Bool (is_known known (string_bytes e.0))) [
-      | inl hit ↦ rw hit (least-first known es rising.1)
-      | inr miss ↦ rw (miss, ← least-first known es rising.1, lesser_first known e.0 (keys_of es) rising.0) refl
+      | inl hit ↦ rw hit (least_first known es rising.1)
+      | inr miss ↦ rw (miss, ← least_first known es rising.1, lesser_first known e.0 (keys_of es) rising.0) refl
     ]

@@ -1,5 +1,6 @@
 -- The ranges of settings against literal values, on both sides of each limit.
 use Rattle.std.proofs.Common.{◌≡◌, ℕ, true, false, nat_eq, List, [], ◌∷◌, replicate, codes, refl, arith}
+use Rattle.octets.proofs.Hex.{hex}
 use Rattle.ho_decision.specs.declared.settings.HoParameters.{HoParameters}
 use Rattle.settings.specs.declared.timers.Timers.{Timers}
 use Rattle.settings.specs.Parameters.{IsDigit, AreDigits, IsTimer, AreTimers, IsWindow, IsInterval, IsHandover, IsChannel, AreChannels, CellParameters, IsCell, AreCells, bsic_of, all_differ, channels_differ, air_of}
@@ -113,7 +114,7 @@ no_channels channels = omega (arith, channels.count.0)
 too_many_channels : AreChannels 1 64 (replicate 65 0x41) → ⊥
 too_many_channels channels = omega (arith, channels.count.1)
 
-pch_among_channels : AreChannels 1 64 (0x41 ∷ 0x90 ∷ []) → ⊥
+pch_among_channels : AreChannels 1 64 (hex "41 90") → ⊥
 pch_among_channels channels = omega (arith, (channels.each 1 0 (omega arith)).1)
 
 abbrev cell : ℕ → ℕ → List ℕ → CellParameters
@@ -136,10 +137,10 @@ too_many_cells cells = omega (arith, cells.count.1)
 
 -- ---- what stands once
 
-different_channels : channels_differ (cell 20 9 (0x41 ∷ 0x49 ∷ 0x0a ∷ [])) ≡ true
+different_channels : channels_differ (cell 20 9 (hex "41 49 0a")) ≡ true
 different_channels = refl
 
-first_channel_again : channels_differ (cell 20 9 (0x41 ∷ 0x49 ∷ 0x41 ∷ [])) ≡ false
+first_channel_again : channels_differ (cell 20 9 (hex "41 49 41")) ≡ false
 first_channel_again = refl
 
 last_two_the_same : all_differ nat_eq (1 ∷ 2 ∷ 2 ∷ []) ≡ false

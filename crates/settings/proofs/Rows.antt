@@ -1,5 +1,6 @@
 -- The table of keys against literal values: limits, defaults, texts.
 use Rattle.std.proofs.Common.{◌≡◌, ℕ, ℤ, pos, negsuc, true, false, List, [], ◌∷◌, map, Option, Some, None, codes, zero, suc, refl}
+use Rattle.octets.proofs.Hex.{hex}
 use Rattle.toml.specs.Data.{Data, string, integer, boolean, array, table, Items, no_items, item, no_members, member}
 use Rattle.settings.specs.declared.fault.SettingsFault.{SettingsFault}
 use Rattle.settings.specs.declared.fault.SettingsFault.TheVariants.{Missing, BadType, BadValue}
@@ -103,7 +104,7 @@ channels_counts : faults_at (codes "channels") rules.cell_channels (array no_ite
 channels_counts = refl
 
 -- no RACH and no PCH
-channels_numbers : faults_at (codes "channels") rules.cell_channels (map (λ n. array (times 1 (integer (pos n)))) (0x07 ∷ 0x08 ∷ 0x7f ∷ 0x80 ∷ 0x88 ∷ 0x90 ∷ [])) ≡
+channels_numbers : faults_at (codes "channels") rules.cell_channels (map (λ n. array (times 1 (integer (pos n)))) (hex "07 08 7f 80 88 90")) ≡
     Some (BadValue keys.Channels) ∷ None ∷ None ∷ Some (BadValue keys.Channels) ∷ Some (BadValue keys.Channels) ∷ Some (BadValue keys.Channels) ∷ []
 channels_numbers = refl
 

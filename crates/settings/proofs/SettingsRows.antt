@@ -1,5 +1,6 @@
 -- Whole texts against the settings in them.
 use Rattle.std.proofs.Common.{◌≡◌, ℕ, true, false, List, [], ◌∷◌, ◌++◌, Ok, Err, codes, refl}
+use Rattle.octets.proofs.Hex.{hex}
 use Rattle.ho_decision.specs.Settings.{settings_of}
 use Rattle.toml.specs.Parse.{parse_document}
 use Rattle.toml.proofs.OnLiterals.{toml_on_literals}
@@ -34,8 +35,8 @@ two_cells = record {
   timers = record { t3101_ms = 3000; t3103_ms = 5000; t3107_ms = 5000; drain_ms = 2000 };
   handover = record { rxlev_window = 10; rxqual_window = 1; neighbour_window = 10; interval = 6; hysteresis = 3 };
   cells =
-      record { listen = codes "127.0.0.1:3003"; location_area_code = 1; cell_identity = 1; arfcn = 20; bsic = record { ncc = 1; bcc = 1 }; channels = 0x41 ∷ 0x49 ∷ 0x0a ∷ [] }
-      ∷ record { listen = codes "127.0.0.1:3004"; location_area_code = 1; cell_identity = 2; arfcn = 30; bsic = record { ncc = 2; bcc = 2 }; channels = 0x41 ∷ 0x0a ∷ [] }
+      record { listen = codes "127.0.0.1:3003"; location_area_code = 1; cell_identity = 1; arfcn = 20; bsic = record { ncc = 1; bcc = 1 }; channels = hex "41 49 0a" }
+      ∷ record { listen = codes "127.0.0.1:3004"; location_area_code = 1; cell_identity = 2; arfcn = 30; bsic = record { ncc = 2; bcc = 2 }; channels = hex "41 0a" }
       ∷ [];
 }
 
@@ -60,7 +61,7 @@ all_keys : settings_in (parse_document (codes "[network]\nmcc = \"262\"\nmnc = \
   switch_address = codes "a";
   timers = record { t3101_ms = 101; t3103_ms = 202; t3107_ms = 303; drain_ms = 404 };
   handover = record { rxlev_window = 2; rxqual_window = 3; neighbour_window = 4; interval = 5; hysteresis = 6 };
-  cells = record { listen = codes "b"; location_area_code = 7; cell_identity = 8; arfcn = 9; bsic = record { ncc = 2; bcc = 3 }; channels = 0x20 ∷ 0x10 ∷ [] } ∷ [];
+  cells = record { listen = codes "b"; location_area_code = 7; cell_identity = 8; arfcn = 9; bsic = record { ncc = 2; bcc = 3 }; channels = hex "20 10" } ∷ [];
 })
 unfolding toml_on_literals
 all_keys = refl

@@ -1,7 +1,5 @@
 -- What the call worker promises is what the links need of it.
-use Rattle.std.proofs.Common.{◌≡◌, ℕ, zero, suc, List, [], ◌∷◌, ◌++◌, length, Option, Some, None, refl, sym, ap, ◌∙◌, subst, arith, append-nil, length-append}
-use mathlib.Core.Option.{some}
-use lib.ListN.{get_elem?}
+use Rattle.std.proofs.Common.{◌≡◌, List, [], ◌∷◌, ◌++◌, Option, Some, None, refl, sym, ap, ◌∙◌, subst, append-nil}
 use Rattle.controller_worker.specs.Call.{IsMemory, Parts, Runs as CallRuns}
 use Rattle.controller_worker.specs.Links.{lines}
 use Rattle.controller_worker.specs.Taking.{HasTaken}

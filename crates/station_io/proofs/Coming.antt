@@ -1,8 +1,7 @@
 -- One link: what its reader, its writer and the call worker promise, together.
-use Rattle.std.proofs.Common.{◌≡◌, ℕ, Bool, true, false, List, [], ◌∷◌, ◌++◌, Option, Some, None, map, refl, sym, ap, ◌∙◌, subst, append_assoc}
+use Rattle.std.proofs.Common.{◌≡◌, ℕ, Bool, true, false, List, [], ◌∷◌, ◌++◌, Option, Some, None, refl, sym, ap, ◌∙◌, subst, append_assoc}
 use Rattle.std.proofs.lemmas.List.Concat.{flat_map-append}
-use Rattle.std.specs.List.{flat_map}
-use Rattle.std.specs.Io.KnownBytes.{Appends, Consumes}
+use Rattle.std.specs.Io.KnownBytes.{Appends}
 use Rattle.controller_worker.specs.Call.{Serves as CallServes}
 use Rattle.controller_worker.specs.Links.{AreSent, AreStepped, HasDown, is_given_up, lines}
 use Rattle.controller_worker.specs.Steps.{frames_to, items_of, whats_of}
@@ -20,7 +19,7 @@ use Rattle.ruled_relay.specs.declared.outbox.Line.{Line}
 use Rattle.ruled_relay.specs.declared.outbox.Line.TheVariants.{Frame as FrameLine, End}
 use Rattle.ruled_relay.specs.Inbox.{PassView}
 use Rattle.ruled_relay.specs.Outbox.{PutterView, TakerView}
-use Rattle.station_io.specs.Links.{Comes, LinkView, Writes, fault_of}
+use Rattle.station_io.specs.Links.{HasCarried, LinkView, Writes, fault_of}
 use Rattle.station_io.proofs.Marks.{all_taken, map_apart, same_before}
 
 frame_is_not_down : (f : Frame) → GivenFrame f ≡ Down → ⊥
@@ -64,7 +63,7 @@ pub comes : (steps : List Step) (outs : List Out) (items : List Item) (limit num
     → Delivers old.written new.written taker taken writing → taker.taken ≡ []
     → CallServes None steps (frames_to number outs) items number putter sent
     → ((rest : List What) × (put.put ≡ whats_of number items ++ rest)) → ((rest : List Line) × (sent.put ≡ taken.taken ++ rest))
-    → Comes steps outs limit number old new (fault_of reading writing (is_given_up sent))
+    → HasCarried steps outs limit number old new (fault_of reading writing (is_given_up sent))
 comes steps outs items limit number old new pass put taker taken putter sent reading writing reads blank delivers fresh calls inbox outbox =
     let is_put : put.put ≡ given reads.frames ++ Down ∷ [] = ap (λ (p : PassView). p.put) reads.put ∙ ap (λ ws. ws ++ (given reads.frames ++ Down ∷ [])) blank in
     let is_taken : taken.taken ≡ lines delivers.frames ++ End ∷ [] = ap (λ (t : TakerView). t.taken) delivers.takes ∙ ap (λ ls. ls ++ (lines delivers.frames ++ End ∷ [])) fresh in

@@ -1,10 +1,8 @@
 -- The links are given back, one after the other.
-use Rattle.std.proofs.Common.{◌≡◌, ℕ, ◌+◌, ◌≤◌, Bool, List, [], ◌∷◌, ◌++◌, length, map, Option, refl, sym, ap, ◌∙◌, subst, arith, append-nil}
-use Rattle.atomic_table.specs.Seated.{TableId}
+use Rattle.std.proofs.Common.{◌≡◌, ◌+◌, ◌≤◌, List, [], ◌∷◌, ◌++◌, map, Option, sym, ap, ◌∙◌, subst, append-nil}
 use Rattle.link_workers.specs.declared.fault.IoFault.{IoFault}
-use Rattle.ruled_relay.specs.Inbox.{AreJoined, PassView}
+use Rattle.ruled_relay.specs.Inbox.{PassView}
 use Rattle.ruled_relay.specs.Outbox.{PutterView}
-use Rattle.ruled_relay.specs.Row.{Row}
 use Rattle.station_io.specs.declared.link.Link.{Link}
 use Rattle.link_workers.specs.declared.reader.HasRead.{HasRead}
 use Rattle.link_workers.specs.declared.writer.HasWritten.{HasWritten}

@@ -1,16 +1,13 @@
 -- All links: what the threads give back is that all came to their ends over one list of steps.
-use Rattle.std.proofs.Common.{◌≡◌, ℕ, ◌<◌, List, [], ◌∷◌, ◌++◌, Option, None, length, map, refl, sym, ap, ◌∙◌, subst, arith}
+use Rattle.std.proofs.Common.{◌≡◌, ℕ, ◌<◌, List, [], ◌∷◌, ◌++◌, Option, length, map, sym, ap, ◌∙◌, subst, arith}
 use Rattle.std.proofs.lemmas.List.{length-map}
-use mathlib.Core.Option.{some, some-injective}
+use mathlib.Core.Option.{some}
 use lib.ListN.{get_elem?}
 use Rattle.std.specs.declared.alloc.Global.{Global}
 use Rattle.atomic_table.proofs.Lists.{at_map}
-use Rattle.atomic_table.specs.Seated.{TableId}
-use Rattle.controller_worker.specs.Call.{Serves as CallServes}
 use Rattle.controller_worker.specs.Links.{is_given_up}
-use Rattle.controller_worker.specs.Steps.{frames_to, over, whats_of}
+use Rattle.controller_worker.specs.Steps.{over, whats_of}
 use Rattle.controller_model.specs.Controller.{Controller}
-use Rattle.link_workers.specs.declared.fault.IoFault.{IoFault}
 use Rattle.ruled_relay.specs.declared.item.What.{What}
 use Rattle.ruled_relay.proofs.Places.{same_there, there, within}
 use Rattle.ruled_relay.specs.Ends.{EndView}
@@ -24,10 +21,9 @@ use Rattle.link_workers.specs.declared.reader.HasRead.{HasRead}
 use Rattle.link_workers.specs.declared.writer.HasWritten.{HasWritten}
 use Rattle.station_io.specs.declared.work.Reading.{Reading}
 use Rattle.station_io.specs.declared.work.Writing.{Writing}
-use Rattle.station_io.specs.Calls.{Runs}
 use Rattle.station_io.specs.Done.{AreRead, AreWritten, HasEnded, IsCalled}
 use Rattle.station_io.specs.Given.{Follows, all_given, given_back, link_of}
-use Rattle.station_io.specs.Links.{Comes, Ended, LinkView, Relays, ended_view, fault_of, link_view}
+use Rattle.station_io.specs.Links.{HasCarried, Ended, LinkView, Relays, ended_view, fault_of, link_view}
 use Rattle.station_io.specs.Pairs.{EachPair, paired}
 use Rattle.station_io.specs.Work.{AreNewOutboxes, AreNewQueues, reading, readings, writing, writings}
 use Rattle.station_io.proofs.Coming.{comes}
@@ -80,7 +76,7 @@ module _ {I O G : Type 0} (remaining : I → Option (List ℕ)) (contents : O �
   link_comes : (left : Row) → EachPair Follows written putters → AreJoined desk (map (λ (r : HasRead I G). r.pass) read) left
       → (number : ℕ) (link : Link I O G) (r : HasRead I G) (w : HasWritten O) (p : PutterView)
       → get_elem? links number ≡ some link → get_elem? read number ≡ some r → get_elem? written number ≡ some w → get_elem? putters number ≡ some p
-      → Comes all.runs.steps (over start all.runs.steps).outs limit number (link_view remaining contents refused link) (link_view remaining contents refused (link_of r w))
+      → HasCarried all.runs.steps (over start all.runs.steps).outs limit number (link_view remaining contents refused link) (link_view remaining contents refused (link_of r w))
       (fault_of r.fault w.fault (is_given_up p))
   link_comes left outbox joined number link r w p at_link at_read at_written at_putter =
       let room : number < length links = within links number link at_link in
@@ -121,7 +117,7 @@ module _ {I O G : Type 0} (remaining : I → Option (List ℕ)) (contents : O �
               (at_pair given_back read written number r.0 w.0 r.1 w.1) p.1 in
               let now_is : ended_view remaining contents refused (given_back r.0 w.0 p.0) ≡ now = same_there (map (ended_view remaining contents refused) (all_given read written putters)) number
               (ended_view remaining contents refused (given_back r.0 w.0 p.0)) now (at_map (ended_view remaining contents refused) (all_given read written putters) number (given_back r.0 w.0 p.0) given_is) is_now in
-              subst (λ (y : LinkView × Ended). Comes all.runs.steps (over start all.runs.steps).outs limit number y.0 y.1.link y.1.fault) (λ i. (old_is i, now_is i))
+              subst (λ (y : LinkView × Ended). HasCarried all.runs.steps (over start all.runs.steps).outs limit number y.0 y.1.link y.1.fault) (λ i. (old_is i, now_is i))
               (link_comes left outbox joined number link.0 r.0 w.0 p.0 link.1 r.1 w.1 p.1),
         ),
       )

@@ -1,5 +1,6 @@
 -- The definitions at literal links. Devices and gates are their octets and their counts here.
 use Rattle.std.proofs.Common.{◌≡◌, ℕ, zero, suc, ◌+◌, Bool, true, false, List, [], ◌∷◌, ◌++◌, length, Option, Some, None, refl, sym, ap, ◌∙◌, subst, arith, length-append}
+use Rattle.octets.proofs.Hex.{hex}
 use mathlib.Core.Option.{some, some-injective, some-ne-none}
 use lib.ListN.{get_elem?}
 use Rattle.std.specs.declared.alloc.Global.{Global}
@@ -31,7 +32,7 @@ use Rattle.link_workers.specs.declared.writer.HasWritten.{HasWritten}
 use Rattle.station_io.specs.Calls.{Calls, HasEnd}
 use Rattle.station_io.specs.Done.{AreRead, AreWritten}
 use Rattle.station_io.specs.Given.{Follows, HasRoom, all_given, given_back}
-use Rattle.station_io.specs.Links.{Comes, Ended, LinkView, Relays, Writes, ended_view, fault_of, link_view}
+use Rattle.station_io.specs.Links.{HasCarried, Ended, LinkView, Relays, Writes, ended_view, fault_of, link_view}
 use Rattle.station_io.specs.Pairs.{EachPair, paired}
 use Rattle.station_io.specs.Work.{AreNewOutboxes, AreNewQueues, readings, writings}
 
@@ -45,10 +46,10 @@ abbrev pong : Frame
 pong = frame 0xfe 0x01
 
 abbrev ping_octets : List ℕ
-ping_octets = 0x00 ∷ 0x01 ∷ 0xfe ∷ 0x00 ∷ []
+ping_octets = hex "00 01 fe 00"
 
 abbrev pong_octets : List ℕ
-pong_octets = 0x00 ∷ 0x01 ∷ 0xfe ∷ 0x01 ∷ []
+pong_octets = hex "00 01 fe 01"
 
 -- ---- which fault a link comes back with
 
@@ -80,25 +81,25 @@ not_each_pair bad = omega (arith, bad 1 2 3 refl refl)
 
 -- ---- what was written
 
-writes_all : Writes None false (0x07 ∷ 0x08 ∷ []) (Some (0x01 ∷ [])) (Some (0x01 ∷ 0x07 ∷ 0x08 ∷ []))
+writes_all : Writes None false (hex "07 08") (Some (0x01 ∷ [])) (Some (hex "01 07 08"))
 writes_all = refl
 
 appended : (text old new : List ℕ) → Writes None false text (Some old) (Some new) → new ≡ old ++ text
 appended text old new writes = writes
 
-writes_less_without_a_cause : Writes None false (0x07 ∷ 0x08 ∷ []) (Some (0x01 ∷ [])) (Some (0x01 ∷ 0x07 ∷ [])) → ⊥
-writes_less_without_a_cause bad = omega (arith, ap length (appended (0x07 ∷ 0x08 ∷ []) (0x01 ∷ []) (0x01 ∷ 0x07 ∷ []) bad))
+writes_less_without_a_cause : Writes None false (hex "07 08") (Some (0x01 ∷ [])) (Some (hex "01 07")) → ⊥
+writes_less_without_a_cause bad = omega (arith, ap length (appended (hex "07 08") (0x01 ∷ []) (hex "01 07") bad))
 
-writes_less_after_a_fault : Writes (Some WriteFailed) false (0x07 ∷ 0x08 ∷ []) (Some (0x01 ∷ [])) (Some (0x01 ∷ 0x07 ∷ []))
+writes_less_after_a_fault : Writes (Some WriteFailed) false (hex "07 08") (Some (0x01 ∷ [])) (Some (hex "01 07"))
 writes_less_after_a_fault = (0x07 ∷ [], 0x08 ∷ [], refl, refl)
 
-writes_less_when_given_up : Writes None true (0x07 ∷ 0x08 ∷ []) (Some (0x01 ∷ [])) (Some (0x01 ∷ 0x07 ∷ []))
+writes_less_when_given_up : Writes None true (hex "07 08") (Some (0x01 ∷ [])) (Some (hex "01 07"))
 writes_less_when_given_up = (0x07 ∷ [], 0x08 ∷ [], refl, refl)
 
-writes_the_second_alone : Writes None true (0x07 ∷ 0x08 ∷ []) (Some []) (Some (0x08 ∷ [])) → ⊥
+writes_the_second_alone : Writes None true (hex "07 08") (Some []) (Some (0x08 ∷ [])) → ⊥
 writes_the_second_alone bad =
     let first : 0x08 ∷ [] ≡ bad.0 = bad.3 in
-    let whole : 0x07 ∷ 0x08 ∷ [] ≡ 0x08 ∷ bad.1 = bad.2 ∙ ap (λ l. l ++ bad.1) (sym first) in
+    let whole : hex "07 08" ≡ 0x08 ∷ bad.1 = bad.2 ∙ ap (λ l. l ++ bad.1) (sym first) in
     absurd (cc whole)
 
 -- ---- one link over steps of the controller
@@ -129,7 +130,7 @@ view_of_an_ended_link : ended_view {I = List ℕ} {O = List ℕ} {G = ℕ} (λ i
     ≡ ended (link (1 ∷ []) (2 ∷ []) 3) (Some GivenUp)
 view_of_an_ended_link = refl
 
-station_is_answered : Comes steps_of_both (pong_to 1 ∷ []) 1 1 (link ping_octets [] 0) (link [] pong_octets 0) None
+station_is_answered : HasCarried steps_of_both (pong_to 1 ∷ []) 1 1 (link ping_octets [] 0) (link [] pong_octets 0) None
 station_is_answered = record {
   reading = None;
   writing = None;
@@ -148,7 +149,7 @@ station_is_answered = record {
   writes = refl;
 }
 
-switch_closes : Comes steps_of_both (pong_to 1 ∷ []) 1 0 (link [] [] 0) (link [] [] 0) None
+switch_closes : HasCarried steps_of_both (pong_to 1 ∷ []) 1 0 (link [] [] 0) (link [] [] 0) None
 switch_closes = record {
   reading = None;
   writing = None;
@@ -169,7 +170,7 @@ switch_closes = record {
 
 -- its outbox was given up: a `Down` was added before the frame that still came, and half of the
 -- answer was written
-given_up_midway : Comes (of_down 1 ∷ of_ping ∷ of_down 1 ∷ []) (pong_to 1 ∷ []) 1 1 (link ping_octets [] 0) (link [] (0x00 ∷ 0x01 ∷ []) 0) (Some GivenUp)
+given_up_midway : HasCarried (of_down 1 ∷ of_ping ∷ of_down 1 ∷ []) (pong_to 1 ∷ []) 1 1 (link ping_octets [] 0) (link [] (hex "00 01") 0) (Some GivenUp)
 given_up_midway = record {
   reading = None;
   writing = None;
@@ -185,7 +186,7 @@ given_up_midway = record {
   added = true;
   items = ([], whats.Frame ping ∷ whats.Down ∷ [], refl, refl);
   only = λ e. e;
-  writes = (0x00 ∷ 0x01 ∷ [], 0xfe ∷ 0x01 ∷ [], refl, refl);
+  writes = (hex "00 01", hex "fe 01", refl, refl);
 }
 
 -- where there is no fault there was none of the reader, the writer and the outbox
@@ -206,11 +207,11 @@ well_written reading None true text old new well writes = absurd (cc well.2)
 well_written reading None false text old new well writes = appended text old new writes
 
 -- the answer went to another link
-other_link_is_answered : Comes steps_of_both (pong_to 1 ∷ []) 1 0 (link [] [] 0) (link [] pong_octets 0) None → ⊥
+other_link_is_answered : HasCarried steps_of_both (pong_to 1 ∷ []) 1 0 (link [] [] 0) (link [] pong_octets 0) None → ⊥
 other_link_is_answered c =
     let w = well_written c.reading c.writing c.given_up [] [] pong_octets (is_well c.reading c.writing c.given_up c.why) c.writes in omega (arith, ap length w)
 
-station_is_left_alone : Comes steps_of_both (pong_to 1 ∷ []) 1 1 (link ping_octets [] 0) (link [] [] 0) None → ⊥
+station_is_left_alone : HasCarried steps_of_both (pong_to 1 ∷ []) 1 1 (link ping_octets [] 0) (link [] [] 0) None → ⊥
 station_is_left_alone c =
     let w = well_written c.reading c.writing c.given_up pong_octets [] [] (is_well c.reading c.writing c.given_up c.why) c.writes in omega (arith, ap length w)
 
@@ -219,7 +220,7 @@ down_became_none : (added : Bool) (items : List What) → AreStepped added [] (i
 down_became_none false items e = omega (arith, ap length e, length-append items (whats.Down ∷ []))
 down_became_none true items e = omega (arith, ap length e.3, length-append e.0 (whats.Down ∷ e.1))
 
-down_is_left_out : Comes (of_down 0 ∷ []) [] 1 1 (link [] [] 0) (link [] [] 0) None → ⊥
+down_is_left_out : HasCarried (of_down 0 ∷ []) [] 1 1 (link [] [] 0) (link [] [] 0) None → ⊥
 down_is_left_out c = down_became_none c.added (given c.frames) c.items
 
 -- ---- all links
@@ -238,7 +239,7 @@ abbrev ended_both : List Ended
 ended_both = ended (link [] [] 0) None ∷ ended (link [] pong_octets 0) None ∷ []
 
 abbrev ComesTo : List Out → ℕ → LinkView → Ended → Type 0
-ComesTo outs number old now = Comes steps_of_both outs 1 number old now.link now.fault
+ComesTo outs number old now = HasCarried steps_of_both outs 1 number old now.link now.fault
 
 each_comes : (number : ℕ) (old : LinkView) (now : Ended) → get_elem? links_of_both number ≡ some old → get_elem? ended_both number ≡ some now → ComesTo (pong_to 1 ∷ []) number old now
 each_comes zero old now e h =

@@ -50,7 +50,7 @@ Writes None false text old new = Appends old new text
 Writes writing given_up text old new = AppendsBeginning old new text
 
 -- One link over these steps and outputs of the controller.
-pub record Comes (steps : List Step) (outs : List Out) (limit number : ℕ) (old new : LinkView)
+pub record HasCarried (steps : List Step) (outs : List Out) (limit number : ℕ) (old new : LinkView)
     (fault : Option IoFault) : Type 0 where
   -- why its reader and its writer ended, and whether its outbox was given up
   pub reading : Option IoFault
@@ -80,7 +80,7 @@ Relays start limit links ended =
     × ((steps : List Step)
     × ((number : ℕ) (old : LinkView) (now : Ended)
     → get_elem? links number ≡ some old → get_elem? ended number ≡ some now
-    → Comes steps (over start steps).outs limit number old now.link now.fault))
+    → HasCarried steps (over start steps).outs limit number old now.link now.fault))
 
 -- a link that was given back
 abbrev pub ended_view : {I O G : Type 0} → (I → Option (List ℕ)) → (O → Option (List ℕ)) → (G → ℕ)

@@ -1,6 +1,5 @@
 //! What is given back of the links once all threads have ended.
-ghost use Rattle.std.specs.Prelude.{◌≡◌, [], length, map, vec_len, vec_capacity, IfOk};
-ghost use Rattle.controller_worker.specs.Links.{is_given_up};
+ghost use Rattle.std.specs.Prelude.{◌≡◌, [], map, vec_len, vec_capacity, IfOk};
 ghost use Rattle.ruled_relay.specs.Inbox.{AreJoined, queues_of};
 ghost use Rattle.ruled_relay.specs.Row.{Row};
 ghost use Rattle.station_io.specs.Given.{Follows, HasRoom, all_given, given_back};

@@ -1,5 +1,5 @@
 //! The queues between the threads of the relay.
-ghost use Rattle.std.specs.Prelude.{◌≡◌, IfOk, length, vec_len};
+ghost use Rattle.std.specs.Prelude.{◌≡◌, IfOk};
 ghost use Rattle.station_io.specs.Work.{AreNewOutboxes, AreNewQueues};
 
 use octets::Memory;

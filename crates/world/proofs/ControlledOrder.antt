@@ -15,7 +15,7 @@ use Rattle.world_model.proofs.Living.{RunsByTable-new}
 use Rattle.world_laws.specs.Order.OctetEvents.{AreOctetEvents}
 use Rattle.world_laws.specs.Order.Order.{IsInOrderFor}
 use Rattle.world_laws.proofs.Order.Fairly.{ComeInOctets-new}
-use Rattle.world_laws.proofs.Order.Whole.{runs-are-in-order}
+use Rattle.world_laws.proofs.Order.Whole.{runs_are_in_order}
 use Rattle.world.specs.declared.world.Scene.{Scene}
 use Rattle.world.specs.declared.world.Scene.TheVariants.{Controlled}
 use Rattle.world.specs.Handing.{IsHandedInOrder}
@@ -37,7 +37,7 @@ IsHandedInOrder-controlled settings events allowed octets connection from_one =
 
 pub IsInOrder-controlled : (settings : Parameters) (events : List Event) → AreAllowed settings → AreOctetEvents events → IsInOrder (controlled_world settings).scene events (after_all (controlled_world settings) events).scene
 IsInOrder-controlled settings events allowed octets =
-    let order : IsInOrderFor (new_actors settings) events = runs-are-in-order settings events allowed octets in
+    let order : IsInOrderFor (new_actors settings) events = runs_are_in_order settings events allowed octets in
     subst (λ (scene : Scene). IsInOrder (Controlled (new_actors settings)) events scene)
     (sym (scene-after_all (controlled_world settings) (new_actors settings) events refl))
     (record {

@@ -1,6 +1,7 @@
 -- The world with a controller against literal events: what is seen of it, its queues, its events
 -- with a break.
 use Rattle.std.proofs.Common.{◌≡◌, ℕ, ◌∷◌, Bool, true, false, List, [], ◌++◌, length, map, Option, Some, None, refl}
+use Rattle.octets.proofs.Hex.{hex}
 use Rattle.controller_model.proofs.Lives.{eager_settings, usual_settings}
 use Rattle.dtap_codec.specs.declared.sapi.Sapi.TheVariants.{Zero}
 use Rattle.ruled_relay.specs.declared.item.What.{What}
@@ -38,7 +39,7 @@ break_of_nothing = refl
 -- the mobile of this number asks the station of this number for a channel, up to the switch's CC
 abbrev opening_by : ℕ → ℕ → List Event
 opening_by mobile station =
-    Connect mobile station (0x05 ∷ 0x24 ∷ 0x71 ∷ []) true ∷ BasePush station ∷ Handle ∷ BaseTakes station ∷ BasePush station ∷ Handle ∷ BaseTakes station
+    Connect mobile station (hex "05 24 71") true ∷ BasePush station ∷ Handle ∷ BaseTakes station ∷ BasePush station ∷ Handle ∷ BaseTakes station
     ∷ AirUp mobile Zero ∷ BasePush station ∷ Handle ∷ SwitchTakes ∷ AirAck mobile Zero ∷ BasePush 0 ∷ Handle ∷ []
 
 abbrev world_after : List Event → WorldState
@@ -48,21 +49,21 @@ abbrev relayed : List ℕ → List Event
 relayed text = Upper 1 Zero text ∷ AirUp 1 Zero ∷ BasePush 1 ∷ Handle ∷ SwitchTakes ∷ AirAck 1 Zero ∷ []
 
 abbrev some_sent : WorldState
-some_sent = world_after (opening_by 1 1 ++ relayed (0x03 ∷ 0x05 ∷ []) ++ relayed (0x08 ∷ 0x01 ∷ []))
+some_sent = world_after (opening_by 1 1 ++ relayed (hex "03 05") ++ relayed (hex "08 01"))
 
-what_is_sent : sent_list some_sent.scene 1 ≡ Some ((0x05 ∷ 0x24 ∷ 0x71 ∷ []) ∷ (0x03 ∷ 0x05 ∷ []) ∷ [])
+what_is_sent : sent_list some_sent.scene 1 ≡ Some ((hex "05 24 71") ∷ (hex "03 05") ∷ [])
 unfolding on_literals
 what_is_sent = refl
 
-what_is_taken : taken_list some_sent.scene 1 ≡ Some ((0x05 ∷ 0x24 ∷ 0x71 ∷ []) ∷ (0x03 ∷ 0x45 ∷ []) ∷ (0x08 ∷ 0x01 ∷ []) ∷ [])
+what_is_taken : taken_list some_sent.scene 1 ≡ Some ((hex "05 24 71") ∷ (hex "03 45") ∷ (hex "08 01") ∷ [])
 unfolding on_literals
 what_is_taken = refl
 
-what_is_accepted : accepted_list some_sent.scene 1 ≡ Some ((0x05 ∷ 0x24 ∷ 0x71 ∷ []) ∷ (0x03 ∷ 0x05 ∷ []) ∷ [])
+what_is_accepted : accepted_list some_sent.scene 1 ≡ Some ((hex "05 24 71") ∷ (hex "03 05") ∷ [])
 unfolding on_literals
 what_is_accepted = refl
 
-what_is_unnumbered : unnumbered_list some_sent.scene 1 ≡ Some ((0x08 ∷ 0x01 ∷ []) ∷ [])
+what_is_unnumbered : unnumbered_list some_sent.scene 1 ≡ Some ((hex "08 01") ∷ [])
 unfolding on_literals
 what_is_unnumbered = refl
 
@@ -93,14 +94,14 @@ abbrev settings_of_release_98 : Parameters
 settings_of_release_98 = record usual_settings { network = record usual_settings.network { release98 = true } }
 
 of_release_98 :
-    taken_list (after_all (controlled_world settings_of_release_98) (opening_by 1 1 ++ relayed (0x03 ∷ 0x05 ∷ []) ++ relayed (0x03 ∷ 0x0f ∷ []))).scene 1
-    ≡ Some ((0x05 ∷ 0x24 ∷ 0x71 ∷ []) ∷ (0x03 ∷ 0x45 ∷ []) ∷ (0x03 ∷ 0x0f ∷ []) ∷ [])
+    taken_list (after_all (controlled_world settings_of_release_98) (opening_by 1 1 ++ relayed (hex "03 05") ++ relayed (hex "03 0f"))).scene 1
+    ≡ Some ((hex "05 24 71") ∷ (hex "03 45") ∷ (hex "03 0f") ∷ [])
 unfolding on_literals
 of_release_98 = refl
 
 -- what no actor can take is counted; time always passes
 not_taken :
-    (world_after (AirUp 1 Zero ∷ AirAck 1 Zero ∷ AirDown 1 ∷ Move 1 ∷ Upper 1 Zero (0x03 ∷ 0x05 ∷ []) ∷ BaseTakes 1 ∷ BasePush 0 ∷ BasePush 1 ∷ Handle ∷ SwitchTakes ∷ SwitchDoes (Clear 1) ∷ BaseDown 3 ∷ Tick 5 ∷ [])).not_taken
+    (world_after (AirUp 1 Zero ∷ AirAck 1 Zero ∷ AirDown 1 ∷ Move 1 ∷ Upper 1 Zero (hex "03 05") ∷ BaseTakes 1 ∷ BasePush 0 ∷ BasePush 1 ∷ Handle ∷ SwitchTakes ∷ SwitchDoes (Clear 1) ∷ BaseDown 3 ∷ Tick 5 ∷ [])).not_taken
     ≡ 12
 unfolding on_literals
 not_taken = refl
@@ -134,14 +135,14 @@ opener_in_fixed = refl
 abbrev moved : List Event
 moved =
     opening_by 1 1
-    ++ Upper 1 Zero (0x03 ∷ 0x05 ∷ []) ∷ AirUp 1 Zero ∷ AirAck 1 Zero ∷ BasePush 1 ∷ Handle ∷ SwitchTakes
-    ∷ Report 1 (0x14 ∷ 0x14 ∷ 0x50 ∷ 0x57 ∷ 0x02 ∷ 0x40 ∷ 0x00 ∷ 0x00 ∷ 0x00 ∷ 0x00 ∷ 0x00 ∷ 0x00 ∷ 0x00 ∷ 0x00 ∷ 0x00 ∷ 0x00 ∷ [])
-    ∷ BasePush 1 ∷ Handle ∷ BaseTakes 2 ∷ BasePush 2 ∷ Handle ∷ Upper 1 Zero (0x03 ∷ 0x01 ∷ []) ∷ AirUp 1 Zero
-    ∷ AirAck 1 Zero ∷ BaseTakes 1 ∷ AirDown 1 ∷ SwitchDoes (Dtap 1 Zero (0x83 ∷ 0x07 ∷ [])) ∷ BasePush 0 ∷ Handle ∷ Move 1
+    ++ Upper 1 Zero (hex "03 05") ∷ AirUp 1 Zero ∷ AirAck 1 Zero ∷ BasePush 1 ∷ Handle ∷ SwitchTakes
+    ∷ Report 1 (hex "14 14 50 57 02 40 00 00 00 00 00 00 00 00 00 00")
+    ∷ BasePush 1 ∷ Handle ∷ BaseTakes 2 ∷ BasePush 2 ∷ Handle ∷ Upper 1 Zero (hex "03 01") ∷ AirUp 1 Zero
+    ∷ AirAck 1 Zero ∷ BaseTakes 1 ∷ AirDown 1 ∷ SwitchDoes (Dtap 1 Zero (hex "83 07")) ∷ BasePush 0 ∷ Handle ∷ Move 1
     ∷ Touch 1 ∷ Arrive 1 ∷ AirUp 1 Zero ∷ AirAck 1 Zero ∷ BasePush 2 ∷ Handle ∷ BasePush 2 ∷ Handle ∷ BasePush 2 ∷ Handle
-    ∷ Upper 1 Zero (0x03 ∷ 0x0f ∷ []) ∷ AirUp 1 Zero ∷ AirAck 1 Zero ∷ BasePush 2 ∷ Handle ∷ BasePush 1 ∷ Handle
+    ∷ Upper 1 Zero (hex "03 0f") ∷ AirUp 1 Zero ∷ AirAck 1 Zero ∷ BasePush 2 ∷ Handle ∷ BasePush 1 ∷ Handle
     ∷ BaseTakes 1 ∷ BasePush 1 ∷ Handle ∷ SwitchTakes ∷ SwitchTakes ∷ SwitchTakes ∷ BaseTakes 2 ∷ AirDown 1
-    ∷ Upper 1 Zero (0x03 ∷ 0x25 ∷ []) ∷ AirUp 1 Zero ∷ AirAck 1 Zero ∷ BasePush 2 ∷ Handle ∷ SwitchTakes ∷ []
+    ∷ Upper 1 Zero (hex "03 25") ∷ AirUp 1 Zero ∷ AirAck 1 Zero ∷ BasePush 2 ∷ Handle ∷ SwitchTakes ∷ []
 
 abbrev moved_world : WorldState
 moved_world = after_all (controlled_world eager_settings) moved
@@ -150,11 +151,11 @@ opener_of_moved : opener_in (controlled_world eager_settings).scene moved 1 ≡ 
 unfolding on_literals
 opener_of_moved = refl
 
-accepted_of_moved : accepted_list moved_world.scene 1 ≡ Some ((0x05 ∷ 0x24 ∷ 0x71 ∷ []) ∷ (0x03 ∷ 0x05 ∷ []) ∷ (0x03 ∷ 0x01 ∷ []) ∷ (0x03 ∷ 0x0f ∷ []) ∷ (0x03 ∷ 0x25 ∷ []) ∷ [])
+accepted_of_moved : accepted_list moved_world.scene 1 ≡ Some ((hex "05 24 71") ∷ (hex "03 05") ∷ (hex "03 01") ∷ (hex "03 0f") ∷ (hex "03 25") ∷ [])
 unfolding on_literals
 accepted_of_moved = refl
 
-received_of_moved : received_list moved_world.scene 1 ≡ Some ((0x83 ∷ 0x07 ∷ []) ∷ [])
+received_of_moved : received_list moved_world.scene 1 ≡ Some ((hex "83 07") ∷ [])
 unfolding on_literals
 received_of_moved = refl
 
@@ -188,16 +189,16 @@ kept_by events queue = is_kept (world_after events).scene queue
 
 -- the station's request, its activation acknowledgement still made; then its link breaks
 abbrev broken_off : List Event
-broken_off = Connect 1 1 (0x05 ∷ 0x24 ∷ 0x71 ∷ []) true ∷ BasePush 1 ∷ Handle ∷ BaseTakes 1 ∷ Connect 2 1 (0x05 ∷ 0x24 ∷ 0x71 ∷ []) true ∷ BasePush 1 ∷ BasePush 1 ∷ Handle ∷ BaseDown 1 ∷ []
+broken_off = Connect 1 1 (hex "05 24 71") true ∷ BasePush 1 ∷ Handle ∷ BaseTakes 1 ∷ Connect 2 1 (hex "05 24 71") true ∷ BasePush 1 ∷ BasePush 1 ∷ Handle ∷ BaseDown 1 ∷ []
 
 abbrev required : List ℕ
-required = 0x0c ∷ 0x13 ∷ 0x01 ∷ 0x88 ∷ 0x13 ∷ 0x01 ∷ 0x00 ∷ 0x00 ∷ 0x11 ∷ 0x00 ∷ []
+required = hex "0c 13 01 88 13 01 00 00 11 00"
 
 abbrev required_too : List ℕ
-required_too = 0x0c ∷ 0x13 ∷ 0x01 ∷ 0x88 ∷ 0x13 ∷ 0x02 ∷ 0x00 ∷ 0x00 ∷ 0x11 ∷ 0x00 ∷ []
+required_too = hex "0c 13 01 88 13 02 00 00 11 00"
 
 abbrev activated : List ℕ
-activated = 0x08 ∷ 0x22 ∷ 0x01 ∷ 0x41 ∷ 0x08 ∷ 0x00 ∷ 0x00 ∷ []
+activated = hex "08 22 01 41 08 00 00"
 
 put_into_inbox : put_by broken_off (inbox 1) ≡ Some required ∷ Some activated ∷ Some required_too ∷ None ∷ []
 unfolding on_literals
@@ -212,12 +213,11 @@ unfolding on_literals
 left_in_inbox = refl
 
 abbrev activation : List ℕ
-activation = 0x08 ∷ 0x21 ∷ 0x01 ∷ 0x41 ∷ 0x03 ∷ 0x00 ∷ 0x06 ∷ 0x04 ∷ 0x00 ∷ 0x03 ∷ 0x01 ∷ 0x00 ∷ []
+activation = hex "08 21 01 41 03 00 06 04 00 03 01 00"
 
 abbrev assignment : List ℕ
 assignment =
-    0x0c ∷ 0x16 ∷ 0x01 ∷ 0x90 ∷ 0x2b ∷ 0x17 ∷ 0x2d ∷ 0x06 ∷ 0x3f ∷ 0x00 ∷ 0x41 ∷ 0x20 ∷ 0x14 ∷ 0x01 ∷ 0x00 ∷ 0x00 ∷ 0x00 ∷ 0x00
-    ∷ 0x2b ∷ 0x2b ∷ 0x2b ∷ 0x2b ∷ 0x2b ∷ 0x2b ∷ 0x2b ∷ 0x2b ∷ 0x2b ∷ 0x2b ∷ 0x2b ∷ []
+    hex "0c 16 01 90 2b 17 2d 06 3f 00 41 20 14 01 00 00 00 00 2b 2b 2b 2b 2b 2b 2b 2b 2b 2b 2b"
 
 put_into_outbox : put_by broken_off (outbox 1) ≡ Some activation ∷ Some assignment ∷ []
 unfolding on_literals
@@ -245,15 +245,14 @@ fixed_is_kept = refl
 
 -- the switch's outbox, and what the switch has of it
 abbrev to_the_switch : List Event
-to_the_switch = opening_by 1 1 ++ Upper 1 Zero (0x03 ∷ 0x05 ∷ []) ∷ AirUp 1 Zero ∷ BasePush 1 ∷ Handle ∷ []
+to_the_switch = opening_by 1 1 ++ Upper 1 Zero (hex "03 05") ∷ AirUp 1 Zero ∷ BasePush 1 ∷ Handle ∷ []
 
 abbrev request : List ℕ
 request =
-    0x01 ∷ 0x00 ∷ 0x00 ∷ 0x01 ∷ 0x02 ∷ 0x02 ∷ 0x04 ∷ 0x02 ∷ 0x42 ∷ 0xfe ∷ 0x0f ∷ 0x12 ∷ 0x00 ∷ 0x10 ∷ 0x57 ∷ 0x05 ∷ 0x08 ∷ 0x00 ∷ 0x00 ∷ 0xf1 ∷ 0x10 ∷ 0x00 ∷ 0x01 ∷ 0x00 ∷ 0x01 ∷ 0x17 ∷ 0x03
-    ∷ 0x05 ∷ 0x24 ∷ 0x71 ∷ 0x00 ∷ []
+    hex "01 00 00 01 02 02 04 02 42 fe 0f 12 00 10 57 05 08 00 00 f1 10 00 01 00 01 17 03 05 24 71 00"
 
 abbrev data_form : List ℕ
-data_form = 0x06 ∷ 0x80 ∷ 0x00 ∷ 0x01 ∷ 0x00 ∷ 0x01 ∷ 0x05 ∷ 0x01 ∷ 0x00 ∷ 0x02 ∷ 0x03 ∷ 0x45 ∷ []
+data_form = hex "06 80 00 01 00 01 05 01 00 02 03 45"
 
 put_for_the_switch : put_by to_the_switch (outbox 0) ≡ Some request ∷ Some data_form ∷ []
 unfolding on_literals
@@ -269,7 +268,7 @@ left_for_the_switch = refl
 
 switch_has_it :
     messages_of (switch_of 4 (all_messages_taken (controlled_world usual_settings).scene (to_the_switch ++ SwitchTakes ∷ []) (outbox 0)))
-    ≡ ((0x05 ∷ 0x24 ∷ 0x71 ∷ []) ∷ (0x03 ∷ 0x45 ∷ []) ∷ []) ∷ []
+    ≡ ((hex "05 24 71") ∷ (hex "03 45") ∷ []) ∷ []
 unfolding on_literals
 switch_has_it = refl
 

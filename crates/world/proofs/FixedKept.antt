@@ -18,7 +18,7 @@ use Rattle.mobile_end.specs.DataLink.{waits}
 use Rattle.mobile_end.specs.Lawful.{is_sendable}
 use Rattle.mobile_end.specs.MobileState.{MobileState}
 use Rattle.mobile_end.specs.Mobile.{after_queue, after_number, with_link, link_of, refusal_before_connect, frame_answer, after_frame, after_frame_at, after_acked, after_acked_at, is_acknowledged}
-use Rattle.mobile_end.proofs.Lives.{is_sendable-clear}
+use Rattle.mobile_end.proofs.Lives.{is_sendable_clear}
 use Rattle.mobile_end.proofs.Numbering.{IsNumbered, IsNumbered-new, IsNumbered-after_queue, IsNumbered-frame, IsNumbered-acked}
 use Rattle.world.specs.FixedState.{FixedState}
 use Rattle.world.specs.Queues.{first_of}
@@ -73,11 +73,11 @@ unless_refused-step lawful (Some fault) old new step = FixedStep-none old
 unless_refused-step true None old new step = step refl
 unless_refused-step false None old new step = FixedStep-none old
 
-pub upper-step : (world : FixedState) (sapi : Sapi) (message : List ℕ) → FixedStep world (unwrap_or (after_upper world sapi message) world) [] []
-upper-step world sapi message =
+pub upper_step : (world : FixedState) (sapi : Sapi) (message : List ℕ) → FixedStep world (unwrap_or (after_upper world sapi message) world) [] []
+upper_step world sapi message =
     unless_refused-step (is_sendable sapi message) (refusal_before_connect world.mobile.stage) world (with_mobile world (after_queue world.mobile sapi message))
     (λ lawful. FixedStep-mobile world (after_queue world.mobile sapi message) (λ kept. record {
-      numbered = IsNumbered-after_queue [] world.mobile (world.switch.taken ++ world.outbox) sapi message (is_sendable-clear sapi message lawful) kept.numbered;
+      numbered = IsNumbered-after_queue [] world.mobile (world.switch.taken ++ world.outbox) sapi message (is_sendable_clear sapi message lawful) kept.numbered;
       modulus = kept.modulus ∙ sym (modulus-after_queue world.mobile sapi message);
       two = subst (λ (m : ℕ). 2 ≤ m) (sym (modulus-after_queue world.mobile sapi message)) kept.two;
     }))
@@ -99,19 +99,19 @@ air_up_with-step world (Ok (Some frame)) is = record {
   switch = sym (append-nil world.switch.taken);
 }
 
-pub air_up-step : (world : FixedState) → FixedStep world (unwrap_or (after_air_up world) world) (option_to_list (frame_up world)) []
-air_up-step world = air_up_with-step world (frame_answer world.mobile Zero) refl
+pub air_up_step : (world : FixedState) → FixedStep world (unwrap_or (after_air_up world) world) (option_to_list (frame_up world)) []
+air_up_step world = air_up_with-step world (frame_answer world.mobile Zero) refl
 
-air_ack_by-step : (world : FixedState) (acknowledged : Bool) → FixedStep world (unwrap_or (cond acknowledged (Some (with_mobile world (after_acked world.mobile Zero))) None) world) [] []
-air_ack_by-step world false = FixedStep-none world
-air_ack_by-step world true = FixedStep-mobile world (after_acked world.mobile Zero) (λ kept. record {
+air_ack_by_step : (world : FixedState) (acknowledged : Bool) → FixedStep world (unwrap_or (cond acknowledged (Some (with_mobile world (after_acked world.mobile Zero))) None) world) [] []
+air_ack_by_step world false = FixedStep-none world
+air_ack_by_step world true = FixedStep-mobile world (after_acked world.mobile Zero) (λ kept. record {
   numbered = IsNumbered-acked [] world.mobile.place world.mobile (world.switch.taken ++ world.outbox) Zero kept.numbered;
   modulus = kept.modulus ∙ sym (modulus-after_acked world.mobile.place world.mobile);
   two = subst (λ (m : ℕ). 2 ≤ m) (sym (modulus-after_acked world.mobile.place world.mobile)) kept.two;
 })
 
-pub air_ack-step : (world : FixedState) → FixedStep world (unwrap_or (after_air_ack world) world) [] []
-air_ack-step world = air_ack_by-step world (is_acknowledged world.mobile Zero)
+pub air_ack_step : (world : FixedState) → FixedStep world (unwrap_or (after_air_ack world) world) [] []
+air_ack_step world = air_ack_by_step world (is_acknowledged world.mobile Zero)
 
 after_taking-step : (world : FixedState) (messages : List (List ℕ)) → world.outbox ≡ messages → FixedStep world (unwrap_or (after_taking messages world) world) [] (first_of messages)
 after_taking-step world [] is = FixedStep-none world
@@ -125,5 +125,5 @@ after_taking-step world (first ∷ others) is = record {
   switch = refl;
 }
 
-pub switch_takes-step : (world : FixedState) → FixedStep world (unwrap_or (after_switch_takes world) world) [] (first_of world.outbox)
-switch_takes-step world = after_taking-step world world.outbox refl
+pub switch_takes_step : (world : FixedState) → FixedStep world (unwrap_or (after_switch_takes world) world) [] (first_of world.outbox)
+switch_takes_step world = after_taking-step world world.outbox refl

@@ -11,27 +11,27 @@ use Rattle.world.specs.FixedState.{FixedState}
 use Rattle.world.specs.Fixed.{fixed_after, after_upper, after_air_up, after_air_ack, frame_up}
 use Rattle.world.specs.Queues.{Queue, Queued, outbox, inbox, message, in_switch_outbox, fixed_messages_put, fixed_messages_taken, messages_put, messages_taken, all_messages_put, all_messages_taken}
 use Rattle.world.specs.World.{actors_after}
-use Rattle.world.proofs.FixedKept.{FixedStep, FixedStep-none, upper-step, air_up-step, air_ack-step, switch_takes-step}
+use Rattle.world.proofs.FixedKept.{FixedStep, FixedStep-none, upper_step, air_up_step, air_ack_step, switch_takes_step}
 
 -- an event of another mobile does nothing
-where_fixed-step : (b : Bool) (world : FixedState) (next : Option FixedState) → FixedStep world (unwrap_or next world) [] [] → FixedStep world (unwrap_or (cond b next None) world) [] []
-where_fixed-step true world next step = step
-where_fixed-step false world next step = FixedStep-none world
+where_fixed_step : (b : Bool) (world : FixedState) (next : Option FixedState) → FixedStep world (unwrap_or next world) [] [] → FixedStep world (unwrap_or (cond b next None) world) [] []
+where_fixed_step true world next step = step
+where_fixed_step false world next step = FixedStep-none world
 
-where_fixed-put : (b : Bool) (world : FixedState) → FixedStep world (unwrap_or (cond b (after_air_up world) None) world) (cond b (option_to_list (frame_up world)) []) []
-where_fixed-put true world = air_up-step world
-where_fixed-put false world = FixedStep-none world
+where_fixed_put : (b : Bool) (world : FixedState) → FixedStep world (unwrap_or (cond b (after_air_up world) None) world) (cond b (option_to_list (frame_up world)) []) []
+where_fixed_put true world = air_up_step world
+where_fixed_put false world = FixedStep-none world
 
 abbrev pub fixed_next : FixedState → Event → FixedState
 fixed_next world event = unwrap_or (fixed_after world event) world
 
 -- what each event does
-pub fixed-step : (world : FixedState) (event : Event) → FixedStep world (fixed_next world event) (fixed_messages_put world event) (fixed_messages_taken world event)
-fixed-step world (Upper mobile sapi text) = where_fixed-step (nat_eq mobile FIXED_MOBILE) world (after_upper world sapi text) (upper-step world sapi text)
-fixed-step world (AirUp mobile Zero) = where_fixed-put (nat_eq mobile FIXED_MOBILE) world
-fixed-step world (AirAck mobile Zero) = where_fixed-step (nat_eq mobile FIXED_MOBILE) world (after_air_ack world) (air_ack-step world)
-fixed-step world SwitchTakes = switch_takes-step world
-fixed-step world _ = FixedStep-none world
+pub fixed_step : (world : FixedState) (event : Event) → FixedStep world (fixed_next world event) (fixed_messages_put world event) (fixed_messages_taken world event)
+fixed_step world (Upper mobile sapi text) = where_fixed_step (nat_eq mobile FIXED_MOBILE) world (after_upper world sapi text) (upper_step world sapi text)
+fixed_step world (AirUp mobile Zero) = where_fixed_put (nat_eq mobile FIXED_MOBILE) world
+fixed_step world (AirAck mobile Zero) = where_fixed_step (nat_eq mobile FIXED_MOBILE) world (after_air_ack world) (air_ack_step world)
+fixed_step world SwitchTakes = switch_takes_step world
+fixed_step world _ = FixedStep-none world
 
 -- the world after these events, and what they put into the switch's outbox and the switch took
 -- there
@@ -58,17 +58,17 @@ FixedStep-then {old} {mid} {new} {put} {taken} {puts} {takens} one two = record 
 }
 
 -- what all the events do
-pub fixed-steps : (world : FixedState) (events : List Event) → FixedStep world (fixed_all world events) (all_fixed_messages_put world events) (all_fixed_messages_taken world events)
-fixed-steps world [] = FixedStep-none world
-fixed-steps world (event ∷ events) = FixedStep-then (fixed-step world event) (fixed-steps (fixed_next world event) events)
+pub fixed_steps : (world : FixedState) (events : List Event) → FixedStep world (fixed_all world events) (all_fixed_messages_put world events) (all_fixed_messages_taken world events)
+fixed_steps world [] = FixedStep-none world
+fixed_steps world (event ∷ events) = FixedStep-then (fixed_step world event) (fixed_steps (fixed_next world event) events)
 
 -- the same of the scene that has this world
-actors_after-fixed_by : (world : FixedState) (next : Option FixedState) → unwrap_or (option_map Fixed next) (Fixed world) ≡ Fixed (unwrap_or next world)
-actors_after-fixed_by world None = refl
-actors_after-fixed_by world (Some next) = refl
+actors_after_fixed_by : (world : FixedState) (next : Option FixedState) → unwrap_or (option_map Fixed next) (Fixed world) ≡ Fixed (unwrap_or next world)
+actors_after_fixed_by world None = refl
+actors_after_fixed_by world (Some next) = refl
 
 pub actors_after-fixed : (world : FixedState) (event : Event) → actors_after (Fixed world) event ≡ Fixed (fixed_next world event)
-actors_after-fixed world event = actors_after-fixed_by world (fixed_after world event)
+actors_after-fixed world event = actors_after_fixed_by world (fixed_after world event)
 
 pub in_switch_outbox-append : (queue : Queue) (xs ys : List (List ℕ)) → in_switch_outbox queue (xs ++ ys) ≡ in_switch_outbox queue xs ++ in_switch_outbox queue ys
 in_switch_outbox-append (outbox link) xs ys = by_link (nat_eq link 0)

@@ -22,7 +22,7 @@ use Rattle.world.specs.Headline.{AreEventsFor, Begins, IsInOrder}
 use Rattle.world.specs.Headline.Begins.{fixed, controlled}
 use Rattle.world.proofs.ControlledOrder.{IsInOrder-controlled}
 use Rattle.world.proofs.FixedKept.{IsFixedKept, IsFixedKept-beginning}
-use Rattle.world.proofs.FixedSteps.{fixed_next, fixed_all, all_fixed_messages_taken, fixed-steps, actors_after-fixed, in_switch_outbox-append, all_messages_put-fixed, all_messages_taken-fixed}
+use Rattle.world.proofs.FixedSteps.{fixed_next, fixed_all, all_fixed_messages_taken, fixed_steps, actors_after-fixed, in_switch_outbox-append, all_messages_put-fixed, all_messages_taken-fixed}
 
 -- events after events
 pub after_all-append : (world : WorldState) (before events : List Event) → after_all world (before ++ events) ≡ after_all (after_all world before) events
@@ -46,27 +46,27 @@ taken-rise world kept =
     (cut.0, cut.1)
 
 -- so what the switch accepts is the beginning of the sent list, and there is no gap
-accepted-is_prefix : (world : FixedState) → IsFixedKept world → IsPrefix (accepted_of world.switch.modulus world.switch.taken) world.mobile.sent
-accepted-is_prefix world kept =
+accepted_is_prefix : (world : FixedState) → IsFixedKept world → IsPrefix (accepted_of world.switch.modulus world.switch.taken) world.mobile.sent
+accepted_is_prefix world kept =
     let rise = taken-rise world kept in
     let front : accepted_of world.switch.modulus world.switch.taken ≡ take rise.0 world.mobile.sent =
     ap (λ (m : ℕ). accepted_of m world.switch.taken) kept.modulus ∙ accepted_list_from-rise kept.two rise.1 in
     (drop rise.0 world.mobile.sent, ap (λ (xs : List (List ℕ)). xs ++ drop rise.0 world.mobile.sent) front ∙ take-append-drop rise.0 world.mobile.sent)
 
-progress-is_some : (world : FixedState) → IsFixedKept world → (p : Option ℕ) → progress world.switch.modulus world.switch.taken ≡ p → IsSome p
-progress-is_some world kept p is =
+progress_is_some : (world : FixedState) → IsFixedKept world → (p : Option ℕ) → progress world.switch.modulus world.switch.taken ≡ p → IsSome p
+progress_is_some world kept p is =
     let rise = taken-rise world kept in
     let whole : progress world.switch.modulus world.switch.taken ≡ Some rise.0 =
     ap (λ (m : ℕ). progress m world.switch.taken) kept.modulus ∙ progress_from-rise kept.two rise.1 in
     subst IsSome (sym whole ∙ is) refl
 
 -- of each queue, what was put is what was taken, followed by what stands there
-left-fixed : (m : ℕ) (events : List Event) (queue : Queue)
+left_fixed : (m : ℕ) (events : List Event) (queue : Queue)
     → all_messages_put (Fixed (fixed_beginning m)) events queue ≡ all_messages_taken (Fixed (fixed_beginning m)) events queue ++ in_switch_outbox queue (fixed_all (fixed_beginning m) events).outbox
-left-fixed m events queue =
+left_fixed m events queue =
     let begin : FixedState = fixed_beginning m in
     let world : FixedState = fixed_all begin events in
-    all_messages_put-fixed begin events queue ∙ ap (in_switch_outbox queue) (fixed-steps begin events).first_out
+    all_messages_put-fixed begin events queue ∙ ap (in_switch_outbox queue) (fixed_steps begin events).first_out
     ∙ in_switch_outbox-append queue (all_fixed_messages_taken begin events) world.outbox
     ∙ ap (λ (xs : _). xs ++ in_switch_outbox queue world.outbox) (sym (all_messages_taken-fixed begin events queue))
 
@@ -74,7 +74,7 @@ pub IsInOrder-fixed : (m : ℕ) → 2 ≤ m → (events : List Event) → IsInOr
 IsInOrder-fixed m two events =
     let begin : FixedState = fixed_beginning m in
     let world : FixedState = fixed_all begin events in
-    let steps = fixed-steps begin events in
+    let steps = fixed_steps begin events in
     let kept : IsFixedKept world = steps.kept (IsFixedKept-beginning m two) in
     record {
       accepted = λ connection list is.
@@ -84,13 +84,13 @@ IsInOrder-fixed m two events =
             opened = cond-true (nat_eq connection FIXED_CONNECTION) _ _ found.0;
             sent = world.mobile.sent;
             is_sent = refl;
-            is_prefix = subst (λ (list : List (List ℕ)). IsPrefix list world.mobile.sent) found.1 (accepted-is_prefix world kept);
+            is_prefix = subst (λ (list : List (List ℕ)). IsPrefix list world.mobile.sent) found.1 (accepted_is_prefix world kept);
           };
-      no_gap = λ connection p is. progress-is_some world kept p (cond_some (nat_eq connection FIXED_CONNECTION) _ _ is).1;
+      no_gap = λ connection p is. progress_is_some world kept p (cond_some (nat_eq connection FIXED_CONNECTION) _ _ is).1;
       handed = tt;
       queues = record {
-        first_out = λ queue. (in_switch_outbox queue world.outbox, sym (left-fixed m events queue));
-        left = λ queue kept. left-fixed m events queue;
+        first_out = λ queue. (in_switch_outbox queue world.outbox, sym (left_fixed m events queue));
+        left = λ queue kept. left_fixed m events queue;
         switch = all_messages_taken-fixed begin events (outbox 0) ∙ ap (in_switch_outbox (outbox 0)) (sym steps.switch);
       };
     }

@@ -1,5 +1,6 @@
 -- Definitions against literal events, of the fixed world.
 use Rattle.std.proofs.Common.{◌≡◌, List, [], ◌∷◌, ◌++◌, replicate, true, Option, Some, None, option_map, refl}
+use Rattle.octets.proofs.Hex.{hex}
 use Rattle.dtap_codec.specs.Number.{count_of}
 use Rattle.dtap_codec.specs.declared.number.Modulus.TheVariants.{Two}
 use Rattle.dtap_codec.specs.declared.sapi.Sapi.TheVariants.{Zero, Three}
@@ -28,18 +29,18 @@ relayed = AirUp 1 Zero ∷ AirAck 1 Zero ∷ SwitchTakes ∷ []
 abbrev three_messages : WorldState
 three_messages =
     after_all (fixed_world 4)
-    (Upper 1 Zero (0x05 ∷ 0x24 ∷ 0x71 ∷ []) ∷ Upper 1 Zero (0x03 ∷ 0x05 ∷ []) ∷ Upper 1 Zero (0x03 ∷ 0x0f ∷ []) ∷ (relayed ++ relayed ++ relayed))
+    (Upper 1 Zero (hex "05 24 71") ∷ Upper 1 Zero (hex "03 05") ∷ Upper 1 Zero (hex "03 0f") ∷ (relayed ++ relayed ++ relayed))
 
-three_sent : sent_list three_messages.scene 1 ≡ Some ((0x05 ∷ 0x24 ∷ 0x71 ∷ []) ∷ (0x03 ∷ 0x05 ∷ []) ∷ (0x03 ∷ 0x0f ∷ []) ∷ [])
+three_sent : sent_list three_messages.scene 1 ≡ Some ((hex "05 24 71") ∷ (hex "03 05") ∷ (hex "03 0f") ∷ [])
 three_sent = refl
 
 three_received : received_list three_messages.scene 1 ≡ Some []
 three_received = refl
 
-three_taken : taken_list three_messages.scene 1 ≡ Some ((0x05 ∷ 0x24 ∷ 0x71 ∷ []) ∷ (0x03 ∷ 0x45 ∷ []) ∷ (0x03 ∷ 0x8f ∷ []) ∷ [])
+three_taken : taken_list three_messages.scene 1 ≡ Some ((hex "05 24 71") ∷ (hex "03 45") ∷ (hex "03 8f") ∷ [])
 three_taken = refl
 
-three_accepted : accepted_list three_messages.scene 1 ≡ Some ((0x05 ∷ 0x24 ∷ 0x71 ∷ []) ∷ (0x03 ∷ 0x05 ∷ []) ∷ (0x03 ∷ 0x0f ∷ []) ∷ [])
+three_accepted : accepted_list three_messages.scene 1 ≡ Some ((hex "05 24 71") ∷ (hex "03 05") ∷ (hex "03 0f") ∷ [])
 three_accepted = refl
 
 three_unnumbered : unnumbered_list three_messages.scene 1 ≡ Some []
@@ -58,36 +59,36 @@ nobody_else = refl
 abbrev others : WorldState
 others =
     after_all (fixed_world 4)
-    (Upper 1 Zero (0x0c ∷ 0x01 ∷ []) ∷ Upper 1 Zero (0x03 ∷ 0x01 ∷ []) ∷ Upper 1 Zero (0x03 ∷ 0x02 ∷ []) ∷ Upper 1 Zero (0x03 ∷ 0x03 ∷ []) ∷ Upper 1 Zero (0x03 ∷ 0x04 ∷ []) ∷ Upper 1 Zero (0x03 ∷ 0x05 ∷ [])
+    (Upper 1 Zero (hex "0c 01") ∷ Upper 1 Zero (hex "03 01") ∷ Upper 1 Zero (hex "03 02") ∷ Upper 1 Zero (hex "03 03") ∷ Upper 1 Zero (hex "03 04") ∷ Upper 1 Zero (hex "03 05")
     ∷ (relayed ++ relayed ++ relayed ++ relayed ++ relayed ++ relayed))
 
-others_taken : taken_list others.scene 1 ≡ Some ((0x0c ∷ 0x01 ∷ []) ∷ (0x03 ∷ 0x01 ∷ []) ∷ (0x03 ∷ 0x42 ∷ []) ∷ (0x03 ∷ 0x83 ∷ []) ∷ (0x03 ∷ 0xc4 ∷ []) ∷ (0x03 ∷ 0x05 ∷ []) ∷ [])
+others_taken : taken_list others.scene 1 ≡ Some ((hex "0c 01") ∷ (hex "03 01") ∷ (hex "03 42") ∷ (hex "03 83") ∷ (hex "03 c4") ∷ (hex "03 05") ∷ [])
 others_taken = refl
 
-others_unnumbered : unnumbered_list others.scene 1 ≡ Some ((0x0c ∷ 0x01 ∷ []) ∷ [])
+others_unnumbered : unnumbered_list others.scene 1 ≡ Some ((hex "0c 01") ∷ [])
 others_unnumbered = refl
 
-others_sent : sent_list others.scene 1 ≡ Some ((0x03 ∷ 0x01 ∷ []) ∷ (0x03 ∷ 0x02 ∷ []) ∷ (0x03 ∷ 0x03 ∷ []) ∷ (0x03 ∷ 0x04 ∷ []) ∷ (0x03 ∷ 0x05 ∷ []) ∷ [])
+others_sent : sent_list others.scene 1 ≡ Some ((hex "03 01") ∷ (hex "03 02") ∷ (hex "03 03") ∷ (hex "03 04") ∷ (hex "03 05") ∷ [])
 others_sent = refl
 
-others_accepted : accepted_list others.scene 1 ≡ Some ((0x03 ∷ 0x01 ∷ []) ∷ (0x03 ∷ 0x02 ∷ []) ∷ (0x03 ∷ 0x03 ∷ []) ∷ (0x03 ∷ 0x04 ∷ []) ∷ (0x03 ∷ 0x05 ∷ []) ∷ [])
+others_accepted : accepted_list others.scene 1 ≡ Some ((hex "03 01") ∷ (hex "03 02") ∷ (hex "03 03") ∷ (hex "03 04") ∷ (hex "03 05") ∷ [])
 others_accepted = refl
 
 -- modulo 2: six times the same message
 abbrev one_relayed : List Event
-one_relayed = Upper 1 Zero (0x03 ∷ 0x01 ∷ []) ∷ relayed
+one_relayed = Upper 1 Zero (hex "03 01") ∷ relayed
 
 abbrev six_of_two : WorldState
 six_of_two =
     after_all (fixed_world (count_of Two)) (one_relayed ++ one_relayed ++ one_relayed ++ one_relayed ++ one_relayed ++ one_relayed)
 
-six_of_two_taken : taken_list six_of_two.scene 1 ≡ Some ((0x03 ∷ 0x01 ∷ []) ∷ (0x03 ∷ 0x41 ∷ []) ∷ (0x03 ∷ 0x01 ∷ []) ∷ (0x03 ∷ 0x41 ∷ []) ∷ (0x03 ∷ 0x01 ∷ []) ∷ (0x03 ∷ 0x41 ∷ []) ∷ [])
+six_of_two_taken : taken_list six_of_two.scene 1 ≡ Some ((hex "03 01") ∷ (hex "03 41") ∷ (hex "03 01") ∷ (hex "03 41") ∷ (hex "03 01") ∷ (hex "03 41") ∷ [])
 six_of_two_taken = refl
 
-six_of_two_accepted : accepted_list six_of_two.scene 1 ≡ Some (replicate 6 (0x03 ∷ 0x01 ∷ []))
+six_of_two_accepted : accepted_list six_of_two.scene 1 ≡ Some (replicate 6 (hex "03 01"))
 six_of_two_accepted = refl
 
-six_of_two_sent : sent_list six_of_two.scene 1 ≡ Some (replicate 6 (0x03 ∷ 0x01 ∷ []))
+six_of_two_sent : sent_list six_of_two.scene 1 ≡ Some (replicate 6 (hex "03 01"))
 six_of_two_sent = refl
 
 six_of_two_acts : six_of_two.not_taken ≡ 0
@@ -98,7 +99,7 @@ six_of_two_acts = refl
 abbrev untaken : WorldState
 untaken =
     after_all (fixed_world 4)
-    (AirAck 1 Zero ∷ SwitchTakes ∷ Upper 1 Zero (0x03 ∷ 0x45 ∷ []) ∷ AirUp 1 Three ∷ AirAck 1 Three ∷ Upper 2 Zero (0x03 ∷ 0x05 ∷ []) ∷ AirUp 1 Zero ∷ AirUp 2 Zero ∷ Connect 2 1 (0x05 ∷ 0x24 ∷ []) true ∷ AirDown 1 ∷ AirDownLost 1
+    (AirAck 1 Zero ∷ SwitchTakes ∷ Upper 1 Zero (hex "03 45") ∷ AirUp 1 Three ∷ AirAck 1 Three ∷ Upper 2 Zero (hex "03 05") ∷ AirUp 1 Zero ∷ AirUp 2 Zero ∷ Connect 2 1 (hex "05 24") true ∷ AirDown 1 ∷ AirDownLost 1
     ∷ Move 1 ∷ Touch 1 ∷ Arrive 1 ∷ Return 1 ∷ BaseTakes 1 ∷ BasePush 0 ∷ Handle ∷ SwitchDoes (Assign 1) ∷ Tick 5 ∷ BaseDown 1 ∷ Report 1 (0x14 ∷ []) ∷ [])
 
 not_taken : untaken.not_taken ≡ 22
@@ -108,19 +109,19 @@ not_taken = refl
 abbrev on_both_links : WorldState
 on_both_links =
     after_all (fixed_world 4)
-    (Upper 1 Three (0x09 ∷ 0x01 ∷ []) ∷ Upper 1 Zero (0x03 ∷ 0x05 ∷ []) ∷ Upper 1 Zero (0x09 ∷ 0x01 ∷ []) ∷ Upper 1 Three (0x03 ∷ 0x05 ∷ []) ∷ [])
+    (Upper 1 Three (hex "09 01") ∷ Upper 1 Zero (hex "03 05") ∷ Upper 1 Zero (hex "09 01") ∷ Upper 1 Three (hex "03 05") ∷ [])
 
 abbrev mobile_of : Scene → Option MobileState
 mobile_of (Fixed world) = Some world.mobile
 mobile_of (Controlled w) = None
 
-waits_on_three : option_map (λ mobile. mobile.three.waiting) (mobile_of on_both_links.scene) ≡ Some ((0x09 ∷ 0x01 ∷ []) ∷ [])
+waits_on_three : option_map (λ mobile. mobile.three.waiting) (mobile_of on_both_links.scene) ≡ Some ((hex "09 01") ∷ [])
 waits_on_three = refl
 
-waits_on_zero : option_map (λ mobile. mobile.zero.waiting) (mobile_of on_both_links.scene) ≡ Some ((0x03 ∷ 0x05 ∷ []) ∷ [])
+waits_on_zero : option_map (λ mobile. mobile.zero.waiting) (mobile_of on_both_links.scene) ≡ Some ((hex "03 05") ∷ [])
 waits_on_zero = refl
 
-short_message_is_not_sent : sent_list on_both_links.scene 1 ≡ Some ((0x03 ∷ 0x05 ∷ []) ∷ [])
+short_message_is_not_sent : sent_list on_both_links.scene 1 ≡ Some ((hex "03 05") ∷ [])
 short_message_is_not_sent = refl
 
 two_not_taken : on_both_links.not_taken ≡ 2

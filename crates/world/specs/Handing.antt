@@ -4,7 +4,7 @@ use Rattle.std.specs.List.{AllByRecursion}
 use Rattle.controller_model.specs.LifeLaws.Downlink.{DownlinkIsConserved}
 use Rattle.controller_model.specs.LifeLaws.End.{SilenceIsKept}
 use Rattle.controller_model.specs.LifeLaws.Handing.{HandsInPlace}
-use Rattle.controller_model.specs.LifeLaws.Sending.{ComesInOctets}
+use Rattle.controller_model.specs.LifeLaws.Sending.{IsOctetStep}
 use Rattle.settings.specs.Parameters.{AreAllowed}
 use Rattle.world_model.specs.declared.event.Event.{Event}
 use Rattle.world_model.specs.Steps.{all_steps, controller_run}
@@ -17,7 +17,7 @@ pub record IsHandedInOrder (begin : Actors) (events : List Event) (connection : 
   -- the settings are allowed, and octets came: so what was handed is what is read from the frames
   -- that were put
   pub allowed : AreAllowed begin.controller.settings
-  pub octets : AllByRecursion ComesInOctets (all_steps begin events)
+  pub octets : AllByRecursion IsOctetStep (all_steps begin events)
   -- per SAPI, what was handed is some of what the switch sent, each message at most once and in its
   -- order; as long as the connection is open, what was handed, then what is held, is what the
   -- switch sent and wasn't rejected

@@ -1,6 +1,6 @@
 //! Laws: each contract states what holds of the definitions that it names. Their bodies are empty.
 
-ghost use Rattle.std.specs.Prelude.{List, ℕ};
+ghost use Rattle.std.specs.Prelude.{List};
 ghost use Rattle.settings.specs.Parameters.{Parameters};
 ghost use Rattle.world_model.specs.declared.event.Event.{Event};
 ghost use Rattle.world.specs.WorldState.{WorldState};

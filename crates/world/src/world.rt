@@ -1,4 +1,4 @@
-ghost use Rattle.std.specs.Prelude.{IsSome, ◌≡◌, ℕ, ◌++◌, List, false, true};
+ghost use Rattle.std.specs.Prelude.{IsSome, ◌≡◌, ◌++◌, List, false, true};
 ghost use Rattle.std.specs.Prelude.{IfOk, OnOk, OnErr, is_some, option_map};
 ghost use Rattle.dtap_codec.specs.Number.{count_of};
 ghost use Rattle.settings.specs.Parameters.{Parameters};

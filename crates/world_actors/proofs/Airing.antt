@@ -1,7 +1,7 @@
 -- What goes between a mobile and the station of its channel.
 use Rattle.world_actors.proofs.Prelude.{◌≡◌, ℕ, ◌-◌, ◌&&◌, Bool, true, false, if◌then◌else◌, List, [], ◌∷◌, ◌++◌, set, Option, Some, None}
 use Rattle.world_actors.proofs.Prelude.{Result, Ok, Err, OnErr, IsSome, refl, sym, ap, ◌∙◌, subst, option_and_then, option_map, set-get_or}
-use Rattle.world_actors.proofs.Prelude.{Place, Sapi, Memory, at_mobile, by_mobile_in, MobilesState, at_station, told_to, with_spot_of, Seat}
+use Rattle.world_actors.proofs.Prelude.{Place, Sapi, Memory, at_mobile, by_mobile_in, MobilesState, at_station, station_after_message, with_spot_of, Seat}
 use Rattle.world_actors.proofs.Prelude.{Asking, On, Moving, Gone, Tenure, by_mobile, only_if, Takes, Actors, Mobile, Station, is_reached}
 use Rattle.world_actors.proofs.Prelude.{no_station, spot_at, station_of, behind_first, first_in}
 use Rattle.std.proofs.Common.{◌+◌, ◌%◌, ◌==◌, length}
@@ -14,9 +14,9 @@ use Rattle.mobile_end.specs.Mobile.{after_acked, is_acknowledged}
 use Rattle.world_ends.specs.Mobiles.{acknowledging}
 use Rattle.world_ends.specs.Stations.{reported_on, taken_on}
 use Rattle.world_model.specs.declared.line.AirMessage.{AirMessage}
-use Rattle.world_model.specs.Mobiles.{acknowledged, after_air_ack, after_air_down, after_air_down_lost, after_report, brought_down, controlled, hearing, measurement_result, reported, reported_at, taken_from_air, unheard}
+use Rattle.world_model.specs.Mobiles.{acknowledged, after_air_ack, after_air_down, after_air_down_lost, after_report, brought_down, controlled, hearing, measurement_result, reported, reported_at, taken_from_air, ignored}
 use Rattle.world_model.specs.World.{Spot, new_spot, with_mobile, with_spot}
-use Rattle.world_model.proofs.Ticketing.{same-number}
+use Rattle.world_model.proofs.Ticketing.{same_number}
 use Rattle.world_actors.specs.Seats.{reached_by}
 use Rattle.world_actors.proofs.Sitting.{Reached, at_mobile_is, at_reached, put_back_same, same_acts, twice, when_not_reached, when_reached}
 use Rattle.world_actors.proofs.Upper.{by_itself, found_number, mobiles_of, takes_for, with_mobiles}
@@ -127,7 +127,7 @@ hear_keeps : (p : Mobile) (heard : AirMessage) → (hearing p heard).number ≡ 
 hear_keeps p heard = by_dtap (is_dtap heard.message) where
   by_dtap : (b : Bool) → (if b then record p { received = p.received ++ heard.message ∷ [] } else controlled p heard.target (rr_reading heard.message)).number ≡ p.number
   by_dtap true = refl
-  by_dtap false = same-number p heard.target (rr_reading heard.message)
+  by_dtap false = same_number p heard.target (rr_reading heard.message)
 
 pub down_done : (w : Actors) (number : ℕ) (tenure : Tenure) (heard : AirMessage) (stations : List Station) (mobiles : MobilesState) → Reached w number tenure → first_in (spot_at w tenure.at).air ≡ Some heard
     → stations ≡ at_station tenure.at.station (taken_on tenure.at.number) w.stations → mobiles ≡ at_mobile number (λ p. hearing p heard) (mobiles_of w)
@@ -141,10 +141,10 @@ down_done w number tenure heard stations mobiles r first is hears =
 pub lost_takes : (w : Actors) (number : ℕ) (tenure : Tenure) (heard : Option AirMessage) (taken : Bool) (stations : List Station) → Reached w number tenure → heard ≡ first_in (spot_at w tenure.at).air
     → taken ≡ is_some heard → stations ≡ at_station tenure.at.station (taken_on tenure.at.number) w.stations → Takes w (after_air_down_lost w number) taken (record w { stations = stations })
 lost_takes w number tenure None taken stations r first is after =
-    subst (λ (b : Bool). Takes w (after_air_down_lost w number) b (record w { stations = stations })) (sym is) (down_idle w number unheard tenure stations r (sym first) after)
+    subst (λ (b : Bool). Takes w (after_air_down_lost w number) b (record w { stations = stations })) (sym is) (down_idle w number ignored tenure stations r (sym first) after)
 lost_takes w number tenure (Some heard) taken stations r first is after =
     subst (λ (b : Bool). Takes w (after_air_down_lost w number) b (record w { stations = stations })) (sym is)
-    (done w _ _ _ (down_is w number unheard tenure heard r (sym first))
+    (done w _ _ _ (down_is w number ignored tenure heard r (sym first))
     (ap (λ (all : List Station). record w { stations = all }) after
     ∙ ap (λ (all : List Mobile). record w { mobiles = all; stations = at_station tenure.at.station (taken_on tenure.at.number) w.stations })
     (sym (put_back_same number w.mobiles r.on.mobile (found_number number w.mobiles r.on.mobile r.on.found) r.on.found))))
@@ -179,7 +179,7 @@ reported_is w number report tenure r whole =
     report_is w number report ∙ when_reached w number tenure (reports w report) r ∙ ap (λ (b : Bool). only_if b (reported_at w tenure.at report)) (eq-eqb (length report) REPORT_LENGTH whole)
     ∙ ap (λ (all : List Station). Some (record w { stations = all }))
     (twice w.stations (tenure.at.station - 1) (with_spot_of tenure.at.number (record (spot_at w tenure.at) { reports = ((spot_at w tenure.at).reports + 1) % 256 }) (station_of w tenure.at.station))
-    (told_to (measurement_result tenure.at.number (spot_at w tenure.at).reports report)))
+    (station_after_message (measurement_result tenure.at.number (spot_at w tenure.at).reports report)))
 
 pub report_done : (w : Actors) (number : ℕ) (report : List ℕ) (tenure : Tenure) (stations : List Station) → Reached w number tenure → length report ≡ REPORT_LENGTH
     → stations ≡ at_station tenure.at.station (reported_on tenure.at.number report) w.stations → Takes w (after_report w number report) true (record w { stations = stations })

@@ -1,7 +1,7 @@
 -- How mobiles come.
 use Rattle.world_actors.proofs.Prelude.{◌≡◌, ℕ, ◌&&◌, Bool, true, false, if◌then◌else◌, List, [], ◌∷◌, ◌++◌, Option, Some, None, Result, Ok}
 use Rattle.world_actors.proofs.Prelude.{Err, OnOk, OnErr, IsSome, refl, sym, ap, ◌∙◌, subst, find_at, Memory, Rsl, MobilesState, at_station}
-use Rattle.world_actors.proofs.Prelude.{told_to, channel_required, only_if, told, Takes, Actors, Mobile, Station, has_number, is_station_up}
+use Rattle.world_actors.proofs.Prelude.{station_after_message, channel_required, only_if, with_message_made, Takes, Actors, Mobile, Station, has_number, is_station_up}
 use Rattle.std.proofs.Common.{nat_lt}
 use Rattle.std.specs.Option.{is_none}
 use Rattle.mobile_end.specs.declared.fault.MobileFault.TheVariants.{BadMessage}
@@ -25,15 +25,15 @@ pub required_written : (channel number : ℕ) → channel ≡ RACH → rsl_write
 required_written channel number is = subst (λ (c : ℕ). rsl_write_fault (required_on c number) ≡ None) (sym is) (request_written number)
 
 pub ask_puts : {X : Type 0} (r : Result X Memory) (w : Actors) (station channel number : ℕ) (stations : List Station) → channel ≡ RACH
-    → OnOk r (stations ≡ at_station station (told_to (required_on channel number)) w.stations) → OnOk r (record w { stations = stations } ≡ told station (channel_required number) w)
+    → OnOk r (stations ≡ at_station station (station_after_message (required_on channel number)) w.stations) → OnOk r (record w { stations = stations } ≡ with_message_made station (channel_required number) w)
 ask_puts (Err memory) w station channel number stations is puts = tt
 ask_puts (Ok x) w station channel number stations is puts =
-    ap (λ (all : List Station). record w { stations = all }) (puts ∙ ap (λ (c : ℕ). at_station station (told_to (required_on c number)) w.stations) is)
+    ap (λ (all : List Station). record w { stations = all }) (puts ∙ ap (λ (c : ℕ). at_station station (station_after_message (required_on c number)) w.stations) is)
 
 -- ---- a new mobile
 
 abbrev comes : Actors → ℕ → ℕ → List ℕ → Bool → Actors
-comes w number station initial accepts = told station (channel_required number) (record w { mobiles = w.mobiles ++ connected w.modulus number initial accepts ∷ [] })
+comes w number station initial accepts = with_message_made station (channel_required number) (record w { mobiles = w.mobiles ++ connected w.modulus number initial accepts ∷ [] })
 
 pub connect_by : (w : Actors) (number station : ℕ) (initial : List ℕ) (accepts a b c : Bool) → is_new_by w number ≡ a → is_station_up w station ≡ b → is_initial initial ≡ c
     → after_connecting w number station initial accepts ≡ only_if (a && b && c) (comes w number station initial accepts)
@@ -58,10 +58,10 @@ pub connect_unlawful : (w : Actors) (number station : ℕ) (initial : List ℕ) 
 connect_unlawful w number station initial accepts new up lawful = idle w _ (connect_by w number station initial accepts true true false new up lawful)
 
 pub connect_done : (w : Actors) (number station : ℕ) (initial : List ℕ) (accepts : Bool) (mobiles : MobilesState) (after : Actors) → is_new_by w number ≡ true → is_station_up w station ≡ true → is_initial initial ≡ true
-    → mobiles ≡ record (mobiles_of w) { mobiles = w.mobiles ++ connected w.modulus number initial accepts ∷ [] } → after ≡ told station (channel_required number) (with_mobiles w mobiles)
+    → mobiles ≡ record (mobiles_of w) { mobiles = w.mobiles ++ connected w.modulus number initial accepts ∷ [] } → after ≡ with_message_made station (channel_required number) (with_mobiles w mobiles)
     → Takes w (after_connecting w number station initial accepts) true after
 connect_done w number station initial accepts mobiles after new up lawful comes_so asks =
-    done w after _ _ (connect_by w number station initial accepts true true true new up lawful) (asks ∙ ap (λ (s : MobilesState). told station (channel_required number) (with_mobiles w s)) comes_so)
+    done w after _ _ (connect_by w number station initial accepts true true true new up lawful) (asks ∙ ap (λ (s : MobilesState). with_message_made station (channel_required number) (with_mobiles w s)) comes_so)
 
 pub connect_wants : {X : Type 0} (r : Result X Memory) (w : Actors) (number station : ℕ) (initial : List ℕ) (accepts : Bool) → is_new_by w number ≡ true → is_station_up w station ≡ true → is_initial initial ≡ true
     → OnErr r (IsSome (after_connecting w number station initial accepts))

@@ -1,7 +1,7 @@
 -- How mobiles change their channels.
 use Rattle.world_actors.proofs.Prelude.{◌≡◌, ℕ, ◌&&◌, Bool, true, false, if◌then◌else◌, List, Option, Some, None, Result, OnErr, IsSome}
 use Rattle.world_actors.proofs.Prelude.{refl, sym, ap, ◌∙◌, subst, option_and_then, find_at, Memory, at_mobile, mobile_in, MobilesState}
-use Rattle.world_actors.proofs.Prelude.{at_station, told_to, Seat, Asking, On, Moving, Gone, Tenure, by_mobile, only_if, told, Takes}
+use Rattle.world_actors.proofs.Prelude.{at_station, station_after_message, Seat, Asking, On, Moving, Gone, Tenure, by_mobile, only_if, with_message_made, Takes}
 use Rattle.world_actors.proofs.Prelude.{Actors, Mobile, Station, has_number, is_reached, mobile_of}
 use Rattle.std.proofs.Common.{IfSome}
 use Rattle.conn_messages.specs.declared.channel.Change.{Change}
@@ -9,7 +9,7 @@ use Rattle.world_ends.specs.Mobiles.{arriving, is_moving, leaving}
 use Rattle.world_ends.specs.Stations.{established_on, left_on}
 use Rattle.world_model.specs.Mobiles.{after_arriving, after_move, after_return, after_touch, arrived, complete, failure, handover_detection, is_to_handover, left, moved, returned, seated, touched}
 use Rattle.world_actors.specs.declared.departure.Departure.{Departure}
-use Rattle.world_actors.specs.Seats.{moving_from, of_seat, told_from}
+use Rattle.world_actors.specs.Seats.{moving_from, of_seat, commanded_from}
 use Rattle.world_actors.proofs.Airing.{done, idle, wants}
 use Rattle.world_actors.proofs.Sitting.{at_mobile_is, same_acts}
 use Rattle.world_actors.proofs.Upper.{mobiles_of, with_mobiles}
@@ -42,28 +42,28 @@ when_not_read reads w number act none = by_found (mobile_in number w.mobiles) (f
 abbrev leaves : Actors → Mobile → Departure → Option Actors
 leaves w p d = Some (left w p d.from d.command)
 
-move_is : (w : Actors) (number : ℕ) → after_move w number ≡ by_mobile w number (λ p. option_and_then (leaves w p) (told_from w p.seat))
-move_is w number = same_acts w number (moved w) (λ p s. option_and_then (leaves w p) (told_from w s)) by_seat where
+move_is : (w : Actors) (number : ℕ) → after_move w number ≡ by_mobile w number (λ p. option_and_then (leaves w p) (commanded_from w p.seat))
+move_is w number = same_acts w number (moved w) (λ p s. option_and_then (leaves w p) (commanded_from w s)) by_seat where
   by_reach : (p : Mobile) (b : Bool) (d : Departure) → only_if b (left w p d.from d.command) ≡ option_and_then (leaves w p) (if b then Some d else None)
   by_reach p true d = refl
   by_reach p false d = refl
 
-  by_seat : (p : Mobile) (s : Seat) → moved w p s ≡ option_and_then (leaves w p) (told_from w s)
+  by_seat : (p : Mobile) (s : Seat) → moved w p s ≡ option_and_then (leaves w p) (commanded_from w s)
   by_seat p (On t (Some c)) = by_reach p (is_reached w t) (record { from = t; command = c })
   by_seat p (On t None) = refl
   by_seat p Asking = refl
   by_seat p (Moving from command) = refl
   by_seat p Gone = refl
 
-pub leave_idle : (w : Actors) (number : ℕ) → of_seat (told_from w) w number ≡ None → Takes w (after_move w number) false w
-leave_idle w number none = idle w _ (move_is w number ∙ when_not_read (told_from w) w number (leaves w) none)
+pub leave_idle : (w : Actors) (number : ℕ) → of_seat (commanded_from w) w number ≡ None → Takes w (after_move w number) false w
+leave_idle w number none = idle w _ (move_is w number ∙ when_not_read (commanded_from w) w number (leaves w) none)
 
-pub leave_done : (w : Actors) (number : ℕ) (d : Departure) (stations : List Station) (mobiles : MobilesState) → of_seat (told_from w) w number ≡ Some d
+pub leave_done : (w : Actors) (number : ℕ) (d : Departure) (stations : List Station) (mobiles : MobilesState) → of_seat (commanded_from w) w number ≡ Some d
     → stations ≡ at_station d.from.at.station (left_on d.from.at.number) w.stations → mobiles ≡ at_mobile number (leaving d.from d.command) (mobiles_of w)
     → Takes w (after_move w number) true (record (with_mobiles w mobiles) { stations = stations })
-leave_done w number d stations mobiles told is leaves_so =
-    let r : Reads (told_from w) w number d = read_found (told_from w) w number d told in
-    done w _ _ _ (move_is w number ∙ when_read (told_from w) w number d (leaves w) r)
+leave_done w number d stations mobiles with_message_made is leaves_so =
+    let r : Reads (commanded_from w) w number d = read_found (commanded_from w) w number d with_message_made in
+    done w _ _ _ (move_is w number ∙ when_read (commanded_from w) w number d (leaves w) r)
     (ap (λ (all : List Station). record (with_mobiles w mobiles) { stations = all }) is
     ∙ ap (λ (s : MobilesState). record (with_mobiles w s) { stations = at_station d.from.at.station (left_on d.from.at.number) w.stations })
     (leaves_so ∙ at_mobile_is w number r.mobile (leaving d.from d.command) r.found refl))
@@ -89,7 +89,7 @@ is_between w number d is =
 -- ---- it is heard
 
 abbrev touches : Actors → Mobile → Departure → Option Actors
-touches w p d = only_if (is_to_handover d.command.change && is_reached w d.command.target) (told d.command.target.at.station (handover_detection d.command.target.at.number) w)
+touches w p d = only_if (is_to_handover d.command.change && is_reached w d.command.target) (with_message_made d.command.target.at.station (handover_detection d.command.target.at.number) w)
 
 touch_is : (w : Actors) (number : ℕ) → after_touch w number ≡ by_mobile w number (λ p. by_departure (touches w) p p.seat)
 touch_is w number = same_acts w number (λ p. touched w) (by_departure (touches w)) by_seat where
@@ -103,9 +103,9 @@ pub touch_unmoved : (w : Actors) (number : ℕ) → of_seat moving_from w number
 touch_unmoved w number none = moving_idle w number (touches w) _ (touch_is w number) none
 
 touch_by : (w : Actors) (number : ℕ) (d : Departure) (a b : Bool) → of_seat moving_from w number ≡ Some d → is_to_handover d.command.change ≡ a → is_reached w d.command.target ≡ b
-    → after_touch w number ≡ only_if (a && b) (told d.command.target.at.station (handover_detection d.command.target.at.number) w)
+    → after_touch w number ≡ only_if (a && b) (with_message_made d.command.target.at.station (handover_detection d.command.target.at.number) w)
 touch_by w number d a b is handover reached =
-    let next : Actors = told d.command.target.at.station (handover_detection d.command.target.at.number) w in
+    let next : Actors = with_message_made d.command.target.at.station (handover_detection d.command.target.at.number) w in
     touch_is w number ∙ when_read moving_from w number d (touches w) (read_found moving_from w number d is)
     ∙ ap (λ (x : Bool). only_if (x && is_reached w d.command.target) next) handover ∙ ap (λ (x : Bool). only_if (a && x) next) reached
 
@@ -116,7 +116,7 @@ pub touch_unreached : (w : Actors) (number : ℕ) (d : Departure) → of_seat mo
 touch_unreached w number d is handover reached = idle w _ (touch_by w number d true false is handover reached)
 
 pub touch_done : (w : Actors) (number : ℕ) (d : Departure) (stations : List Station) → of_seat moving_from w number ≡ Some d → is_to_handover d.command.change ≡ true → is_reached w d.command.target ≡ true
-    → stations ≡ at_station d.command.target.at.station (told_to (handover_detection d.command.target.at.number)) w.stations → Takes w (after_touch w number) true (record w { stations = stations })
+    → stations ≡ at_station d.command.target.at.station (station_after_message (handover_detection d.command.target.at.number)) w.stations → Takes w (after_touch w number) true (record w { stations = stations })
 touch_done w number d stations is handover reached after = done w _ _ _ (touch_by w number d true true is handover reached) (ap (λ (all : List Station). record w { stations = all }) after)
 
 pub touch_wants : {X : Type 0} (result : Result X Memory) (w : Actors) (number : ℕ) (d : Departure) → of_seat moving_from w number ≡ Some d → is_to_handover d.command.change ≡ true → is_reached w d.command.target ≡ true

@@ -1,9 +1,9 @@
 -- A station takes a line of its outbox.
 use Rattle.world_actors.proofs.Prelude.{◌≡◌, ℕ, ◌-◌, Bool, true, false, if◌then◌else◌, List, [], ◌∷◌, ◌++◌, set, Option, Some, None, Result}
 use Rattle.world_actors.proofs.Prelude.{Ok, Err, OnOk, OnErr, IsSome, refl, sym, ap, ◌∙◌, set-get_or, find_at, Place, place_at, Memory, Rsl}
-use Rattle.world_actors.proofs.Prelude.{at_mobile, mobile_in, MobilesState, at_station, told_to, with_spot_of, Seat, Asking, On, Moving}
+use Rattle.world_actors.proofs.Prelude.{at_mobile, mobile_in, MobilesState, at_station, station_after_message, with_spot_of, Seat, Asking, On, Moving}
 use Rattle.world_actors.proofs.Prelude.{Gone, Tenure, behind_first, first_in, Takes, Actors, Mobile, Station, base_of, has_number}
-use Rattle.world_actors.proofs.Prelude.{is_station_up, mobile_of, no_station, outbox_of, spot_at, station_of, tenure_at, some-same}
+use Rattle.world_actors.proofs.Prelude.{is_station_up, mobile_of, no_station, outbox_of, spot_at, station_of, tenure_at, some_same}
 use Rattle.std.proofs.Common.{not}
 use Rattle.dtap_codec.specs.RrReading.{rr_reading}
 use Rattle.link_model.specs.declared.fault.LinkFault.{LinkFault}
@@ -64,7 +64,7 @@ aired_is w at message = by_active (is_active_at w at) where
 pub answered_is : (w : Actors) (answer : Bool) (at : Place) → answered answer at w ≡ with_stations w (at_station at.station (answered_on answer at.number) w.stations)
 answered_is w answer at =
     ap (with_stations w)
-    (twice w.stations (at.station - 1) (with_spot_of at.number (record (spot_at w at) { sapi_three_up = answer }) (station_of w at.station)) (told_to (link_answer answer at.number)))
+    (twice w.stations (at.station - 1) (with_spot_of at.number (record (spot_at w at) { sapi_three_up = answer }) (station_of w at.station)) (station_after_message (link_answer answer at.number)))
 
 -- ---- a mobile that asked for a channel is on it
 
@@ -138,7 +138,7 @@ first_is w station entry first = by_lines (outbox_of w station) refl first where
       → took_first station lines w ≡ took station entry.target (rsl_in entry.out.frame) (with_outbox station (behind_first (outbox_of w station)) w)
   by_lines [] are h = absurd cc
   by_lines (e ∷ others) are h =
-      ap (λ (x : OutboxEntry). took station x.target (rsl_in x.out.frame) (left_by w station others)) (some-same h)
+      ap (λ (x : OutboxEntry). took station x.target (rsl_in x.out.frame) (left_by w station others)) (some_same h)
       ∙ ap (λ (lines : List OutboxEntry). took station entry.target (rsl_in entry.out.frame) (left_by w station (behind_first lines))) (sym are)
 
 when_up : (w : Actors) (station : ℕ) → is_station_up w station ≡ true → after_base_takes w station ≡ took_first station (outbox_of w station) w

@@ -11,9 +11,9 @@ pub use Rattle.std.proofs.lemmas.List.Folds.{find_at}
 pub use Rattle.std.specs.Option.{option_and_then, option_map}
 pub use Rattle.world_ends.specs.Mobiles.{at_mobile, by_mobile as by_mobile_in, mobile_in}
 pub use Rattle.world_ends.specs.MobilesState.{MobilesState}
-pub use Rattle.world_ends.specs.Stations.{at_station, told_to, with_spot_of}
+pub use Rattle.world_ends.specs.Stations.{at_station, station_after_message, with_spot_of}
 pub use Rattle.world_model.specs.Lists.{behind_first, first_in}
-pub use Rattle.world_model.specs.Mobiles.{by_mobile, channel_required, only_if, told}
+pub use Rattle.world_model.specs.Mobiles.{by_mobile, channel_required, only_if, with_message_made}
 pub use Rattle.world_model.specs.Takes.{Takes}
 pub use Rattle.world_model.specs.World.{Actors, Mobile, Station, base_of, has_number, is_reached, is_station_up, mobile_of, no_station}
 pub use Rattle.world_model.specs.World.{outbox_of, put_back, spot_at, station_of, tenure_at}
@@ -21,5 +21,5 @@ pub use Rattle.world_model.specs.declared.seat.Seat.{Seat}
 pub use Rattle.world_model.specs.declared.seat.Seat.TheVariants.{Asking, Gone, Moving, On}
 pub use Rattle.world_model.specs.declared.seat.Tenure.{Tenure}
 
-pub some-same : {A : Type 0} {x y : A} → Some x ≡ Some y → x ≡ y
-some-same e = cc
+pub some_same : {A : Type 0} {x y : A} → Some x ≡ Some y → x ≡ y
+some_same e = cc

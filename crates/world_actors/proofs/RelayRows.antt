@@ -2,6 +2,7 @@
 -- up, that of station 2 is down.
 use Rattle.world_actors.proofs.Prelude.{◌≡◌, ℕ, true, false, List, [], ◌∷◌, Some, None, refl, place_at, Tenure, channel_required}
 use Rattle.std.proofs.Common.{map}
+use Rattle.octets.proofs.Hex.{hex}
 use Rattle.conn_messages.specs.declared.out.Out.{Out}
 use Rattle.controller_model.specs.Controller.{new_controller}
 use Rattle.controller_model.proofs.Lives.{usual_settings, eager_settings}
@@ -61,10 +62,10 @@ target = record { at = place_at 4 0x0b; number = 7 }
 
 -- DATA REQUEST with an ASSIGNMENT COMMAND, and with a message of the switch
 abbrev command : Out
-command = frame_to 1 (0x03 ∷ 0x01 ∷ 0x01 ∷ 0x41 ∷ 0x02 ∷ 0x00 ∷ 0x0b ∷ 0x00 ∷ 0x06 ∷ 0x06 ∷ 0x2e ∷ 0x0a ∷ 0x20 ∷ 0x14 ∷ 0x00 ∷ [])
+command = frame_to 1 (hex "03 01 01 41 02 00 0b 00 06 06 2e 0a 20 14 00")
 
 abbrev text : Out
-text = frame_to 1 (0x03 ∷ 0x01 ∷ 0x01 ∷ 0x41 ∷ 0x02 ∷ 0x00 ∷ 0x0b ∷ 0x00 ∷ 0x02 ∷ 0x83 ∷ 0x02 ∷ [])
+text = frame_to 1 (hex "03 01 01 41 02 00 0b 00 02 83 02")
 
 command_leads : joined_in (Some target) (links_with [] []) command ≡ links_with [] (record { out = command; target = Some target } ∷ [])
 unfolding on_literals
@@ -112,7 +113,7 @@ bodies_on link r = map (λ entry. entry.out.frame.body) (outbox_in r.links link)
 abbrev asked : ℕ → RelayState
 asked station = handling None (station_item station (channel_required 7)) (relay_with (end_of 2 ∷ []) (links_with [] []))
 
-activation_waits : bodies_on 1 (asked 1) ≡ (0x08 ∷ 0x21 ∷ 0x01 ∷ 0x41 ∷ 0x03 ∷ 0x00 ∷ 0x06 ∷ 0x04 ∷ 0x00 ∷ 0x03 ∷ 0x01 ∷ 0x00 ∷ []) ∷ []
+activation_waits : bodies_on 1 (asked 1) ≡ (hex "08 21 01 41 03 00 06 04 00 03 01 00") ∷ []
 unfolding on_literals
 activation_waits = refl
 
@@ -130,18 +131,18 @@ inbox_stays = refl
 
 -- the HANDOVER COMMAND that an ACTIVATION ACK brings leads where it is told
 abbrev offered : World
-offered = after_all opened_eager (Report 1 (0x14 ∷ 0x14 ∷ 0x00 ∷ 0x57 ∷ 0x02 ∷ 0x40 ∷ 0x00 ∷ 0x00 ∷ 0x00 ∷ 0x00 ∷ 0x00 ∷ 0x00 ∷ 0x00 ∷ 0x00 ∷ 0x00 ∷ 0x00 ∷ []) ∷ BasePush 1 ∷ Handle ∷ [])
+offered = after_all opened_eager (Report 1 (hex "14 14 00 57 02 40 00 00 00 00 00 00 00 00 00 00") ∷ BasePush 1 ∷ Handle ∷ [])
 
 handover_leads : map (λ entry. entry.target) (outbox_in (handling (Some target) (station_item 2 (ChannelActivationAck (record { channel = 0x41; frame = Some (record { 0 = 0 }) }))) (record { inbox = []; controller = (offered).actors.controller; links = (offered).actors.links })).links 1) ≡ Some target ∷ []
 unfolding on_literals
 handover_leads = refl
 
 -- time passes: the channel isn't activated within 3 s
-before_3_seconds : bodies_on 1 (ticking 2999 (asked 1)) ≡ (0x08 ∷ 0x21 ∷ 0x01 ∷ 0x41 ∷ 0x03 ∷ 0x00 ∷ 0x06 ∷ 0x04 ∷ 0x00 ∷ 0x03 ∷ 0x01 ∷ 0x00 ∷ []) ∷ []
+before_3_seconds : bodies_on 1 (ticking 2999 (asked 1)) ≡ (hex "08 21 01 41 03 00 06 04 00 03 01 00") ∷ []
 unfolding on_literals
 before_3_seconds = refl
 
-after_3_seconds : bodies_on 1 (ticking 3000 (asked 1)) ≡ (0x08 ∷ 0x21 ∷ 0x01 ∷ 0x41 ∷ 0x03 ∷ 0x00 ∷ 0x06 ∷ 0x04 ∷ 0x00 ∷ 0x03 ∷ 0x01 ∷ 0x00 ∷ []) ∷ (0x08 ∷ 0x2e ∷ 0x01 ∷ 0x41 ∷ []) ∷ []
+after_3_seconds : bodies_on 1 (ticking 3000 (asked 1)) ≡ (hex "08 21 01 41 03 00 06 04 00 03 01 00") ∷ (hex "08 2e 01 41") ∷ []
 unfolding on_literals
 after_3_seconds = refl
 

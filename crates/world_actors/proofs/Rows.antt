@@ -1,14 +1,15 @@
 -- Where mobiles act, and what stations can take, in worlds of literal events. Mobile 1 is on
 -- channel 41 of station 1, in its first tenure.
-use Rattle.world_actors.proofs.Prelude.{◌≡◌, ℕ, Bool, true, false, List, [], ◌∷◌, Option, Some, None, refl, place_at, On, Moving, Gone}
+use Rattle.world_actors.proofs.Prelude.{◌≡◌, ℕ, true, false, [], ◌∷◌, Some, None, refl, place_at, On, Moving, Gone}
 use Rattle.world_actors.proofs.Prelude.{Tenure, Actors}
+use Rattle.octets.proofs.Hex.{hex}
 use Rattle.conn_messages.specs.declared.channel.Change.TheVariants.{Handover}
 use Rattle.world_model.specs.declared.event.Event.TheVariants.{BaseDown, Connect}
 use Rattle.world_model.specs.declared.seat.Command.{Command}
-use Rattle.world_model.specs.World.{World, new_spot, with_spot}
+use Rattle.world_model.specs.World.{new_spot, with_spot}
 use Rattle.world_model.proofs.Rows.{opened}
 use Rattle.world_model.proofs.Worlds.{on_literals, after_all}
-use Rattle.world_actors.specs.Seats.{is_asking, is_asking_by, is_new_by, moving_from, opens_by, reached_by, reached_from, told_from}
+use Rattle.world_actors.specs.Seats.{is_asking, is_asking_by, is_new_by, moving_from, opens_by, reached_by, reached_from, commanded_from}
 use Rattle.world_actors.specs.Taking.{can_take, is_spent}
 
 abbrev first : Tenure
@@ -38,11 +39,11 @@ broken = refl
 
 -- ---- where it may leave, or left
 
-told : told_from (opened).actors (On first (Some command)) ≡ Some (record { from = first; command = command })
+told : commanded_from (opened).actors (On first (Some command)) ≡ Some (record { from = first; command = command })
 unfolding on_literals
 told = refl
 
-told_nothing : told_from (opened).actors (On first None) ≡ None
+told_nothing : commanded_from (opened).actors (On first None) ≡ None
 unfolding on_literals
 told_nothing = refl
 
@@ -66,7 +67,7 @@ unknown : is_new_by (opened).actors 2 ≡ true
 unfolding on_literals
 unknown = refl
 
-asks : is_asking_by (after_all opened (Connect 2 1 (0x05 ∷ 0x24 ∷ 0x71 ∷ []) true ∷ [])).actors 2 ≡ true
+asks : is_asking_by (after_all opened (Connect 2 1 (hex "05 24 71") true ∷ [])).actors 2 ≡ true
 unfolding on_literals
 asks = refl
 
@@ -77,7 +78,7 @@ is_assigned = refl
 gone : is_asking Gone ≡ false
 gone = refl
 
-opens : opens_by (after_all opened (Connect 2 1 (0x05 ∷ 0x24 ∷ 0x71 ∷ []) true ∷ [])).actors 2 ≡ true
+opens : opens_by (after_all opened (Connect 2 1 (hex "05 24 71") true ∷ [])).actors 2 ≡ true
 unfolding on_literals
 opens = refl
 

@@ -2,7 +2,7 @@
 use Rattle.world_actors.proofs.Prelude.{◌≡◌, ℕ, Bool, true, false, if◌then◌else◌, List, [], ◌∷◌, set, Option, Some, None, refl, sym, ap}
 use Rattle.world_actors.proofs.Prelude.{◌∙◌, subst, option_and_then, option_map, find_at, at_mobile, mobile_in, Seat, Asking, On, Moving}
 use Rattle.world_actors.proofs.Prelude.{Gone, Tenure, by_mobile, Actors, Mobile, Station, has_number, is_reached, mobile_of, no_station}
-use Rattle.world_actors.proofs.Prelude.{put_back, some-same}
+use Rattle.world_actors.proofs.Prelude.{put_back, some_same}
 use Rattle.std.proofs.Common.{zero, suc, cond, slice_index_or, find, inl, inr}
 use Rattle.std.specs.Option.{is_some}
 use Rattle.std.proofs.lemmas.Bool.{cases_Bool}
@@ -22,7 +22,7 @@ pub seat_found : (w : Actors) (number : ℕ) (seat : Seat) → option_map (λ (p
 seat_found w number seat is = by_found (mobile_in number w.mobiles) (find_at (has_number number) w.mobiles) is where
   by_found : (o : Option Mobile) → mobile_of w number ≡ o → option_map (λ (p : Mobile). p.seat) o ≡ Some seat → Sits w number seat
   by_found None are h = absurd cc
-  by_found (Some p) are h = record { mobile = p; found = are; sits = some-same h }
+  by_found (Some p) are h = record { mobile = p; found = are; sits = some_same h }
 
 -- what a mobile does by its seat
 pub when_sits : (w : Actors) (number : ℕ) (seat : Seat) (act : Mobile → Seat → Option Actors) (s : Sits w number seat) → by_mobile w number (λ p. act p p.seat) ≡ act s.mobile seat
@@ -54,7 +54,7 @@ pub reaches : (w : Actors) (number : ℕ) (tenure : Tenure) → reached_by w num
 reaches w number tenure is = by_found (mobile_in number w.mobiles) (find_at (has_number number) w.mobiles) is where
   by_reach : (p : Mobile) (t : Tenure) (c : Option Command) (b : Bool) → mobile_of w number ≡ Some p → p.seat ≡ On t c → is_reached w t ≡ b → (if b then Some t else None) ≡ Some tenure → Reached w number tenure
   by_reach p t c true are sits reached h =
-      let same : t ≡ tenure = some-same h in
+      let same : t ≡ tenure = some_same h in
       record {
         command = c;
         on = record { mobile = p; found = are; sits = sits ∙ ap (λ (x : Tenure). On x c) same };

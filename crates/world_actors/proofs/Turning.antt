@@ -1,7 +1,7 @@
 -- What the controller puts joins the outboxes, and nothing else of the world changes.
 use Rattle.world_actors.proofs.Prelude.{◌≡◌, ℕ, Bool, true, false, if◌then◌else◌, List, [], ◌∷◌, ◌++◌, Option, Some, None, Result, Ok, Err}
 use Rattle.world_actors.proofs.Prelude.{OnOk, OnErr, IsSome, refl, sym, ap, ◌∙◌, subst, Memory, Tenure, behind_first, first_in, Takes}
-use Rattle.world_actors.proofs.Prelude.{Actors, outbox_of, some-same}
+use Rattle.world_actors.proofs.Prelude.{Actors, outbox_of, some_same}
 use Rattle.std.proofs.Common.{fold}
 use Rattle.conn_messages.specs.declared.out.Out.{Out}
 use Rattle.controller_model.specs.Controller.{Turn}
@@ -54,7 +54,7 @@ pub handle_is : (w : Actors) (item : Item) → first_in w.inbox ≡ Some item �
 handle_is w item first = by_items w.inbox refl first where
   by_items : (items : List Item) → w.inbox ≡ items → first_in items ≡ Some item → handled items w ≡ Some (after_item item (record w { inbox = behind_first items }))
   by_items [] are h = absurd cc
-  by_items (i ∷ others) are h = ap (λ (j : Item). handled (j ∷ others) w) (some-same h)
+  by_items (i ∷ others) are h = ap (λ (j : Item). handled (j ∷ others) w) (some_same h)
 
 pub handle_not : (w : Actors) → first_in w.inbox ≡ None → after_handle w ≡ None
 handle_not w none = by_items w.inbox none where

@@ -2,7 +2,7 @@
 use Rattle.world_actors.proofs.Prelude.{◌≡◌, ℕ, Bool, true, false, ◌&&◌, if◌then◌else◌, List, [], ◌∷◌, set, Option, Some, None, Result, Ok}
 use Rattle.world_actors.proofs.Prelude.{Err, OnErr, IsSome, refl, sym, ap, ◌∙◌, subst, option_and_then, option_map, find_at, Sapi, Memory}
 use Rattle.world_actors.proofs.Prelude.{by_mobile_in, MobilesState, by_mobile, only_if, Takes, Actors, Mobile, has_number, mobile_of}
-use Rattle.world_actors.proofs.Prelude.{put_back, some-same}
+use Rattle.world_actors.proofs.Prelude.{put_back, some_same}
 use Rattle.std.proofs.Common.{zero, suc, ◌+◌, cond, not, find, IfOk, inl, inr, arith}
 use Rattle.std.specs.Option.{is_none}
 use Rattle.std.proofs.lemmas.Bool.{cases_Bool, eqb-true}
@@ -13,9 +13,9 @@ use Rattle.world_model.specs.World.{with_mobile}
 
 -- ---- the place of a number
 
-length-place : (number : ℕ) (p : Mobile) (ps : List Mobile) (b : Bool) → has_number number p ≡ b → place_in number (p ∷ ps) ≡ cond b zero (suc (place_in number ps))
-length-place number p ps true is = ap (λ (b : Bool). cond (not b) (1 + place_in number ps) zero) is
-length-place number p ps false is = ap (λ (b : Bool). cond (not b) (1 + place_in number ps) zero) is ∙ one (place_in number ps) where
+length_place : (number : ℕ) (p : Mobile) (ps : List Mobile) (b : Bool) → has_number number p ≡ b → place_in number (p ∷ ps) ≡ cond b zero (suc (place_in number ps))
+length_place number p ps true is = ap (λ (b : Bool). cond (not b) (1 + place_in number ps) zero) is
+length_place number p ps false is = ap (λ (b : Bool). cond (not b) (1 + place_in number ps) zero) is ∙ one (place_in number ps) where
   one : (n : ℕ) → 1 + n ≡ suc n
   one n = omega arith
 
@@ -24,14 +24,14 @@ back_at [] q = refl
 back_at (p ∷ ps) q =
     elim (cases_Bool (has_number q.number p)) [
       | inl here ↦
-          ap (λ (b : Bool). if b then q ∷ ps else p ∷ put_back q ps) here ∙ sym (ap (λ (k : ℕ). set (p ∷ ps) k q) (length-place q.number p ps true here))
+          ap (λ (b : Bool). if b then q ∷ ps else p ∷ put_back q ps) here ∙ sym (ap (λ (k : ℕ). set (p ∷ ps) k q) (length_place q.number p ps true here))
       | inr other ↦
           ap (λ (b : Bool). if b then q ∷ ps else p ∷ put_back q ps) other ∙ ap (λ (xs : List Mobile). p ∷ xs) (back_at ps q)
-          ∙ sym (ap (λ (k : ℕ). set (p ∷ ps) k q) (length-place q.number p ps false other))
+          ∙ sym (ap (λ (k : ℕ). set (p ∷ ps) k q) (length_place q.number p ps false other))
     ]
 
 pub first_found : (number : ℕ) (x p : Mobile) (xs : List Mobile) → has_number number x ≡ true → find (has_number number) (x ∷ xs) ≡ Some p → x ≡ p
-first_found number x p xs here is = some-same (sym (ap (λ (b : Bool). cond b (Some x) (find (has_number number) xs)) here) ∙ is)
+first_found number x p xs here is = some_same (sym (ap (λ (b : Bool). cond b (Some x) (find (has_number number) xs)) here) ∙ is)
 
 pub found_number : (number : ℕ) (mobiles : List Mobile) (p : Mobile) → find (has_number number) mobiles ≡ Some p → p.number ≡ number
 found_number number [] p is = absurd cc

@@ -1,5 +1,5 @@
 -- What the calls of the controller with its queues make of it.
-use Rattle.std.specs.Prelude.{ℕ, List, [], ◌∷◌, ◌++◌, Option, None}
+use Rattle.std.specs.Prelude.{ℕ, [], ◌∷◌, ◌++◌, Option, None}
 use Rattle.controller_model.specs.Controller.{Turn}
 use Rattle.controller_model.specs.Life.{take, tick}
 use Rattle.ruled_relay.specs.declared.item.Item.{Item}

@@ -19,12 +19,12 @@ reached_by w number = option_and_then (λ p. reached_from w p.seat) (mobile_in n
 -- ---- where a mobile left, or may leave, and what it was told
 
 -- on a channel where it is reached
-abbrev pub told_from : Actors → Seat → Option Departure
-told_from w (On tenure (Some command)) =
+abbrev pub commanded_from : Actors → Seat → Option Departure
+commanded_from w (On tenure (Some command)) =
     if is_reached w tenure
     then Some (record { from = tenure; command = command })
     else None
-told_from w seat = None
+commanded_from w seat = None
 
 -- once it left
 abbrev pub moving_from : Seat → Option Departure

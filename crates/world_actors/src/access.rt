@@ -1,6 +1,5 @@
 ghost use Rattle.std.specs.Prelude.{◌≡◌, ◌&&◌, IfOk, IsSome, OnErr, OnOk};
-ghost use Rattle.mobile_end.specs.Mobile.{refusal_of_connect};
-ghost use Rattle.world_model.specs.Mobiles.{after_connecting, channel_required, told};
+ghost use Rattle.world_model.specs.Mobiles.{after_connecting, channel_required, with_message_made};
 ghost use Rattle.world_model.specs.Takes.{Takes};
 ghost use Rattle.world_actors.specs.Seats.{is_new_by};
 
@@ -48,7 +47,7 @@ impl Network {
 
     // The station reads the request for a channel, which names the mobile.
     fn ask(&mut self, mobile: u8, station: u16) -> Result<(), Memory>
-        ensures { OnOk result (self.new ≡ told station (channel_required mobile) self.old) }
+        ensures { OnOk result (self.new ≡ with_message_made station (channel_required mobile) self.old) }
     {
         let required = ChannelRequired {
             channel: ChanNo::random_access(),

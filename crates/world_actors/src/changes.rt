@@ -2,7 +2,7 @@ ghost use Rattle.std.specs.Prelude.{◌≡◌, IfOk, IsSome, OnErr};
 ghost use Rattle.world_model.specs.Mobiles.{after_arriving, after_move, after_return};
 ghost use Rattle.world_model.specs.Mobiles.{after_touch, is_to_handover};
 ghost use Rattle.world_model.specs.Takes.{Takes};
-ghost use Rattle.world_actors.specs.Seats.{moving_from, of_seat, told_from};
+ghost use Rattle.world_actors.specs.Seats.{moving_from, of_seat, commanded_from};
 
 use crate::Network;
 use crate::departure::Departure;
@@ -15,7 +15,7 @@ use world_model::Seat;
 impl Network {
     // What a mobile was told on a channel where it is reached.
     fn told(&self, mobile: u8) -> Option<Departure>
-        ensures { result ≡ of_seat (told_from self.now) self.now mobile }
+        ensures { result ≡ of_seat (commanded_from self.now) self.now mobile }
     {
         match self.mobiles.get(mobile) {
             Some(mobile) => self.told_from(mobile.seat()),
@@ -24,7 +24,7 @@ impl Network {
     }
 
     fn told_from(&self, seat: Seat) -> Option<Departure>
-        ensures { result ≡ told_from self.now seat }
+        ensures { result ≡ commanded_from self.now seat }
     {
         match seat {
             Seat::On {

@@ -19,7 +19,7 @@ use Rattle.world_model.specs.declared.seat.Seat.TheVariants.{Asking, On, Moving,
 use Rattle.world_model.specs.declared.seat.Tenure.{Tenure}
 use Rattle.world_model.specs.Mobiles.{complete, failure}
 use Rattle.world_model.specs.Sized.{HasSized}
-use Rattle.world_model.proofs.Sizing.{arrival-sized, queue-sized, sendable-sized}
+use Rattle.world_model.proofs.Sizing.{arrival_sized, queue_sized, sendable_sized}
 use Rattle.world_ends.specs.Mobiles.{is_moving}
 use Rattle.world_ends.specs.Placed.{IsFit, IsPlaced}
 
@@ -33,15 +33,15 @@ place-queue mobile sapi message = by_flow (is_flow_message message) where
   by_flow true = refl
   by_flow false = place-with_link mobile sapi (waits (link_of mobile sapi) message)
 
-none-by : (o : Option MobileFault) → is_some o ≡ false → is_none o ≡ true
-none-by None is = refl
-none-by (Some fault) is = absurd cc
+none_by : (o : Option MobileFault) → is_some o ≡ false → is_none o ≡ true
+none_by None is = refl
+none_by (Some fault) is = absurd cc
 
 pub sent_fit : (r : Result (Unit {0}) MobileFault) (seat : Seat) (old new : MobileState) (sapi : Sapi) (message : List ℕ) → IsFit seat old → is_some (refusal_of_send old sapi message) ≡ false
     → OnOk r (new ≡ after_queue old sapi message) → OnErr r (new ≡ old) → IsFit seat new
 sent_fit (Ok done) seat old new sapi message fit may ok err = subst (IsFit seat) (sym ok) (record {
   placed = subst (IsPlaced seat) (sym (place-queue old sapi message)) fit.placed;
-  sized = queue-sized old sapi message (sendable-sized old sapi message (none-by (refusal_of_send old sapi message) may)) fit.sized;
+  sized = queue_sized old sapi message (sendable_sized old sapi message (none_by (refusal_of_send old sapi message) may)) fit.sized;
 })
 sent_fit (Err fault) seat old new sapi message fit may ok err = subst (IsFit seat) (sym err) fit
 
@@ -53,15 +53,15 @@ moving_placed Gone place is placed = absurd cc
 
 pub arrived_fit : (seat : Seat) (old new : MobileState) (tenure : Tenure) (control : List ℕ) → IsL3 (Some control) → HasSized old → seat ≡ On tenure None → new ≡ after_arrival old control → IsFit seat new
 arrived_fit seat old new tenure control l3 sized on is =
-    subst (λ (s : Seat). IsFit s new) (sym on) (subst (IsFit (On tenure None)) (sym is) (record { placed = tt; sized = arrival-sized old control l3 sized }))
+    subst (λ (s : Seat). IsFit s new) (sym on) (subst (IsFit (On tenure None)) (sym is) (record { placed = tt; sized = arrival_sized old control l3 sized }))
 
-three-octets : (0 < 3) × (3 ≤ 251)
-three-octets = (omega arith, omega arith)
+three_octets : (0 < 3) × (3 ≤ 251)
+three_octets = (omega arith, omega arith)
 
 pub complete_l3 : (change : Change) → IsL3 (Some (complete change))
-complete_l3 Assignment = three-octets
-complete_l3 Handover = three-octets
+complete_l3 Assignment = three_octets
+complete_l3 Handover = three_octets
 
 pub failure_l3 : (change : Change) → IsL3 (Some (failure change))
-failure_l3 Assignment = three-octets
-failure_l3 Handover = three-octets
+failure_l3 Assignment = three_octets
+failure_l3 Handover = three_octets

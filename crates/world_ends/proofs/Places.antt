@@ -26,13 +26,13 @@ none_place n length few is = by_test (nat_lt n length) refl is where
 -- ---- what happens to one of them, where it can
 
 -- one that goes back as it is
-as-it-is : (p : Mobile) (mobiles : List Mobile) (k : ℕ) → slice_get mobiles k ≡ Some p → set mobiles k p ≡ mobiles
-as-it-is p [] k is = absurd cc
-as-it-is p (q ∷ qs) zero is = ap (λ (x : Mobile). x ∷ qs) (cc)
-as-it-is p (q ∷ qs) (suc k) is = ap (λ (xs : List Mobile). q ∷ xs) (as-it-is p qs k is)
+as_it_is : (p : Mobile) (mobiles : List Mobile) (k : ℕ) → slice_get mobiles k ≡ Some p → set mobiles k p ≡ mobiles
+as_it_is p [] k is = absurd cc
+as_it_is p (q ∷ qs) zero is = ap (λ (x : Mobile). x ∷ qs) (cc)
+as_it_is p (q ∷ qs) (suc k) is = ap (λ (xs : List Mobile). q ∷ xs) (as_it_is p qs k is)
 
 same_back : (number : ℕ) (s : MobilesState) (p : Mobile) → mobile_in number s.mobiles ≡ Some p → with_mobile_in number p s ≡ s
-same_back number s p found = ap (λ (mobiles : List Mobile). record s { mobiles = mobiles }) (as-it-is p s.mobiles (place_in number s.mobiles) found)
+same_back number s p found = ap (λ (mobiles : List Mobile). record s { mobiles = mobiles }) (as_it_is p s.mobiles (place_in number s.mobiles) found)
 
 by_found : (number : ℕ) (happens : Mobile → Option Mobile) (s : MobilesState) (o : Option Mobile) → mobile_in number s.mobiles ≡ o
     → by_mobile number happens s ≡ option_map (λ p. with_mobile_in number p s) (option_and_then happens o)

@@ -1,6 +1,7 @@
 -- Rows: what stations, mobiles and the switch of a world make of literal calls.
 use Rattle.std.proofs.Common.{◌≡◌, ℕ, true, false, List, [], ◌∷◌, ◌++◌, map, replicate, Some, None, refl, Option, ◌<◌, ◌≤◌, Bool, arith}
-use Rattle.std.proofs.Common.{zero, suc, length, slice_index}
+use Rattle.std.proofs.Common.{zero, suc, slice_index}
+use Rattle.octets.proofs.Hex.{hex}
 use Rattle.bssmap_codec.specs.declared.sccp.Sccp.{Sccp}
 use Rattle.bssmap_codec.specs.declared.sccp.Sccp.TheVariants.{ConnectionRequest, ConnectionConfirm, Released, DataForm1}
 use Rattle.conn_messages.specs.declared.channel.Change.TheVariants.{Handover}
@@ -32,7 +33,7 @@ use Rattle.world_ends.specs.MobilesState.{MobilesState}
 use Rattle.world_ends.specs.Placed.{IsFit, IsPlaced}
 use Rattle.world_ends.specs.Stations.{activated_on, aired_on, answered_on, at_station, brought_on, established_on, given_on, is_active_in}
 use Rattle.world_ends.specs.Stations.{is_present, left_on, released_on, reported_on, silenced, spot_in, spot_of, station_in, taken_on}
-use Rattle.world_ends.specs.Stations.{told_to, with_spot_of}
+use Rattle.world_ends.specs.Stations.{station_after_message, with_spot_of}
 use Rattle.world_ends.specs.Switch.{assigning, clearing, sending as switch_sending, took}
 use Rattle.world_ends.specs.SwitchSideState.{SwitchSideState}
 use Rattle.world_ends.specs.SwitchWritten.{IsShort, IsShortIn, IsWritten as IsWrittenBySwitch}
@@ -75,7 +76,7 @@ one = station (0x0a ∷ []) [] full used
 
 -- ---- channels
 
-spots_are : map (spot_of one) (0x09 ∷ 0x0a ∷ 0x0b ∷ 0x0c ∷ []) ≡ new_spot ∷ full ∷ used ∷ new_spot ∷ []
+spots_are : map (spot_of one) (hex "09 0a 0b 0c") ≡ new_spot ∷ full ∷ used ∷ new_spot ∷ []
 spots_are = refl
 
 spot_is_changed : with_spot_of 0x0b full one ≡ station (0x0a ∷ []) [] full full
@@ -84,12 +85,12 @@ spot_is_changed = refl
 no_spot_is_changed : with_spot_of 0x0c full one ≡ one
 no_spot_is_changed = refl
 
-tells : told_to (RfChannelReleaseAck 0x0b) one ≡ station (0x0a ∷ []) (RfChannelReleaseAck 0x0b ∷ []) full used
+tells : station_after_message (RfChannelReleaseAck 0x0b) one ≡ station (0x0a ∷ []) (RfChannelReleaseAck 0x0b ∷ []) full used
 tells = refl
 
 -- CHANNEL ACTIVATION, which an active channel doesn't take
 activates : activated_on 0x0b one ≡
-    station (0x0a ∷ 0x0b ∷ []) (ChannelActivationAck (record { channel = 0x0b; frame = Some (record { 0 = 0 }) }) ∷ []) full (record { tenure = 9; sapi_three_up = false; air = []; reports = 0 })
+    station (hex "0a 0b") (ChannelActivationAck (record { channel = 0x0b; frame = Some (record { 0 = 0 }) }) ∷ []) full (record { tenure = 9; sapi_three_up = false; air = []; reports = 0 })
 activates = refl
 
 activates_once : activated_on 0x0a one ≡ one
@@ -104,20 +105,20 @@ leaves = refl
 
 -- ---- what comes from a mobile
 
-brings_initial : brought_on 0x0a true Zero (0x05 ∷ 0x24 ∷ []) one ≡ station (0x0a ∷ []) (EstablishIndication (record { channel = 0x0a; link = 0x00; l3 = Some (0x05 ∷ 0x24 ∷ []) }) ∷ []) full used
+brings_initial : brought_on 0x0a true Zero (hex "05 24") one ≡ station (0x0a ∷ []) (EstablishIndication (record { channel = 0x0a; link = 0x00; l3 = Some (hex "05 24") }) ∷ []) full used
 brings_initial = refl
 
-brings_data : brought_on 0x0a false Zero (0x05 ∷ 0x24 ∷ []) one ≡ station (0x0a ∷ []) (DataIndication (record { channel = 0x0a; link = 0x00; l3 = 0x05 ∷ 0x24 ∷ [] }) ∷ []) full used
+brings_data : brought_on 0x0a false Zero (hex "05 24") one ≡ station (0x0a ∷ []) (DataIndication (record { channel = 0x0a; link = 0x00; l3 = hex "05 24" }) ∷ []) full used
 brings_data = refl
 
 -- on SAPI 3, whose data link is up on 0A and not on 0B; there is no initial message
-brings_short_message : map (λ opens. brought_on 0x0a opens Three (0x09 ∷ 0x01 ∷ []) one) (true ∷ false ∷ []) ≡
-    station (0x0a ∷ []) (DataIndication (record { channel = 0x0a; link = 0x43; l3 = 0x09 ∷ 0x01 ∷ [] }) ∷ []) full used
-    ∷ station (0x0a ∷ []) (DataIndication (record { channel = 0x0a; link = 0x43; l3 = 0x09 ∷ 0x01 ∷ [] }) ∷ []) full used ∷ []
+brings_short_message : map (λ opens. brought_on 0x0a opens Three (hex "09 01") one) (true ∷ false ∷ []) ≡
+    station (0x0a ∷ []) (DataIndication (record { channel = 0x0a; link = 0x43; l3 = hex "09 01" }) ∷ []) full used
+    ∷ station (0x0a ∷ []) (DataIndication (record { channel = 0x0a; link = 0x43; l3 = hex "09 01" }) ∷ []) full used ∷ []
 brings_short_message = refl
 
-establishes_short_messages : brought_on 0x0b false Three (0x09 ∷ 0x01 ∷ []) one ≡
-    station (0x0a ∷ []) (EstablishIndication (record { channel = 0x0b; link = 0x43; l3 = None }) ∷ DataIndication (record { channel = 0x0b; link = 0x43; l3 = 0x09 ∷ 0x01 ∷ [] }) ∷ [])
+establishes_short_messages : brought_on 0x0b false Three (hex "09 01") one ≡
+    station (0x0a ∷ []) (EstablishIndication (record { channel = 0x0b; link = 0x43; l3 = None }) ∷ DataIndication (record { channel = 0x0b; link = 0x43; l3 = hex "09 01" }) ∷ [])
     full (record { tenure = 8; sapi_three_up = true; air = air 7 ∷ []; reports = 255 })
 establishes_short_messages = refl
 
@@ -241,33 +242,33 @@ abbrev in_frame : ℕ → List ℕ → Option ℕ
 in_frame stream body = activated_by (rsl_in (record { stream = stream; body = body }))
 
 -- the elements stand in any order, and of two channel numbers the first counts
-in_written_order : in_frame RSL_STREAM (0x08 ∷ 0x21 ∷ 0x01 ∷ 0x0b ∷ 0x03 ∷ 0x00 ∷ 0x06 ∷ 0x01 ∷ 0x05 ∷ 0x01 ∷ 0x0a ∷ []) ≡ Some 0x0b
+in_written_order : in_frame RSL_STREAM (hex "08 21 01 0b 03 00 06 01 05 01 0a") ≡ Some 0x0b
 unfolding rsl_reading rsl_type breaks_off elements_of walk message_at activation_at
 in_written_order = refl
 
-in_other_order : in_frame RSL_STREAM (0x08 ∷ 0x21 ∷ 0x03 ∷ 0x00 ∷ 0x06 ∷ 0x01 ∷ 0x05 ∷ 0x01 ∷ 0x41 ∷ []) ≡ Some 0x41
+in_other_order : in_frame RSL_STREAM (hex "08 21 03 00 06 01 05 01 41") ≡ Some 0x41
 unfolding rsl_reading rsl_type breaks_off elements_of walk message_at activation_at
 in_other_order = refl
 
 -- a channel mode is missing; an element is cut; the octet is no channel number; the type is RF
 -- CHANNEL RELEASE; another stream
-without_mode : in_frame RSL_STREAM (0x08 ∷ 0x21 ∷ 0x01 ∷ 0x0b ∷ 0x03 ∷ 0x00 ∷ []) ≡ None
+without_mode : in_frame RSL_STREAM (hex "08 21 01 0b 03 00") ≡ None
 unfolding rsl_reading rsl_type breaks_off elements_of walk message_at activation_at
 without_mode = refl
 
-cut : in_frame RSL_STREAM (0x08 ∷ 0x21 ∷ 0x01 ∷ 0x0b ∷ 0x03 ∷ 0x00 ∷ 0x06 ∷ 0x02 ∷ 0x05 ∷ []) ≡ None
+cut : in_frame RSL_STREAM (hex "08 21 01 0b 03 00 06 02 05") ≡ None
 unfolding rsl_reading rsl_type breaks_off elements_of walk message_at activation_at
 cut = refl
 
-no_channel : in_frame RSL_STREAM (0x08 ∷ 0x21 ∷ 0x01 ∷ 0x07 ∷ 0x03 ∷ 0x00 ∷ 0x06 ∷ 0x01 ∷ 0x05 ∷ []) ≡ None
+no_channel : in_frame RSL_STREAM (hex "08 21 01 07 03 00 06 01 05") ≡ None
 unfolding rsl_reading rsl_type breaks_off elements_of walk message_at activation_at
 no_channel = refl
 
-other_type : in_frame RSL_STREAM (0x08 ∷ 0x2e ∷ 0x01 ∷ 0x0b ∷ []) ≡ None
+other_type : in_frame RSL_STREAM (hex "08 2e 01 0b") ≡ None
 unfolding rsl_reading rsl_type breaks_off elements_of walk message_at channel_only_at
 other_type = refl
 
-other_stream : in_frame SCCP_STREAM (0x08 ∷ 0x21 ∷ 0x01 ∷ 0x0b ∷ 0x03 ∷ 0x00 ∷ 0x06 ∷ 0x01 ∷ 0x05 ∷ []) ≡ None
+other_stream : in_frame SCCP_STREAM (hex "08 21 01 0b 03 00 06 01 05") ≡ None
 other_stream = refl
 
 -- ---- mobiles: mobile 7, whose initial message was taken, and mobile 3
@@ -283,7 +284,7 @@ command = record { change = Handover; target = there }
 
 -- of SAPI 3 a message waits, and another stands in the air
 abbrev short_messages : Air → DataLinkState
-short_messages air = record { waiting = (0x09 ∷ 0x02 ∷ []) ∷ []; air = air }
+short_messages air = record { waiting = (hex "09 02") ∷ []; air = air }
 
 -- it sent these messages, and on SAPI 0 these wait
 abbrev end_with : EndPlace → List (List ℕ) → List (List ℕ) → Air → Air → MobileState
@@ -291,29 +292,29 @@ end_with place sent waiting zero_air three_air =
     record { modulus = 4; stage = Connected; place = place; sent = sent; zero = record { waiting = waiting; air = zero_air }; three = short_messages three_air }
 
 abbrev seated : ℕ → Seat → Bool → MobileState → Mobile
-seated number seat opens end = record { number = number; end = end; accepts_sapi_three = true; seat = seat; opens = opens; received = (0x83 ∷ 0x02 ∷ []) ∷ [] }
+seated number seat opens end = record { number = number; end = end; accepts_sapi_three = true; seat = seat; opens = opens; received = (hex "83 02") ∷ [] }
 
 -- on the channel, with one message on SAPI 0 in the air and none behind it
 abbrev on_air : Air → Air → MobileState
-on_air zero_air three_air = end_with places.OnChannel ((0x05 ∷ 0x24 ∷ []) ∷ []) [] zero_air three_air
+on_air zero_air three_air = end_with places.OnChannel ((hex "05 24") ∷ []) [] zero_air three_air
 
 abbrev seats : List Seat
 seats = Asking ∷ On here None ∷ Moving here command ∷ Gone ∷ []
 
 -- ---- its upper layers send
 
-sends_with_number : sending Zero (0x03 ∷ 0x05 ∷ []) (seated 7 (On here None) true (on_air Empty Empty)) ≡
-    Some (seated 7 (On here None) true (end_with places.OnChannel ((0x05 ∷ 0x24 ∷ []) ∷ (0x03 ∷ 0x05 ∷ []) ∷ []) ((0x03 ∷ 0x45 ∷ []) ∷ []) Empty Empty))
+sends_with_number : sending Zero (hex "03 05") (seated 7 (On here None) true (on_air Empty Empty)) ≡
+    Some (seated 7 (On here None) true (end_with places.OnChannel ((hex "05 24") ∷ (hex "03 05") ∷ []) ((hex "03 45") ∷ []) Empty Empty))
 sends_with_number = refl
 
-sends_short_message : sending Three (0x09 ∷ 0x01 ∷ []) (seated 7 (Moving here command) false (on_air Empty Empty)) ≡
-    Some (seated 7 (Moving here command) false (record (on_air Empty Empty) { three = record { waiting = (0x09 ∷ 0x02 ∷ []) ∷ (0x09 ∷ 0x01 ∷ []) ∷ []; air = Empty } }))
+sends_short_message : sending Three (hex "09 01") (seated 7 (Moving here command) false (on_air Empty Empty)) ≡
+    Some (seated 7 (Moving here command) false (record (on_air Empty Empty) { three = record { waiting = (hex "09 02") ∷ (hex "09 01") ∷ []; air = Empty } }))
 sends_short_message = refl
 
-sends_nothing_before_or_after : map (λ seat. sending Zero (0x03 ∷ 0x05 ∷ []) (seated 7 seat true (on_air Empty Empty))) (Asking ∷ Gone ∷ []) ≡ None ∷ None ∷ []
+sends_nothing_before_or_after : map (λ seat. sending Zero (hex "03 05") (seated 7 seat true (on_air Empty Empty))) (Asking ∷ Gone ∷ []) ≡ None ∷ None ∷ []
 sends_nothing_before_or_after = refl
 
-sends_nothing_that_its_end_refuses : sending Zero (0x03 ∷ 0x45 ∷ []) (seated 7 (On here None) true (on_air Empty Empty)) ≡ None
+sends_nothing_that_its_end_refuses : sending Zero (hex "03 45") (seated 7 (On here None) true (on_air Empty Empty)) ≡ None
 sends_nothing_that_its_end_refuses = refl
 
 -- ---- the station takes the frame in the air
@@ -321,7 +322,7 @@ sends_nothing_that_its_end_refuses = refl
 frames_are : map (λ air. frame_of Zero (seated 7 (On here None) true (on_air air Empty))) (Given (0x0a ∷ []) ∷ Reached (0x0b ∷ []) ∷ Empty ∷ []) ≡ Some (0x0a ∷ []) ∷ None ∷ None ∷ []
 frames_are = refl
 
-frame_of_sapi_3 : frame_of Three (seated 7 (On here None) true (on_air (Given (0x0a ∷ [])) Empty)) ≡ Some (0x09 ∷ 0x02 ∷ [])
+frame_of_sapi_3 : frame_of Three (seated 7 (On here None) true (on_air (Given (0x0a ∷ [])) Empty)) ≡ Some (hex "09 02")
 frame_of_sapi_3 = refl
 
 no_frame_between_channels : frame_of Zero (seated 7 (Moving here command) true (end_with places.Moving [] [] (Given (0x0a ∷ [])) Empty)) ≡ None
@@ -331,8 +332,8 @@ no_frame_between_channels = refl
 takes_initial : taking Zero (seated 7 (On here None) true (on_air (Given (0x0a ∷ [])) Empty)) ≡ Some (seated 7 (On here None) false (on_air (Reached (0x0a ∷ [])) Empty))
 takes_initial = refl
 
-takes_short_message : taking Three (seated 7 (On here None) true (on_air (Given (0x0a ∷ [])) (Given (0x09 ∷ 0x03 ∷ [])))) ≡
-    Some (seated 7 (On here None) true (on_air (Given (0x0a ∷ [])) (Reached (0x09 ∷ 0x03 ∷ []))))
+takes_short_message : taking Three (seated 7 (On here None) true (on_air (Given (0x0a ∷ [])) (Given (hex "09 03")))) ≡
+    Some (seated 7 (On here None) true (on_air (Given (0x0a ∷ [])) (Reached (hex "09 03"))))
 takes_short_message = refl
 
 takes_nothing_twice : taking Zero (seated 7 (On here None) true (on_air (Reached (0x0a ∷ [])) Empty)) ≡ None
@@ -346,15 +347,15 @@ opens_by_sapi_0 = refl
 
 -- ---- the station acknowledges what it took
 
-acknowledges : acknowledging Zero (seated 7 (On here None) false (on_air (Reached (0x0a ∷ [])) (Reached (0x09 ∷ 0x03 ∷ [])))) ≡
-    Some (seated 7 (On here None) false (on_air Empty (Reached (0x09 ∷ 0x03 ∷ []))))
+acknowledges : acknowledging Zero (seated 7 (On here None) false (on_air (Reached (0x0a ∷ [])) (Reached (hex "09 03")))) ≡
+    Some (seated 7 (On here None) false (on_air Empty (Reached (hex "09 03"))))
 acknowledges = refl
 
-acknowledges_sapi_3 : acknowledging Three (seated 7 (On here None) true (on_air (Reached (0x0a ∷ [])) (Reached (0x09 ∷ 0x03 ∷ [])))) ≡
+acknowledges_sapi_3 : acknowledging Three (seated 7 (On here None) true (on_air (Reached (0x0a ∷ [])) (Reached (hex "09 03")))) ≡
     Some (seated 7 (On here None) true (on_air (Reached (0x0a ∷ [])) Empty))
 acknowledges_sapi_3 = refl
 
-acknowledges_nothing_else : map (λ air. acknowledging Zero (seated 7 (On here None) true (on_air air (Reached (0x09 ∷ 0x03 ∷ []))))) (Given (0x0a ∷ []) ∷ Empty ∷ []) ≡ None ∷ None ∷ []
+acknowledges_nothing_else : map (λ air. acknowledging Zero (seated 7 (On here None) true (on_air air (Reached (hex "09 03"))))) (Given (0x0a ∷ []) ∷ Empty ∷ []) ≡ None ∷ None ∷ []
 acknowledges_nothing_else = refl
 
 acknowledges_nothing_between_channels : acknowledging Zero (seated 7 (Moving here command) false (end_with places.Moving [] [] (Reached (0x0a ∷ [])) Empty)) ≡ None
@@ -363,15 +364,15 @@ acknowledges_nothing_between_channels = refl
 -- ---- it changes its channel
 
 mobile_leaves : leaving here command (seated 7 (On here (Some command)) true (on_air (Reached (0x0a ∷ [])) Empty)) ≡
-    seated 7 (Moving here command) false (end_with places.Moving ((0x05 ∷ 0x24 ∷ []) ∷ []) [] (Reached (0x0a ∷ [])) Empty)
+    seated 7 (Moving here command) false (end_with places.Moving ((hex "05 24") ∷ []) [] (Reached (0x0a ∷ [])) Empty)
 mobile_leaves = refl
 
 moving_are : map is_moving seats ≡ false ∷ false ∷ true ∷ false ∷ []
 moving_are = refl
 
 -- what wasn't acknowledged comes again behind the message of radio resource management
-arrives : arriving there (0x06 ∷ 0x2c ∷ 0x00 ∷ []) (seated 7 (Moving here command) false (end_with places.Moving [] ((0x03 ∷ 0x8f ∷ []) ∷ []) (Reached (0x0a ∷ [])) (Reached (0x09 ∷ 0x03 ∷ [])))) ≡
-    seated 7 (On there None) false (end_with places.OnChannel [] ((0x0a ∷ []) ∷ (0x03 ∷ 0x8f ∷ []) ∷ []) (Given (0x06 ∷ 0x2c ∷ 0x00 ∷ [])) (Given (0x09 ∷ 0x03 ∷ [])))
+arrives : arriving there (hex "06 2c 00") (seated 7 (Moving here command) false (end_with places.Moving [] ((hex "03 8f") ∷ []) (Reached (0x0a ∷ [])) (Reached (hex "09 03")))) ≡
+    seated 7 (On there None) false (end_with places.OnChannel [] ((0x0a ∷ []) ∷ (hex "03 8f") ∷ []) (Given (hex "06 2c 00")) (Given (hex "09 03")))
 arrives = refl
 
 is_assigned : assigned_to there (seated 7 Asking true (on_air Empty Empty)) ≡ seated 7 (On there None) true (on_air Empty Empty)
@@ -423,7 +424,7 @@ placed_elsewhere place = tt
 sizes : (0 < 2) × (2 ≤ 251)
 sizes = (omega arith, omega arith)
 
-is_fit : IsFit (Moving here command) (end_with places.Moving [] ((0x03 ∷ 0x8f ∷ []) ∷ []) (Given (0x03 ∷ 0x45 ∷ [])) Empty)
+is_fit : IsFit (Moving here command) (end_with places.Moving [] ((hex "03 8f") ∷ []) (Given (hex "03 45")) Empty)
 is_fit = record { placed = refl; sized = record { zero = record { waiting = (sizes, tt); air = sizes }; three = record { waiting = (sizes, tt); air = tt } } }
 
 empty_message_waits : (air : Air) → IsFit Asking (end_with places.OnChannel [] ([] ∷ []) air Empty) → ⊥
@@ -436,7 +437,7 @@ long_message_in_air h = absurd (omega (arith, h.sized.three.air.1))
 
 -- the second connection
 abbrev second : Connection
-second = record { peer = 0x040506; number = 0x800002; stage = Clearing; reception = record { modulus = 4; taken = (0x05 ∷ 0x08 ∷ []) ∷ [] } }
+second = record { peer = 0x040506; number = 0x800002; stage = Clearing; reception = record { modulus = 4; taken = (hex "05 08") ∷ [] } }
 
 -- made before, and not given out yet
 abbrev switch_before : Sccp
@@ -457,16 +458,16 @@ side stage taken made = record {
 takes_nothing : took None (side Open [] []) ≡ side Open [] []
 takes_nothing = refl
 
-takes_dtap : took (Some (DataForm1 0x800001 (0x01 ∷ 0x80 ∷ 0x02 ∷ 0x03 ∷ 0x45 ∷ []))) (side Open ((0x05 ∷ []) ∷ []) []) ≡ side Open ((0x05 ∷ []) ∷ (0x03 ∷ 0x45 ∷ []) ∷ []) []
+takes_dtap : took (Some (DataForm1 0x800001 (hex "01 80 02 03 45"))) (side Open ((0x05 ∷ []) ∷ []) []) ≡ side Open ((0x05 ∷ []) ∷ (hex "03 45") ∷ []) []
 unfolding on_literals
 takes_dtap = refl
 
 -- what it replies is made last
-clears_as_asked : took (Some (DataForm1 0x800001 (0x00 ∷ 0x04 ∷ 0x22 ∷ 0x04 ∷ 0x01 ∷ 0x20 ∷ []))) (side Open [] []) ≡ side Clearing [] (DataForm1 0x010203 (0x00 ∷ 0x04 ∷ 0x20 ∷ 0x04 ∷ 0x01 ∷ 0x20 ∷ []) ∷ [])
+clears_as_asked : took (Some (DataForm1 0x800001 (hex "00 04 22 04 01 20"))) (side Open [] []) ≡ side Clearing [] (DataForm1 0x010203 (hex "00 04 20 04 01 20") ∷ [])
 unfolding on_literals
 clears_as_asked = refl
 
-ends_what_is_cleared : took (Some (DataForm1 0x800001 (0x00 ∷ 0x01 ∷ 0x21 ∷ []))) (side Clearing [] []) ≡ side Ended [] (Released 0x010203 0x800001 ∷ [])
+ends_what_is_cleared : took (Some (DataForm1 0x800001 (hex "00 01 21"))) (side Clearing [] []) ≡ side Ended [] (Released 0x010203 0x800001 ∷ [])
 unfolding on_literals
 ends_what_is_cleared = refl
 
@@ -475,7 +476,7 @@ confirms_the_third = refl
 
 -- ---- it does something of its own on a connection that is open
 
-asks_for_speech : assigning 1 (side Open [] []) ≡ Some (side Open [] (DataForm1 0x010203 (0x00 ∷ 0x06 ∷ 0x01 ∷ 0x0b ∷ 0x03 ∷ 0x01 ∷ 0x08 ∷ 0x01 ∷ []) ∷ []))
+asks_for_speech : assigning 1 (side Open [] []) ≡ Some (side Open [] (DataForm1 0x010203 (hex "00 06 01 0b 03 01 08 01") ∷ []))
 unfolding on_literals
 asks_for_speech = refl
 
@@ -485,7 +486,7 @@ asks_on_no_other = refl
 asks_on_none_that_ended : assigning 1 (side Ended [] []) ≡ None
 asks_on_none_that_ended = refl
 
-clears : clearing 1 (side Open [] []) ≡ Some (side Clearing [] (DataForm1 0x010203 (0x00 ∷ 0x04 ∷ 0x20 ∷ 0x04 ∷ 0x01 ∷ 0x09 ∷ []) ∷ []))
+clears : clearing 1 (side Open [] []) ≡ Some (side Clearing [] (DataForm1 0x010203 (hex "00 04 20 04 01 09") ∷ []))
 unfolding on_literals
 clears = refl
 
@@ -495,18 +496,18 @@ clears_no_other = refl
 clears_once : clearing 1 (side Clearing [] []) ≡ None
 clears_once = refl
 
-sends_on_sapi_0 : switch_sending 1 Zero (0x83 ∷ 0x02 ∷ []) (side Open [] []) ≡ Some (side Open [] (DataForm1 0x010203 (0x01 ∷ 0x00 ∷ 0x02 ∷ 0x83 ∷ 0x02 ∷ []) ∷ []))
+sends_on_sapi_0 : switch_sending 1 Zero (hex "83 02") (side Open [] []) ≡ Some (side Open [] (DataForm1 0x010203 (hex "01 00 02 83 02") ∷ []))
 unfolding on_literals
 sends_on_sapi_0 = refl
 
-sends_on_sapi_3 : switch_sending 1 Three (0x09 ∷ 0x01 ∷ 0x05 ∷ []) (side Open [] []) ≡ Some (side Open [] (DataForm1 0x010203 (0x01 ∷ 0x03 ∷ 0x03 ∷ 0x09 ∷ 0x01 ∷ 0x05 ∷ []) ∷ []))
+sends_on_sapi_3 : switch_sending 1 Three (hex "09 01 05") (side Open [] []) ≡ Some (side Open [] (DataForm1 0x010203 (hex "01 03 03 09 01 05") ∷ []))
 unfolding on_literals
 sends_on_sapi_3 = refl
 
-sends_on_no_other : map (λ connection. switch_sending connection Zero (0x83 ∷ 0x02 ∷ []) (side Open [] [])) (0 ∷ 2 ∷ 3 ∷ []) ≡ None ∷ None ∷ None ∷ []
+sends_on_no_other : map (λ connection. switch_sending connection Zero (hex "83 02") (side Open [] [])) (0 ∷ 2 ∷ 3 ∷ []) ≡ None ∷ None ∷ None ∷ []
 sends_on_no_other = refl
 
-sends_on_none_that_ended : switch_sending 1 Zero (0x83 ∷ 0x02 ∷ []) (side Ended [] []) ≡ None
+sends_on_none_that_ended : switch_sending 1 Zero (hex "83 02") (side Ended [] []) ≡ None
 sends_on_none_that_ended = refl
 
 -- ---- what can be written, and what is short: 255 octets of user data at most

@@ -1,5 +1,5 @@
 -- What the switch makes can be written.
-use Rattle.std.proofs.Common.{◌≡◌, ℕ, suc, ◌+◌, ◌-◌, ◌<◌, ◌≤◌, ◌==◌, nat_lt, nat_eq, nat_le, Bool, true, false, cond, if◌then◌else◌, List, [], ◌∷◌, ◌++◌, length, find, Option, Some, None, Result, Ok, Err, option_map, option_to_list, refl, sym, ap, ◌∙◌, subst, inl, inr, arith}
+use Rattle.std.proofs.Common.{◌≡◌, ℕ, suc, ◌+◌, ◌-◌, ◌<◌, ◌≤◌, ◌==◌, nat_eq, nat_le, Bool, true, false, cond, if◌then◌else◌, List, [], ◌∷◌, ◌++◌, length, find, Option, Some, None, Result, Ok, Err, option_map, option_to_list, refl, sym, ap, ◌∙◌, subst, inl, inr, arith}
 use Rattle.std.specs.List.{AllByRecursion}
 use Rattle.std.specs.Result.{result_ok}
 use Rattle.std.proofs.lemmas.Bool.{cases_Bool, eqb-true}
@@ -31,7 +31,7 @@ use Rattle.octets.specs.declared.element.Entry.{Entry}
 use Rattle.octets.specs.declared.element.Format.{Format}
 use Rattle.octets.specs.declared.element.Format.TheVariants.{Tlv}
 use Rattle.octets.specs.declared.limits.TheConstants.{LENGTH_LIMIT}
-use Rattle.octets.specs.Element.{Element, AreElements, AreOctets, IsElement, element_text, format_in}
+use Rattle.octets.specs.Element.{Element, AreElements, AreOctets, element_text, format_in}
 use Rattle.octets.specs.Walk.{first_of}
 use Rattle.octets.proofs.Grammar.{octets_back, octets_drop, octets_front}
 use Rattle.world_ends.specs.SwitchWritten.{IsShort, IsWritten}
@@ -43,8 +43,8 @@ counted format e is = subst (λ (f : Format). length (element_text f e) ≡ 2 + 
   two : (n : ℕ) → suc (suc n) ≡ 2 + n
   two n = omega arith
 
-some-same : {A : Type 0} {x y : A} → Some x ≡ Some y → x ≡ y
-some-same e = cc
+some_same : {A : Type 0} {x y : A} → Some x ≡ Some y → x ≡ y
+some_same e = cc
 
 element_size : (table : List Entry) (octets : List ℕ) (es : List Element) (id : ℕ) (value : List ℕ) → format_in table id ≡ Some Tlv → AreElements table octets es false → first_of id es ≡ Some value
     → 2 + length value ≤ length octets
@@ -53,9 +53,9 @@ element_size table octets (e ∷ es) id value tlv (text, rest, is, whole, others
     elim (cases_Bool (nat_eq e.id id)) [
       | inl here ↦
           let known : format_in table id ≡ Some is.format = subst (λ (n : ℕ). format_in table n ≡ Some is.format) (eqb-true e.id id here) is.known in
-          let tlv_is : is.format ≡ Tlv = some-same (sym known ∙ tlv) in
+          let tlv_is : is.format ≡ Tlv = some_same (sym known ∙ tlv) in
           let size : length text ≡ 2 + length e.value = ap length is.text ∙ counted is.format e tlv_is in
-          let same : e.value ≡ value = some-same (sym (ap (λ (b : Bool). option_map (λ (x : Element). x.value) (cond b (Some e) (find (λ x. x.id == id) es))) here) ∙ found) in
+          let same : e.value ≡ value = some_same (sym (ap (λ (b : Bool). option_map (λ (x : Element). x.value) (cond b (Some e) (find (λ x. x.id == id) es))) here) ∙ found) in
           let all : length octets ≡ length text + length rest = ap length whole ∙ length-append text rest in
           within (length text) (length e.value) (length value) (length rest) (length octets) size (ap length same) all
       | inr other ↦

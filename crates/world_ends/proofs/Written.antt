@@ -18,8 +18,8 @@ use Rattle.rsl_codec.specs.RslText.{rsl_write_fault}
 use Rattle.world_model.specs.Mobiles.{channel_required, handover_detection, measurement_result}
 use Rattle.world_ends.specs.Written.{IsWritten, HasWritten}
 
-fault-free : (l3 : List ℕ) → IsL3 (Some l3) → cond (nat_eq (length l3) 0) (Some Short) (cond (nat_lt MESSAGE_LIMIT (length l3) || false) (Some TooLong) None) ≡ None
-fault-free l3 (some, few) =
+fault_free : (l3 : List ℕ) → IsL3 (Some l3) → cond (nat_eq (length l3) 0) (Some Short) (cond (nat_lt MESSAGE_LIMIT (length l3) || false) (Some TooLong) None) ≡ None
+fault_free l3 (some, few) =
     ap (λ (b : Bool). cond b (Some Short) (cond (nat_lt MESSAGE_LIMIT (length l3) || false) (Some TooLong) None)) (ne_eqb (length l3) 0 (λ is. none is))
     ∙ ap (λ (b : Bool). cond (b || false) (Some TooLong) None) (short (length l3) few) where
       none : length l3 ≡ 0 → ⊥
@@ -60,15 +60,15 @@ establishment_written channel sapi = refl
 
 pub initial_written : (channel : ℕ) (sapi : Sapi) (frame : List ℕ) → IsL3 (Some frame) → IsWritten (establish_indication channel sapi (Some frame))
 unfolding rsl_write_fault
-initial_written channel sapi frame l3 = fault-free frame l3
+initial_written channel sapi frame l3 = fault_free frame l3
 
 pub data_written : (channel : ℕ) (sapi : Sapi) (frame : List ℕ) → IsL3 (Some frame) → IsWritten (data_indication channel sapi frame)
 unfolding rsl_write_fault
-data_written channel sapi frame l3 = fault-free frame l3
+data_written channel sapi frame l3 = fault_free frame l3
 
 pub report_written : (channel number : ℕ) (report : List ℕ) → length report ≡ 16 → IsWritten (measurement_result channel number report)
 unfolding rsl_write_fault
-report_written channel number report sixteen = fault-free (0x06 ∷ 0x15 ∷ report) (some (length report), few (length report) sixteen) where
+report_written channel number report sixteen = fault_free (0x06 ∷ 0x15 ∷ report) (some (length report), few (length report) sixteen) where
   some : (n : ℕ) → 0 < suc (suc n)
   some n = omega arith
 

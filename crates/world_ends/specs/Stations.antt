@@ -40,8 +40,8 @@ counted_on channel s =
     (record (spot_of s channel) { reports = ((spot_of s channel).reports + 1) % 256 }) s
 
 -- a message is made
-abbrev pub told_to : Rsl → Station → Station
-told_to message s = record s { base = after_tell s.base message }
+abbrev pub station_after_message : Rsl → Station → Station
+station_after_message message s = record s { base = after_tell s.base message }
 
 -- a tenure of the channel begins, unless it is active
 abbrev pub activated_unless : Option LinkFault → ℕ → Station → Station
@@ -86,7 +86,7 @@ taken_on channel s =
 -- the controller's question for the data link of SAPI 3 is answered
 abbrev pub answered_on : Bool → ℕ → Station → Station
 answered_on answer channel s =
-    told_to (link_answer answer channel) (with_sapi_three answer channel s)
+    station_after_message (link_answer answer channel) (with_sapi_three answer channel s)
 
 -- a tenure ends
 abbrev pub released_on : ℕ → Station → Station
@@ -97,7 +97,7 @@ released_on channel s =
 -- a mobile's report comes
 abbrev pub reported_on : ℕ → List ℕ → Station → Station
 reported_on channel report s =
-    told_to (measurement_result channel (spot_of s channel).reports report) (counted_on channel s)
+    station_after_message (measurement_result channel (spot_of s channel).reports report) (counted_on channel s)
 
 -- the first message that it made is given out
 abbrev pub given_on : Station → Station

@@ -2,7 +2,7 @@ ghost use Rattle.std.specs.Prelude.{◌≡◌, None, true, OnOk, IfOk, IfSome, r
 ghost use Rattle.controller_model.specs.declared.limits.TheConstants.{CHANNEL_NUMBERS};
 ghost use Rattle.link_model.specs.Base.{after_establish, is_active, is_told, first_message};
 ghost use Rattle.world_model.specs.World.{new_spot, new_station};
-ghost use Rattle.world_ends.specs.Stations.{given_on, silenced, spot_of, told_to};
+ghost use Rattle.world_ends.specs.Stations.{given_on, silenced, spot_of, station_after_message};
 ghost use Rattle.world_ends.specs.Written.{IsWritten};
 
 use crate::radio_channel::RadioChannel;
@@ -84,7 +84,7 @@ impl BaseStation {
     pub(crate) fn tell(&mut self, message: Rsl) -> Result<(), Memory>
         requires told { is_told message ≡ true }
         requires written { IsWritten message }
-        ensures { OnOk result (self.new ≡ told_to message self.old) }
+        ensures { OnOk result (self.new ≡ station_after_message message self.old) }
     {
         self.base.tell(message).map_err(|_| Memory)
     }

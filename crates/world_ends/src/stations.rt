@@ -9,7 +9,7 @@ ghost use Rattle.world_ends.specs.Stations.{activated_on, aired_on, answered_on}
 ghost use Rattle.world_ends.specs.Stations.{at_channel, brought_on, established_on};
 ghost use Rattle.world_ends.specs.Stations.{given_on, is_active_in, is_present, left_on};
 ghost use Rattle.world_ends.specs.Stations.{released_on, reported_on, at_station, silenced};
-ghost use Rattle.world_ends.specs.Stations.{spot_in, station_in, taken_on, told_to};
+ghost use Rattle.world_ends.specs.Stations.{spot_in, station_in, taken_on, station_after_message};
 ghost use Rattle.world_ends.specs.Written.{IsWritten};
 
 use crate::base_station::BaseStation;
@@ -82,7 +82,7 @@ impl Stations {
     pub fn tell(&mut self, station: u16, message: Rsl) -> Result<(), Memory>
         requires told { is_told message ≡ true }
         requires written { IsWritten message }
-        ensures { OnOk result (self.new ≡ at_station station (told_to message) self.old) }
+        ensures { OnOk result (self.new ≡ at_station station (station_after_message message) self.old) }
     {
         match self.stations.get_mut(place_of(station)) {
             Some(station) => station.tell(message),

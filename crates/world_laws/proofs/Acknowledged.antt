@@ -6,7 +6,7 @@ use Rattle.world_laws.proofs.Prelude.{flat_map-append, append-nil, filter-append
 use Rattle.world_laws.proofs.Prelude.{first_message, first_of_messages, is_active, Tenures, is_bound_of, tenure_brings, apart, Item, What}
 use Rattle.world_laws.proofs.Prelude.{Rsl, Parameters, Event, BasePush, BaseDown, actors_after, acknowledgements, due}
 use Rattle.world_laws.proofs.Prelude.{first_of, pushed, all_pushed, all_popped, station_item, switch_item, rsl_in, Actors, base_of, is_up}
-use Rattle.world_laws.proofs.Prelude.{new_actors, outbox_of, Good, end-of, good-new, good-step, IsSound, sound-read, false≢true, Result}
+use Rattle.world_laws.proofs.Prelude.{new_actors, outbox_of, Good, end_of, good_new, good_step, IsSound, sound_read, false≢true, Result}
 use Rattle.world_laws.proofs.Prelude.{released, is_brought_on, AreHonest-new, KeepsQueues-new, ArePipes-new, read_by, read_of, messages_up}
 use Rattle.world_laws.proofs.Prelude.{is_release_ack, NoneReleases, ReleasesLast, AllAcksTell, AcksFlow, of_main, of_establishment, brings}
 use Rattle.world_laws.proofs.Prelude.{brings_if, brings_by, brings_in, coming_up, is_ended, EndsLast}
@@ -24,19 +24,19 @@ if-read channel true None = refl
 if-read channel true (Some m) = sym (append-nil (brings channel m))
 if-read channel false o = refl
 
-pub by-read : (at : Place) (source : ℕ) (what : What) → brings_by at source what ≡ flat_map (brings at.number) (read_by at.station source what)
-by-read at source (whats.Frame frame) = if-read at.number (source == at.station) (rsl_in frame)
-by-read at source whats.Down = refl
+pub by_read : (at : Place) (source : ℕ) (what : What) → brings_by at source what ≡ flat_map (brings at.number) (read_by at.station source what)
+by_read at source (whats.Frame frame) = if-read at.number (source == at.station) (rsl_in frame)
+by_read at source whats.Down = refl
 
 pub inbox_read : (at : Place) (items : List Item) → flat_map (brings_in at) items ≡ flat_map (brings at.number) (flat_map (read_of at.station) items)
 inbox_read at [] = refl
 inbox_read at (item ∷ items) =
-    ap (λ (xs : List Brought). xs ++ flat_map (brings_in at) items) (by-read at item.source item.what)
+    ap (λ (xs : List Brought). xs ++ flat_map (brings_in at) items) (by_read at item.source item.what)
     ∙ ap (λ (xs : List Brought). flat_map (brings at.number) (read_of at.station item) ++ xs) (inbox_read at items)
     ∙ sym (flat_map-append (brings at.number) (read_of at.station item) (flat_map (read_of at.station) items))
 
-pub coming-read : (w : Actors) (at : Place) → coming_up w at ≡ flat_map (brings at.number) (messages_up w at.station)
-coming-read w at =
+pub coming_read : (w : Actors) (at : Place) → coming_up w at ≡ flat_map (brings at.number) (messages_up w at.station)
+coming_read w at =
     ap (λ (xs : List Brought). xs ++ flat_map (brings at.number) (base_of w at.station).messages) (inbox_read at w.inbox)
     ∙ sym (flat_map-append (brings at.number) (flat_map (read_of at.station) w.inbox) (base_of w at.station).messages)
 
@@ -144,15 +144,15 @@ station-read : (station source : ℕ) (messages : List Rsl) → AllByRecursion I
     flat_map (read_of station) (map (station_item source) (option_to_list (first_of_messages messages))) ≡ (if source == station then option_to_list (first_of_messages messages) else [])
 station-read station source [] sound = same_if (source == station)
 station-read station source (first ∷ others) sound =
-    append-nil (read_of station (station_item source first)) ∙ ap (λ (r : Result Rsl _). if source == station then option_to_list (result_ok r) else []) (sound-read first sound.0)
+    append-nil (read_of station (station_item source first)) ∙ ap (λ (r : Result Rsl _). if source == station then option_to_list (result_ok r) else []) (sound_read first sound.0)
 
 pub of_other : (station source : ℕ) (what : What) → source == station ≡ false → read_by station source what ≡ []
 of_other station source (whats.Frame frame) other = cond-false _ (option_to_list (rsl_in frame)) [] other
 of_other station source whats.Down other = refl
 
-switch-read : (station : ℕ) (made : List Sccp) → station ≢ SWITCH_LINK → flat_map (read_of station) (map switch_item (first_of made)) ≡ []
-switch-read station [] other = refl
-switch-read station (first ∷ others) other =
+switch_read : (station : ℕ) (made : List Sccp) → station ≢ SWITCH_LINK → flat_map (read_of station) (map switch_item (first_of made)) ≡ []
+switch_read station [] other = refl
+switch_read station (first ∷ others) other =
     append-nil (read_of station (switch_item first)) ∙ of_other station SWITCH_LINK (switch_item first).what (ne_eqb SWITCH_LINK station (λ same. other (sym same)))
 
 own_first : (w : Actors) (station source : ℕ) → (if source == station then option_to_list (first_message (base_of w source)) else []) ≡ given station w (BasePush source)
@@ -165,11 +165,11 @@ pub pushed-read : (station : ℕ) (w : Actors) (event : Event) → station ≢ S
 pushed-read station w (BasePush source) other good = elim (cases_Bool (nat_eq source SWITCH_LINK)) [
   | inl switch ↦
       ap (flat_map (read_of station)) (cond-true _ (map switch_item (first_of w.switch_made)) (map (station_item source) (option_to_list (first_message (base_of w source)))) switch)
-      ∙ switch-read station w.switch_made other
+      ∙ switch_read station w.switch_made other
       ∙ sym (cond-false _ (option_to_list (first_message (base_of w station))) [] (ne_eqb source station (λ same. other (sym same ∙ eqb-true source SWITCH_LINK switch))))
   | inr of_station ↦
       ap (flat_map (read_of station)) (cond-false _ (map switch_item (first_of w.switch_made)) (map (station_item source) (option_to_list (first_message (base_of w source)))) of_station)
-      ∙ station-read station source (base_of w source).messages (end-of w source good).made
+      ∙ station-read station source (base_of w source).messages (end_of w source good).made
       ∙ own_first w station source
 ]
 pushed-read station w (BaseDown source) other good = by (is_up w source) where
@@ -178,18 +178,18 @@ pushed-read station w (BaseDown source) other good = by (is_up w source) where
   by false = refl
 pushed-read station w _ other good = refl
 
-all-read : (station : ℕ) (w : Actors) (events : List Event) → station ≢ SWITCH_LINK → Good w → flat_map (read_of station) (all_pushed w events) ≡ all_given station w events
-all-read station w [] other good = refl
-all-read station w (event ∷ events) other good =
+all_read : (station : ℕ) (w : Actors) (events : List Event) → station ≢ SWITCH_LINK → Good w → flat_map (read_of station) (all_pushed w events) ≡ all_given station w events
+all_read station w [] other good = refl
+all_read station w (event ∷ events) other good =
     flat_map-append (read_of station) (pushed w event) (all_pushed (actors_after w event) events)
     ∙ ap (λ (ms : List Rsl). ms ++ flat_map (read_of station) (all_pushed (actors_after w event) events)) (pushed-read station w event other good)
-    ∙ ap (λ (ms : List Rsl). given station w event ++ ms) (all-read station (actors_after w event) events other (good-step w event good))
+    ∙ ap (λ (ms : List Rsl). given station w event ++ ms) (all_read station (actors_after w event) events other (good_step w event good))
 
 -- what was given is what the controller took, and what stands in the inbox
-pub given-read : (settings : Parameters) (events : List Event) (station : ℕ) → station ≢ SWITCH_LINK →
+pub given_read : (settings : Parameters) (events : List Event) (station : ℕ) → station ≢ SWITCH_LINK →
     all_given station (new_actors settings) events ≡ flat_map (read_of station) (all_popped (new_actors settings) events) ++ flat_map (read_of station) (world settings events).inbox
-given-read settings events station other =
-    sym (all-read station (new_actors settings) events other (good-new settings))
+given_read settings events station other =
+    sym (all_read station (new_actors settings) events other (good_new settings))
     ∙ ap (flat_map (read_of station)) (KeepsQueues-new settings events).inbox
     ∙ flat_map-append (read_of station) (all_popped (new_actors settings) events) (world settings events).inbox
 
@@ -209,10 +209,10 @@ all_acks_tell_new settings events at other =
     let honest = AreHonest-new settings events at.station other at.number in
     let up = behind at.number taken (messages_up w at.station)
     (subst (λ (ms : List Rsl). Tenures at.number false ms honest.0)
-    (ap (λ (ms : List Rsl). ms ++ (base_of w at.station).messages) (given-read settings events at.station other) ∙ append_assoc taken (flat_map (read_of at.station) w.inbox) (base_of w at.station).messages) honest.1) in
+    (ap (λ (ms : List Rsl). ms ++ (base_of w at.station).messages) (given_read settings events at.station other) ∙ append_assoc taken (flat_map (read_of at.station) w.inbox) (base_of w at.station).messages) honest.1) in
     record {
-      last = λ releases. subst EndsLast (sym (coming-read w at)) (ends_last at.number (messages_up w at.station) up.1 releases);
-      none = λ releases. ap is_ended (coming-read w at) ∙ goes_on at.number (messages_up w at.station) releases;
+      last = λ releases. subst EndsLast (sym (coming_read w at)) (ends_last at.number (messages_up w at.station) up.1 releases);
+      none = λ releases. ap is_ended (coming_read w at) ∙ goes_on at.number (messages_up w at.station) releases;
     }
 
 pub acks_flow_new : (settings : Parameters) (events : List Event) → AcksFlow settings events
@@ -223,7 +223,7 @@ acks_flow_new settings events at least most up =
     let made : List Rsl = (base_of w at.station).messages in
     let still : List Rsl = due at.number (is_active (base_of w at.station).active at.number) (outbox_of w at.station) in
     (ArePipes-new settings events at.station at.number least most).flows up
-    ∙ ap (λ (ms : List Rsl). acknowledgements at.number ms ++ (acknowledgements at.number made ++ still)) (given-read settings events at.station (λ is. not_zero is least))
+    ∙ ap (λ (ms : List Rsl). acknowledgements at.number ms ++ (acknowledgements at.number made ++ still)) (given_read settings events at.station (λ is. not_zero is least))
     ∙ ap (λ (ms : List Rsl). ms ++ (acknowledgements at.number made ++ still)) (filter-append (is_bound_of at.number) taken came)
     ∙ append_assoc (acknowledgements at.number taken) (acknowledgements at.number came) (acknowledgements at.number made ++ still)
     ∙ ap (λ (ms : List Rsl). acknowledgements at.number taken ++ ms) (sym (append_assoc (acknowledgements at.number came) (acknowledgements at.number made) still))

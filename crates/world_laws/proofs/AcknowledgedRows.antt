@@ -3,11 +3,12 @@ use Rattle.world_laws.proofs.Prelude.{◌≡◌, ℕ, true, false, List, [], ◌
 use Rattle.world_laws.proofs.Prelude.{activation_ack, data_indication, Rsl, RfChannelRelease, RfChannelReleaseAck, station_item}
 use Rattle.world_laws.proofs.Prelude.{Actors, base_of, new_actors, with_base, true≢false, false≢true, read_of, messages_up}
 use Rattle.world_laws.proofs.Prelude.{acknowledgements_up, acknowledgements_taken, is_release_ack, NoneReleases, ReleasesLast}
+use Rattle.octets.proofs.Hex.{hex}
 use Rattle.ruled_relay.specs.declared.item.What.TheVariants as whats
 use Rattle.world_model.proofs.Worlds.{on_literals}
 
 abbrev text_on : ℕ → Rsl
-text_on channel = data_indication channel Zero (0x03 ∷ 0x05 ∷ [])
+text_on channel = data_indication channel Zero (hex "03 05")
 
 -- of station 1 two messages stand in the inbox, and it made two more
 abbrev world : Actors

@@ -23,8 +23,8 @@ eqb_sym a b = elim (cases_Bool (nat_eq a b)) [
   | inr other ↦ other ∙ sym (ne_eqb b a (λ is. eqb-false a b other (sym is)))
 ]
 
-pub at-itself : (c : Channel) → is_at (place_of c) c ≡ true
-at-itself c = ap (λ (b : Bool). b && nat_eq c.number c.number) (eq-eqb c.station c.station refl) ∙ eq-eqb c.number c.number refl
+pub at_itself : (c : Channel) → is_at (place_of c) c ≡ true
+at_itself c = ap (λ (b : Bool). b && nat_eq c.number c.number) (eq-eqb c.station c.station refl) ∙ eq-eqb c.number c.number refl
 
 -- it is of the channel's station
 pub is_at_station : (at : Place) (c : Channel) → is_at at c ≡ true → at.station ≡ c.station
@@ -54,9 +54,9 @@ last_apart (d ∷ before) c last apart =
 
 -- ---- roles
 
-pub target-in : (state : State) (t : Target) → commanded_target state ≡ Some t → target_in state ≡ t.channel ∷ []
-target-in (Live reference (Changing target)) t is = ap (λ (o : Option Target). (unwrap_or o target).channel ∷ []) is
-target-in _ t is = absurd cc
+pub target_in_is_so : (state : State) (t : Target) → commanded_target state ≡ Some t → target_in state ≡ t.channel ∷ []
+target_in_is_so (Live reference (Changing target)) t is = ap (λ (o : Option Target). (unwrap_or o target).channel ∷ []) is
+target_in_is_so _ t is = absurd cc
 
 -- the place is that of the serving channel
 pub record OnServing (at : Place) (s : Connection) : Type 0 where
@@ -72,12 +72,12 @@ pub record OnTarget (at : Place) (s : Connection) (t : Target) : Type 0 where
 pub is_on_serving : (s : Connection) (at : Place) → AreApart (used_channels s) → at ≡ place_of s.serving → OnServing at s
 is_on_serving s at apart is =
     let others = middle_apart (undone s.draining) s.serving (target_in s.state) apart in
-    subst (λ (x : Place). OnServing x s) (sym is) (record { at_serving = at-itself s.serving; old = others.0; target = others.1 })
+    subst (λ (x : Place). OnServing x s) (sym is) (record { at_serving = at_itself s.serving; old = others.0; target = others.1 })
 
 pub is_on_target : (s : Connection) (t : Target) (at : Place) → AreApart (used_channels s) → commanded_target s.state ≡ Some t → at ≡ place_of t.channel → OnTarget at s t
 is_on_target s t at apart is_target is =
-    let others = last_apart (undone s.draining) s.serving t.channel (subst (λ (ts : List Channel). AreApart (undone s.draining ++ s.serving ∷ ts)) (target-in s.state t is_target) apart) in
-    subst (λ (x : Place). OnTarget x s t) (sym is) (record { at_target = at-itself t.channel; old = others.0; serving = others.1 })
+    let others = last_apart (undone s.draining) s.serving t.channel (subst (λ (ts : List Channel). AreApart (undone s.draining ++ s.serving ∷ ts)) (target_in_is_so s.state t is_target) apart) in
+    subst (λ (x : Place). OnTarget x s t) (sym is) (record { at_target = at_itself t.channel; old = others.0; serving = others.1 })
 
 -- ---- where a mobile sits
 

@@ -8,39 +8,39 @@ use Rattle.world_laws.proofs.Prelude.{data_forms_on, dlci_for, with_stage, Switc
 use Rattle.world_laws.proofs.Prelude.{MobileState, Event, Upper, Connect, AirUp, AirAck, AirDown, AirDownLost, Move, Touch, Arrive, Return}
 use Rattle.world_laws.proofs.Prelude.{BasePush, SwitchDoes, Report, SwitchAction, Assign, Clear, Dtap, station_item, switch_item, with_item}
 use Rattle.world_laws.proofs.Prelude.{pushed_by_station, pushed_by_switch, after_base_push, may_send_on, sent_on, is_layer_3}
-use Rattle.world_laws.proofs.Prelude.{after_switch_does, Actors, Mobile, modulus_in, new_actors, base_of, with_base, Good, end-of, good-new}
-use Rattle.world_laws.proofs.Prelude.{good-all, after-taken, IsSound, sound-read, same_Some, Call, IsKept-calls, all_calls, MobilesLive-new}
+use Rattle.world_laws.proofs.Prelude.{after_switch_does, Actors, Mobile, modulus_in, new_actors, base_of, with_base, Good, end_of, good_new}
+use Rattle.world_laws.proofs.Prelude.{good_all, after_taken, IsSound, sound_read, same_Some, Call, IsKept-calls, all_calls, MobilesLive-new}
 use Rattle.world_laws.proofs.Prelude.{coming_up, is_of_peer, taken_in, taken_of, AreLinedUp, is_beside_relay, MobilesKeepLineUps}
 use Rattle.std.proofs.Common.{slice_set, slice_get}
 use Rattle.msc_end.specs.Switch.{connection_of}
 use Rattle.world_model.specs.Life.{event_after}
-use Rattle.world_model.specs.Lives.{Lives}
+use Rattle.world_model.specs.CallsMade.{HasMadeCalls}
 use Rattle.world_model.proofs.Leads.{OfTaken}
 use Rattle.world_laws.proofs.Apart.{all_both}
 use Rattle.world_laws.proofs.MobileEvents.{Before, quiet_stays, upper_stays, ack_stays, frame_stays, heard_stays, lost_stays, move_stays}
 use Rattle.world_laws.proofs.MobileEvents.{arrive_stays, return_stays, connect_stays, touch_stays, report_stays}
-use Rattle.world_laws.proofs.Projecting.{coming-pushed, coming-of_switch}
-use Rattle.world_laws.proofs.Quiet.{down-with_base, all_of}
+use Rattle.world_laws.proofs.Projecting.{coming_pushed, coming_of_switch}
+use Rattle.world_laws.proofs.Quiet.{down_with_base, all_of}
 use Rattle.world_laws.proofs.Seeing.{SameTenures, SeesSame}
-use Rattle.world_laws.proofs.Spots.{tenure-with_base}
+use Rattle.world_laws.proofs.Spots.{tenure_with_base}
 use Rattle.world_laws.proofs.Events.{world}
 
 -- ---- the first message that a station made goes to the inbox
 
 pub first_read : (messages : List Rsl) (message : Rsl) → AllByRecursion IsSound messages → first_of_messages messages ≡ Some message → rsl_reading (rsl_text message) ≡ Ok message
 first_read [] message all is = absurd cc
-first_read (first ∷ others) message all is = sound-read message (subst IsSound (same_Some _ _ is) all.0)
+first_read (first ∷ others) message all is = sound_read message (subst IsSound (same_Some _ _ is) all.0)
 
 sees_pushed : {w : Actors} {s : Connection} (station : ℕ) (message : Rsl) → AllByRecursion (λ c. c.station ≢ SWITCH_LINK) (used_channels s) → station ≢ SWITCH_LINK → first_message (base_of w station) ≡ Some message → rsl_reading (rsl_text message) ≡ Ok message
     → SeesSame w (with_item (station_item station message) (with_base station (after_next (base_of w station)) w)) s
 unfolding SameTenures
 sees_pushed {w} {s} station message placed station_is first read = record {
   coming = all_both (λ c. c.station ≢ SWITCH_LINK) (λ c. c.station ≢ SWITCH_LINK) (λ c. coming_up (with_item (station_item station message) (with_base station (after_next (base_of w station)) w)) (place_of c) ≡ coming_up w (place_of c)) (used_channels s)
-      (λ c c_is _. coming-pushed w station message (place_of c) c_is station_is first read) placed placed;
+      (λ c c_is _. coming_pushed w station message (place_of c) c_is station_is first read) placed placed;
   up = λ n. refl;
-  serving = down-with_base w station (after_next (base_of w station)) (place_of s.serving);
-  target = λ t is. down-with_base w station (after_next (base_of w station)) (place_of t.channel);
-  tenures = λ at. tenure-with_base w station (after_next (base_of w station)) at;
+  serving = down_with_base w station (after_next (base_of w station)) (place_of s.serving);
+  target = λ t is. down_with_base w station (after_next (base_of w station)) (place_of t.channel);
+  tenures = λ at. tenure_with_base w station (after_next (base_of w station)) at;
   waiting = refl;
   taken = refl;
 }
@@ -49,7 +49,7 @@ sees_pushed {w} {s} station message placed station_is first read = record {
 sees_switch_pushed : {w : Actors} {s : Connection} (first : Sccp) (others : List Sccp) → SeesSame w (with_item (switch_item first) (record w { switch_made = others })) s
 unfolding SameTenures
 sees_switch_pushed {w} {s} first others = record {
-  coming = all_of (λ c. coming_up (with_item (switch_item first) (record w { switch_made = others })) (place_of c) ≡ coming_up w (place_of c)) (used_channels s) (λ c. coming-of_switch w first others (place_of c));
+  coming = all_of (λ c. coming_up (with_item (switch_item first) (record w { switch_made = others })) (place_of c) ≡ coming_up w (place_of c)) (used_channels s) (λ c. coming_of_switch w first others (place_of c));
   up = λ n. refl;
   serving = refl;
   target = λ t is. refl;
@@ -67,7 +67,7 @@ push_stays {m} {w} {mobile} {p} {s} source good h = by_source (nat_eq source SWI
 
   of_station : source ≢ SWITCH_LINK → (o : Option Rsl) → first_message (base_of w source) ≡ o → OfTaken (λ v. AreLinedUp m v mobile s) (pushed_by_station source o w)
   of_station is None first = tt
-  of_station is (Some message) first = quiet_stays w _ mobile p h.found refl (sees_pushed source message h.lined.placed is first (first_read (base_of w source).messages message (end-of w source good).made first)) h.lined
+  of_station is (Some message) first = quiet_stays w _ mobile p h.found refl (sees_pushed source message h.lined.placed is first (first_read (base_of w source).messages message (end_of w source good).made first)) h.lined
 
   by_source : (b : Bool) → nat_eq source SWITCH_LINK ≡ b → OfTaken (λ v. AreLinedUp m v mobile s) (if b then pushed_by_switch w.switch_made w else pushed_by_station source (first_message (base_of w source)) w)
   by_source true is = of_switch w.switch_made
@@ -87,8 +87,8 @@ cleared_same number (suc n) (x ∷ cs) c is = by_peer (is_of_peer number x) (cle
   by_peer true others = refl
   by_peer false others = others
 
-pub clear-same : (number n : ℕ) (cs : List SwitchConnection) → taken_in (find (is_of_peer number) (connections_after_clear cs n (connection_of cs n))) ≡ taken_in (find (is_of_peer number) cs)
-clear-same number n cs = by_number (nat_eq n 0) where
+pub clear_same : (number n : ℕ) (cs : List SwitchConnection) → taken_in (find (is_of_peer number) (connections_after_clear cs n (connection_of cs n))) ≡ taken_in (find (is_of_peer number) cs)
+clear_same number n cs = by_number (nat_eq n 0) where
   by_connection : (o : Option SwitchConnection) → slice_get cs (n - 1) ≡ o → taken_in (find (is_of_peer number) (connections_after_clear cs n o)) ≡ taken_in (find (is_of_peer number) cs)
   by_connection None is = refl
   by_connection (Some c) is = cleared_same number (n - 1) cs c is
@@ -120,7 +120,7 @@ does_stays {m} {w} {mobile} {p} {s} action h = by_action action where
 
   by_action : (action : SwitchAction) → OfTaken (λ v. AreLinedUp m v mobile s) (after_switch_does w action)
   by_action (Assign connection) = on connection assignment_request w.switch refl
-  by_action (Clear connection) = on connection clear_command (after_clear w.switch connection) (clear-same s.number connection w.switch.connections)
+  by_action (Clear connection) = on connection clear_command (after_clear w.switch connection) (clear_same s.number connection w.switch.connections)
   by_action (Dtap connection sapi message) = by_length (is_layer_3 message) where
     by_length : (b : Bool) → OfTaken (λ v. AreLinedUp m v mobile s) (if b then sent_on w connection (Transfer (dlci_for sapi) message) w.switch else None)
     by_length true = on connection (Transfer (dlci_for sapi) message) w.switch refl
@@ -149,9 +149,9 @@ pub mobiles_keep_line_ups_new : (settings : Parameters) (events : List Event) (e
 mobiles_keep_line_ups_new settings events event mobile s beside alone lined =
     let w : Actors = world settings events in
     let calls : List Call = all_calls (new_actors settings) events mobile in
-    let lives : Lives (modulus_in settings) calls lined.one = MobilesLive-new settings events mobile lined.one lined.found in
-    after-taken (λ v. AreLinedUp (modulus_in settings) v mobile s) (event_after w event) w
-    (beside_stays event beside (good-all (new_actors settings) events (good-new settings)) (record {
+    let lives : HasMadeCalls (modulus_in settings) calls lined.one = MobilesLive-new settings events mobile lined.one lined.found in
+    after_taken (λ v. AreLinedUp (modulus_in settings) v mobile s) (event_after w event) w
+    (beside_stays event beside (good_all (new_actors settings) events (good_new settings)) (record {
       found = lined.found;
       modulus = ap (λ (e : MobileState). e.modulus) lives.is ∙ (IsKept-calls (new_mobile (modulus_in settings)) calls).modulus;
       lined = lined.lined;

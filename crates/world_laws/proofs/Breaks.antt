@@ -6,28 +6,28 @@ use Rattle.world_laws.proofs.Prelude.{AllByRecursion, flat_map, cases_Bool, eqb-
 use Rattle.world_laws.proofs.Prelude.{Channel, Place, SWITCH_LINK, Drain, Target, Connection, undone, used_channels, place_of, Held}
 use Rattle.world_laws.proofs.Prelude.{BaseState, after_take_down, Parameters, Event, AirMessage, with_item, after_break}
 use Rattle.world_laws.proofs.Prelude.{Actors, Mobile, Link, broken_link, with_link, modulus_in, is_up, is_station_up, base_of}
-use Rattle.world_laws.proofs.Prelude.{with_base, outbox_of, spot_at, base-elsewhere, base-there, broken-leads, after-taken, and-right}
+use Rattle.world_laws.proofs.Prelude.{with_base, outbox_of, spot_at, base-elsewhere, base-there, broken_leads, after_taken, and_right}
 use Rattle.world_laws.proofs.Prelude.{AllByRecursion-so, no-length, forwarded, Alive, remains, left, ended, flow, messages_in, controls_in}
 use Rattle.world_laws.proofs.Prelude.{texts_in, released, brings_in, made_of, coming_up, leading_from_air, leading_from_outbox, going_down}
 use Rattle.world_laws.proofs.Prelude.{seat_from, remembered, is_ended, draining_tenure, old_tenure, old_tenures, serving_hold}
 use Rattle.world_laws.proofs.Prelude.{serving_tenure, commanded_target, target_tenure, is_changing, waiting_of, taken_of, assembled}
 use Rattle.world_laws.proofs.Prelude.{line_up, Leads, NoneOn, LinedUp, AreLinedUp, EndsLast, StationBreaksKeepLineUps}
 use Rattle.conn_rules.specs.Streams.{target_in}
-use Rattle.world_laws.specs.LineUp.Alive.{Stands}
-use Rattle.world_laws.specs.LineUp.Alive.Stands.{waits, leaves, arrives, returns}
+use Rattle.world_laws.specs.LineUp.Alive.{ChangePhase}
+use Rattle.world_laws.specs.LineUp.Alive.ChangePhase.{waits, leaves, arrives, returns}
 use Rattle.world_laws.specs.LineUp.Places.{Item, Seat}
 use Rattle.world_laws.specs.LineUp.Places.Item.{brought}
 use Rattle.world_laws.proofs.LineUp.Lines.{messages_in-append, controls_front, texts_front}
 use Rattle.ruled_relay.specs.declared.item.What.TheVariants as whats
 use Rattle.world_model.specs.Life.{event_after}
-use Rattle.world_laws.specs.LineUps.{came}
-use Rattle.world_laws.proofs.Apart.{target-in}
+use Rattle.world_laws.specs.LineUps.{has_arrived}
+use Rattle.world_laws.proofs.Apart.{target_in_is_so}
 use Rattle.world_laws.proofs.Cutting.{Cuts, AllCut, cuts_itself, alive_cut}
 use Rattle.world_laws.proofs.Cutting.Cuts.{whole, breaks}
 use Rattle.world_laws.proofs.Framing.{all_left, all_right, lined-same}
-use Rattle.world_laws.proofs.Quiet.{all_of, ArePlaced, down-with_base}
+use Rattle.world_laws.proofs.Quiet.{all_of, ArePlaced, down_with_base}
 use Rattle.world_laws.proofs.Seeing.{SameTenures, sits_same, leads_same}
-use Rattle.world_laws.proofs.Spots.{set-apart, tenure-with_base}
+use Rattle.world_laws.proofs.Spots.{set-apart, tenure_with_base}
 use Rattle.world_laws.proofs.Sublists.{Sub, sub_itself, sub_none, sub_append, sub_flat_map, sub_length, sub_all, sub_nothing, set_related}
 use Rattle.world_laws.proofs.Events.{world}
 
@@ -91,27 +91,27 @@ old_breaks before after up now_up [] holds broken last = tt
 old_breaks before after up now_up (d ∷ ds) [] broken last = let a = one_breaks before after up now_up d ds [] broken last in (a.0, old_breaks before after up now_up ds [] a.1.0 a.1.1)
 old_breaks before after up now_up (d ∷ ds) (held ∷ others) broken last = let a = one_breaks before after up now_up d ds held.zero broken last in (a.0, old_breaks before after up now_up ds others a.1.0 a.1.1)
 
--- nothing came of a target that the mobile didn't come to
-no_texts : {opening : Bool} {commands serving texts target link : ℕ} {seat : Seat} → came seat ≡ false → Stands opening true commands seat serving texts target link → texts ≡ 0
+-- nothing has_arrived of a target that the mobile didn't come to
+no_texts : {opening : Bool} {commands serving texts target link : ℕ} {seat : Seat} → has_arrived seat ≡ false → ChangePhase opening true commands seat serving texts target link → texts ≡ 0
 no_texts away (waits here few none) = omega arith
 no_texts away (leaves none) = omega arith
 no_texts away (arrives remains none few) = absurd cc
 no_texts away (arrives left none few) = absurd cc
 no_texts away (returns here none few) = omega arith
 
-target-bare : (f : Place → List Item) (up : ℕ → Bool) (seat : Seat) (o : Option Target) {opening : Bool} {commands serving target link : ℕ} → Stands opening (is_changing o) commands seat serving (texts_in (target_tenure f up seat o).items) target link → came seat ≡ false → texts_in (target_tenure f up seat o).items ≡ 0
-target-bare f up seat None stands away = refl
-target-bare f up seat (Some t) stands away = no_texts away stands
+target_bare : (f : Place → List Item) (up : ℕ → Bool) (seat : Seat) (o : Option Target) {opening : Bool} {commands serving target link : ℕ} → ChangePhase opening (is_changing o) commands seat serving (texts_in (target_tenure f up seat o).items) target link → has_arrived seat ≡ false → texts_in (target_tenure f up seat o).items ≡ 0
+target_bare f up seat None stands away = refl
+target_bare f up seat (Some t) stands away = no_texts away stands
 
 target_breaks_in : (before after : Place → List Item) (up now_up : ℕ → Bool) (seat : Seat) (o : Option Target) → ((t : Target) → o ≡ Some t → Breaks (up t.channel.station) (now_up t.channel.station) (before (place_of t.channel)) (after (place_of t.channel)))
-    → (came seat ≡ false → texts_in (target_tenure before up seat o).items ≡ 0) → Cuts (target_tenure before up seat o) (target_tenure after now_up seat o)
+    → (has_arrived seat ≡ false → texts_in (target_tenure before up seat o).items ≡ 0) → Cuts (target_tenure before up seat o) (target_tenure after now_up seat o)
 target_breaks_in before after up now_up seat None broken none = cuts_itself (target_tenure before up seat None)
-target_breaks_in before after up now_up seat (Some t) broken none = target_breaks (up t.channel.station) (now_up t.channel.station) (before (place_of t.channel)) (after (place_of t.channel)) (came seat) none (broken t refl)
+target_breaks_in before after up now_up seat (Some t) broken none = target_breaks (up t.channel.station) (now_up t.channel.station) (before (place_of t.channel)) (after (place_of t.channel)) (has_arrived seat) none (broken t refl)
 
--- a target is lost only where its mobile came
-pub target_came : (after : Place → List Item) (now_up : ℕ → Bool) (seat : Seat) (o : Option Target) → (target_tenure after now_up seat o).is_lost ≡ true → came seat ≡ true
+-- a target is lost only where its mobile has_arrived
+pub target_came : (after : Place → List Item) (now_up : ℕ → Bool) (seat : Seat) (o : Option Target) → (target_tenure after now_up seat o).is_lost ≡ true → has_arrived seat ≡ true
 target_came after now_up seat None is = absurd cc
-target_came after now_up seat (Some t) is = and-right (not (now_up t.channel.station)) (came seat) is
+target_came after now_up seat (Some t) is = and_right (not (now_up t.channel.station)) (has_arrived seat) is
 
 -- ---- the world
 
@@ -159,7 +159,7 @@ all_broken w station (c ∷ cs) placed station_is up = (coming_broken w station 
 
 down_broken : (w : Actors) (station : ℕ) (at : Place) → Sub (going_down (broken_world w station) at) (going_down w at)
 down_broken w station at =
-    subst (λ (entries : List AirMessage). Sub entries (going_down w at)) (sym (down-with_base (with_link station broken_link w) station (after_take_down (base_of w station)) at))
+    subst (λ (entries : List AirMessage). Sub entries (going_down w at)) (sym (down_with_base (with_link station broken_link w) station (after_take_down (base_of w station)) at))
     (sub_append (sub_itself (flat_map leading_from_air (spot_at w at).air)) (sub_flat_map (leading_from_outbox at.number)
     (set_related (λ (a b : Link). Sub a.outbox b.outbox) (λ link. sub_itself link.outbox) w.links broken_link station at.station broken_link (sub_none (outbox_of w station)))))
 
@@ -172,7 +172,7 @@ keeps_broken {m} {w} {s} p station station_is up last kept = record {
       (flow (waiting_of w s.number)) (flow (taken_of w s.number)) (let fewer = sub_length (down_broken w station (place_of s.serving)) in omega arith)
       (old_breaks (coming_up w) (coming_up v) (is_station_up w) (is_station_up v) s.draining s.up.tenures (all_left (λ c. Breaks (is_station_up w c.station) (is_station_up v c.station) (coming_up w (place_of c)) (coming_up v (place_of c))) (undone s.draining) (s.serving ∷ target_in s.state) broken) last)
       (serving_breaks (is_station_up w s.serving.station) (is_station_up v s.serving.station) (coming_up w (place_of s.serving)) (coming_up v (place_of s.serving)) hold rest.0)
-      (target_breaks_in (coming_up w) (coming_up v) (is_station_up w) (is_station_up v) sits (commanded_target s.state) of_target (target-bare (coming_up w) (is_station_up w) sits (commanded_target s.state) kept.alive.stands))
+      (target_breaks_in (coming_up w) (coming_up v) (is_station_up w) (is_station_up v) sits (commanded_target s.state) of_target (target_bare (coming_up w) (is_station_up w) sits (commanded_target s.state) kept.alive.stands))
       (target_came (coming_up v) (is_station_up v) sits (commanded_target s.state)) kept.alive);
   sits = sits_same same_tenures kept.sits;
   led = AllByRecursion-so (λ a. Leads w a (commanded_target s.state)) (λ a. Leads v a (commanded_target s.state)) (λ a. leads_same same_tenures) (going_down v (place_of s.serving)) (sub_all (λ a. Leads w a (commanded_target s.state)) (down_broken w station (place_of s.serving)) kept.led);
@@ -193,7 +193,7 @@ keeps_broken {m} {w} {s} p station station_is up last kept = record {
   commands = length (going_down v (place_of s.serving)) + remembered p.seat
 
   same_tenures : SameTenures w v
-  same_tenures at = tenure-with_base (with_link station broken_link w) station (after_take_down (base_of w station)) at
+  same_tenures at = tenure_with_base (with_link station broken_link w) station (after_take_down (base_of w station)) at
 
   broken : AllBreak (coming_up w) (coming_up v) (is_station_up w) (is_station_up v) (used_channels s)
   broken = all_broken w station (used_channels s) kept.placed station_is up
@@ -202,7 +202,7 @@ keeps_broken {m} {w} {s} p station station_is up last kept = record {
   rest = all_right (λ c. Breaks (is_station_up w c.station) (is_station_up v c.station) (coming_up w (place_of c)) (coming_up v (place_of c))) (undone s.draining) (s.serving ∷ target_in s.state) broken
 
   of_target : (t : Target) → commanded_target s.state ≡ Some t → Breaks (is_station_up w t.channel.station) (is_station_up v t.channel.station) (coming_up w (place_of t.channel)) (coming_up v (place_of t.channel))
-  of_target t is = (subst (AllBreak (coming_up w) (coming_up v) (is_station_up w) (is_station_up v)) (target-in s.state t is) rest.1).0
+  of_target t is = (subst (AllBreak (coming_up w) (coming_up v) (is_station_up w) (is_station_up v)) (target_in_is_so s.state t is) rest.1).0
 
   none_on : (o : Option Target) → NoneOn w o → NoneOn v o
   none_on None none = none
@@ -217,5 +217,5 @@ pub station_breaks_keep_line_ups_new : (settings : Parameters) (events : List Ev
 unfolding event_after
 station_breaks_keep_line_ups_new settings events station mobile s station_is last lined =
     let w : Actors = world settings events in
-    after-taken (λ v. AreLinedUp (modulus_in settings) v mobile s) (after_break w station) w
-    (broken-leads (λ v. AreLinedUp (modulus_in settings) v mobile s) w station (λ up is. absurd (station_is is)) (λ up _. record { one = lined.one; found = lined.found; lined = keeps_broken lined.one station station_is up last lined.lined })) lined
+    after_taken (λ v. AreLinedUp (modulus_in settings) v mobile s) (after_break w station) w
+    (broken_leads (λ v. AreLinedUp (modulus_in settings) v mobile s) w station (λ up is. absurd (station_is is)) (λ up _. record { one = lined.one; found = lined.found; lined = keeps_broken lined.one station station_is up last lined.lined })) lined

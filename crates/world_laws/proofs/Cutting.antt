@@ -7,9 +7,9 @@ use Rattle.world_laws.proofs.Prelude.{controls_in, texts_in, on_serving, on_targ
 use Rattle.world_laws.proofs.Prelude.{assembled}
 use Rattle.world_laws.specs.LineUp.Places.{Tenure, Seat}
 use Rattle.world_laws.proofs.LineUp.Following.{follows_line, follows_front}
-use Rattle.world_laws.proofs.LineUp.Lines.{flow-append, controls-append}
+use Rattle.world_laws.proofs.LineUp.Lines.{flow-append, controls_append}
 use Rattle.world_laws.proofs.LineUp.Standing.{stands_fewer}
-use Rattle.world_laws.specs.LineUps.{came}
+use Rattle.world_laws.specs.LineUps.{has_arrived}
 
 -- ---- tenures
 
@@ -32,7 +32,7 @@ cuts_hold (breaks dropped hold messages lost) = hold
 
 -- counts of a list and of its front
 front_controls : (xs ys : List (List ℕ)) → controls_of xs ≤ controls_of (xs ++ ys)
-front_controls xs ys = let both = controls-append xs ys in omega arith
+front_controls xs ys = let both = controls_append xs ys in omega arith
 
 pub cuts_controls : {t u : Tenure} → Cuts t u → controls_in u.items ≤ controls_in t.items
 cuts_controls (whole hold messages controls lost) = controls
@@ -52,8 +52,8 @@ pub record CutLine (ts us : List Tenure) : Type 0 where
   -- where nothing of it is missing, nothing went
   pub none : some_lost us ≡ false → (more ≡ []) × (some_lost ts ≡ false)
 
-part-whole : (t u : Tenure) → u.hold ≡ t.hold → flow (messages_in u.items) ≡ flow (messages_in t.items) → part_of t ≡ part_of u
-part-whole t u hold messages = ap (λ (h : List (List ℕ)). flow h ++ flow (messages_in t.items)) (sym hold) ∙ ap (λ (ms : List (List ℕ)). flow u.hold ++ ms) (sym messages)
+part_whole : (t u : Tenure) → u.hold ≡ t.hold → flow (messages_in u.items) ≡ flow (messages_in t.items) → part_of t ≡ part_of u
+part_whole t u hold messages = ap (λ (h : List (List ℕ)). flow h ++ flow (messages_in t.items)) (sym hold) ∙ ap (λ (ms : List (List ℕ)). flow u.hold ++ ms) (sym messages)
 
 pub cut_line : (ts us : List Tenure) → AllCut ts us → CutLine ts us
 cut_line [] [] all = record { more = []; parts = refl; none = λ is. (refl, refl) }
@@ -72,7 +72,7 @@ cut_line (t ∷ ts) (u ∷ us) all = by_cut all.0 (cut_line ts us all.1) where
   }
   by_cut (whole hold messages controls lost) rest = by_lost t.is_lost refl where
     same : part_of t ≡ part_of u
-    same = part-whole t u hold messages
+    same = part_whole t u hold messages
 
     by_lost : (b : Bool) → t.is_lost ≡ b → CutLine (t ∷ ts) (u ∷ us)
     by_lost true is = record {
@@ -104,7 +104,7 @@ first_cut confirmed (t ∷ ts) [] hold hold2 all same first = elim all [ ]
 -- ---- conditions
 
 -- by what is lost
-pub condition_of : (seat : Seat) (old serving target : Bool) → (target ≡ true → came seat ≡ true) → Condition seat old serving target (not (is_gone seat) && not old && not serving && not target)
+pub condition_of : (seat : Seat) (old serving target : Bool) → (target ≡ true → has_arrived seat ≡ true) → Condition seat old serving target (not (is_gone seat) && not old && not serving && not target)
 condition_of gone old serving target there = left_the_cell
 condition_of on_serving false true target there = lost_serving
 condition_of on_serving false false true there = absurd (false≢true (there refl))
@@ -118,15 +118,15 @@ condition_of moving false false false there = sound
 condition_of _ _ serving target there = lost_old
 
 -- of the whole line
-some-behind : (ts us : List Tenure) → some_lost (ts ++ us) ≡ (some_lost ts || some_lost us)
-some-behind [] us = refl
-some-behind (t ∷ ts) us = by_lost t.is_lost (some-behind ts us) where
+some_behind : (ts us : List Tenure) → some_lost (ts ++ us) ≡ (some_lost ts || some_lost us)
+some_behind [] us = refl
+some_behind (t ∷ ts) us = by_lost t.is_lost (some_behind ts us) where
   by_lost : (b : Bool) → some_lost (ts ++ us) ≡ (some_lost ts || some_lost us) → (b || some_lost (ts ++ us)) ≡ ((b || some_lost ts) || some_lost us)
   by_lost true is = refl
   by_lost false is = is
 
-intact-line : (seat : Seat) (old : List Tenure) (serving target : Tenure) → is_intact seat old serving target ≡ (not (is_gone seat) && not (some_lost (old ++ serving ∷ target ∷ [])))
-intact-line seat old serving target = by_all (not (is_gone seat)) (some_lost old) serving.is_lost target.is_lost ∙ ap (λ (b : Bool). not (is_gone seat) && not b) (sym (some-behind old (serving ∷ target ∷ []))) where
+intact_line : (seat : Seat) (old : List Tenure) (serving target : Tenure) → is_intact seat old serving target ≡ (not (is_gone seat) && not (some_lost (old ++ serving ∷ target ∷ [])))
+intact_line seat old serving target = by_all (not (is_gone seat)) (some_lost old) serving.is_lost target.is_lost ∙ ap (λ (b : Bool). not (is_gone seat) && not b) (sym (some_behind old (serving ∷ target ∷ []))) where
   by_all : (g a b c : Bool) → (g && not a && not b && not c) ≡ (g && not (a || (b || (c || false))))
   by_all true false false true = refl
   by_all _ _ _ _ = refl
@@ -134,7 +134,7 @@ intact-line seat old serving target = by_all (not (is_gone seat)) (some_lost old
 -- ---- the line-up
 
 pub alive_cut : {m : ℕ} (sent : List (List ℕ)) (link : DataLinkState) (seat : Seat) (state : State) (commands commands2 : ℕ) (old old2 : List Tenure) (serving serving2 target target2 : Tenure) (out taken : List (List ℕ)) → commands2 ≤ commands → AllCut old old2 → Cuts serving serving2 → Cuts target target2
-    → (target2.is_lost ≡ true → came seat ≡ true) → Alive m (assembled sent link seat state commands old serving target out taken) → Alive m (assembled sent link seat state commands2 old2 serving2 target2 out taken)
+    → (target2.is_lost ≡ true → has_arrived seat ≡ true) → Alive m (assembled sent link seat state commands old serving target out taken) → Alive m (assembled sent link seat state commands2 old2 serving2 target2 out taken)
 alive_cut {m} sent link seat state commands commands2 old old2 serving serving2 target target2 out taken fewer all cut_serving cut_target there alive = record {
   follows = by_intact (is_intact seat old2 serving2 target2) refl;
   first = first_cut (is_confirmed state) old old2 serving.hold serving2.hold all (cuts_hold cut_serving) alive.first;
@@ -166,7 +166,7 @@ alive_cut {m} sent link seat state commands commands2 old old2 serving serving2 
   by_intact : (b : Bool) → is_intact seat old2 serving2 target2 ≡ b → Follows m sent now link b
   by_intact false is = follows_front now whole_line.more was alive.follows
   by_intact true is =
-      let both = right (not (is_gone seat)) (not (some_lost (old2 ++ serving2 ∷ target2 ∷ []))) (sym (intact-line seat old2 serving2 target2) ∙ is) in
+      let both = right (not (is_gone seat)) (not (some_lost (old2 ++ serving2 ∷ target2 ∷ []))) (sym (intact_line seat old2 serving2 target2) ∙ is) in
       let none = whole_line.none (not_is (some_lost (old2 ++ serving2 ∷ target2 ∷ [])) both.1) in
-      let intact : is_intact seat old serving target ≡ true = intact-line seat old serving target ∙ ap (λ (b : Bool). not (is_gone seat) && not b) none.1 ∙ ap (λ (b : Bool). b && true) both.0 in
+      let intact : is_intact seat old serving target ≡ true = intact_line seat old serving target ∙ ap (λ (b : Bool). not (is_gone seat) && not b) none.1 ∙ ap (λ (b : Bool). b && true) both.0 in
       subst (Follows m sent now link) intact (follows_line (was ∙ ap (λ (xs : List (List ℕ)). now ++ xs) none.0 ∙ append-nil now) alive.follows)

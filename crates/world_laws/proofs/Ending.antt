@@ -21,8 +21,8 @@ line_ups_may_end_new m w mobile s lined = record { one = lined.one; found = line
 
 -- ---- what waits for the switch
 
-waiting-append : (entries more : List OutboxEntry) (number : ℕ) → waiting_in (entries ++ more) number ≡ waiting_in entries number ++ waiting_in more number
-waiting-append entries more number =
+waiting_append : (entries more : List OutboxEntry) (number : ℕ) → waiting_in (entries ++ more) number ≡ waiting_in entries number ++ waiting_in more number
+waiting_append entries more number =
     ap (λ (outs : List Out). map (λ f. f.message) (forwarded outs number)) (map-append (λ (entry : OutboxEntry). entry.out) entries more)
     ∙ ap (λ (fs : List Forwarded). map (λ f. f.message) fs) (forwarded-append (map (λ entry. entry.out) entries) (map (λ entry. entry.out) more) number)
     ∙ map-append (λ (f : Forwarded). f.message) (forwarded (map (λ entry. entry.out) entries) number) (forwarded (map (λ entry. entry.out) more) number)
@@ -30,7 +30,7 @@ waiting-append entries more number =
 nothing_waits : (entries : List OutboxEntry) (number : ℕ) → AllByRecursion (λ entry. carried_for number entry.out ≡ []) entries → waiting_in entries number ≡ []
 unfolding forwarded
 nothing_waits [] number none = refl
-nothing_waits (entry ∷ entries) number none = waiting-append (entry ∷ []) entries number ∙ ap (λ (xs : List (List ℕ)). xs ++ waiting_in entries number) none.0 ∙ nothing_waits entries number none.1
+nothing_waits (entry ∷ entries) number none = waiting_append (entry ∷ []) entries number ∙ ap (λ (xs : List (List ℕ)). xs ++ waiting_in entries number) none.0 ∙ nothing_waits entries number none.1
 
 -- ---- the event
 
@@ -43,7 +43,7 @@ moved_by {m} {sent} {w} {v} {event} number (goes same flows) none takes ended = 
 
   waits : waiting_of w number ≡ first ++ waiting_of v number
   waits = sym (append-nil (waiting_of w number)) ∙ ap (λ (xs : List (List ℕ)). waiting_of w number ++ xs) (sym (nothing_waits (put SWITCH_LINK w event) number none))
-      ∙ sym (waiting-append (outbox_of w SWITCH_LINK) (put SWITCH_LINK w event) number) ∙ ap (λ (entries : List OutboxEntry). waiting_in entries number) flows ∙ waiting-append (taken SWITCH_LINK w event) (outbox_of v SWITCH_LINK) number
+      ∙ sym (waiting_append (outbox_of w SWITCH_LINK) (put SWITCH_LINK w event) number) ∙ ap (λ (entries : List OutboxEntry). waiting_in entries number) flows ∙ waiting_append (taken SWITCH_LINK w event) (outbox_of v SWITCH_LINK) number
 
   line : flow (taken_of w number) ++ flow (waiting_of w number) ≡ flow (taken_of v number) ++ flow (waiting_of v number)
   line = ap (λ (xs : List (List ℕ)). flow (taken_of w number) ++ flow xs) waits ∙ ap (λ (xs : List (List ℕ)). flow (taken_of w number) ++ xs) (flow-append first (waiting_of v number))

@@ -6,7 +6,7 @@ use Rattle.world_laws.proofs.Prelude.{remembered, draining_tenure, old_tenure, o
 use Rattle.world_laws.proofs.Prelude.{target_tenure, assembled, lined}
 use Rattle.conn_rules.specs.Streams.{target_in}
 use Rattle.world_laws.specs.LineUp.Places.{Item, Tenure, Seat}
-use Rattle.world_laws.specs.LineUps.{came}
+use Rattle.world_laws.specs.LineUps.{has_arrived}
 
 -- ---- all of a list
 
@@ -35,22 +35,22 @@ one_same f g up up2 d ds hold ups same = by_done d.is_done same where
   by_done true all = (refl, all)
   by_done false all = (ap (λ (items : List Item). draining_tenure (up d.channel.station) items hold) all.0 ∙ ap (λ (b : Bool). draining_tenure b (g (place_of d.channel)) hold) (ups d.channel.station), all.1)
 
-pub old-same : (f g : Place → List Item) (up up2 : ℕ → Bool) (ds : List Drain) (holds : List Held) → AreUp up up2 → AreSame f g (undone ds) → old_tenures f up ds holds ≡ old_tenures g up2 ds holds
-old-same f g up up2 [] holds ups same = refl
-old-same f g up up2 (d ∷ ds) [] ups same =
+pub old_same : (f g : Place → List Item) (up up2 : ℕ → Bool) (ds : List Drain) (holds : List Held) → AreUp up up2 → AreSame f g (undone ds) → old_tenures f up ds holds ≡ old_tenures g up2 ds holds
+old_same f g up up2 [] holds ups same = refl
+old_same f g up up2 (d ∷ ds) [] ups same =
     let a = one_same f g up up2 d ds [] ups same in
-    ap (λ (t : Tenure). t ∷ old_tenures f up ds []) a.0 ∙ ap (λ (ts : List Tenure). old_tenure g up2 d [] ∷ ts) (old-same f g up up2 ds [] ups a.1)
-old-same f g up up2 (d ∷ ds) (held ∷ others) ups same =
+    ap (λ (t : Tenure). t ∷ old_tenures f up ds []) a.0 ∙ ap (λ (ts : List Tenure). old_tenure g up2 d [] ∷ ts) (old_same f g up up2 ds [] ups a.1)
+old_same f g up up2 (d ∷ ds) (held ∷ others) ups same =
     let a = one_same f g up up2 d ds held.zero ups same in
-    ap (λ (t : Tenure). t ∷ old_tenures f up ds others) a.0 ∙ ap (λ (ts : List Tenure). old_tenure g up2 d held.zero ∷ ts) (old-same f g up up2 ds others ups a.1)
+    ap (λ (t : Tenure). t ∷ old_tenures f up ds others) a.0 ∙ ap (λ (ts : List Tenure). old_tenure g up2 d held.zero ∷ ts) (old_same f g up up2 ds others ups a.1)
 
-pub serving-same : (f g : Place → List Item) (up up2 : ℕ → Bool) (c : Channel) (hold : List (List ℕ)) → AreUp up up2 → f (place_of c) ≡ g (place_of c) → serving_tenure f up c hold ≡ serving_tenure g up2 c hold
-serving-same f g up up2 c hold ups same = ap (λ (items : List Item). record (serving_tenure g up c hold) { items = items }) same ∙ ap (λ (b : Bool). record (serving_tenure g up2 c hold) { is_lost = not b }) (ups c.station)
+pub serving_same : (f g : Place → List Item) (up up2 : ℕ → Bool) (c : Channel) (hold : List (List ℕ)) → AreUp up up2 → f (place_of c) ≡ g (place_of c) → serving_tenure f up c hold ≡ serving_tenure g up2 c hold
+serving_same f g up up2 c hold ups same = ap (λ (items : List Item). record (serving_tenure g up c hold) { items = items }) same ∙ ap (λ (b : Bool). record (serving_tenure g up2 c hold) { is_lost = not b }) (ups c.station)
 
-pub target-same : (f g : Place → List Item) (up up2 : ℕ → Bool) (seat : Seat) (state : State) → AreUp up up2 → AreSame f g (target_in state) → target_tenure f up seat (commanded_target state) ≡ target_tenure g up2 seat (commanded_target state)
-target-same f g up up2 seat (Live reference (Changing target)) ups same =
-    ap (λ (items : List Item). record (target_tenure g up seat (Some target)) { items = items }) same.0 ∙ ap (λ (b : Bool). record (target_tenure g up2 seat (Some target)) { is_lost = not b && came seat }) (ups target.channel.station)
-target-same f g up up2 seat _ ups same = refl
+pub target_same : (f g : Place → List Item) (up up2 : ℕ → Bool) (seat : Seat) (state : State) → AreUp up up2 → AreSame f g (target_in state) → target_tenure f up seat (commanded_target state) ≡ target_tenure g up2 seat (commanded_target state)
+target_same f g up up2 seat (Live reference (Changing target)) ups same =
+    ap (λ (items : List Item). record (target_tenure g up seat (Some target)) { items = items }) same.0 ∙ ap (λ (b : Bool). record (target_tenure g up2 seat (Some target)) { is_lost = not b && has_arrived seat }) (ups target.channel.station)
+target_same f g up up2 seat _ ups same = refl
 
 -- ---- line-ups
 
@@ -64,6 +64,6 @@ pub lined-same : (f g : Place → List Item) (up up2 : ℕ → Bool) (commands c
 lined-same f g up up2 commands commands2 out out2 taken taken2 p q s same ups same_commands same_out same_taken sent zero seat =
     let rest : AreSame f g (s.serving ∷ target_in s.state) = all_right (λ c. f (place_of c) ≡ g (place_of c)) (undone s.draining) (s.serving ∷ target_in s.state) same in
     assembled-same s.state sent zero (ap (seat_from s.serving) seat) (ap (λ (entries : List AirMessage). length entries + remembered p.seat) same_commands ∙ ap (λ (seat : MobileSeat). length commands2 + remembered seat) seat)
-    (old-same f g up up2 s.draining s.up.tenures ups (all_left (λ c. f (place_of c) ≡ g (place_of c)) (undone s.draining) (s.serving ∷ target_in s.state) same))
-    (serving-same f g up up2 s.serving (serving_hold s.draining s.up.tenures) ups rest.0)
-    (target-same f g up up2 (seat_from s.serving p.seat) s.state ups rest.1 ∙ ap (λ (seat : MobileSeat). target_tenure g up2 (seat_from s.serving seat) (commanded_target s.state)) seat) (ap flow same_out) (ap flow same_taken)
+    (old_same f g up up2 s.draining s.up.tenures ups (all_left (λ c. f (place_of c) ≡ g (place_of c)) (undone s.draining) (s.serving ∷ target_in s.state) same))
+    (serving_same f g up up2 s.serving (serving_hold s.draining s.up.tenures) ups rest.0)
+    (target_same f g up up2 (seat_from s.serving p.seat) s.state ups rest.1 ∙ ap (λ (seat : MobileSeat). target_tenure g up2 (seat_from s.serving seat) (commanded_target s.state)) seat) (ap flow same_out) (ap flow same_taken)

@@ -4,6 +4,7 @@ use Rattle.world_laws.proofs.Prelude.{Assignment, Handover, Channel, Place, Conn
 use Rattle.world_laws.proofs.Prelude.{Draining, WaitActivation, WaitEstablish, WaitConfirm, Live, Removed, roles_stay, role_commands}
 use Rattle.world_laws.proofs.Prelude.{role_completes, role_goes_back, place_at, Zero, Three, same_place, released, on_serving, on_target}
 use Rattle.world_laws.proofs.Prelude.{moving, gone, awaited_in, IsRequested}
+use Rattle.octets.proofs.Hex.{hex}
 use Rattle.conn_rules.specs.declared.input.Input.TheVariants as inputs
 use Rattle.world_laws.specs.LineUp.Places.{Item}
 use Rattle.world_laws.specs.LineUp.Places.Item.{brought}
@@ -11,13 +12,13 @@ use Rattle.world_laws.specs.OwnItem.{said_by, IsRead, IsBesideTarget, CommandsAf
 
 -- ---- what an input brings
 
-dtap_brings : map (said_by (inputs.Dtap (place_at 1 0x41) Zero (0x03 ∷ 0x45 ∷ [])) []) (place_at 1 0x41 ∷ place_at 1 0x0a ∷ place_at 2 0x41 ∷ []) ≡ (brought (0x03 ∷ 0x45 ∷ []) ∷ []) ∷ [] ∷ [] ∷ []
+dtap_brings : map (said_by (inputs.Dtap (place_at 1 0x41) Zero (hex "03 45")) []) (place_at 1 0x41 ∷ place_at 1 0x0a ∷ place_at 2 0x41 ∷ []) ≡ (brought (hex "03 45") ∷ []) ∷ [] ∷ [] ∷ []
 dtap_brings = refl
 
-short_message_brings_nothing : said_by (inputs.Dtap (place_at 1 0x41) Three (0x09 ∷ 0x01 ∷ [])) [] (place_at 1 0x41) ≡ []
+short_message_brings_nothing : said_by (inputs.Dtap (place_at 1 0x41) Three (hex "09 01")) [] (place_at 1 0x41) ≡ []
 short_message_brings_nothing = refl
 
-complete_brings_its_text : said_by (inputs.Complete (place_at 1 0x41) Assignment (record { 0 = 0 })) (0x06 ∷ 0x29 ∷ 0x00 ∷ []) (place_at 1 0x41) ≡ brought (0x06 ∷ 0x29 ∷ 0x00 ∷ []) ∷ []
+complete_brings_its_text : said_by (inputs.Complete (place_at 1 0x41) Assignment (record { 0 = 0 })) (hex "06 29 00") (place_at 1 0x41) ≡ brought (hex "06 29 00") ∷ []
 complete_brings_its_text = refl
 
 release_ends : map (said_by (inputs.ReleaseAck (place_at 1 0x41)) []) (place_at 1 0x41 ∷ place_at 1 0x0a ∷ []) ≡ (released ∷ []) ∷ [] ∷ []
@@ -38,22 +39,22 @@ no_command_is_put = (omega arith, λ one. omega arith)
 same_places : map (λ at. same_place at (place_at 1 0x41)) (place_at 1 0x41 ∷ place_at 1 0x0a ∷ place_at 2 0x41 ∷ []) ≡ true ∷ false ∷ false ∷ []
 same_places = refl
 
-an_initial_message_brings : said_by (inputs.EstablishIndication (place_at 1 0x41) Zero (Some (0x05 ∷ 0x24 ∷ []))) [] (place_at 1 0x41) ≡ brought (0x05 ∷ 0x24 ∷ []) ∷ []
+an_initial_message_brings : said_by (inputs.EstablishIndication (place_at 1 0x41) Zero (Some (hex "05 24"))) [] (place_at 1 0x41) ≡ brought (hex "05 24") ∷ []
 an_initial_message_brings = refl
 
 a_link_brings_nothing : said_by (inputs.EstablishIndication (place_at 1 0x41) Zero None) [] (place_at 1 0x41) ≡ []
 a_link_brings_nothing = refl
 
-failure_brings_its_text : said_by (inputs.Failure (place_at 1 0x41) Handover (record { 0 = 0 })) (0x06 ∷ 0x28 ∷ 0x00 ∷ []) (place_at 1 0x41) ≡ brought (0x06 ∷ 0x28 ∷ 0x00 ∷ []) ∷ []
+failure_brings_its_text : said_by (inputs.Failure (place_at 1 0x41) Handover (record { 0 = 0 })) (hex "06 28 00") (place_at 1 0x41) ≡ brought (hex "06 28 00") ∷ []
 failure_brings_its_text = refl
 
-a_downlink_brings_nothing : said_by (inputs.Downlink Zero (0x03 ∷ 0x45 ∷ [])) [] (place_at 1 0x41) ≡ []
+a_downlink_brings_nothing : said_by (inputs.Downlink Zero (hex "03 45")) [] (place_at 1 0x41) ≡ []
 a_downlink_brings_nothing = refl
 
-dtap_is_of_the_flow : IsRead (inputs.Dtap (place_at 1 0x41) Zero (0x03 ∷ 0x45 ∷ [])) [] × (IsRead (inputs.Dtap (place_at 1 0x41) Zero (0x06 ∷ 0x29 ∷ [])) [] → ⊥)
+dtap_is_of_the_flow : IsRead (inputs.Dtap (place_at 1 0x41) Zero (hex "03 45")) [] × (IsRead (inputs.Dtap (place_at 1 0x41) Zero (hex "06 29")) [] → ⊥)
 dtap_is_of_the_flow = (refl, λ read. absurd cc)
 
-complete_is_of_radio_resource : IsRead (inputs.Complete (place_at 1 0x41) Assignment (record { 0 = 0 })) (0x06 ∷ 0x29 ∷ 0x00 ∷ []) × (IsRead (inputs.Complete (place_at 1 0x41) Assignment (record { 0 = 0 })) (0x03 ∷ 0x45 ∷ []) → ⊥)
+complete_is_of_radio_resource : IsRead (inputs.Complete (place_at 1 0x41) Assignment (record { 0 = 0 })) (hex "06 29 00") × (IsRead (inputs.Complete (place_at 1 0x41) Assignment (record { 0 = 0 })) (hex "03 45") → ⊥)
 complete_is_of_radio_resource = (refl, λ read. absurd cc)
 
 beside_the_target : IsBesideTarget (inputs.ActivationAck (place_at 1 0x41)) × IsBesideTarget (inputs.Failure (place_at 1 0x41) Handover (record { 0 = 0 })) × (IsBesideTarget (inputs.Complete (place_at 1 0x41) Handover (record { 0 = 0 })) → ⊥)
@@ -84,13 +85,13 @@ abbrev changing_connection : Connection
 changing_connection = record (new_connection 1 (channel_at 0x41) (record { access = 1; frame = 1 }) 0) { state = Live 5 (Changing (record { change = Assignment; channel = channel_at 0x0a })) }
 
 abbrev complete_text : List ℕ
-complete_text = 0x06 ∷ 0x29 ∷ 0x00 ∷ []
+complete_text = hex "06 29 00"
 
 complete_comes : Place → List Item
-complete_comes place = if same_place place (place_at 1 0x0a) then brought complete_text ∷ brought (0x03 ∷ 0x45 ∷ []) ∷ [] else []
+complete_comes place = if same_place place (place_at 1 0x0a) then brought complete_text ∷ brought (hex "03 45") ∷ [] else []
 
 text_comes : Place → List Item
-text_comes place = if same_place place (place_at 1 0x0a) then brought (0x03 ∷ 0x45 ∷ []) ∷ [] else []
+text_comes place = if same_place place (place_at 1 0x0a) then brought (hex "03 45") ∷ [] else []
 
 complete_is_found : Finds (inputs.Complete (place_at 1 0x0a) Assignment (record { 0 = 0 })) complete_text complete_comes text_comes changing_connection
 unfolding complete_comes text_comes
@@ -102,6 +103,6 @@ complete_is_found = record {
   silent = λ beside. absurd beside;
   whole = (tt, (((omega arith, omega arith), tt), tt));
 } where
-  by : (b : Bool) → (if b then brought complete_text ∷ brought (0x03 ∷ 0x45 ∷ []) ∷ [] else []) ≡ (if b then brought complete_text ∷ [] else []) ++ (if b then brought (0x03 ∷ 0x45 ∷ []) ∷ [] else [])
+  by : (b : Bool) → (if b then brought complete_text ∷ brought (hex "03 45") ∷ [] else []) ≡ (if b then brought complete_text ∷ [] else []) ++ (if b then brought (hex "03 45") ∷ [] else [])
   by true = refl
   by false = refl

@@ -24,22 +24,22 @@ like_itself t = record { hold = refl; messages = refl; lost = refl }
 pub like_released : (t : Tenure) → Like t (with_items t (t.items ++ released ∷ []))
 like_released t = record { hold = refl; messages = messages_in-append t.items (released ∷ []) ∙ append-nil (messages_in t.items); lost = refl }
 
-part-like : {t u : Tenure} → Like t u → part_of u ≡ part_of t
-part-like {t} {u} like = ap (λ (hold : List (List ℕ)). flow hold ++ flow (messages_in u.items)) like.hold ∙ ap (λ (ms : List (List ℕ)). flow t.hold ++ flow ms) like.messages
+part_like : {t u : Tenure} → Like t u → part_of u ≡ part_of t
+part_like {t} {u} like = ap (λ (hold : List (List ℕ)). flow hold ++ flow (messages_in u.items)) like.hold ∙ ap (λ (ms : List (List ℕ)). flow t.hold ++ flow ms) like.messages
 
-parts-like : (ts us : List Tenure) → AllLike ts us → parts_of us ≡ parts_of ts
-parts-like [] [] all = refl
-parts-like (t ∷ ts) (u ∷ us) all =
-    ap (λ (part : List (List ℕ)). part ++ (if u.is_lost then [] else parts_of us)) (part-like all.0) ∙ ap (λ (b : Bool). part_of t ++ (if b then [] else parts_of us)) all.0.lost
-    ∙ ap (λ (parts : List (List ℕ)). part_of t ++ (if t.is_lost then [] else parts)) (parts-like ts us all.1)
-parts-like [] (u ∷ us) all = elim all [ ]
-parts-like (t ∷ ts) [] all = elim all [ ]
+parts_like : (ts us : List Tenure) → AllLike ts us → parts_of us ≡ parts_of ts
+parts_like [] [] all = refl
+parts_like (t ∷ ts) (u ∷ us) all =
+    ap (λ (part : List (List ℕ)). part ++ (if u.is_lost then [] else parts_of us)) (part_like all.0) ∙ ap (λ (b : Bool). part_of t ++ (if b then [] else parts_of us)) all.0.lost
+    ∙ ap (λ (parts : List (List ℕ)). part_of t ++ (if t.is_lost then [] else parts)) (parts_like ts us all.1)
+parts_like [] (u ∷ us) all = elim all [ ]
+parts_like (t ∷ ts) [] all = elim all [ ]
 
-lost-like : (ts us : List Tenure) → AllLike ts us → some_lost us ≡ some_lost ts
-lost-like [] [] all = refl
-lost-like (t ∷ ts) (u ∷ us) all = ap (λ (b : Bool). b || some_lost us) all.0.lost ∙ ap (λ (b : Bool). t.is_lost || b) (lost-like ts us all.1)
-lost-like [] (u ∷ us) all = elim all [ ]
-lost-like (t ∷ ts) [] all = elim all [ ]
+lost_like : (ts us : List Tenure) → AllLike ts us → some_lost us ≡ some_lost ts
+lost_like [] [] all = refl
+lost_like (t ∷ ts) (u ∷ us) all = ap (λ (b : Bool). b || some_lost us) all.0.lost ∙ ap (λ (b : Bool). t.is_lost || b) (lost_like ts us all.1)
+lost_like [] (u ∷ us) all = elim all [ ]
+lost_like (t ∷ ts) [] all = elim all [ ]
 
 behind_like : (ts us xs ys : List Tenure) → AllLike ts us → AllLike xs ys → AllLike (ts ++ xs) (us ++ ys)
 behind_like [] [] xs ys all more = more
@@ -64,15 +64,15 @@ pub alive_like : {m : ℕ} (sent : List (List ℕ)) (link : DataLinkState) (seat
     → Alive m (assembled sent link seat state commands old serving target out taken) → Alive m (assembled sent link seat state commands old2 serving2 target2 out taken)
 alive_like {m} sent link seat state commands old old2 serving serving2 target target2 out taken all like_serving like_target alive = record {
   follows = follows_to (ap (λ (parts : List (List ℕ)). flow taken ++ flow out ++ parts)
-      (sym (parts-like (old ++ serving ∷ target ∷ []) (old2 ++ serving2 ∷ target2 ∷ []) (behind_like old old2 (serving ∷ target ∷ []) (serving2 ∷ target2 ∷ []) all (like_serving, (like_target, tt)))))) (sym intact) alive.follows;
+      (sym (parts_like (old ++ serving ∷ target ∷ []) (old2 ++ serving2 ∷ target2 ∷ []) (behind_like old old2 (serving ∷ target ∷ []) (serving2 ∷ target2 ∷ []) all (like_serving, (like_target, tt)))))) (sym intact) alive.follows;
   first = first_like (is_confirmed state) old old2 serving.hold serving2.hold all like_serving.hold alive.first;
   stands =
       let a = ap controls_of like_serving.messages in
       let b = ap (λ (ms : List (List ℕ)). length (flow ms)) like_target.messages in
       let c = ap controls_of like_target.messages in
       stands_fewer (omega arith) (omega arith) (omega arith) (omega arith) (omega arith) alive.stands;
-  condition = condition_to (sym (lost-like old old2 all)) (sym like_serving.lost) (sym like_target.lost) (sym intact) alive.condition;
+  condition = condition_to (sym (lost_like old old2 all)) (sym like_serving.lost) (sym like_target.lost) (sym intact) alive.condition;
   bare = like_target.hold ∙ alive.bare;
 } where
   intact : is_intact seat old2 serving2 target2 ≡ is_intact seat old serving target
-  intact = rw (lost-like old old2 all, like_serving.lost, like_target.lost) refl
+  intact = rw (lost_like old old2 all, like_serving.lost, like_target.lost) refl

@@ -4,18 +4,18 @@ use Rattle.world_laws.proofs.Prelude.{append-nil, WaitConfirm, place_of, to_be_t
 use Rattle.world_laws.proofs.Prelude.{fresh, flow, messages_in, with_items, controls_of, controls_in, on_serving, serving_tenure, assembled}
 use Rattle.world_laws.proofs.Prelude.{OpeningLinesUp}
 use Rattle.world_laws.specs.LineUp.Alive.Follows.{goes_on}
-use Rattle.world_laws.specs.LineUp.Alive.Stands.{rests}
+use Rattle.world_laws.specs.LineUp.Alive.ChangePhase.{rests}
 use Rattle.world_laws.specs.LineUp.Places.{Item}
 use Rattle.world_laws.proofs.LineUp.Following.{follows_line}
 use Rattle.world_laws.proofs.LineUp.Lines.{flow-cons}
-use Rattle.mobile_end.specs.GoesOn.{GoesOn}
+use Rattle.mobile_end.specs.RunsToEnd.{RunsToEnd}
 use Rattle.world_laws.specs.OwnRow.{over}
 use Rattle.world_laws.proofs.Cutting.{Cuts, cuts_itself, alive_cut}
 use Rattle.world_laws.proofs.Cutting.Cuts.{breaks}
 use Rattle.world_laws.proofs.OwnRow.{flow-twice}
 
 -- the mobile's link goes on behind the initial message and what is on its way up behind it
-whole_opening : {m : ℕ} (sent : List (List ℕ)) (link : DataLinkState) (initial : List ℕ) (items : List Item) → GoesOn m sent (flow (initial ∷ messages_in items)) link → controls_in items + controls_of (to_be_taken link) ≡ 0
+whole_opening : {m : ℕ} (sent : List (List ℕ)) (link : DataLinkState) (initial : List ℕ) (items : List Item) → RunsToEnd m sent (flow (initial ∷ messages_in items)) link → controls_in items + controls_of (to_be_taken link) ≡ 0
     → Alive m (assembled sent link on_serving WaitConfirm 0 [] (with_items fresh items) fresh (flow (initial ∷ [])) [])
 whole_opening {m} sent link initial items goes none = record {
   follows = follows_line (flow-cons initial (messages_in items) ∙ ap (λ (xs : List (List ℕ)). xs ++ flow (messages_in items)) (sym (flow-twice (initial ∷ []))) ∙ ap (λ (xs : List (List ℕ)). flow (flow (initial ∷ [])) ++ xs) (sym (append-nil (flow (messages_in items))))) (goes_on goes);

@@ -143,9 +143,9 @@ message_none source (rsl.RfChannelReleaseAck channel) no_nack no_end = absurd (t
 message_none source _ no_nack no_end = tt
 
 -- the word of a message that a station made
-pub word-known : (source : ℕ) (message : Rsl) → source ≢ SWITCH_LINK → rsl_reading (rsl_text message) ≡ Ok message → word_of source (frame_of message) ≡ rsl_word source message
+pub word_known : (source : ℕ) (message : Rsl) → source ≢ SWITCH_LINK → rsl_reading (rsl_text message) ≡ Ok message → word_of source (frame_of message) ≡ rsl_word source message
 unfolding word_of
-word-known source message other_than read =
+word_known source message other_than read =
     ap (λ (b : Bool). body_word (if b && false then connection_control else if not b && true then radio_signalling else other) source (rsl_text message)) (ne_eqb source SWITCH_LINK other_than)
     ∙ ap (station_word source) read
 
@@ -207,7 +207,7 @@ message_heard at least source m c no_nack = (
 -- of the item of a station
 pub station_heard : (at : Place) (least : 1 ≤ at.station) (source : ℕ) (frame : Frame) (c : Controller) → source ≢ SWITCH_LINK → IsKnown (whats.Frame frame) → (hear (heard_of at (record { source = source; what = whats.Frame frame })) (channel_state c at) ≡ heard_by at least (word_of source frame) c) × NoNackWord (word_of source frame)
 station_heard at least source frame c station (m, is, read, no_nack) =
-    let word : word_of source frame ≡ rsl_word source m = ap (word_of source) is ∙ word-known source m station read in
+    let word : word_of source frame ≡ rsl_word source m = ap (word_of source) is ∙ word_known source m station read in
     let both = message_heard at least source m c no_nack in (
       ap (λ (o : Option Rsl). hear (acknowledgements at.number (if source == at.station then option_to_list o else [])) (channel_state c at)) (ap rsl_in is ∙ read_known m read)
           ∙ both.0 ∙ sym (ap (λ (x : Word). heard_by at least x c) word),

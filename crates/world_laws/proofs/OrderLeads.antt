@@ -10,7 +10,7 @@ use Rattle.conn_rules.specs.declared.input.Input.TheVariants as inputs
 use Rattle.conn_rules.specs.Table.{row_of}
 use Rattle.rsl_codec.specs.declared.common_channel.ImmediateAssignment.{ImmediateAssignment as Assignment}
 use Rattle.rsl_codec.specs.declared.rsl.Rsl.TheVariants as rsl
-use Rattle.world_laws.proofs.OrderTexts.{assignment_apart, read_of, said-other, said-own}
+use Rattle.world_laws.proofs.OrderTexts.{assignment_apart, read_of, said_other, said_own}
 
 -- a DATA REQUEST on the channel is of the connection that uses it, and the channel p too
 pub record LeadsUser (at p : Place) (c : Controller) : Type 0 where
@@ -27,10 +27,10 @@ LeadsOut at p c out = (d : DataMessage) → said_to at out ≡ Some (rsl.DataReq
 pub no_request : {X : Type 0} (at : Place) (n station : ℕ) (i : Assignment) (d : DataMessage) → IsSent (out_of n (Station station (rsl.ImmediateAssignCommand i)))
     → said_to at (out_of n (Station station (rsl.ImmediateAssignCommand i))) ≡ Some (rsl.DataRequest d) → X
 no_request at n station i d sent is = elim (cases_Bool (station == at.station)) [
-  | inr miss ↦ absurd (none-some _ (sym (said-other at n station (rsl.ImmediateAssignCommand i) miss) ∙ is))
+  | inr miss ↦ absurd (none-some _ (sym (said_other at n station (rsl.ImmediateAssignCommand i) miss) ∙ is))
   | inl hit ↦
       let read = read_of n station (rsl.ImmediateAssignCommand i) sent in
-      let said : read.0 ≡ rsl.DataRequest d = (let both : Some read.0 ≡ Some (rsl.DataRequest d) = sym (said-own at n station (rsl.ImmediateAssignCommand i) read.0 hit read.1) ∙ is in cc) in
+      let said : read.0 ≡ rsl.DataRequest d = (let both : Some read.0 ≡ Some (rsl.DataRequest d) = sym (said_own at n station (rsl.ImmediateAssignCommand i) read.0 hit read.1) ∙ is in cc) in
       absurd (assignment_apart i d (read.1.text ∙ ap rsl_text said))
 ]
 
@@ -41,10 +41,10 @@ assignment_leads at p c n station i sent d is same = no_request at n station i d
 pub request_place : (at : Place) (n : ℕ) (serving : Channel) (r d : DataMessage) → r.channel ≡ serving.number → IsSent (out_of n (Station serving.station (rsl.DataRequest r)))
     → said_to at (out_of n (Station serving.station (rsl.DataRequest r))) ≡ Some (rsl.DataRequest d) → d.channel ≡ at.number → place_of serving ≡ at
 request_place at n serving r d on sent is same = elim (cases_Bool (serving.station == at.station)) [
-  | inr miss ↦ absurd (none-some _ (sym (said-other at n serving.station (rsl.DataRequest r) miss) ∙ is))
+  | inr miss ↦ absurd (none-some _ (sym (said_other at n serving.station (rsl.DataRequest r) miss) ∙ is))
   | inl hit ↦
       let read = read_of n serving.station (rsl.DataRequest r) sent in
-      let said : read.0 ≡ rsl.DataRequest d = (let both : Some read.0 ≡ Some (rsl.DataRequest d) = sym (said-own at n serving.station (rsl.DataRequest r) read.0 hit read.1) ∙ is in cc) in
+      let said : read.0 ≡ rsl.DataRequest d = (let both : Some read.0 ≡ Some (rsl.DataRequest d) = sym (said_own at n serving.station (rsl.DataRequest r) read.0 hit read.1) ∙ is in cc) in
       let channel : r.channel ≡ d.channel = same_channel r d (read.1.text ∙ ap rsl_text said) in
       ap (λ (s : ℕ). record { station = s; number = serving.number }) (eqb-true serving.station at.station hit) ∙ ap (λ (k : ℕ). record { station = at.station; number = k }) (sym on ∙ channel ∙ same)
 ]

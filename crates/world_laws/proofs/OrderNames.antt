@@ -14,7 +14,7 @@ use Rattle.dtap_codec.specs.RrReading.{immediate_assignment_at, pseudo_at, rr_re
 use Rattle.octets.specs.Front.{octet_at}
 use Rattle.rsl_codec.specs.declared.common_channel.ImmediateAssignment.{ImmediateAssignment as Assignment}
 use Rattle.rsl_codec.specs.declared.rsl.Rsl.TheVariants as rsl
-use Rattle.world_laws.proofs.OrderTexts.{assignment_back, no_switch, read_of, said-other, said-own}
+use Rattle.world_laws.proofs.OrderTexts.{assignment_back, no_switch, read_of, said_other, said_own}
 
 -- where it is of this channel, the channel is in use by a connection of that mobile
 abbrev pub NamesUser : Place → Controller → Result RrMessage RrFault → Type 0
@@ -43,10 +43,10 @@ unfolding out_of
 no_assignment at c n (Station station x) least sent free = none_named at c (said_to at (out_of n (Station station x))) (λ i is. elim (cases_Bool (station == at.station)) [
   | inl hit ↦
       let read = read_of n station x sent in
-      let said : read.0 ≡ rsl.ImmediateAssignCommand i = (let both : Some read.0 ≡ Some (rsl.ImmediateAssignCommand i) = sym (said-own at n station x read.0 hit read.1) ∙ is in cc) in
+      let said : read.0 ≡ rsl.ImmediateAssignCommand i = (let both : Some read.0 ≡ Some (rsl.ImmediateAssignCommand i) = sym (said_own at n station x read.0 hit read.1) ∙ is in cc) in
       let back = assignment_back x i (read.1.text ∙ ap rsl_text said) in
       subst (λ (z : Rsl). NoAssignment (Station station z)) back.1 free
-  | inr miss ↦ none-some _ (sym (said-other at n station x miss) ∙ is)
+  | inr miss ↦ none-some _ (sym (said_other at n station x miss) ∙ is)
 ])
 no_assignment at c n (Request message) least sent free = subst (NamesIn at c) (sym (ap (λ (b : Bool). if b then rsl_in (out_of n (Request message)).frame else None) (no_switch at least))) tt
 no_assignment at c n (Data destination message) least sent free = subst (NamesIn at c) (sym (ap (λ (b : Bool). if b then rsl_in (out_of n (Data destination message)).frame else None) (no_switch at least))) tt
@@ -103,9 +103,9 @@ station_in : Message → ℕ
 station_in (Station station x) = station
 station_in _ = 0
 
-abbrev pub information-in : Message → List ℕ
-information-in (Station station (rsl.ImmediateAssignCommand i)) = i.information
-information-in _ = []
+abbrev pub information_in : Message → List ℕ
+information_in (Station station (rsl.ImmediateAssignCommand i)) = i.information
+information_in _ = []
 
 -- it is of the serving channel, and names the request
 assigns_user : (at : Place) (c : Controller) (n station : ℕ) (serving : Channel) (request : RequestReference) (delay : ℕ) (i j : Assignment) → station ≡ at.station → i.information ≡ j.information → Station station (rsl.ImmediateAssignCommand i) ≡ immediate_assign_command serving request delay
@@ -114,7 +114,7 @@ unfolding station_in
 assigns_user at c n station serving request delay i j here same is used asks =
     let read = assignment_read serving request delay in
     let there : serving.station ≡ at.station = sym (ap station_in is) ∙ here in
-    let reads : rr_reading j.information ≡ Ok (ImmediateAssignment read.channel read.named read.advance) = ap rr_reading (sym same ∙ ap information-in is) ∙ read.reads in
+    let reads : rr_reading j.information ≡ Ok (ImmediateAssignment read.channel read.named read.advance) = ap rr_reading (sym same ∙ ap information_in is) ∙ read.reads in
     subst (NamesUser at c) (sym reads) (λ number. (
       n,
       used (ap (λ (s : ℕ). record { station = s; number = serving.number }) there ∙ ap (λ (k : ℕ). record { station = at.station; number = k }) (sym read.number ∙ number)),
@@ -126,11 +126,11 @@ named_message at c n serving request (Station station x) least sent names used a
     named_in at c (said_to at (out_of n (Station station x))) (λ j is. elim (cases_Bool (station == at.station)) [
       | inl hit ↦
           let read = read_of n station x sent in
-          let said : read.0 ≡ rsl.ImmediateAssignCommand j = (let both : Some read.0 ≡ Some (rsl.ImmediateAssignCommand j) = sym (said-own at n station x read.0 hit read.1) ∙ is in cc) in
+          let said : read.0 ≡ rsl.ImmediateAssignCommand j = (let both : Some read.0 ≡ Some (rsl.ImmediateAssignCommand j) = sym (said_own at n station x read.0 hit read.1) ∙ is in cc) in
           let back = assignment_back x j (read.1.text ∙ ap rsl_text said) in
           let assigns : (delay : ℕ) × (Station station (rsl.ImmediateAssignCommand back.0) ≡ immediate_assign_command serving request delay) = subst (λ (z : Rsl). Names serving request (Station station z)) back.1 names in
           assigns_user at c n station serving request assigns.0 back.0 j (eqb-true station at.station hit) back.2 assigns.1 used asks
-      | inr miss ↦ absurd (none-some _ (sym (said-other at n station x miss) ∙ is))
+      | inr miss ↦ absurd (none-some _ (sym (said_other at n station x miss) ∙ is))
     ])
 named_message at c n serving request (Request message) least sent names used asks = no_assignment at c n (Request message) least sent tt
 named_message at c n serving request (Data destination message) least sent names used asks = no_assignment at c n (Data destination message) least sent tt

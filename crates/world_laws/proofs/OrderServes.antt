@@ -6,8 +6,8 @@ use Rattle.world_laws.proofs.Prelude.{NamesItsMobile, SameRequest, is_link_up, A
 use Rattle.world_laws.proofs.Prelude.{Ready, ChannelState, Free, InUse, Releasing, Step, Take, Controller, Entry, channel_state, entry_of}
 use Rattle.world_laws.proofs.Prelude.{hears, step, RrMessage, ImmediateAssignment, RrFault, What, DataMessage, Rsl, Tenure, Agrees, asker}
 use Rattle.world_laws.proofs.Prelude.{tenure_behind, rsl_in, Actors, is_up, entries_to, said_to, Serves, hear, Result, unwrap_or-slice_get}
-use Rattle.world_laws.proofs.Prelude.{SendsMessages, used_places, rr_reading, LeadsBy, FitAll, FitsBeside, entry-out}
-use Rattle.controller_model.specs.LifeLaws.Reach.{GoesToUp}
+use Rattle.world_laws.proofs.Prelude.{SendsMessages, used_places, rr_reading, LeadsBy, FitAll, FitsBeside, entry_out}
+use Rattle.controller_model.specs.LifeLaws.Reach.{PutsOnUpLinks}
 use Rattle.controller_model.specs.declared.step.Step.TheVariants.{Tick}
 use Rattle.ruled_relay.specs.declared.item.What.TheVariants as whats
 use Rattle.rsl_codec.specs.declared.rsl.Rsl.TheVariants as rsl
@@ -18,8 +18,8 @@ use Rattle.world_laws.proofs.OrderTurns.{Serving}
 
 -- ---- links
 
-is-up-at : (links : List Bool) (link : ℕ) → is_link_up links link ≡ slice_index_or links link false
-is-up-at links link = unwrap_or-slice_get links link false
+is_up_at : (links : List Bool) (link : ℕ) → is_link_up links link ≡ slice_index_or links link false
+is_up_at links link = unwrap_or-slice_get links link false
 
 was_at : (links : List Bool) (source link : ℕ) → slice_index_or (set links source false) link false ≡ true → slice_index_or links link false ≡ true
 was_at (b ∷ links) zero zero up = absurd cc
@@ -32,10 +32,10 @@ down_at (b ∷ links) zero = refl
 down_at (b ∷ links) (suc source) = down_at links source
 
 pub broken_down : (links : List Bool) (source : ℕ) → is_link_up (set links source false) source ≡ false
-broken_down links source = is-up-at (set links source false) source ∙ down_at links source
+broken_down links source = is_up_at (set links source false) source ∙ down_at links source
 
 heard_with : (up : Bool) (source : ℕ) (what : What) (c : Controller) (link : ℕ) → is_link_up (links_with up source what c) link ≡ true → is_link_up c.links link ≡ true
-heard_with true source whats.Down c link up = is-up-at c.links link ∙ was_at c.links source link (sym (is-up-at (set c.links source false) link) ∙ up)
+heard_with true source whats.Down c link up = is_up_at c.links link ∙ was_at c.links source link (sym (is_up_at (set c.links source false) link) ∙ up)
 heard_with _ source _ c link up = up
 
 pub heard_before : (c : Controller) (s : Step) (link : ℕ) → hears (step c s).next link ≡ true → hears c link ≡ true
@@ -47,7 +47,7 @@ heard_before c (Tick ms) link up = ap (λ (links : List Bool). is_link_up links 
 pub none_to : (next : Controller) (at : Place) (target : Option Tenure) (outs : List Out) → AllByRecursion (λ out. hears next out.to ≡ true) outs → hears next at.station ≡ false → entries_to at target outs ≡ []
 none_to next at target [] all down = refl
 none_to next at target (out ∷ outs) all down =
-    ap (λ (o : Out). cond (nat_eq o.to at.station) (outbox_entry target out ∷ entries_to at target outs) (entries_to at target outs)) (entry-out target out)
+    ap (λ (o : Out). cond (nat_eq o.to at.station) (outbox_entry target out ∷ entries_to at target outs) (entries_to at target outs)) (entry_out target out)
     ∙ ap (λ (b : Bool). cond b (outbox_entry target out ∷ entries_to at target outs) (entries_to at target outs)) (other (cases_Bool (out.to == at.station)))
     ∙ none_to next at target outs all.1 down
   where
@@ -61,7 +61,7 @@ pub record Lawful (c : Controller) (s : Step) : Type 0 where
   pub ready : Ready c
   pub used : AreUsed c
   pub sent : SendsMessages c s
-  pub up : GoesToUp c s
+  pub up : PutsOnUpLinks c s
   pub names : (number : ℕ) → 1 ≤ number → NamesItsMobile number c s
 
 same_access : (o now : Option Entry) (mobile : ℕ) → SameRequest (option_map (λ (e : Entry). e.connection) o) (option_map (λ (e : Entry). e.connection) now) → option_map (λ (e : Entry). e.connection.request.access) now ≡ Some mobile → (o ≡ None → ⊥) → option_map (λ (e : Entry). e.connection.request.access) o ≡ Some mobile

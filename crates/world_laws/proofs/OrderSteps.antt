@@ -7,7 +7,7 @@ use Rattle.world_laws.proofs.Prelude.{request_offer, Controller, Entry, Turn, tu
 use Rattle.world_laws.proofs.Prelude.{with_down, all_aged, break_of, by_fitting, expiry, on_break, row_in, timed, Goes, Runs, runs, over}
 use Rattle.world_laws.proofs.Prelude.{passes, releases, get_or-set_other, row_of, expiry_holds, told_holds, IsDue, all_found, expiry_own}
 use Rattle.world_laws.proofs.Prelude.{told_tame, timed_tame, aged_ready, all_here, expiry_numbers, still_here, told_numbers, free_channels}
-use Rattle.world_laws.proofs.Prelude.{expires, told}
+use Rattle.world_laws.proofs.Prelude.{expires, with_own_input}
 use Rattle.controller_model.specs.Life.{tick}
 use Rattle.world_laws.proofs.OrderNames.{NamesOut, no_assignments, shut_assigns}
 use Rattle.world_laws.proofs.OrderRows.{States, ends_run, row_ends}
@@ -23,7 +23,7 @@ runs_on (releases says rest) next = releases says (runs_on rest next)
 abbrev RunsOn : Place → Controller → Controller → Turn → Type 0
 RunsOn at c d t = AllByRecursion IsSent t.outs → Runs at (channel_state d at) t.outs (channel_state t.next at) × AllByRecursion (NamesOut at c) t.outs
 
-told_runs : (at : Place) (c : Controller) (links : List Bool) (d : Controller) (e : Entry) (input : Input) → 1 ≤ at.station → ((s : Connection) (offer : Option Channel) (r : Row) → row_of s input offer ≡ Some r → IsOpen r.next.state → ⊥) → IsHere links d e → Holds links d → RunsOn at c d (told input d e)
+told_runs : (at : Place) (c : Controller) (links : List Bool) (d : Controller) (e : Entry) (input : Input) → 1 ≤ at.station → ((s : Connection) (offer : Option Channel) (r : Row) → row_of s input offer ≡ Some r → IsOpen r.next.state → ⊥) → IsHere links d e → Holds links d → RunsOn at c d (with_own_input input d e)
 told_runs at c links d e input least shut own holds = by (row_in d e.connection input) refl where
   by : (o : Option Row) → row_in d e.connection input ≡ o → RunsOn at c d (by_fitting (turn [] d) e o d)
   by None is = λ sent. (over, tt)
@@ -57,13 +57,13 @@ pub break_serves : (at : Place) (least : 1 ≤ at.station) (source : ℕ) (c : C
 break_serves at least source c differ ready = λ sent.
     let down : Controller = with_down source c in
     let tame = told_tame 1 1 true (break_of source) in
-    let all = each_runs at c c.links (told (break_of source)) tame.rising tame.leaves (told_numbers (break_of source))
+    let all = each_runs at c c.links (with_own_input (break_of source)) tame.rising tame.leaves (told_numbers (break_of source))
     (λ d e own holds. (
       told_holds c.links d e (break_of source) (break_shut (break_of source) (own_carried source)) own.rising own.there own.stands holds,
       told_runs at c c.links d e (break_of source) least (break_shut (break_of source) (own_carried source)) own holds,
     ))
     down c.entries ready.numbered.rising (down_here c.entries (all_here c c.entries ready (all_found c.entries ready.numbered.rising))) (record { shaped = ready.holds.shaped; each = ready.holds.each }) sent in
-    (subst (Goes at (channel_state c at) (each (told (break_of source)) down c.entries).outs) (sym (without_same (source == SWITCH_LINK) source (each (told (break_of source)) down c.entries).next at differ)) (runs all.0), all.1)
+    (subst (Goes at (channel_state c at) (each (with_own_input (break_of source)) down c.entries).outs) (sym (without_same (source == SWITCH_LINK) source (each (with_own_input (break_of source)) down c.entries).next at differ)) (runs all.0), all.1)
   where
     down_here : (xs : List Entry) → AllByRecursion (IsHere c.links c) xs → AllByRecursion (IsHere c.links (with_down source c)) xs
     down_here [] own = tt

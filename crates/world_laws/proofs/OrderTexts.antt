@@ -88,13 +88,13 @@ read_of n station x sent = elim sent.is [
   | inr pong ↦ absurd (apart 0 0xfe refl (ap (λ (o : Out). o.frame.stream) pong))
 ]
 
-pub said-own : (at : Place) (n station : ℕ) (x y : Rsl) → (station == at.station) ≡ true → ReadAs x y → said_to at (out_of n (Station station x)) ≡ Some y
+pub said_own : (at : Place) (n station : ℕ) (x y : Rsl) → (station == at.station) ≡ true → ReadAs x y → said_to at (out_of n (Station station x)) ≡ Some y
 unfolding out_of
-said-own at n station x y hit read = ap (λ (b : Bool). if b then rsl_in (out_of n (Station station x)).frame else None) hit ∙ ap result_ok read.reading
+said_own at n station x y hit read = ap (λ (b : Bool). if b then rsl_in (out_of n (Station station x)).frame else None) hit ∙ ap result_ok read.reading
 
-pub said-other : (at : Place) (n station : ℕ) (x : Rsl) → (station == at.station) ≡ false → said_to at (out_of n (Station station x)) ≡ None
+pub said_other : (at : Place) (n station : ℕ) (x : Rsl) → (station == at.station) ≡ false → said_to at (out_of n (Station station x)) ≡ None
 unfolding out_of
-said-other at n station x miss = ap (λ (b : Bool). if b then rsl_in (out_of n (Station station x)).frame else None) miss
+said_other at n station x miss = ap (λ (b : Bool). if b then rsl_in (out_of n (Station station x)).frame else None) miss
 
 -- ---- what passes a channel by
 
@@ -119,8 +119,8 @@ unfolding out_of
 seen_avoids n (Station station x) at least sent avoids = elim (cases_Bool (station == at.station)) [
   | inl hit ↦
       let read = read_of n station x sent in
-      subst (Passes at.number) (sym (said-own at n station x read.0 hit read.1)) (read_passes at station x read.0 (eqb-true station at.station hit) read.1.text avoids)
-  | inr miss ↦ subst (Passes at.number) (sym (said-other at n station x miss)) tt
+      subst (Passes at.number) (sym (said_own at n station x read.0 hit read.1)) (read_passes at station x read.0 (eqb-true station at.station hit) read.1.text avoids)
+  | inr miss ↦ subst (Passes at.number) (sym (said_other at n station x miss)) tt
 ]
 seen_avoids n (Request message) at least sent avoids = subst (Passes at.number) (sym (ap (λ (b : Bool). if b then rsl_in (out_of n (Request message)).frame else None) (no_switch at least))) tt
 seen_avoids n (Data destination message) at least sent avoids = subst (Passes at.number) (sym (ap (λ (b : Bool). if b then rsl_in (out_of n (Data destination message)).frame else None) (no_switch at least))) tt
@@ -129,11 +129,11 @@ seen_avoids n (ReleaseComplete destination) at least sent avoids = subst (Passes
 pub seen_release : (n : ℕ) (at : Place) → IsSent (out_of n (Station at.station (rsl.RfChannelRelease at.number))) → said_to at (out_of n (Station at.station (rsl.RfChannelRelease at.number))) ≡ Some (rsl.RfChannelRelease at.number)
 seen_release n at sent =
     let read = read_of n at.station (rsl.RfChannelRelease at.number) sent in
-    said-own at n at.station (rsl.RfChannelRelease at.number) read.0 (eq-eqb at.station at.station refl) read.1
+    said_own at n at.station (rsl.RfChannelRelease at.number) read.0 (eq-eqb at.station at.station refl) read.1
     ∙ ap (λ (y : Rsl). Some y) (release_back read.0 at.number (sym read.1.text))
 
 pub seen_activation : (n : ℕ) (at : Place) (a : Activation) → IsSent (out_of n (Station at.station (rsl.ChannelActivation a))) → (b : Activation) × (said_to at (out_of n (Station at.station (rsl.ChannelActivation a))) ≡ Some (rsl.ChannelActivation b)) × (b.channel ≡ a.channel)
 seen_activation n at a sent =
     let read = read_of n at.station (rsl.ChannelActivation a) sent in
     let back = activation_back read.0 a (sym read.1.text) in
-    (back.0, said-own at n at.station (rsl.ChannelActivation a) read.0 (eq-eqb at.station at.station refl) read.1 ∙ ap (λ (y : Rsl). Some y) back.1, back.2)
+    (back.0, said_own at n at.station (rsl.ChannelActivation a) read.0 (eq-eqb at.station at.station refl) read.1 ∙ ap (λ (y : Rsl). Some y) back.1, back.2)

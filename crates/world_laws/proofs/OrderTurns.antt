@@ -2,7 +2,7 @@
 use Rattle.world_laws.proofs.Prelude.{◌≡◌, ◌≢◌, ◌⊎◌, inl, inr, ℕ, ◌==◌, ◌&&◌, ◌≤◌, ◌<◌, Bool, true, false, if◌then◌else◌, List, [], ◌∷◌}
 use Rattle.world_laws.proofs.Prelude.{◌++◌, option_map, Option, Some, None, refl, sym, ap, ◌∙◌, subst, true≢false, eq-eqb, AllByRecursion}
 use Rattle.world_laws.proofs.Prelude.{Channel, Place, access_activation, Input, Connection, Roles, TargetRole, roles_of, target_channels}
-use Rattle.world_laws.proofs.Prelude.{Stands, Row, AreApart, IsOpen, undone, Owns, IsSent, IsOffered, offered_free, Holds, changes_of}
+use Rattle.world_laws.proofs.Prelude.{IsValid, Row, AreApart, IsOpen, undone, Owns, IsSent, IsOffered, offered_free, Holds, changes_of}
 use Rattle.world_laws.proofs.Prelude.{owns_entry, Ready, here_of, Sdcch, ChannelState, Free, InUse, Releasing, Word, Nothing, Ping, Asks}
 use Rattle.world_laws.proofs.Prelude.{OnChannel, Reports, OnConnection, access_channel, handover_offer, request_offer, Controller, Entry}
 use Rattle.world_laws.proofs.Prelude.{Turn, turn, ignoring, channel_state, entry_of, freed, place_of, state_in, with_entry, with_state}
@@ -58,7 +58,7 @@ module _ (at : Place) (least : 1 ≤ at.station) where
   -- ---- a row, of a controller of which a channel may have been freed
 
   record RowFits (c d : Controller) (e : Entry) (offer : Option Channel) : Type 0 where
-    stands : Stands e.connection
+    stands : IsValid e.connection
     of : IsOpen e.connection.state → IsOf e.connection.number d.channels (roles_of e.connection)
     free : IsOpen e.connection.state → (f : Channel) → offer ≡ Some f → IsFreeThere d.channels (place_of f)
     used : IsOpen e.connection.state → place_of e.connection.serving ≡ at → channel_state c at ≡ InUse e.connection.number
@@ -188,7 +188,7 @@ module _ (at : Place) (least : 1 ≤ at.station) where
       let d : Controller = with_entry put c in
       fitting_serves c d (turn [] d) put inputs.Move (handover_offer d put.connection.serving cell) (row_of put.connection inputs.Move (handover_offer d put.connection.serving cell)) refl
       (record {
-        stands = subst Stands (sym same) own.stands;
+        stands = subst IsValid (sym same) own.stands;
         of = subst (λ (s : Connection). IsOpen s.state → IsOf s.number c.channels (roles_of s)) (sym same) (λ is_open. of_owns c.channels c.links e.connection.number (roles_of e.connection) (owns_entry c.links c e own.there ready.holds is_open));
         free = λ is_open f is. free_offer c.settings c.channels c.links f ready.holds.shaped (offered_free d c.links cell c.handovers (kind_of put.connection.serving.number) f refl ready.holds.shaped is);
         used = subst (λ (s : Connection). IsOpen s.state → place_of s.serving ≡ at → channel_state c at ≡ InUse s.number) (sym same) (used_of c e own.there ready.holds);

@@ -5,10 +5,10 @@ use Rattle.world_laws.proofs.Prelude.{cases_Bool, eqb-true, eqb-false, flat_map-
 use Rattle.world_laws.proofs.Prelude.{Target, Connection, used_channels, Forwarded, Turn, place_of, RelayItem, Parameters, Event}
 use Rattle.world_laws.proofs.Prelude.{AirMessage, OutboxEntry, Tenure, joined_by, with_turn, target_in, after_handle}
 use Rattle.world_laws.proofs.Prelude.{Actors, Link, broken_link, link_of, with_outbox, outbox_of, modulus_in, has_number, is_up}
-use Rattle.world_laws.proofs.Prelude.{base_of, spot_at, handle-leads, after-taken, AllByRecursion-so, take, tick, brings_in, made_of}
+use Rattle.world_laws.proofs.Prelude.{base_of, spot_at, handle_leads, after_taken, AllByRecursion-so, take, tick, brings_in, made_of}
 use Rattle.world_laws.proofs.Prelude.{coming_up, leading_from_air, leading_from_outbox, going_down, commanded_target, commanded_channels}
 use Rattle.world_laws.proofs.Prelude.{AreLinedUp, carried_for, IsForOthers, BringsNothing, IsOthers, RelayLeavesOthers, TimeLeavesOthers}
-use Rattle.world_laws.proofs.Prelude.{entry-out}
+use Rattle.world_laws.proofs.Prelude.{entry_out}
 use Rattle.controller_model.specs.Views.{forwarded}
 use Rattle.world_laws.specs.LineUp.Places.{Item}
 use Rattle.world_model.specs.Life.{event_after}
@@ -29,9 +29,9 @@ forwarded-append (out ∷ outs) more number =
     forwarded-first out (outs ++ more) number ∙ ap (λ (fs : List Forwarded). forwarded (out ∷ []) number ++ fs) (forwarded-append outs more number)
     ∙ sym (append_assoc (forwarded (out ∷ []) number) (forwarded outs number) (forwarded more number)) ∙ ap (λ (fs : List Forwarded). fs ++ forwarded more number) (sym (forwarded-first out outs number))
 
-waiting-same : (entries : List OutboxEntry) (target : Option Tenure) (out : Out) (number : ℕ) → carried_for number out ≡ [] → waiting_in (entries ++ entry_of target out ∷ []) number ≡ waiting_in entries number
-waiting-same entries target out number none =
-    ap (λ (outs : List Out). map (λ f. f.message) (forwarded outs number)) (map-append (λ (entry : OutboxEntry). entry.out) entries (entry_of target out ∷ []) ∙ ap (λ (o : Out). map (λ (entry : OutboxEntry). entry.out) entries ++ o ∷ []) (entry-out target out))
+waiting_is_same : (entries : List OutboxEntry) (target : Option Tenure) (out : Out) (number : ℕ) → carried_for number out ≡ [] → waiting_in (entries ++ entry_of target out ∷ []) number ≡ waiting_in entries number
+waiting_is_same entries target out number none =
+    ap (λ (outs : List Out). map (λ f. f.message) (forwarded outs number)) (map-append (λ (entry : OutboxEntry). entry.out) entries (entry_of target out ∷ []) ∙ ap (λ (o : Out). map (λ (entry : OutboxEntry). entry.out) entries ++ o ∷ []) (entry_out target out))
     ∙ ap (λ (fs : List Forwarded). map (λ f. f.message) fs) (forwarded-append (map (λ entry. entry.out) entries) (out ∷ []) number)
     ∙ map-append (λ (f : Forwarded). f.message) (forwarded (map (λ entry. entry.out) entries) number) (forwarded (out ∷ []) number)
     ∙ ap (λ (ms : List (List ℕ)). waiting_in entries number ++ ms) none ∙ append-nil (waiting_in entries number)
@@ -45,8 +45,8 @@ joined_link u target out n f same =
       | inr other ↦ ap (λ (link : Link). f link.outbox) (set-apart u.links broken_link out.to n (record (link_of u out.to) { outbox = outbox_of u out.to ++ entry_of target out ∷ [] }) (eqb-false n out.to other))
     ]
 
-pub down-joined : (u : Actors) (target : Option Tenure) (out : Out) (c : Channel) → (out.to ≡ c.station → leading_from_outbox c.number (entry_of target out) ≡ []) → going_down (with_outbox out.to (outbox_of u out.to ++ entry_of target out ∷ []) u) (place_of c) ≡ going_down u (place_of c)
-down-joined u target out c none =
+pub down_joined : (u : Actors) (target : Option Tenure) (out : Out) (c : Channel) → (out.to ≡ c.station → leading_from_outbox c.number (entry_of target out) ≡ []) → going_down (with_outbox out.to (outbox_of u out.to ++ entry_of target out ∷ []) u) (place_of c) ≡ going_down u (place_of c)
+down_joined u target out c none =
     ap (λ (as_led : List AirMessage). flat_map leading_from_air (spot_at u (place_of c)).air ++ as_led)
     (joined_link u target out c.station (flat_map (leading_from_outbox c.number)) (λ is. flat_map-append (leading_from_outbox c.number) (outbox_of u out.to) (entry_of target out ∷ [])
     ∙ ap (λ (as_led : List AirMessage). flat_map (leading_from_outbox c.number) (outbox_of u out.to) ++ as_led) (append-nil (leading_from_outbox c.number (entry_of target out)) ∙ none is) ∙ append-nil (flat_map (leading_from_outbox c.number) (outbox_of u out.to))))
@@ -62,8 +62,8 @@ sees_joined {w} {u} {s} target out others sees = by_link (is_up u out.to) where
   by_link true = record {
     coming = sees.coming;
     up = λ n. ap (λ (b : Bool). not (n == SWITCH_LINK) && b) (set-same (λ (link : Link). link.up) u.links broken_link out.to n (record (link_of u out.to) { outbox = outbox_of u out.to ++ entry_of target out ∷ [] }) refl) ∙ sees.up n;
-    serving = down-joined u target out s.serving others.leads.0 ∙ sees.serving;
-    target = λ t is. down-joined u target out t.channel (of_target t is) ∙ sees.target t is;
+    serving = down_joined u target out s.serving others.leads.0 ∙ sees.serving;
+    target = λ t is. down_joined u target out t.channel (of_target t is) ∙ sees.target t is;
     tenures = sees.tenures;
     waiting = joined_link u target out SWITCH_LINK (λ (entries : List OutboxEntry). map (λ f. f.message) (forwarded (map (λ entry. entry.out) entries) s.number)) (λ is. waiting_same) ∙ sees.waiting;
     taken = sees.taken;
@@ -72,7 +72,7 @@ sees_joined {w} {u} {s} target out others sees = by_link (is_up u out.to) where
     of_target t is = (subst (λ (o : Option Target). AllByRecursion (λ c. out.to ≡ c.station → leading_from_outbox c.number (entry_of target out) ≡ []) (commanded_channels o)) is others.leads.1).0
 
     waiting_same : map (λ f. f.message) (forwarded (map (λ entry. entry.out) (outbox_of u out.to ++ entry_of target out ∷ [])) s.number) ≡ map (λ f. f.message) (forwarded (map (λ entry. entry.out) (outbox_of u out.to)) s.number)
-    waiting_same = waiting-same (outbox_of u out.to) target out s.number others.carries
+    waiting_same = waiting_is_same (outbox_of u out.to) target out s.number others.carries
 
 sees_all : {w : Actors} {s : Connection} (target : Option Tenure) (outs : List Out) (u : Actors) → AllByRecursion (IsForOthers target s) outs → SeesSame w u s → SeesSame w (fold (joined_by target) u outs) s
 sees_all target [] u others sees = sees
@@ -115,8 +115,8 @@ pub relay_leaves_others_new : (settings : Parameters) (events : List Event) → 
 unfolding event_after
 relay_leaves_others_new settings events mobile s others lined =
     let w : Actors = world settings events in
-    after-taken (λ v. AreLinedUp (modulus_in settings) v mobile s) (after_handle w) w
-    (handle-leads (λ v. AreLinedUp (modulus_in settings) v mobile s) w (λ item items stood.
+    after_taken (λ v. AreLinedUp (modulus_in settings) v mobile s) (after_handle w) w
+    (handle_leads (λ v. AreLinedUp (modulus_in settings) v mobile s) w (λ item items stood.
     let both : BringsNothing s item × AllByRecursion (IsForOthers (target_in w item.source item.what) s) (take item w.controller).outs = subst (IsOthers w s) stood others in
     leaves lined (turn_mobiles (target_in w item.source item.what) (take item w.controller).outs _) (sees_turn (target_in w item.source item.what) (take item w.controller) both.1 (sees_handled item items stood both.0)))) lined
 

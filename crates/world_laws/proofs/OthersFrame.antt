@@ -8,7 +8,7 @@ use Rattle.world_laws.proofs.Prelude.{step, concerned, forwarded_by, RelayItem, 
 use Rattle.world_laws.proofs.Prelude.{AreAllowed, Parameters, Event, Tenure, target_in, rsl_in, all_steps, Actors, new_actors}
 use Rattle.world_laws.proofs.Prelude.{LivesByTable-new, Result, sccp_reading, PassesBy, frame_passes, read_request, life, take, word_of}
 use Rattle.world_laws.proofs.Prelude.{leading, leading_by, leading_from_outbox, commanded_target, FramesAreForOthers, commanded_channels}
-use Rattle.world_laws.proofs.Prelude.{IsForOthers, carried_for, entry-out}
+use Rattle.world_laws.proofs.Prelude.{IsForOthers, carried_for, entry_out}
 use Rattle.conn_messages.specs.Out.{out_of}
 use Rattle.controller_model.proofs.LifeLaws.SeenFrames.{texts_back, texts_of}
 use Rattle.controller_model.specs.Views.{forwarded}
@@ -50,7 +50,7 @@ all_lead_none : (m : ℕ) (target : Option Tenure) (message : Message) (put : Li
 unfolding Passed
 all_lead_none m target message put [] text all = tt
 all_lead_none m target message put (c ∷ cs) text all = (
-  λ to. ap (λ (o : Out). leading_by c.number (entry_of target (out_of m message)).target (rsl_in o.frame)) (entry-out target (out_of m message)) ∙ none_leads m c (entry_of target (out_of m message)).target message text all.0.0 to,
+  λ to. ap (λ (o : Out). leading_by c.number (entry_of target (out_of m message)).target (rsl_in o.frame)) (entry_out target (out_of m message)) ∙ none_leads m c (entry_of target (out_of m message)).target message text all.0.0 to,
   all_lead_none m target message put cs text all.1,
 )
 

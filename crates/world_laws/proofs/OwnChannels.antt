@@ -2,14 +2,14 @@
 -- is taken and after it.
 use Rattle.world_laws.proofs.Prelude.{◌≡◌, ℕ, ◌&&◌, ◌||◌, not, Bool, true, false, if◌then◌else◌, List, [], ◌∷◌, ◌++◌, refl, sym, ap, ◌∙◌}
 use Rattle.world_laws.proofs.Prelude.{subst, append_assoc, inl, inr, AllByRecursion, cases_Bool, cond-true, cond-false, Channel, Place}
-use Rattle.world_laws.proofs.Prelude.{Input, is_at, Future, IsApart, from_input, place_of, Zero, without_control, Both-empty, messages_in}
+use Rattle.world_laws.proofs.Prelude.{Input, is_at, Future, IsApart, from_input, place_of, Zero, without_control, both_empty, messages_in}
 use Rattle.world_laws.proofs.Prelude.{released, is_ended, EndsLast, AreLayer3, mark, texts_of, AsOld, AsServing}
 use Rattle.conn_rules.specs.declared.input.Input.TheVariants as inputs
 use Rattle.world_laws.specs.LineUp.Places.{Item}
 use Rattle.world_laws.specs.OwnItem.{said_by, IsRead, IsBesideTarget}
 use Rattle.world_laws.proofs.Framing.{all_right}
 use Rattle.world_laws.proofs.RolesAfter.{both_false}
-use Rattle.world_laws.proofs.OwnFuture.{texts-append, ended-append, from-said, ended_said}
+use Rattle.world_laws.proofs.OwnFuture.{texts_append, ended_append, from_said, ended_said}
 
 -- ---- the target beside which an input comes
 
@@ -26,10 +26,10 @@ is_one-apart : (targets : List Channel) (c : Channel) → AllByRecursion (IsApar
 is_one-apart [] c apart = refl
 is_one-apart (t ∷ ts) c apart = ap (λ (b : Bool). b || is_one ts (place_of c)) apart.0 ∙ is_one-apart ts c apart.1
 
-pub passes-apart : (input : Input) (targets : List Channel) (c : Channel) → AllByRecursion (IsApart c) targets → passes_target input targets (place_of c) ≡ false
-passes-apart (inputs.ActivationAck at) targets c apart = is_one-apart targets c apart
-passes-apart (inputs.Failure at change cause) targets c apart = is_one-apart targets c apart
-passes-apart _ targets c apart = refl
+pub passes_apart : (input : Input) (targets : List Channel) (c : Channel) → AllByRecursion (IsApart c) targets → passes_target input targets (place_of c) ≡ false
+passes_apart (inputs.ActivationAck at) targets c apart = is_one-apart targets c apart
+passes_apart (inputs.Failure at change cause) targets c apart = is_one-apart targets c apart
+passes_apart _ targets c apart = refl
 
 pub passes_beside : (input : Input) (targets : List Channel) (place : Place) → passes_target input targets place ≡ true → IsBesideTarget input
 passes_beside (inputs.ActivationAck at) targets place is = tt
@@ -69,22 +69,22 @@ heard_after input text targets after up place goes_on passes_not =
     cond-false (is_silent input text targets place) [] (texts_of (after place) ++ mark (not (up place.station) && not (is_ended (after place)))) (either_false (is_ended (said_by input text place)) (passes_target input targets place) goes_on passes_not)
 
 -- an end that wasn't brought now is still on its way
-pub ended-same : (input : Input) (text : List ℕ) (before after : Place → List Item) (place : Place) → before place ≡ said_by input text place ++ after place → is_ended (said_by input text place) ≡ false → is_ended (before place) ≡ is_ended (after place)
-ended-same input text before after place first goes_on = ap is_ended first ∙ ended-append (said_by input text place) (after place) ∙ ap (λ (b : Bool). b || is_ended (after place)) goes_on
+pub ended_same : (input : Input) (text : List ℕ) (before after : Place → List Item) (place : Place) → before place ≡ said_by input text place ++ after place → is_ended (said_by input text place) ≡ false → is_ended (before place) ≡ is_ended (after place)
+ended_same input text before after place first goes_on = ap is_ended first ∙ ended_append (said_by input text place) (after place) ∙ ap (λ (b : Bool). b || is_ended (after place)) goes_on
 
 heard_before : (input : Input) (text : List ℕ) (targets : List Channel) (before after : Place → List Item) (up : ℕ → Bool) (place : Place) → IsRead input text → before place ≡ said_by input text place ++ after place → is_ended (said_by input text place) ≡ false → passes_target input targets place ≡ false
     → from_input Zero input (to_come input text targets after up) place ≡ texts_of (before place) ++ mark (not (up place.station) && not (is_ended (before place)))
 heard_before input text targets before after up place read first goes_on passes_not =
-    from-said input text (to_come input text targets after up) place read
+    from_said input text (to_come input text targets after up) place read
     ∙ ap (λ (xs : List (List ℕ)). texts_of (said_by input text place) ++ xs) (heard_after input text targets after up place goes_on passes_not)
     ∙ sym (append_assoc (texts_of (said_by input text place)) (texts_of (after place)) (mark (not (up place.station) && not (is_ended (after place)))))
-    ∙ ap (λ (xs : List (List ℕ)). xs ++ mark (not (up place.station) && not (is_ended (after place)))) (sym (texts-append (said_by input text place) (after place)) ∙ ap texts_of (sym first))
-    ∙ ap (λ (b : Bool). texts_of (before place) ++ mark (not (up place.station) && not b)) (sym (ended-same input text before after place first goes_on))
+    ∙ ap (λ (xs : List (List ℕ)). xs ++ mark (not (up place.station) && not (is_ended (after place)))) (sym (texts_append (said_by input text place) (after place)) ∙ ap texts_of (sym first))
+    ∙ ap (λ (b : Bool). texts_of (before place) ++ mark (not (up place.station) && not b)) (sym (ended_same input text before after place first goes_on))
 
 -- what is left of whole messages is whole
 pub whole_after : (input : Input) (text : List ℕ) (before after : Place → List Item) (place : Place) → before place ≡ said_by input text place ++ after place → AreLayer3 (texts_of (before place)) → AreLayer3 (texts_of (after place))
 whole_after input text before after place first whole =
-    all_right _ (texts_of (said_by input text place)) (texts_of (after place)) (subst AreLayer3 (ap texts_of first ∙ texts-append (said_by input text place) (after place)) whole)
+    all_right _ (texts_of (said_by input text place)) (texts_of (after place)) (subst AreLayer3 (ap texts_of first ∙ texts_append (said_by input text place) (after place)) whole)
 
 -- ---- on each channel
 
@@ -99,7 +99,7 @@ ends_now input text targets before after up place read first ends last =
     let here : before place ≡ released ∷ after place = first ∙ ap (λ (xs : List Item). xs ++ after place) said in
     let nothing : after place ≡ [] = subst EndsLast here last in
     let alone : before place ≡ released ∷ [] = here ∙ ap (λ (xs : List Item). released ∷ xs) nothing in
-    from-said input text (to_come input text targets after up) place read
+    from_said input text (to_come input text targets after up) place read
     ∙ ap (λ (xs : List Item). texts_of xs ++ to_come input text targets after up place) said
     ∙ ap (λ (b : Bool). if (b || passes_target input targets place) then [] else texts_of (after place) ++ mark (not (up place.station) && not (is_ended (after place)))) ends
     ∙ ap mark (sym (and_false (not (up place.station))))
@@ -117,7 +117,7 @@ old_before input text targets before after up c read first last passes_not whole
 
 -- an RF CHANNEL RELEASE ACK doesn't come of it
 pub goes_on_behind : (input : Input) (text : List ℕ) (before after : Place → List Item) (place : Place) → before place ≡ said_by input text place ++ after place → is_ended (before place) ≡ false → (is_ended (said_by input text place) ≡ false) × (is_ended (after place) ≡ false)
-goes_on_behind input text before after place first none = both_false (is_ended (said_by input text place)) (is_ended (after place)) (sym (ended-append (said_by input text place) (after place)) ∙ ap is_ended (sym first) ∙ none)
+goes_on_behind input text before after place first none = both_false (is_ended (said_by input text place)) (is_ended (after place)) (sym (ended_append (said_by input text place) (after place)) ∙ ap is_ended (sym first) ∙ none)
 
 pub serving_before : (input : Input) (text : List ℕ) (targets : List Channel) (before after : Place → List Item) (up : ℕ → Bool) (c : Channel) → IsRead input text → before (place_of c) ≡ said_by input text (place_of c) ++ after (place_of c) → is_ended (before (place_of c)) ≡ false → IsHeard input text targets before c
     → AsServing (from_input Zero input (to_come input text targets after up)) before up c
@@ -148,7 +148,7 @@ silent_texts : {input : Input} {text : List ℕ} {targets : List Channel} {befor
     → (texts_of (before (place_of c)) ≡ []) × (texts_of (said_by input text (place_of c)) ≡ []) × (texts_of (after (place_of c)) ≡ [])
 silent_texts {input} {text} {targets} {before} {after} {c} t passes =
     let none : texts_of (before (place_of c)) ≡ [] = ap without_control (t.silent (passes_beside input targets (place_of c) passes)) in
-    let both = Both-empty (texts_of (said_by input text (place_of c))) (texts_of (after (place_of c))) (sym (sym (texts-append (said_by input text (place_of c)) (after (place_of c))) ∙ ap texts_of (sym t.first) ∙ none)) in
+    let both = both_empty (texts_of (said_by input text (place_of c))) (texts_of (after (place_of c))) (sym (sym (texts_append (said_by input text (place_of c)) (after (place_of c))) ∙ ap texts_of (sym t.first) ∙ none)) in
     (none, both.0, both.1)
 
 pub passed : (input : Input) (text : List ℕ) (targets : List Channel) (after : Place → List Item) (up : ℕ → Bool) (place : Place) → passes_target input targets place ≡ true → to_come input text targets after up place ≡ []
@@ -161,7 +161,7 @@ passed input text targets after up place passes =
 pub target_before : (input : Input) (text : List ℕ) (targets : List Channel) (before after : Place → List Item) (up : ℕ → Bool) (c : Channel) → IsTarget input text targets before after c → MayCome (from_input Zero input (to_come input text targets after up)) before c
 target_before input text targets before after up c t = elim (cases_Bool (passes_target input targets (place_of c))) [
   | inl passes ↦ let none = silent_texts t passes in
-      (false, from-said input text (to_come input text targets after up) (place_of c) t.read ∙ ap (λ (xs : List (List ℕ)). xs ++ to_come input text targets after up (place_of c)) none.1 ∙ passed input text targets after up (place_of c) passes ∙ ap (λ (xs : List (List ℕ)). xs ++ []) (sym none.0), t.whole)
+      (false, from_said input text (to_come input text targets after up) (place_of c) t.read ∙ ap (λ (xs : List (List ℕ)). xs ++ to_come input text targets after up (place_of c)) none.1 ∙ passed input text targets after up (place_of c) passes ∙ ap (λ (xs : List (List ℕ)). xs ++ []) (sym none.0), t.whole)
   | inr passes_not ↦ (not (up c.station) && not (is_ended (before (place_of c))), heard_before input text targets before after up (place_of c) t.read t.first (goes_on_behind input text before after (place_of c) t.first t.goes_on).0 passes_not, t.whole)
 ]
 

@@ -13,15 +13,15 @@ unfolding rr_reading octet_at typed_at rr_type assignment_command_at three_at ha
 change-read Assignment c = refl
 change-read Handover c = refl
 
-is-change : (change : Change) (c : Channel) → is_change_command (rr_reading (rr_text (command change c))) ≡ true
+is_change : (change : Change) (c : Channel) → is_change_command (rr_reading (rr_text (command change c))) ≡ true
 unfolding rr_reading octet_at typed_at rr_type assignment_command_at three_at handover_command_at
-is-change Assignment c = refl
-is-change Handover c = refl
+is_change Assignment c = refl
+is_change Handover c = refl
 
 -- on which channel the output leads: on its own
-pub command-leads : (number channel : ℕ) (serving : Channel) (change : Change) (c : Channel) (tenure : Tenure) → IsReadOf number (change_command serving change c) (out_of number (change_command serving change c)).frame.body
+pub command_leads : (number channel : ℕ) (serving : Channel) (change : Change) (c : Channel) (tenure : Tenure) → IsReadOf number (change_command serving change c) (out_of number (change_command serving change c)).frame.body
     → leading_from_outbox channel (entry_of (Some tenure) (out_of number (change_command serving change c))) ≡ (if serving.number == channel then record { message = rr_text (command change c); target = Some tenure } ∷ [] else [])
 unfolding out_of
-command-leads number channel serving change c tenure read =
+command_leads number channel serving change c tenure read =
     ap (λ (o : Option Rsl). leading_by channel (if commands o then Some tenure else None) o) (ap result_ok read)
-    ∙ ap (λ (b : Bool). if serving.number == channel then leading (rr_text (command change c)) (if b then Some tenure else None) else []) (is-change change c)
+    ∙ ap (λ (b : Bool). if serving.number == channel then leading (rr_text (command change c)) (if b then Some tenure else None) else []) (is_change change c)

@@ -4,18 +4,18 @@ use Rattle.world_laws.proofs.Prelude.{◌≡◌, ℕ, suc, ◌+◌, Bool, true, 
 use Rattle.world_laws.proofs.Prelude.{refl, sym, ap, ◌∙◌, subst, arith, AllByRecursion, Channel, Place, Input, Drain, State}
 use Rattle.world_laws.proofs.Prelude.{WaitConfirm, Live, Closed, Removed, Connection, TargetRole, Roles, RoleStep}
 use Rattle.world_laws.proofs.Prelude.{target_role, roles_of, after_step, target_channels, commanded, completed, roles_stay, role_commands}
-use Rattle.world_laws.proofs.Prelude.{role_completes, role_goes_back, role_leaves, Stands, StandsBy, AreApart, Future, IsApart, from_input}
-use Rattle.world_laws.proofs.Prelude.{undone, used_channels, target_in-role, place_of, Zero, Held, apart_behind, AllByRecursion-so}
+use Rattle.world_laws.proofs.Prelude.{role_completes, role_goes_back, role_leaves, IsValid, IsValidState, AreApart, Future, IsApart, from_input}
+use Rattle.world_laws.proofs.Prelude.{undone, used_channels, target_in_role, place_of, Zero, Held, apart_behind, AllByRecursion-so}
 use Rattle.world_laws.proofs.Prelude.{IsHeldTenure, messages_in, is_ended, EndsLast, AreLayer3, texts_of, AsOld, AsServing, AsTarget}
-use Rattle.world_laws.proofs.Prelude.{AreHeld, StandsFor}
+use Rattle.world_laws.proofs.Prelude.{AreHeld, IsFutureOf}
 use Rattle.conn_rules.specs.Streams.{target_in}
 use Rattle.world_laws.specs.LineUp.Places.{Item}
 use Rattle.world_laws.specs.OwnItem.{said_by, IsBesideTarget, Finds}
 use Rattle.world_laws.proofs.Apart.{all_both}
 use Rattle.world_laws.proofs.Framing.{all_left, all_right}
-use Rattle.world_laws.proofs.OwnChannels.{passes_target, passes-apart, to_come, IsHeard, MayCome, IsTarget, old_before, old_after}
+use Rattle.world_laws.proofs.OwnChannels.{passes_target, passes_apart, to_come, IsHeard, MayCome, IsTarget, old_before, old_after}
 use Rattle.world_laws.proofs.OwnChannels.{serving_before, serving_after, target_before, target_after, goes_on_behind}
-use Rattle.world_laws.proofs.RolesAfter.{commanded_of, commanded-role, ChannelsAfter}
+use Rattle.world_laws.proofs.RolesAfter.{commanded_of, commanded_role, ChannelsAfter}
 
 -- ---- lists
 
@@ -39,17 +39,17 @@ held_all (d ∷ ds) (t ∷ ts) many held = (held.0.0, held_all ds ts (one_less (
   one_less : (a b : ℕ) → suc a ≡ suc b + 1 → a ≡ b + 1
   one_less a b is = omega arith
 
-pub are_held : (s : Connection) → Stands s → AreHeld s.draining s.up.tenures
+pub are_held : (s : Connection) → IsValid s → AreHeld s.draining s.up.tenures
 are_held s stands = held_all s.draining s.up.tenures (many s.state stands.state) stands.up_messages where
-  none-drains : (ds : List Drain) (n : ℕ) → ds ≡ [] → n ≡ 1 → n ≡ length ds + 1
-  none-drains ds n none one = one ∙ ap (λ (xs : List Drain). length xs + 1) (sym none)
+  one_more_than_none : (ds : List Drain) (n : ℕ) → ds ≡ [] → n ≡ 1 → n ≡ length ds + 1
+  one_more_than_none ds n none one = one ∙ ap (λ (xs : List Drain). length xs + 1) (sym none)
 
-  many : (state : State) → StandsBy state s.draining s.down s.up.tenures s.link s.waits → length s.up.tenures ≡ length s.draining + 1
-  many WaitConfirm by = none-drains s.draining (length s.up.tenures) by.none_drains by.one_tenure
+  many : (state : State) → IsValidState state s.draining s.down s.up.tenures s.link s.waits → length s.up.tenures ≡ length s.draining + 1
+  many WaitConfirm by = one_more_than_none s.draining (length s.up.tenures) by.none_drains by.one_tenure
   many (Live reference stage) by = by.a_tenure_each
-  many (Closed clearing) by = none-drains s.draining (length s.up.tenures) by.none_drains (ap length by.one_tenure)
-  many Removed by = none-drains s.draining (length s.up.tenures) by.none_drains (ap length by.one_tenure)
-  many _ by = none-drains s.draining (length s.up.tenures) by.0.none_drains (ap length by.0.one_tenure)
+  many (Closed clearing) by = one_more_than_none s.draining (length s.up.tenures) by.none_drains (ap length by.one_tenure)
+  many Removed by = one_more_than_none s.draining (length s.up.tenures) by.none_drains (ap length by.one_tenure)
+  many _ by = one_more_than_none s.draining (length s.up.tenures) by.0.none_drains (ap length by.0.one_tenure)
 
 -- ---- before the row
 
@@ -59,7 +59,7 @@ pub record IsKnown (input : Input) (text : List ℕ) (before after : Place → L
 
 pub passes_old : {input : Input} {text : List ℕ} {before after : Place → List Item} {s : Connection} → IsKnown input text before after s → AllByRecursion (λ c. passes_target input (target_in s.state) (place_of c) ≡ false) (undone s.draining)
 passes_old {input} {s = s} known =
-    AllByRecursion-so (λ c. AllByRecursion (IsApart c) (s.serving ∷ target_in s.state)) (λ c. passes_target input (target_in s.state) (place_of c) ≡ false) (λ c apart. passes-apart input (target_in s.state) c apart.1) (undone s.draining) (apart_from (undone s.draining) (s.serving ∷ target_in s.state) known.apart)
+    AllByRecursion-so (λ c. AllByRecursion (IsApart c) (s.serving ∷ target_in s.state)) (λ c. passes_target input (target_in s.state) (place_of c) ≡ false) (λ c apart. passes_apart input (target_in s.state) c apart.1) (undone s.draining) (apart_from (undone s.draining) (s.serving ∷ target_in s.state) known.apart)
 
 pub whole_old : {input : Input} {text : List ℕ} {before after : Place → List Item} {s : Connection} → IsKnown input text before after s → AllByRecursion (λ c. AreLayer3 (texts_of (before (place_of c)))) (undone s.draining)
 whole_old {before = before} {s = s} known = all_left (λ c. AreLayer3 (texts_of (before (place_of c)))) (undone s.draining) (s.serving ∷ target_in s.state) known.finds.whole
@@ -70,7 +70,7 @@ whole_rest {before = before} {s = s} known = all_right (λ c. AreLayer3 (texts_o
 pub serving_heard : {input : Input} {text : List ℕ} {before after : Place → List Item} {s : Connection} → IsKnown input text before after s → IsHeard input text (target_in s.state) before s.serving
 serving_heard {input} {text} {before} {after} {s} known = record {
   goes_on = (goes_on_behind input text before after (place_of s.serving) (known.finds.first (place_of s.serving)) known.finds.others_go_on.0).0;
-  passes_not = passes-apart input (target_in s.state) s.serving (apart_behind (undone s.draining) (s.serving ∷ target_in s.state) known.apart).0;
+  passes_not = passes_apart input (target_in s.state) s.serving (apart_behind (undone s.draining) (s.serving ∷ target_in s.state) known.apart).0;
   whole = (whole_rest known).0;
 }
 
@@ -89,14 +89,14 @@ of_role future coming (Some t) all = by t.is_commanded where
   by true = all.0
   by false = tt
 
-pub stands_before : {input : Input} {text : List ℕ} {before after : Place → List Item} {s : Connection} (up : ℕ → Bool) → IsKnown input text before after s → Stands s → StandsFor (from_input Zero input (to_come input text (target_in s.state) after up)) before up s
+pub stands_before : {input : Input} {text : List ℕ} {before after : Place → List Item} {s : Connection} (up : ℕ → Bool) → IsKnown input text before after s → IsValid s → IsFutureOf (from_input Zero input (to_come input text (target_in s.state) after up)) before up s
 stands_before {input} {text} {before} {after} {s} up known stands = record {
   old = all_both (λ c. EndsLast (before (place_of c))) (λ c. (passes_target input (target_in s.state) (place_of c) ≡ false) × AreLayer3 (texts_of (before (place_of c)))) (AsOld (from_input Zero input (to_come input text (target_in s.state) after up)) before up) (undone s.draining)
       (λ c last rest. old_before input text (target_in s.state) before after up c known.finds.read (known.finds.first (place_of c)) last rest.0 rest.1) known.finds.old_end
       (all_both (λ c. passes_target input (target_in s.state) (place_of c) ≡ false) (λ c. AreLayer3 (texts_of (before (place_of c)))) (λ c. (passes_target input (target_in s.state) (place_of c) ≡ false) × AreLayer3 (texts_of (before (place_of c)))) (undone s.draining) (λ c a b. (a, b)) (passes_old known) (whole_old known));
   serving = serving_before input text (target_in s.state) before after up s.serving known.finds.read (known.finds.first (place_of s.serving)) known.finds.others_go_on.0 (serving_heard known);
-  target = subst (AsTarget (from_input Zero input (to_come input text (target_in s.state) after up)) before) (sym (commanded-role s.state))
-      (of_role (from_input Zero input (to_come input text (target_in s.state) after up)) before (target_role s.state) (subst (AllByRecursion (MayCome (from_input Zero input (to_come input text (target_in s.state) after up)) before)) (sym (target_in-role s.state))
+  target = subst (AsTarget (from_input Zero input (to_come input text (target_in s.state) after up)) before) (sym (commanded_role s.state))
+      (of_role (from_input Zero input (to_come input text (target_in s.state) after up)) before (target_role s.state) (subst (AllByRecursion (MayCome (from_input Zero input (to_come input text (target_in s.state) after up)) before)) (sym (target_in_role s.state))
       (AllByRecursion-so (IsTarget input text (target_in s.state) before after) (MayCome (from_input Zero input (to_come input text (target_in s.state) after up)) before) (λ c t. target_before input text (target_in s.state) before after up c t) (target_in s.state) (are_targets known))));
   held = are_held s stands;
 }
@@ -123,15 +123,15 @@ kept_targets P role_completes roles all = by roles.target refl all where
 kept_targets P role_goes_back roles all = tt
 kept_targets P (role_leaves place) roles all = all
 
-pub stands_after : {input : Input} {text : List ℕ} {before after : Place → List Item} {s : Connection} (up : ℕ → Bool) (step : RoleStep) (next : Connection) → IsKnown input text before after s → Stands next → ChannelsAfter next (after_step step (roles_of s))
+pub stands_after : {input : Input} {text : List ℕ} {before after : Place → List Item} {s : Connection} (up : ℕ → Bool) (step : RoleStep) (next : Connection) → IsKnown input text before after s → IsValid next → ChannelsAfter next (after_step step (roles_of s))
     → AllByRecursion (IsHeard input text (target_in s.state) before) (undone (after_step step (roles_of s)).draining)
     → IsHeard input text (target_in s.state) before (after_step step (roles_of s)).serving → is_ended (before (place_of (after_step step (roles_of s)).serving)) ≡ false
-    → StandsFor (to_come input text (target_in s.state) after up) after up next
+    → IsFutureOf (to_come input text (target_in s.state) after up) after up next
 stands_after {input} {text} {before} {after} {s} up step next known stands now old serving serving_goes_on = record {
   old = subst (λ (ds : List Drain). AllByRecursion (AsOld F after up) (undone ds)) (sym now.draining)
       (AllByRecursion-so (IsHeard input text (target_in s.state) before) (AsOld F after up) (λ c heard. old_after input text (target_in s.state) before after up c (known.finds.first (place_of c)) heard) (undone (after_step step (roles_of s)).draining) old);
   serving = subst (AsServing F after up) (sym now.serving) (serving_after input text (target_in s.state) before after up (after_step step (roles_of s)).serving (known.finds.first (place_of (after_step step (roles_of s)).serving)) serving_goes_on serving);
-  target = subst (AsTarget F after) (sym now.target) (of_role F after (after_step step (roles_of s)).target (kept_targets (MayCome F after) step (roles_of s) (subst (AllByRecursion (MayCome F after)) (sym (target_in-role s.state))
+  target = subst (AsTarget F after) (sym now.target) (of_role F after (after_step step (roles_of s)).target (kept_targets (MayCome F after) step (roles_of s) (subst (AllByRecursion (MayCome F after)) (sym (target_in_role s.state))
       (AllByRecursion-so (IsTarget input text (target_in s.state) before after) (MayCome F after) (λ c t. target_after input text (target_in s.state) before after up c t) (target_in s.state) (are_targets known)))));
   held = are_held next stands;
 } where

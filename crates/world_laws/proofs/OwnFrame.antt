@@ -63,9 +63,9 @@ nowhere false = refl
 -- ---- message by message
 
 -- whether a message is of radio resource management
-pub control-or : (l3 : List ℕ) → is_control l3 ≡ not (is_dtap l3)
-control-or [] = refl
-control-or (first ∷ rest) = by (is_control (first ∷ rest)) where
+pub control_or : (l3 : List ℕ) → is_control l3 ≡ not (is_dtap l3)
+control_or [] = refl
+control_or (first ∷ rest) = by (is_control (first ∷ rest)) where
   by : (b : Bool) → b ≡ not (not b)
   by true = refl
   by false = refl
@@ -111,7 +111,7 @@ change_says station d r is control = by r where
 data_says : (station : ℕ) (d : Data) (b : Bool) (sapi : Option Sapi) → is_dtap d.l3 ≡ b → sapi_of d.link ≡ sapi → SaysWord station (rsl.DataIndication d) (data_word b (place_at station d.channel) sapi d.l3)
 data_says station d true (Some Zero) dtap is = λ plain. record {
   text = [];
-  read = control-or d.l3 ∙ ap not dtap;
+  read = control_or d.l3 ∙ ap not dtap;
   brings_it = λ place. ap (λ (o : Option Sapi). if station == place.station then (if d.channel == place.number then of_main o d.l3 else []) else []) is ∙ one_place station d.channel (brought d.l3 ∷ []) place;
   acknowledges = λ w. refl;
 }
@@ -121,7 +121,7 @@ data_says station d true (Some Three) dtap is = λ plain. record {
   brings_it = λ place. ap (λ (o : Option Sapi). if station == place.station then (if d.channel == place.number then of_main o d.l3 else []) else []) is ∙ none_there (station == place.station) (d.channel == place.number);
   acknowledges = λ w. refl;
 }
-data_says station d false (Some Zero) dtap is = change_says station d (rr_reading d.l3) is (control-or d.l3 ∙ ap not dtap)
+data_says station d false (Some Zero) dtap is = change_says station d (rr_reading d.l3) is (control_or d.l3 ∙ ap not dtap)
 data_says station d _ _ dtap is = tt
 
 measured_says : (station : ℕ) (message : Rsl) (place : Place) (number : ℕ) (l3 : Option (List ℕ)) → SaysWord station message (result_word place number l3)

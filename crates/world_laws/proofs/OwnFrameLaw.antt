@@ -23,15 +23,15 @@ concerning-outs input c e r fits = ap (λ (o : Option Row). (by_fitting (ignorin
 concerning_too-outs : (input : Input) (c : Controller) (e : Entry) (r : Row) → row_in c e.connection input ≡ Some r → (concerning_too input c (Some e)).outs ≡ outs_of e.connection.number r.outs
 concerning_too-outs input c e r fits = ap (λ (o : Option Row). (by_fitting (turn [] c) e o c).outs) fits
 
-freed-outs : (b : Bool) (at : Place) (input : Input) (c : Controller) (e : Entry) (r : Row) → row_in (if b then freed at c else c) e.connection input ≡ Some r → (on_freed b at input c (Some e)).outs ≡ outs_of e.connection.number r.outs
-freed-outs true at input c e r fits = concerning_too-outs input (freed at c) e r fits
-freed-outs false at input c e r fits = concerning-outs input c e r fits
+freed_outs : (b : Bool) (at : Place) (input : Input) (c : Controller) (e : Entry) (r : Row) → row_in (if b then freed at c else c) e.connection input ≡ Some r → (on_freed b at input c (Some e)).outs ≡ outs_of e.connection.number r.outs
+freed_outs true at input c e r fits = concerning_too-outs input (freed at c) e r fits
+freed_outs false at input c e r fits = concerning-outs input c e r fits
 
 word-outs : {c : Controller} {word : Word} {s : Connection} {input : Input} {offer : Option Channel} (source : ℕ) (r : Row) → IsSaidTo c word s input offer → row_of s input offer ≡ Some r → (on_word source word c).outs ≡ outs_of s.number r.outs
 word-outs {c} {s = s} source r (on_channel at input e word_is found is) fits =
     ap (λ (w : Word). (on_word source w c).outs) word_is
     ∙ ap (λ (o : Option Entry). (on_freed (frees (channel_state c at) o input) at input c o).outs) found
-    ∙ freed-outs (frees (channel_state c at) (Some e) input) at input c e r
+    ∙ freed_outs (frees (channel_state c at) (Some e) input) at input c e r
     (ap (λ (o : Option Entry). row_in (if frees (channel_state c at) o input then freed at c else c) e.connection input) (sym found) ∙ ap (λ (x : Connection). row_in (freed_for c at input) x input) is ∙ fits)
     ∙ ap (λ (x : Connection). outs_of x.number r.outs) is
 word-outs {c} {s = s} source r (on_connection number input e word_is found is) fits =

@@ -11,12 +11,12 @@ use Rattle.world_laws.specs.OwnItem.{said_by, IsRead}
 
 -- ---- what an input brings
 
-pub texts-append : (xs ys : List Item) → texts_of (xs ++ ys) ≡ texts_of xs ++ texts_of ys
-texts-append xs ys = ap without_control (messages_in-append xs ys) ∙ filter-append (λ message. not (is_control message)) (messages_in xs) (messages_in ys)
+pub texts_append : (xs ys : List Item) → texts_of (xs ++ ys) ≡ texts_of xs ++ texts_of ys
+texts_append xs ys = ap without_control (messages_in-append xs ys) ∙ filter-append (λ message. not (is_control message)) (messages_in xs) (messages_in ys)
 
-pub ended-append : (xs ys : List Item) → is_ended (xs ++ ys) ≡ is_ended xs || is_ended ys
-ended-append (brought message ∷ xs) ys = ended-append xs ys
-ended-append _ ys = refl
+pub ended_append : (xs ys : List Item) → is_ended (xs ++ ys) ≡ is_ended xs || is_ended ys
+ended_append (brought message ∷ xs) ys = ended_append xs ys
+ended_append _ ys = refl
 
 text_stays : (message : List ℕ) → is_control message ≡ false → texts_of (brought message ∷ []) ≡ message ∷ []
 text_stays message is = cond-true (not (is_control message)) (message ∷ []) [] (ap not is)
@@ -25,28 +25,28 @@ control_goes : (message : List ℕ) → is_control message ≡ true → texts_of
 control_goes message is = cond-false (not (is_control message)) (message ∷ []) [] (ap not is)
 
 -- what may come from an input on: what it brings, and then what may come
-pub from-said : (input : Input) (text : List ℕ) (future : Future) (place : Place) → IsRead input text → from_input Zero input future place ≡ texts_of (said_by input text place) ++ future place
-from-said (inputs.Dtap at Zero message) text future place read = by (same_place place at) where
+pub from_said : (input : Input) (text : List ℕ) (future : Future) (place : Place) → IsRead input text → from_input Zero input future place ≡ texts_of (said_by input text place) ++ future place
+from_said (inputs.Dtap at Zero message) text future place read = by (same_place place at) where
   by : (b : Bool) → (if b then message ∷ future place else future place) ≡ texts_of (if b then brought message ∷ [] else []) ++ future place
   by true = ap (λ (xs : List (List ℕ)). xs ++ future place) (sym (text_stays message read))
   by false = refl
-from-said (inputs.EstablishIndication at Zero (Some initial)) text future place read = by (same_place place at) where
+from_said (inputs.EstablishIndication at Zero (Some initial)) text future place read = by (same_place place at) where
   by : (b : Bool) → (if b then initial ∷ future place else future place) ≡ texts_of (if b then brought initial ∷ [] else []) ++ future place
   by true = ap (λ (xs : List (List ℕ)). xs ++ future place) (sym (text_stays initial read))
   by false = refl
-from-said (inputs.Complete at change cause) text future place read = by (same_place place at) where
+from_said (inputs.Complete at change cause) text future place read = by (same_place place at) where
   by : (b : Bool) → future place ≡ texts_of (if b then brought text ∷ [] else []) ++ future place
   by true = ap (λ (xs : List (List ℕ)). xs ++ future place) (sym (control_goes text read))
   by false = refl
-from-said (inputs.Failure at change cause) text future place read = by (same_place place at) where
+from_said (inputs.Failure at change cause) text future place read = by (same_place place at) where
   by : (b : Bool) → future place ≡ texts_of (if b then brought text ∷ [] else []) ++ future place
   by true = ap (λ (xs : List (List ℕ)). xs ++ future place) (sym (control_goes text read))
   by false = refl
-from-said (inputs.ReleaseAck at) text future place read = by (same_place place at) where
+from_said (inputs.ReleaseAck at) text future place read = by (same_place place at) where
   by : (b : Bool) → future place ≡ texts_of (if b then released ∷ [] else []) ++ future place
   by true = refl
   by false = refl
-from-said _ text future place read = refl
+from_said _ text future place read = refl
 
 -- an end is an RF CHANNEL RELEASE ACK alone
 pub ended_said : (input : Input) (text : List ℕ) (place : Place) → is_ended (said_by input text place) ≡ true → said_by input text place ≡ released ∷ []

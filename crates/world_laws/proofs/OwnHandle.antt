@@ -3,23 +3,23 @@ use Rattle.world_laws.proofs.Prelude.{◌≡◌, ℕ, ◌≤◌, ◌&&◌, nat_e
 use Rattle.world_laws.proofs.Prelude.{Option, Some, None, refl, sym, ap, ◌∙◌, subst, append_assoc, inl, inr, arith, AllByRecursion}
 use Rattle.world_laws.proofs.Prelude.{flat_map, cases_Bool, eq-eqb, Channel, Place, Out, IsReadOf, outs_of, Input, Connection, is_at}
 use Rattle.world_laws.proofs.Prelude.{drain_at, TargetRole, Roles, RoleStep, target_role, roles_of, awaits_at, changes_by, is_target_at}
-use Rattle.world_laws.proofs.Prelude.{leaves_at, step_by, GoesOn, roles_stay, role_commands, role_completes, role_goes_back, role_leaves}
+use Rattle.world_laws.proofs.Prelude.{leaves_at, step_by, RemainsOpen, roles_stay, role_commands, role_completes, role_goes_back, role_leaves}
 use Rattle.world_laws.proofs.Prelude.{Row, AreApart, IsApart, undone, used_channels, Turn, place_of, rr_text, RelayItem, AirMessage, Tenure}
 use Rattle.world_laws.proofs.Prelude.{joined_by, with_turn, tenure_in, Actors, base_of, is_up, outbox_of, with_outbox, tenure_at}
-use Rattle.world_laws.proofs.Prelude.{turn-leads, apart_behind, change_command, command, role_commanded, IsCommand, take, brings_in}
+use Rattle.world_laws.proofs.Prelude.{turn_leads, apart_behind, change_command, command, role_commanded, IsCommand, take, brings_in}
 use Rattle.world_laws.proofs.Prelude.{coming_up, made_of, leading_from_outbox, going_down, BeginsTenure, HandlesFor, IsPutAsRead, Leads}
 use Rattle.world_laws.proofs.Prelude.{leads}
 use Rattle.conn_messages.specs.Out.{out_of}
 use Rattle.conn_rules.specs.declared.input.Input.TheVariants as inputs
 use Rattle.conn_rules.specs.Streams.{target_in}
 use Rattle.world_model.specs.Relay.{entry_of}
-use Rattle.world_laws.proofs.Others.{down-joined}
-use Rattle.world_laws.proofs.OwnCommand.{change-read, command-leads}
+use Rattle.world_laws.proofs.Others.{down_joined}
+use Rattle.world_laws.proofs.OwnCommand.{change-read, command_leads}
 use Rattle.world_laws.proofs.OwnInput.{targets_of, Awaits, awaited}
 use Rattle.world_laws.proofs.OwnSeats.{Downs}
 use Rattle.world_laws.proofs.OwnSeats.Downs.{same, commanded}
 use Rattle.world_laws.proofs.OwnTurn.{turn_down, commanded_down}
-use Rattle.world_laws.proofs.RolesAfter.{commanded_of, commanded-role, channels_after}
+use Rattle.world_laws.proofs.RolesAfter.{commanded_of, commanded_role, channels_after}
 
 -- ---- the world after it
 
@@ -34,7 +34,7 @@ pub first_coming : (w : Actors) (item : RelayItem) (items : List RelayItem) (at 
 first_coming w item items at stood =
     ap (λ (xs : List RelayItem). flat_map (brings_in at) xs ++ made_of at.number (base_of w at.station).messages) stood
     ∙ append_assoc (brings_in at item) (flat_map (brings_in at) items) (made_of at.number (base_of w at.station).messages)
-    ∙ turn-leads (λ (v : Actors). brings_in at item ++ coming_up (record w { inbox = items }) at ≡ brings_in at item ++ coming_up v at) (tenure_in w item.source item.what) (take item w.controller) (record w { inbox = items }) (λ links. refl)
+    ∙ turn_leads (λ (v : Actors). brings_in at item ++ coming_up (record w { inbox = items }) at ≡ brings_in at item ++ coming_up v at) (tenure_in w item.source item.what) (take item w.controller) (record w { inbox = items }) (λ links. refl)
 
 -- ---- what is on its way down
 
@@ -68,7 +68,7 @@ commands_awaits _ roles is = absurd cc
 record Puts (w : Actors) (item : RelayItem) (items : List RelayItem) (s : Connection) (input : Input) (offer : Option Channel) (r : Row) (t : TargetRole) : Type 0 where
   role : target_role s.state ≡ Some t
   waits : t.is_commanded ≡ false
-  goes : GoesOn role_commands (roles_of s) s.down input offer r
+  goes : RemainsOpen role_commands (roles_of s) s.down input offer r
   begins : tenure_in w item.source item.what ≡ Some (tenure_at w (place_of t.target.channel))
   outs : (take item w.controller).outs ≡ outs_of s.number r.outs
   puts : r.outs ≡ change_command s.serving t.target.change t.target.channel ∷ []
@@ -79,7 +79,7 @@ command_down : {w : Actors} {item : RelayItem} {items : List RelayItem} {s : Con
 unfolding out_of commanded_of
 command_down {w} {item} {items} {s} {input} {offer} {r} {t} put =
     let now = channels_after role_commands (roles_of s) s.down input offer r put.goes in
-    commanded (commanded-role s.state ∙ ap commanded_of put.role ∙ ap (λ (b : Bool). if b then Some t.target else None) put.waits) t.target (now.target ∙ ap (λ (o : Option TargetRole). commanded_of (role_commanded o)) put.role) now.serving serving_down.0
+    commanded (commanded_role s.state ∙ ap commanded_of put.role ∙ ap (λ (b : Bool). if b then Some t.target else None) put.waits) t.target (now.target ∙ ap (λ (o : Option TargetRole). commanded_of (role_commanded o)) put.role) now.serving serving_down.0
     (ap (λ (v : Actors). going_down v (place_of s.serving)) one_out ∙ serving_down.1) (serving_down.2 (λ (xs : List AirMessage). length xs ≤ 1) (omega arith) (omega arith))
     (serving_down.2 (λ (xs : List AirMessage). AllByRecursion (λ a. Leads w a (Some t.target)) xs) tt (leads (change-read t.target.change t.target.channel) refl, tt))
     (ap (λ (v : Actors). going_down v (place_of t.target.channel)) one_out ∙ on_target (is_up u s.serving.station)) where
@@ -100,23 +100,23 @@ command_down {w} {item} {items} {s} {input} {offer} {r} {t} put =
 
       serving_down : (more : List AirMessage) × (going_down (joined_by (Some tenure) u out) (place_of s.serving) ≡ going_down u (place_of s.serving) ++ more) × ((P : List AirMessage → Type 0) → P [] → P new → P more)
       serving_down = commanded_down (Some tenure) u out s.serving new refl
-          (command-leads s.number s.serving.number s.serving t.target.change t.target.channel tenure put.read ∙ ap (λ (b : Bool). if b then new else []) (eq-eqb s.serving.number s.serving.number refl))
+          (command_leads s.number s.serving.number s.serving t.target.change t.target.channel tenure put.read ∙ ap (λ (b : Bool). if b then new else []) (eq-eqb s.serving.number s.serving.number refl))
 
       elsewhere : s.serving.station ≡ t.target.channel.station → leading_from_outbox t.target.channel.number (entry_of (Some tenure) out) ≡ []
-      elsewhere there = command-leads s.number t.target.channel.number s.serving t.target.change t.target.channel tenure put.read
+      elsewhere there = command_leads s.number t.target.channel.number s.serving t.target.change t.target.channel tenure put.read
           ∙ ap (λ (b : Bool). if b then new else []) (sym (ap (λ (b : Bool). b && nat_eq s.serving.number t.target.channel.number) (eq-eqb s.serving.station t.target.channel.station there)) ∙ put.apart)
 
       on_target : (b : Bool) → going_down (if b then with_outbox s.serving.station (outbox_of u s.serving.station ++ entry_of (Some tenure) out ∷ []) u else u) (place_of t.target.channel) ≡ going_down w (place_of t.target.channel)
-      on_target true = down-joined u (Some tenure) out t.target.channel elsewhere
+      on_target true = down_joined u (Some tenure) out t.target.channel elsewhere
       on_target false = refl
 
 -- no other row has a tenure
 others_down : (w : Actors) (item : RelayItem) (items : List RelayItem) (s next : Connection) → tenure_in w item.source item.what ≡ None → Downs w (handled_by w item items) s next
 others_down w item items s next none = same (λ c. ap (λ (o : Option Tenure). going_down (with_turn o (take item w.controller) (record w { inbox = items })) (place_of c)) none ∙ turn_down (take item w.controller).outs (handling w items (take item w.controller)) c)
 
-pub downs_of : {w : Actors} {item : RelayItem} (items : List RelayItem) {s : Connection} {input : Input} {offer : Option Channel} {r : Row} {text : List ℕ} → HandlesFor w item s input offer r text → IsPutAsRead s r → AreApart (used_channels s) → GoesOn (step_by input (roles_of s)) (roles_of s) s.down input offer r → Downs w (handled_by w item items) s r.next
+pub downs_of : {w : Actors} {item : RelayItem} (items : List RelayItem) {s : Connection} {input : Input} {offer : Option Channel} {r : Row} {text : List ℕ} → HandlesFor w item s input offer r text → IsPutAsRead s r → AreApart (used_channels s) → RemainsOpen (step_by input (roles_of s)) (roles_of s) s.down input offer r → Downs w (handled_by w item items) s r.next
 downs_of {w} {item} items {s} {input} {offer} {r} handles read apart goes = by (step_by input (roles_of s)) refl handles.begins goes where
-  by : (x : RoleStep) → step_by input (roles_of s) ≡ x → BeginsTenure w x (target_role s.state) (tenure_in w item.source item.what) → GoesOn x (roles_of s) s.down input offer r → Downs w (handled_by w item items) s r.next
+  by : (x : RoleStep) → step_by input (roles_of s) ≡ x → BeginsTenure w x (target_role s.state) (tenure_in w item.source item.what) → RemainsOpen x (roles_of s) s.down input offer r → Downs w (handled_by w item items) s r.next
   by role_commands is begins goes =
       let awaits = commands_awaits input (roles_of s) is in
       let puts : r.outs ≡ change_command s.serving awaits.t.target.change awaits.t.target.channel ∷ [] = subst (λ (o : Option TargetRole). IsCommand o s.serving r.outs) awaits.is goes.tells in

@@ -1,10 +1,10 @@
 -- The controller handles an item for a connection: the connection stays lined up.
 use Rattle.world_laws.proofs.Prelude.{◌≡◌, ℕ, ◌+◌, Bool, true, false, if◌then◌else◌, unwrap_or, List, [], ◌∷◌, ◌++◌, find, map, length}
 use Rattle.world_laws.proofs.Prelude.{Option, Some, None, refl, sym, ap, ◌∙◌, subst, arith, AllByRecursion, Channel, Place, Out, Input}
-use Rattle.world_laws.proofs.Prelude.{Target, Connection, RoleStep, TargetRole, after_step, roles_of, step_by, target_channels, GoesOn}
-use Rattle.world_laws.proofs.Prelude.{role_leaves, Row, AreApart, relayed, used_channels, target_in-role, place_of, Zero, to_be_taken}
+use Rattle.world_laws.proofs.Prelude.{Target, Connection, RoleStep, TargetRole, after_step, roles_of, step_by, target_channels, RemainsOpen}
+use Rattle.world_laws.proofs.Prelude.{role_leaves, Row, AreApart, relayed, used_channels, target_in_role, place_of, Zero, to_be_taken}
 use Rattle.world_laws.proofs.Prelude.{RelayItem, Parameters, Event, handled, tenure_in, Actors, Mobile, has_number, is_station_up}
-use Rattle.world_laws.proofs.Prelude.{modulus_in, tenure_at, turn-leads, AllByRecursion-so, KeepsChannels, take, forwarded, Alive}
+use Rattle.world_laws.proofs.Prelude.{modulus_in, tenure_at, turn_leads, AllByRecursion-so, KeepsChannels, take, forwarded, Alive}
 use Rattle.world_laws.proofs.Prelude.{controls_of, flow, coming_up, going_down, commanded_target, seat_from, waiting_of, taken_of, line_up}
 use Rattle.world_laws.proofs.Prelude.{remembered, HandlesFor, AreInOrder, IsPutAsRead, HandleKeepsLineUps, TimeAgesLineUps, DoesRow}
 use Rattle.world_laws.proofs.Prelude.{LinedUp, Leads, AreLinedUp}
@@ -65,10 +65,10 @@ of_commanded P (Some role) t is all = by role.is_commanded is where
   by true is = subst (λ (o : Option Target). P (unwrap_or o t).channel) is all.0
   by false is = absurd cc
 
-quiet_of : {w : Actors} {s : Connection} {input : Input} {offer : Option Channel} {r : Row} → AreInOrder w s input → GoesOn (step_by input (roles_of s)) (roles_of s) s.down input offer r → (t : Target) → commanded_target r.next.state ≡ Some t → going_down w (place_of t.channel) ≡ []
+quiet_of : {w : Actors} {s : Connection} {input : Input} {offer : Option Channel} {r : Row} → AreInOrder w s input → RemainsOpen (step_by input (roles_of s)) (roles_of s) s.down input offer r → (t : Target) → commanded_target r.next.state ≡ Some t → going_down w (place_of t.channel) ≡ []
 quiet_of {w} {s} {input} {offer} {r} order goes t to =
     of_commanded (λ c. going_down w (place_of c) ≡ []) (after_step (step_by input (roles_of s)) (roles_of s)).target t (sym (channels_after (step_by input (roles_of s)) (roles_of s) s.down input offer r goes).target ∙ to)
-    (kept_targets (λ c. going_down w (place_of c) ≡ []) (step_by input (roles_of s)) (roles_of s) (subst (AllByRecursion (λ c. going_down w (place_of c) ≡ [])) (sym (target_in-role s.state)) order.uncommanded))
+    (kept_targets (λ c. going_down w (place_of c) ≡ []) (step_by input (roles_of s)) (roles_of s) (subst (AllByRecursion (λ c. going_down w (place_of c) ≡ [])) (sym (target_in_role s.state)) order.uncommanded))
 
 -- the same row, whatever commands are on their way
 with_commands : {s : Connection} {input : Input} {offer : Option Channel} {r : Row} {before after : Place → List Item} {up : ℕ → Bool} {seat seat2 : Seat} {w v : Actors} {mobile_seat : _} → DoesRow s input offer r before after up 0 0 seat seat2 → OwnRest w v mobile_seat s r.next before after up seat seat2
@@ -107,11 +107,11 @@ own_lined {m} {w} {p} {item} items {s} {input} {offer} {r} {text} stood handles 
   takes : TakesInput s input offer r text (coming_up w) (coming_up v) 0 0
   takes = takes_of items stood handles order read lined.apart
 
-  goes : GoesOn (step_by input (roles_of s)) (roles_of s) s.down input offer r
+  goes : RemainsOpen (step_by input (roles_of s)) (roles_of s) s.down input offer r
   goes = goes_of (step_by input (roles_of s)) refl takes
 
   same_tenures : SameTenures w v
-  same_tenures at = turn-leads (λ (x : Actors). tenure_at x at ≡ tenure_at w at) (tenure_in w item.source item.what) (take item w.controller) (record w { inbox = items }) (λ links. refl)
+  same_tenures at = turn_leads (λ (x : Actors). tenure_at x at ≡ tenure_at w at) (tenure_in w item.source item.what) (take item w.controller) (record w { inbox = items }) (λ links. refl)
 
   seat2 : Seat
   seat2 = seat_after (step_by input (roles_of s)) (seat_from s.serving p.seat)
@@ -133,7 +133,7 @@ own_lined {m} {w} {p} {item} items {s} {input} {offer} {r} {text} stood handles 
   number = (of_row (KeepsChannels s offer) handles.fits (keeps_channels s input offer)).number
 
   taken : taken_of v r.next.number ≡ taken_of w s.number
-  taken = ap (taken_of v) number ∙ turn-leads (λ (x : Actors). taken_of x s.number ≡ taken_of w s.number) (tenure_in w item.source item.what) (take item w.controller) (record w { inbox = items }) (λ links. refl)
+  taken = ap (taken_of v) number ∙ turn_leads (λ (x : Actors). taken_of x s.number ≡ taken_of w s.number) (tenure_in w item.source item.what) (take item w.controller) (record w { inbox = items }) (λ links. refl)
 
   waits : flow (waiting_of v r.next.number) ≡ flow (waiting_of w s.number) ++ flow (relayed Zero r.outs)
   waits = ap (λ (n : ℕ). flow (waiting_of v n)) number

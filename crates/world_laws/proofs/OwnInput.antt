@@ -4,32 +4,32 @@ use Rattle.world_laws.proofs.Prelude.{length, Option, Some, None, refl, sym, ap,
 use Rattle.world_laws.proofs.Prelude.{cases_Bool, eq-eqb, Change, Channel, Place, Input, Preparing, Changing, State, Live, Zero, Target}
 use Rattle.world_laws.proofs.Prelude.{Connection, is_at, drain_at, TargetRole, RoleStep, target_role, roles_of, after_step, target_channels}
 use Rattle.world_laws.proofs.Prelude.{completed, awaits_at, changes_by, is_target_at, leaves_at, step_by, ChangesRoles, ChangesRolesBy}
-use Rattle.world_laws.proofs.Prelude.{GoesOn, roles_stay, role_commands, role_completes, role_goes_back, role_leaves, goes_on, ends}
-use Rattle.world_laws.proofs.Prelude.{had_ended, Stands, Row, done_at, AreApart, IsOpen, OfRow, undone, target_in-role, ChangesRoles-row}
-use Rattle.world_laws.proofs.Prelude.{place_of, is_control, and-left, and-right, same_place, AllByRecursion-so, Ends, undone-still_draining}
+use Rattle.world_laws.proofs.Prelude.{RemainsOpen, roles_stay, role_commands, role_completes, role_goes_back, role_leaves, goes_on, ends}
+use Rattle.world_laws.proofs.Prelude.{had_ended, IsValid, Row, done_at, AreApart, IsOpen, OfRow, undone, target_in_role, changes_roles_row}
+use Rattle.world_laws.proofs.Prelude.{place_of, is_control, and_left, and_right, same_place, AllByRecursion-so, Ends, undone-still_draining}
 use Rattle.world_laws.proofs.Prelude.{Stands-row, messages_in, controls_of, controls_in, texts_in, flow, released, is_ended}
 use Rattle.world_laws.proofs.Prelude.{commanded_target, DoesRow, some_lacks, target_items, OwnStep, AreLayer3, mark, texts_of}
 use Rattle.conn_rules.specs.declared.input.Input.TheVariants as inputs
 use Rattle.conn_rules.specs.Streams.{target_in}
 use Rattle.world_laws.specs.LineUp.Places.{Item, Seat}
 use Rattle.world_laws.specs.LineUp.Places.Item.{brought}
-use Rattle.world_laws.proofs.LineUp.Lines.{controls-append, controls_first, flow-append, messages_in-append}
+use Rattle.world_laws.proofs.LineUp.Lines.{controls_append, controls_first, flow-append, messages_in-append}
 use Rattle.world_laws.specs.OwnItem.{said_by, IsBesideTarget, CommandsAfter, seat_after, TakesInput, InputKeepsLineUp}
 use Rattle.world_laws.specs.OwnStep.OwnStep.{stays}
-use Rattle.world_laws.proofs.Apart.{at-itself}
+use Rattle.world_laws.proofs.Apart.{at_itself}
 use Rattle.world_laws.proofs.Framing.{all_left}
-use Rattle.world_laws.proofs.OwnChannels.{passed, to_come, IsHeard, ended-same, goes_on_behind}
+use Rattle.world_laws.proofs.OwnChannels.{passed, to_come, IsHeard, ended_same, goes_on_behind}
 use Rattle.world_laws.proofs.OwnDoes.{IsKnown, serving_heard, old_heard, whole_old, whole_rest, stands_before, stands_after}
-use Rattle.world_laws.proofs.OwnReleases.{same-at, released_elsewhere, undone_none, undone_done, undone_push, are_released, lacks-same}
+use Rattle.world_laws.proofs.OwnReleases.{same_at, released_elsewhere, undone_none, undone_done, undone_push, are_released, lacks_same}
 use Rattle.world_laws.proofs.OwnRoles.{IsLess, own_stays, own_leaves, own_tells, own_goes_back, own_completes}
 use Rattle.world_laws.proofs.OwnRowLaw.{row_keeps_line_up_new}
 use Rattle.world_laws.proofs.Quiet.{all_of}
-use Rattle.world_laws.proofs.RolesAfter.{commanded_of, commanded-role, channels_after}
+use Rattle.world_laws.proofs.RolesAfter.{commanded_of, commanded_role, channels_after}
 
 -- ---- what is on its way is what it was, or less
 
 sum_of : (said after : List Item) → controls_in (said ++ after) ≡ controls_in said + controls_in after
-sum_of said after = ap controls_of (messages_in-append said after) ∙ controls-append (messages_in said) (messages_in after)
+sum_of said after = ap controls_of (messages_in-append said after) ∙ controls_append (messages_in said) (messages_in after)
 
 controls_less : (said before after : List Item) → before ≡ said ++ after → controls_in after ≤ controls_in before
 controls_less said before after first = let sum = ap controls_in first ∙ sum_of said after in omega arith
@@ -63,10 +63,10 @@ ends_of : (input : Input) (text : List ℕ) (state : State) (after : Place → L
 ends_of (inputs.ReleaseAck at) text state after up =
     ap (λ (b : Bool). if (is_ended (if b then released ∷ [] else []) || false) then [] else texts_of (after at) ++ mark (not (up at.station) && not (is_ended (after at)))) (ap (λ (b : Bool). b && nat_eq at.number at.number) (eq-eqb at.station at.station refl) ∙ eq-eqb at.number at.number refl)
 ends_of (inputs.Failure at change cause) text (Live reference (Changing t)) after up =
-    passed (inputs.Failure at change cause) text (t.channel ∷ []) after up (place_of t.channel) (ap (λ (b : Bool). b || false) (at-itself t.channel))
+    passed (inputs.Failure at change cause) text (t.channel ∷ []) after up (place_of t.channel) (ap (λ (b : Bool). b || false) (at_itself t.channel))
 ends_of (inputs.Failure at change cause) text _ after up = refl
 ends_of (inputs.ActivationAck at) text (Live reference (Preparing t)) after up =
-    passed (inputs.ActivationAck at) text (t.channel ∷ []) after up (place_of t.channel) (ap (λ (b : Bool). b || false) (at-itself t.channel))
+    passed (inputs.ActivationAck at) text (t.channel ∷ []) after up (place_of t.channel) (ap (λ (b : Bool). b || false) (at_itself t.channel))
 ends_of (inputs.ActivationAck at) text _ after up = refl
 ends_of _ text state after up = tt
 
@@ -75,13 +75,13 @@ ends_of _ text state after up = tt
 known_of : {s : Connection} {input : Input} {offer : Option Channel} {r : Row} {text : List ℕ} {before after : Place → List Item} {commands commands2 : ℕ} → TakesInput s input offer r text before after commands commands2 → IsKnown input text before after s
 known_of takes = record { finds = takes.finds; apart = takes.apart }
 
-of_changes : {s : Connection} {input : Input} {offer : Option Channel} {r : Row} → ChangesRoles s input offer r → IsOpen r.next.state → GoesOn (step_by input (roles_of s)) (roles_of s) s.down input offer r
+of_changes : {s : Connection} {input : Input} {offer : Option Channel} {r : Row} → ChangesRoles s input offer r → IsOpen r.next.state → RemainsOpen (step_by input (roles_of s)) (roles_of s) s.down input offer r
 of_changes (goes_on was_open stays_open goes) is_open = goes
 of_changes (ends was_open shut end) is_open = absurd (shut is_open)
 of_changes (had_ended shut_before shut nothing) is_open = absurd (shut is_open)
 
-pub goes_of : {s : Connection} {input : Input} {offer : Option Channel} {r : Row} {text : List ℕ} {before after : Place → List Item} {commands commands2 : ℕ} (step : RoleStep) → step_by input (roles_of s) ≡ step → TakesInput s input offer r text before after commands commands2 → GoesOn step (roles_of s) s.down input offer r
-goes_of {s} {input} {offer} {r} step is takes = subst (λ (x : RoleStep). GoesOn x (roles_of s) s.down input offer r) is (of_changes (subst (ChangesRolesBy s input offer) takes.fits (ChangesRoles-row s input offer takes.stands)) takes.stays_open)
+pub goes_of : {s : Connection} {input : Input} {offer : Option Channel} {r : Row} {text : List ℕ} {before after : Place → List Item} {commands commands2 : ℕ} (step : RoleStep) → step_by input (roles_of s) ≡ step → TakesInput s input offer r text before after commands commands2 → RemainsOpen step (roles_of s) s.down input offer r
+goes_of {s} {input} {offer} {r} step is takes = subst (λ (x : RoleStep). RemainsOpen x (roles_of s) s.down input offer r) is (of_changes (subst (ChangesRolesBy s input offer) takes.fits (changes_roles_row s input offer takes.stands)) takes.stays_open)
 
 told_of : {s : Connection} {input : Input} {offer : Option Channel} {r : Row} {text : List ℕ} {before after : Place → List Item} {commands commands2 : ℕ} (step : RoleStep) → step_by input (roles_of s) ≡ step → TakesInput s input offer r text before after commands commands2 → CommandsAfter step commands commands2
 told_of {commands = commands} {commands2} step is takes = subst (λ (x : RoleStep). CommandsAfter x commands commands2) is takes.told
@@ -99,7 +99,7 @@ finish {s} {input} {offer} {r} {text} {before} {after} {commands} {commands2} up
   future = to_come input text (target_in s.state) after up;
   ends = ends_of input text s.state after up;
   was = stands_before up (known_of takes) takes.stands;
-  now = stands_after up step r.next (known_of takes) (subst (OfRow (λ (x : Row). Stands x.next)) takes.fits (Stands-row s input offer takes.stands takes.carried))
+  now = stands_after up step r.next (known_of takes) (subst (OfRow (λ (x : Row). IsValid x.next)) takes.fits (Stands-row s input offer takes.stands takes.carried))
       (channels_after step (roles_of s) s.down input offer r (goes_of step is takes)) old serving serving_on;
   whole = takes.whole;
   step = subst (λ (x : RoleStep). OwnStep before after up s r.next commands commands2 seat (seat_after x seat)) (sym is) own;
@@ -109,7 +109,7 @@ finish {s} {input} {offer} {r} {text} {before} {after} {commands} {commands2} up
 covers_of : (s : Connection) (input : Input) (text : List ℕ) (before after : Place → List Item) (up : ℕ → Bool) → ((at : Place) → before at ≡ said_by input text at ++ after at) → AllByRecursion (λ c. is_ended (said_by input text (place_of c)) ≡ false) (undone s.draining)
     → some_lacks after up s.draining ≡ false → some_lacks before up s.draining ≡ false
 covers_of s input text before after up first none_ends none =
-    lacks-same before after up s.draining (AllByRecursion-so (λ c. is_ended (said_by input text (place_of c)) ≡ false) (λ c. is_ended (before (place_of c)) ≡ is_ended (after (place_of c))) (λ c goes_on_now. ended-same input text before after (place_of c) (first (place_of c)) goes_on_now) (undone s.draining) none_ends) ∙ none
+    lacks_same before after up s.draining (AllByRecursion-so (λ c. is_ended (said_by input text (place_of c)) ≡ false) (λ c. is_ended (before (place_of c)) ≡ is_ended (after (place_of c))) (λ c goes_on_now. ended_same input text before after (place_of c) (first (place_of c)) goes_on_now) (undone s.draining) none_ends) ∙ none
 
 -- ---- step by step
 
@@ -137,7 +137,7 @@ input_leaves {s} {offer} {r} {text} {before} {after} up seat at place found take
 
 -- the target, by its role
 pub targets_of : (s : Connection) (t : TargetRole) → target_role s.state ≡ Some t → target_in s.state ≡ t.target.channel ∷ []
-targets_of s t is = sym (target_in-role s.state) ∙ ap target_channels is
+targets_of s t is = sym (target_in_role s.state) ∙ ap target_channels is
 
 input_commands : {s : Connection} {input : Input} {offer : Option Channel} {r : Row} {text : List ℕ} {before after : Place → List Item} {commands commands2 : ℕ} (up : ℕ → Bool) (seat : Seat) (t : TargetRole) → target_role s.state ≡ Some t → t.is_commanded ≡ false → IsBesideTarget input → ((at : Place) → before at ≡ after at)
     → step_by input (roles_of s) ≡ role_commands → TakesInput s input offer r text before after commands commands2 → AllByRecursion (λ c. is_ended (said_by input text (place_of c)) ≡ false) (undone s.draining)
@@ -163,7 +163,7 @@ input_refused {s} {input} {offer} {r} {text} {before} {after} up seat t role wai
     let now = channels_after role_goes_back (roles_of s) s.down input offer r (goes_of role_goes_back is takes) in
     let less = is_less input text up s takes.finds.first in
     finish up seat role_goes_back is takes (old_heard (known_of takes) none_ends) (serving_heard (known_of takes)) takes.finds.others_go_on.0
-    (stays now.serving (now.target ∙ sym (commanded-role s.state ∙ ap commanded_of role ∙ ap (λ (b : Bool). if b then Some t.target else None) waits)) less.serving less.texts less.controls (told_of role_goes_back is takes)
+    (stays now.serving (now.target ∙ sym (commanded_role s.state ∙ ap commanded_of role ∙ ap (λ (b : Bool). if b then Some t.target else None) waits)) less.serving less.texts less.controls (told_of role_goes_back is takes)
     (λ none. covers_of s input text before after up takes.finds.first none_ends (sym (ap (some_lacks after up) now.draining) ∙ none)))
 
 input_completes : {s : Connection} {offer : Option Channel} {r : Row} {text : List ℕ} {before after : Place → List Item} {commands commands2 : ℕ} (up : ℕ → Bool) (seat : Seat) (at : Place) (change : Change) (cause : _) (t : TargetRole) → target_role s.state ≡ Some t → t.is_commanded ≡ true
@@ -207,7 +207,7 @@ pub record IsCommanded (o : Option TargetRole) : Type 0 where
 
 changing : (change : Change) (o : Option TargetRole) → changes_by change o ≡ true → IsCommanded o
 changing change None is = absurd cc
-changing change (Some t) is = record { t = t; is = refl; told_to = and-left t.is_commanded _ is }
+changing change (Some t) is = record { t = t; is = refl; told_to = and_left t.is_commanded _ is }
 
 brought-unended : (message : List ℕ) (b : Bool) → is_ended (if b then brought message ∷ [] else []) ≡ false
 brought-unended message true = refl
@@ -216,7 +216,7 @@ brought-unended message false = refl
 -- COMPLETE and FAILURE are taken from their channel
 control_taken : (text : List ℕ) (before after : Place → List Item) (at : Place) (c : Channel) → is_control text ≡ true → before (place_of c) ≡ (if same_place (place_of c) at then brought text ∷ [] else []) ++ after (place_of c) → is_at at c ≡ true → controls_in (after (place_of c)) + 1 ≤ controls_in (before (place_of c))
 control_taken text before after at c control first here =
-    controls_one text (before (place_of c)) (after (place_of c)) (first ∙ ap (λ (b : Bool). (if b then brought text ∷ [] else []) ++ after (place_of c)) (same-at at c ∙ here)) (controls_first text (messages_in (after (place_of c))) control)
+    controls_one text (before (place_of c)) (after (place_of c)) (first ∙ ap (λ (b : Bool). (if b then brought text ∷ [] else []) ++ after (place_of c)) (same_at at c ∙ here)) (controls_first text (messages_in (after (place_of c))) control)
 
 pub does_row : (s : Connection) (input : Input) (offer : Option Channel) (r : Row) (text : List ℕ) (before after : Place → List Item) (up : ℕ → Bool) (commands commands2 : ℕ) (seat : Seat) → TakesInput s input offer r text before after commands commands2
     → DoesRow s input offer r before after up commands commands2 seat (seat_after (step_by input (roles_of s)) seat)
@@ -231,15 +231,15 @@ does_row s (inputs.ActivationNack at) offer r text before after up commands comm
   | inr not_so ↦ input_stays up seat (ap (λ (b : Bool). if b then role_goes_back else roles_stay) not_so) takes (all_of _ (undone s.draining) (λ c. refl))
 ]
 does_row s (inputs.Complete at change cause) offer r text before after up commands commands2 seat takes = elim (cases_Bool (is_target_at at (target_role s.state) && changes_by change (target_role s.state))) [
-  | inl both ↦ let a = changing change (target_role s.state) (and-right (is_target_at at (target_role s.state)) (changes_by change (target_role s.state)) both) in
+  | inl both ↦ let a = changing change (target_role s.state) (and_right (is_target_at at (target_role s.state)) (changes_by change (target_role s.state)) both) in
       input_completes up seat at change cause a.t a.is a.told_to
-      (control_taken text before after at a.t.target.channel takes.finds.read (takes.finds.first (place_of a.t.target.channel)) (sym (ap (is_target_at at) a.is) ∙ and-left (is_target_at at (target_role s.state)) (changes_by change (target_role s.state)) both))
+      (control_taken text before after at a.t.target.channel takes.finds.read (takes.finds.first (place_of a.t.target.channel)) (sym (ap (is_target_at at) a.is) ∙ and_left (is_target_at at (target_role s.state)) (changes_by change (target_role s.state)) both))
       (ap (λ (b : Bool). if b then role_completes else roles_stay) both) takes (all_of _ (undone s.draining) (λ c. brought-unended text (same_place (place_of c) at)))
   | inr not_so ↦ input_stays up seat (ap (λ (b : Bool). if b then role_completes else roles_stay) not_so) takes (all_of _ (undone s.draining) (λ c. brought-unended text (same_place (place_of c) at)))
 ]
 does_row s (inputs.Failure at change cause) offer r text before after up commands commands2 seat takes = elim (cases_Bool (is_at at s.serving && changes_by change (target_role s.state))) [
-  | inl both ↦ let a = changing change (target_role s.state) (and-right (is_at at s.serving) (changes_by change (target_role s.state)) both) in
-      input_goes_back up seat a.t a.is a.told_to (control_taken text before after at s.serving takes.finds.read (takes.finds.first (place_of s.serving)) (and-left (is_at at s.serving) (changes_by change (target_role s.state)) both))
+  | inl both ↦ let a = changing change (target_role s.state) (and_right (is_at at s.serving) (changes_by change (target_role s.state)) both) in
+      input_goes_back up seat a.t a.is a.told_to (control_taken text before after at s.serving takes.finds.read (takes.finds.first (place_of s.serving)) (and_left (is_at at s.serving) (changes_by change (target_role s.state)) both))
       (ap (λ (b : Bool). if b then role_goes_back else roles_stay) both) takes (all_of _ (undone s.draining) (λ c. brought-unended text (same_place (place_of c) at)))
   | inr not_so ↦ input_stays up seat (ap (λ (b : Bool). if b then role_goes_back else roles_stay) not_so) takes (all_of _ (undone s.draining) (λ c. brought-unended text (same_place (place_of c) at)))
 ]

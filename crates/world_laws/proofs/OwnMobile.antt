@@ -3,7 +3,7 @@ use Rattle.world_laws.proofs.Prelude.{◌≡◌, ℕ, ◌&&◌, ◌%◌, not, Bo
 use Rattle.world_laws.proofs.Prelude.{refl, sym, subst, inl, inr, is_none, cases_Bool, Connection, Sapi, Zero, Three, is_flow_message}
 use Rattle.world_laws.proofs.Prelude.{with_number, Whereabouts, Stage, New, Connected, is_control, after_acknowledgement, after_number}
 use Rattle.world_laws.proofs.Prelude.{after_queue, refusal_of_send, after_acked, after_acked_at, MobileState, Actors, Mobile, Alive}
-use Rattle.world_laws.proofs.Prelude.{BadMessage, waits_in, is_sendable, has_clear_number, is_sendable-clear, IsClear-flow}
+use Rattle.world_laws.proofs.Prelude.{BadMessage, waits_in, is_sendable, has_clear_number, is_sendable_clear, IsClear-flow}
 use Rattle.world_laws.proofs.Prelude.{commanded_target, line_up, Sits, LinedUp}
 use Rattle.world_laws.specs.LineUp.MobileStep.MobileStep.{sends_numbered, sends_other, acknowledged}
 use Rattle.world_laws.proofs.LineUp.Moving.{alive_mobile}
@@ -25,8 +25,8 @@ lined_up_end {m} {w} {p} {s} q seat alive lined = record {
 
 -- ---- its upper layers send
 
-pub sendable-of : (e : MobileState) (sapi : Sapi) (message : List ℕ) → is_none (refusal_of_send e sapi message) ≡ true → is_sendable sapi message ≡ true
-sendable-of e sapi message may = by_stage e.stage may where
+pub sendable_of : (e : MobileState) (sapi : Sapi) (message : List ℕ) → is_none (refusal_of_send e sapi message) ≡ true → is_sendable sapi message ≡ true
+sendable_of e sapi message may = by_stage e.stage may where
   by_stage : (stage : Stage) → is_none (first_refusal (refusal_before_connect stage) (if is_sendable sapi message then None else Some BadMessage)) ≡ true → is_sendable sapi message ≡ true
   by_stage New is = absurd cc
   by_stage Connected is = by_message (is_sendable sapi message) is where
@@ -51,11 +51,11 @@ own_upper {m} {w} {p} {s} sapi message modulus may lined =
     elim (cases_Bool (is_flow_message message)) [
       | inl numbered ↦ as_is numbered (lined_up_end (record p { end = after_number p.end message }) refl
           (subst (λ (n : ℕ). Alive m (line_up w (record p { end = record p.end { sent = p.end.sent ++ message ∷ []; zero = waits_in p.end.zero (with_number (length p.end.sent % n) message) } }) s)) (sym modulus)
-          (alive_mobile (sends_numbered (line_up w p s) message (IsClear-flow message (is_sendable-clear sapi message sendable) numbered)) lined.alive)) lined)
+          (alive_mobile (sends_numbered (line_up w p s) message (IsClear-flow message (is_sendable_clear sapi message sendable) numbered)) lined.alive)) lined)
       | inr other ↦ as_is other (by_sapi sapi sendable other)
     ] where
       sendable : is_sendable sapi message ≡ true
-      sendable = sendable-of p.end sapi message may
+      sendable = sendable_of p.end sapi message may
 
       as_is : {b : Bool} → is_flow_message message ≡ b → LinedUp m w (record p { end = if b then after_number p.end message else with_link p.end sapi (waits_in (link_of p.end sapi) message) }) s → LinedUp m w (record p { end = after_queue p.end sapi message }) s
       as_is is kept = subst (λ (b : Bool). LinedUp m w (record p { end = if b then after_number p.end message else with_link p.end sapi (waits_in (link_of p.end sapi) message) }) s) (sym is) kept

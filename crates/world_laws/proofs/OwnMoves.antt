@@ -6,32 +6,32 @@ use Rattle.world_laws.proofs.Prelude.{Connection, is_at, is_dtap, undone, used_c
 use Rattle.world_laws.proofs.Prelude.{HandoverCommand, ChannelRelease, RrFault, Zero, after_establish, establish_indication, is_control}
 use Rattle.world_laws.proofs.Prelude.{after_resume, after_leave, after_arrival, AirMessage, Command, MobileSeat, On, Moving, Gone}
 use Rattle.world_laws.proofs.Prelude.{ChannelTenure, remembering, controlled, hearing, seated, Actors, Mobile, Spot, put_back, base_of}
-use Rattle.world_laws.proofs.Prelude.{with_base, is_station_up, outbox_of, spot_at, with_spot, tenure_at, is_reached, reached-up, up-right}
+use Rattle.world_laws.proofs.Prelude.{with_base, is_station_up, outbox_of, spot_at, with_spot, tenure_at, is_reached, reached_up, up_right}
 use Rattle.world_laws.proofs.Prelude.{same_Some, AllByRecursion-so, Result, rr_reading, Alive, left_the_cell, LineUp, flow, on_serving}
 use Rattle.world_laws.proofs.Prelude.{on_target, moving, gone, coming_up, leading, leading_from_air, leading_from_outbox, going_down}
 use Rattle.world_laws.proofs.Prelude.{seat_from, remembered, is_intact, old_tenures, serving_hold, serving_tenure, commanded_target}
 use Rattle.world_laws.proofs.Prelude.{target_tenure, waiting_of, taken_of, assembled, lined, line_up, change_in, Remembers, Sits, Leads}
 use Rattle.world_laws.proofs.Prelude.{NoneOn, LinedUp, leads, came, between, is_gone_now}
 use Rattle.conn_rules.specs.Streams.{target_in}
-use Rattle.world_laws.specs.LineUp.Alive.{Stands}
-use Rattle.world_laws.specs.LineUp.Alive.Stands.{opens, rests, waits, arrives, returns}
+use Rattle.world_laws.specs.LineUp.Alive.{ChangePhase}
+use Rattle.world_laws.specs.LineUp.Alive.ChangePhase.{opens, rests, waits, arrives, returns}
 use Rattle.world_laws.specs.LineUp.Places.{Item, Tenure, Seat}
 use Rattle.world_laws.specs.LineUp.MobileStep.MobileStep.{follows_command, arrives as arrives_step, returns as returns_step}
 use Rattle.world_laws.specs.LineUp.MobileStep.MobileStep.{dismissed_from_serving, dismissed_from_target}
 use Rattle.world_laws.proofs.LineUp.Following.{follows_line}
-use Rattle.world_laws.proofs.LineUp.Lines.{parts-tail, last_part}
+use Rattle.world_laws.proofs.LineUp.Lines.{parts_tail, last_part}
 use Rattle.world_laws.proofs.LineUp.Moving.{alive_mobile}
 use Rattle.world_laws.proofs.LineUp.Standing.{stands_fewer}
 use Rattle.world_model.specs.Mobiles.{left}
 use Rattle.world_laws.specs.Seated.Remembers.{nothing, told}
 use Rattle.world_laws.specs.Seated.Sits.{stays}
-use Rattle.world_laws.proofs.Apart.{is_at_station, target-in, OnServing, OnTarget, is_on_serving, is_on_target, SitsOn, sits_on_tenure, SitsBetween}
+use Rattle.world_laws.proofs.Apart.{is_at_station, target_in_is_so, OnServing, OnTarget, is_on_serving, is_on_target, SitsOn, sits_on_tenure, SitsBetween}
 use Rattle.world_laws.proofs.Apart.{sits_between}
 use Rattle.world_laws.proofs.Apart.SitsOn.{serves, arrived}
 use Rattle.world_laws.proofs.Framing.{AreSame, AreUp, all_right, lined-same}
 use Rattle.world_laws.proofs.OwnMobile.{lined_up_end}
-use Rattle.world_laws.proofs.Quiet.{all_of, ArePlaced, coming-with_spot, sees_itself, sees_mobiles, sees_told, sees_spot}
-use Rattle.world_laws.proofs.Spots.{spot-elsewhere, spot-there, tenure-with_spot}
+use Rattle.world_laws.proofs.Quiet.{all_of, ArePlaced, coming_with_spot, sees_itself, sees_mobiles, sees_told, sees_spot}
+use Rattle.world_laws.proofs.Spots.{spot-elsewhere, spot-there, tenure_with_spot}
 use Rattle.world_laws.proofs.Seeing.{SameTenures, sits_same, leads_same, none_same, SeesSame, lined_up_same}
 
 -- ---- fewer commands on their way
@@ -46,7 +46,7 @@ alive_fewer l n fewer alive = record {
 }
 
 -- one is on its way, or remembered, where the mobile is on the serving channel
-only_one : {opening changing : Bool} {commands serving texts target link : ℕ} → Stands opening changing commands on_serving serving texts target link → 1 ≤ commands → commands ≡ 1
+only_one : {opening changing : Bool} {commands serving texts target link : ℕ} → ChangePhase opening changing commands on_serving serving texts target link → 1 ≤ commands → commands ≡ 1
 only_one (opens here none) some = absurd (omega arith)
 only_one (rests here none) some = absurd (omega arith)
 only_one (waits here few none) some = omega arith
@@ -70,9 +70,9 @@ alive_from_seat {m} w p s is alive = subst (λ (sits : Seat). Alive m (assembled
     (serving_tenure (coming_up w) (is_station_up w) s.serving (serving_hold s.draining s.up.tenures)) (target_tenure (coming_up w) (is_station_up w) sits (commanded_target s.state)) (flow (waiting_of w s.number)) (flow (taken_of w s.number)))) (sym is) alive
 
 -- the target, seen from another seat
-target-moving : (f : Place → List Item) (up : ℕ → Bool) (o : Option Target) → target_tenure f up moving o ≡ target_tenure f up on_serving o
-target-moving f up None = refl
-target-moving f up (Some t) = refl
+target_moving : (f : Place → List Item) (up : ℕ → Bool) (o : Option Target) → target_tenure f up moving o ≡ target_tenure f up on_serving o
+target_moving f up None = refl
+target_moving f up (Some t) = refl
 
 target_gone : (f : Place → List Item) (up : ℕ → Bool) (seat : Seat) (o : Option Target) → (b : Bool) × (target_tenure f up gone o ≡ record (target_tenure f up seat o) { is_lost = b })
 target_gone f up seat None = (false, refl)
@@ -109,11 +109,11 @@ popped w tenure others = with_spot tenure.at (record (spot_at w tenure.at) { air
 but_popped : {w : Actors} {s : Connection} (tenure : ChannelTenure) (others : List AirMessage) → tenure.at.station ≢ SWITCH_LINK → ArePlaced (used_channels s) → OnServing tenure.at s → SeesBut w (popped w tenure others) s
 unfolding popped SameTenures
 but_popped {w} {s} tenure others at_is placed on = record {
-  coming = all_of (λ c. coming_up (popped w tenure others) (place_of c) ≡ coming_up w (place_of c)) (used_channels s) (λ c. coming-with_spot w tenure.at _ (place_of c));
+  coming = all_of (λ c. coming_up (popped w tenure others) (place_of c) ≡ coming_up w (place_of c)) (used_channels s) (λ c. coming_with_spot w tenure.at _ (place_of c));
   up = λ n. refl;
   target = λ t is. ap (λ (x : Spot). flat_map leading_from_air x.air ++ flat_map (leading_from_outbox t.channel.number) (outbox_of w t.channel.station))
-      (spot-elsewhere w tenure.at _ t.channel at_is (subst ArePlaced (target-in s.state t is) placed_rest.1).0 (subst (λ (cs : List Channel). AllByRecursion (λ c. is_at tenure.at c ≡ false) cs) (target-in s.state t is) on.target).0);
-  tenures = λ other. tenure-with_spot w tenure.at _ other refl;
+      (spot-elsewhere w tenure.at _ t.channel at_is (subst ArePlaced (target_in_is_so s.state t is) placed_rest.1).0 (subst (λ (cs : List Channel). AllByRecursion (λ c. is_at tenure.at c ≡ false) cs) (target_in_is_so s.state t is) on.target).0);
+  tenures = λ other. tenure_with_spot w tenure.at _ other refl;
   waiting = refl;
   taken = refl;
 } where
@@ -183,8 +183,8 @@ serving_popped {m} {w} {p} {s} tenure command now first others q at_is seat is a
 gone_alive : {m : ℕ} (l : LineUp) (b : Bool) → Alive m (record l { seat = gone; is_intact = false }) → Alive m (record l { seat = gone; is_intact = false; target = record l.target { is_lost = b } })
 gone_alive l b alive = record {
   follows = follows_line (ap (λ (parts : List (List ℕ)). flow l.taken ++ flow l.out ++ parts)
-      (parts-tail l.old (l.serving ∷ l.target ∷ []) (l.serving ∷ record l.target { is_lost = b } ∷ [])
-      (parts-tail (l.serving ∷ []) (l.target ∷ []) (record l.target { is_lost = b } ∷ []) (last_part l.target ∙ sym (last_part (record l.target { is_lost = b })))))) alive.follows;
+      (parts_tail l.old (l.serving ∷ l.target ∷ []) (l.serving ∷ record l.target { is_lost = b } ∷ [])
+      (parts_tail (l.serving ∷ []) (l.target ∷ []) (record l.target { is_lost = b } ∷ []) (last_part l.target ∙ sym (last_part (record l.target { is_lost = b })))))) alive.follows;
   first = alive.first;
   stands = alive.stands;
   condition = left_the_cell;
@@ -248,7 +248,7 @@ pub own_lost : {m : ℕ} {w : Actors} {p : Mobile} {s : Connection} (tenure : Ch
 unfolding popped
 own_lost {m} {w} {p} {s} tenure command first others reached seat air kept = by_sits (sits_on_tenure tenure command (subst (Sits w s.serving (commanded_target s.state)) seat kept.sits)) where
   by_sits : SitsOn w s.serving (commanded_target s.state) tenure command → LinedUp m (popped w tenure others) p s
-  by_sits (serves is remembers) = serving_popped tenure command command first others p (up-right tenure.at.station w (reached-up w tenure reached).0).0 seat (ap (λ (t : ChannelTenure). t.at) is) air refl seat
+  by_sits (serves is remembers) = serving_popped tenure command command first others p (up_right tenure.at.station w (reached_up w tenure reached).0).0 seat (ap (λ (t : ChannelTenure). t.at) is) air refl seat
       (subst (Sits w s.serving (commanded_target s.state)) seat kept.sits) (omega arith) kept
   by_sits (arrived t to is none) = (target_popped t tenure first others to (ap (λ (t : ChannelTenure). t.at) is) air kept).1
 
@@ -270,7 +270,7 @@ heard_command {m} {w} {p} {s} tenure command first others change target q reache
   leads_on = ap (λ (o : Option ChannelTenure). length (leading first.message o)) leads_to
 
   by_sits : SitsOn w s.serving (commanded_target s.state) tenure command → LinedUp m (popped w tenure others) q s
-  by_sits (serves there remembers) = serving_popped tenure command (Some (record { change = change; target = target })) first others q (up-right tenure.at.station w (reached-up w tenure reached).0).0 seat (ap (λ (t : ChannelTenure). t.at) there) air end seat_now
+  by_sits (serves there remembers) = serving_popped tenure command (Some (record { change = change; target = target })) first others q (up_right tenure.at.station w (reached_up w tenure reached).0).0 seat (ap (λ (t : ChannelTenure). t.at) there) air end seat_now
       (stays there (remembers_it target change is refl (led_to tenure first others target (ap (λ (t : ChannelTenure). t.at) there) air leads_to kept)))
       (let one = leads_on in omega arith) kept
   by_sits (arrived t to there none) = let one = leads_on in let none = ap length (target_popped t tenure first others to (ap (λ (t : ChannelTenure). t.at) there) air kept).0 in absurd (omega arith)
@@ -315,7 +315,7 @@ own_leaves {m} {w} {p} {s} tenure command seat none kept = by_sits (sits_on_tenu
       let was : Alive m (line_up_at w p s on_serving) = at_seat w p s (ap (seat_from s.serving) seat ∙ ap (λ (b : Bool). if b then on_serving else on_target) on.at_serving) kept.alive in
       let left : Alive m (record (line_up_at w p s on_serving) { seat = moving; commands = 0 }) = alive_mobile (follows_command (line_up_at w p s on_serving)) (subst (λ (n : ℕ). Alive m (record (line_up_at w p s on_serving) { commands = n })) one was) in
       subst (λ (t : Tenure). Alive m (assembled p.end.sent p.end.zero moving s.state (length (going_down w (place_of s.serving)) + 0) (old_tenures (coming_up w) (is_station_up w) s.draining s.up.tenures)
-      (serving_tenure (coming_up w) (is_station_up w) s.serving (serving_hold s.draining s.up.tenures)) t (flow (waiting_of w s.number)) (flow (taken_of w s.number)))) (sym (target-moving (coming_up w) (is_station_up w) (commanded_target s.state)))
+      (serving_tenure (coming_up w) (is_station_up w) s.serving (serving_hold s.draining s.up.tenures)) t (flow (waiting_of w s.number)) (flow (taken_of w s.number)))) (sym (target_moving (coming_up w) (is_station_up w) (commanded_target s.state)))
       (subst (λ (n : ℕ). Alive m (record (line_up_at w p s on_serving) { seat = moving; commands = n })) (sym (ap (λ (entries : List AirMessage). length entries + 0) none)) left)
 
   sitting : (o : Option Target) → tenure ≡ tenure_at w (place_of s.serving) → Remembers w o (Some command) → Sits w s.serving o (Moving tenure command)
@@ -373,9 +373,9 @@ own_move {m} {w} {p} {s} tenure command seat kept = by_sits (sits_on_tenure tenu
 
 -- ---- it arrives, or returns
 
-target-arrived : (f : Place → List Item) (up : ℕ → Bool) (t : Target) (o : Option Target) → o ≡ Some t → up t.channel.station ≡ true → target_tenure f up on_target o ≡ target_tenure f up moving o
-target-arrived f up t None is there = refl
-target-arrived f up t (Some other) is there =
+target_arrived : (f : Place → List Item) (up : ℕ → Bool) (t : Target) (o : Option Target) → o ≡ Some t → up t.channel.station ≡ true → target_tenure f up on_target o ≡ target_tenure f up moving o
+target_arrived f up t None is there = refl
+target_arrived f up t (Some other) is there =
     ap (λ (b : Bool). record (target_tenure f up moving (Some other)) { is_lost = not b && true }) (ap (λ (o : Option Target). up (unwrap_or o other).channel.station) is ∙ there)
     ∙ ap (λ (b : Bool). record (target_tenure f up moving (Some other)) { is_lost = not b && false }) (sym (ap (λ (o : Option Target). up (unwrap_or o other).channel.station) is ∙ there))
 
@@ -397,9 +397,9 @@ arrives_here {m} {w} {p} {s} from command control moves reached is kept =
     let sits : SitsBetween w s.serving (commanded_target s.state) from command = sits_between from command (subst (Sits w s.serving (commanded_target s.state)) moves kept.sits) in
     let there : command.target ≡ tenure_at w (place_of sits.to.channel) = ap (λ (c : Command). c.target) sits.by in
     let on : OnTarget command.target.at s sits.to = is_on_target s sits.to command.target.at kept.apart sits.is_target (ap (λ (t : ChannelTenure). t.at) there) in
-    let up : is_station_up w sits.to.channel.station ≡ true = ap (is_station_up w) (sym (is_at_station command.target.at sits.to.channel on.at_target)) ∙ (reached-up w command.target reached).0 in
+    let up : is_station_up w sits.to.channel.station ≡ true = ap (is_station_up w) (sym (is_at_station command.target.at sits.to.channel on.at_target)) ∙ (reached_up w command.target reached).0 in
     record {
-      alive = seated_alive w p s from command command.target control on_target moves (ap (λ (b : Bool). if b then on_serving else on_target) on.serving) (target-arrived (coming_up w) (is_station_up w) sits.to (commanded_target s.state) sits.is_target up)
+      alive = seated_alive w p s from command command.target control on_target moves (ap (λ (b : Bool). if b then on_serving else on_target) on.serving) (target_arrived (coming_up w) (is_station_up w) sits.to (commanded_target s.state) sits.is_target up)
           (alive_mobile (arrives_step (line_up_at w p s moving) control is) (at_seat w p s (ap (seat_from s.serving) moves) kept.alive));
       sits = subst (λ (o : Option Target). Sits w s.serving o (On command.target None)) (sym sits.is_target) (came there);
       led = kept.led;
@@ -414,7 +414,7 @@ returns_here {m} {w} {p} {s} from command control moves is kept =
     let sits : SitsBetween w s.serving (commanded_target s.state) from command = sits_between from command (subst (Sits w s.serving (commanded_target s.state)) moves kept.sits) in
     let on : OnServing from.at s = is_on_serving s from.at kept.apart (ap (λ (t : ChannelTenure). t.at) sits.from_serving) in
     record {
-      alive = seated_alive w p s from command from control on_serving moves (ap (λ (b : Bool). if b then on_serving else on_target) on.at_serving) (sym (target-moving (coming_up w) (is_station_up w) (commanded_target s.state)))
+      alive = seated_alive w p s from command from control on_serving moves (ap (λ (b : Bool). if b then on_serving else on_target) on.at_serving) (sym (target_moving (coming_up w) (is_station_up w) (commanded_target s.state)))
           (alive_mobile (returns_step (line_up_at w p s moving) control is) (at_seat w p s (ap (seat_from s.serving) moves) kept.alive));
       sits = stays sits.from_serving nothing;
       led = kept.led;
@@ -426,7 +426,7 @@ returns_here {m} {w} {p} {s} from command control moves is kept =
 -- its main link is established there
 pub sees_established : {w : Actors} {s : Connection} (tenure : ChannelTenure) → ArePlaced (used_channels s) → is_reached w tenure ≡ true → SeesSame w (with_base tenure.at.station (after_establish (base_of w tenure.at.station) tenure.at.number Zero None) w) s
 sees_established {w} {s} tenure placed reached =
-    sees_told tenure.at.station (after_establish (base_of w tenure.at.station) tenure.at.number Zero None) (establish_indication tenure.at.number Zero None ∷ []) placed (reached-up w tenure reached).0 (λ k. refl) refl refl (λ channel. by_channel (tenure.at.number == channel)) (sees_itself w s) where
+    sees_told tenure.at.station (after_establish (base_of w tenure.at.station) tenure.at.number Zero None) (establish_indication tenure.at.number Zero None ∷ []) placed (reached_up w tenure reached).0 (λ k. refl) refl refl (λ channel. by_channel (tenure.at.number == channel)) (sees_itself w s) where
       none_if : Bool → List Item
       none_if b = if b then [] else []
 

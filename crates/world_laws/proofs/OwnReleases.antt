@@ -2,25 +2,25 @@
 use Rattle.world_laws.proofs.Prelude.{◌≡◌, ℕ, suc, ◌&&◌, ◌||◌, not, nat_eq, Bool, true, false, if◌then◌else◌, cond, List, [], ◌∷◌, ◌++◌}
 use Rattle.world_laws.proofs.Prelude.{Option, Some, None, option_map, unwrap_or, refl, sym, ap, ◌∙◌, subst, inl, inr, AllByRecursion}
 use Rattle.world_laws.proofs.Prelude.{cases_Bool, Channel, Place, Drain, is_at, drain_at, done_at, AreApart, IsApart, undone}
-use Rattle.world_laws.proofs.Prelude.{place_of, and-left, same_place, released, is_ended, lacks, some_lacks, away-of}
+use Rattle.world_laws.proofs.Prelude.{place_of, and_left, same_place, released, is_ended, lacks, some_lacks, away_of}
 use Rattle.conn_rules.specs.declared.input.Input.TheVariants as inputs
 use Rattle.world_laws.specs.LineUp.Places.{Item}
 use Rattle.world_laws.specs.OwnItem.{said_by}
 use Rattle.world_laws.proofs.Apart.{eqb_sym}
-use Rattle.world_laws.proofs.OwnChannels.{and_false, ended-same}
+use Rattle.world_laws.proofs.OwnChannels.{and_false, ended_same}
 use Rattle.world_laws.proofs.Quiet.{all_of}
 use Rattle.world_laws.proofs.RolesAfter.{AreReleased}
 
 -- ---- places
 
-pub same-at : (at : Place) (c : Channel) → same_place (place_of c) at ≡ is_at at c
-same-at at c = ap (λ (b : Bool). b && nat_eq c.number at.number) (eqb_sym c.station at.station) ∙ ap (λ (b : Bool). nat_eq at.station c.station && b) (eqb_sym c.number at.number)
+pub same_at : (at : Place) (c : Channel) → same_place (place_of c) at ≡ is_at at c
+same_at at c = ap (λ (b : Bool). b && nat_eq c.number at.number) (eqb_sym c.station at.station) ∙ ap (λ (b : Bool). nat_eq at.station c.station && b) (eqb_sym c.number at.number)
 
 pub released_here : (text : List ℕ) (at : Place) (c : Channel) → is_at at c ≡ true → said_by (inputs.ReleaseAck at) text (place_of c) ≡ released ∷ []
-released_here text at c here = ap (λ (b : Bool). if b then released ∷ [] else []) (same-at at c ∙ here)
+released_here text at c here = ap (λ (b : Bool). if b then released ∷ [] else []) (same_at at c ∙ here)
 
 pub released_elsewhere : (text : List ℕ) (at : Place) (c : Channel) → is_at at c ≡ false → said_by (inputs.ReleaseAck at) text (place_of c) ≡ []
-released_elsewhere text at c other = ap (λ (b : Bool). if b then released ∷ [] else []) (same-at at c ∙ other)
+released_elsewhere text at c other = ap (λ (b : Bool). if b then released ∷ [] else []) (same_at at c ∙ other)
 
 -- ---- the channels that go on draining
 
@@ -75,7 +75,7 @@ undone_done Q at place (d ∷ ds) found apart all = elim (cases_Bool (is_at at d
   first false is here apart all = others (undone ds) apart.0 all.1 where
     others : (cs : List Channel) → AllByRecursion (IsApart d.channel) cs → AllByRecursion (λ c. is_at at c ≡ false → Q c) cs → AllByRecursion Q cs
     others [] apart all = tt
-    others (c ∷ cs) apart all = (all.0 (away-of at d.channel c apart.0 (and-left (is_at at d.channel) (not d.is_done) here)), others cs apart.1 all.1)
+    others (c ∷ cs) apart all = (all.0 (away_of at d.channel c apart.0 (and_left (is_at at d.channel) (not d.is_done) here)), others cs apart.1 all.1)
 
   behind : (later : ℕ) (b : Bool) → d.is_done ≡ b → is_at at d.channel && not d.is_done ≡ false → AreApart (if b then undone ds else d.channel ∷ undone ds) → AllIf (λ c. is_at at c ≡ false → Q c) b d ds
       → (AreApart (undone ds) → AllByRecursion (λ c. is_at at c ≡ false → Q c) (undone ds) → AllByRecursion Q (undone (done_at later ds))) → AllByRecursion Q (undone (d ∷ done_at later ds))
@@ -105,12 +105,12 @@ are_released text before after up at ds first = all_of _ ds (λ d. (here d, else
     by false = ap (λ (b : Bool). not (up d.channel.station) && not b) ended ∙ and_false (not (up d.channel.station))
 
   elsewhere : (d : Drain) → is_at at d.channel ≡ false → lacks after up d ≡ lacks before up d
-  elsewhere d other = ap (λ (b : Bool). if d.is_done then false else (not (up d.channel.station) && not b)) (sym (ended-same (inputs.ReleaseAck at) text before after (place_of d.channel) (first (place_of d.channel)) (ap is_ended (released_elsewhere text at d.channel other))))
+  elsewhere d other = ap (λ (b : Bool). if d.is_done then false else (not (up d.channel.station) && not b)) (sym (ended_same (inputs.ReleaseAck at) text before after (place_of d.channel) (first (place_of d.channel)) (ap is_ended (released_elsewhere text at d.channel other))))
 
 -- where nothing ended, as much is missing as before
-pub lacks-same : (before after : Place → List Item) (up : ℕ → Bool) (ds : List Drain) → AllByRecursion (λ c. is_ended (before (place_of c)) ≡ is_ended (after (place_of c))) (undone ds) → some_lacks before up ds ≡ some_lacks after up ds
-lacks-same before after up [] all = refl
-lacks-same before after up (d ∷ ds) all = by d.is_done all (λ rest. lacks-same before after up ds rest) where
+pub lacks_same : (before after : Place → List Item) (up : ℕ → Bool) (ds : List Drain) → AllByRecursion (λ c. is_ended (before (place_of c)) ≡ is_ended (after (place_of c))) (undone ds) → some_lacks before up ds ≡ some_lacks after up ds
+lacks_same before after up [] all = refl
+lacks_same before after up (d ∷ ds) all = by d.is_done all (λ rest. lacks_same before after up ds rest) where
   by : (b : Bool) → AllIf (λ c. is_ended (before (place_of c)) ≡ is_ended (after (place_of c))) b d ds → (AllByRecursion (λ c. is_ended (before (place_of c)) ≡ is_ended (after (place_of c))) (undone ds) → some_lacks before up ds ≡ some_lacks after up ds)
       → (if b then false else (not (up d.channel.station) && not (is_ended (before (place_of d.channel))))) || some_lacks before up ds ≡ (if b then false else (not (up d.channel.station) && not (is_ended (after (place_of d.channel))))) || some_lacks after up ds
   by true all same = same all

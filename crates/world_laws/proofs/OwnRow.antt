@@ -2,12 +2,12 @@
 -- and nothing more is missing.
 use Rattle.world_laws.proofs.Prelude.{◌≡◌, ℕ, Bool, true, false, not, if◌then◌else◌, List, [], ◌∷◌, ◌++◌, Option, Some, None, refl, sym, ap}
 use Rattle.world_laws.proofs.Prelude.{◌∙◌, subst, append_assoc, inl, inr, cases_Bool, cond-true, cond-false, Place, Drain, State}
-use Rattle.world_laws.proofs.Prelude.{WaitActivation, WaitEstablish, Live, Target, Connection, StandsBy}
-use Rattle.world_laws.proofs.Prelude.{place_of, is_flow_message, Held, to_be_taken, DataLinkState, false≢true, FirstIsEmpty, StandsAlone}
+use Rattle.world_laws.proofs.Prelude.{WaitActivation, WaitEstablish, Live, Target, Connection, IsValidState}
+use Rattle.world_laws.proofs.Prelude.{place_of, is_flow_message, Held, to_be_taken, DataLinkState, false≢true, FirstIsEmpty, IsValid}
 use Rattle.world_laws.proofs.Prelude.{Alive, FirstRelays, Follows, some_lost, rises, ended, flow, parts_of, controls_of, controls_in}
 use Rattle.world_laws.proofs.Prelude.{texts_in, draining_tenure, old_tenure, old_tenures, serving_hold, serving_tenure, commanded_target}
 use Rattle.world_laws.proofs.Prelude.{target_tenure, is_changing, is_confirmed, is_intact, is_opening, assembled}
-use Rattle.world_laws.specs.LineUp.Alive.{Stands}
+use Rattle.world_laws.specs.LineUp.Alive.{ChangePhase}
 use Rattle.world_laws.specs.LineUp.Places.{Item, Seat}
 use Rattle.world_laws.proofs.LineUp.Following.{follows_line, follows_rise}
 use Rattle.world_laws.proofs.LineUp.Lines.{flow-append}
@@ -16,8 +16,8 @@ use Rattle.world_laws.proofs.Cutting.{condition_of}
 
 -- ---- the oldest channel holds nothing
 
-old-hold : (coming : Place → List Item) (up : ℕ → Bool) (d : Drain) (hold : List (List ℕ)) → (old_tenure coming up d hold).hold ≡ hold
-old-hold coming up d hold = by_done d.is_done where
+old_hold : (coming : Place → List Item) (up : ℕ → Bool) (d : Drain) (hold : List (List ℕ)) → (old_tenure coming up d hold).hold ≡ hold
+old_hold coming up d hold = by_done d.is_done where
   by_done : (b : Bool) → (if b then ended hold else draining_tenure (up d.channel.station) (coming (place_of d.channel)) hold).hold ≡ hold
   by_done true = refl
   by_done false = refl
@@ -25,16 +25,16 @@ old-hold coming up d hold = by_done d.is_done where
 none_held : (draining : List Drain) (tenures : List Held) (coming : Place → List Item) (up : ℕ → Bool) → FirstIsEmpty tenures → FirstRelays true (old_tenures coming up draining tenures) (serving_hold draining tenures)
 none_held draining [] coming up first = elim first [ ]
 none_held [] (t ∷ ts) coming up first = λ _. ap (λ (held : Held). held.zero) first
-none_held (d ∷ ds) (t ∷ ts) coming up first = old-hold coming up d t.zero ∙ ap (λ (held : Held). held.zero) first
+none_held (d ∷ ds) (t ∷ ts) coming up first = old_hold coming up d t.zero ∙ ap (λ (held : Held). held.zero) first
 
 -- before CC no channel drains
 no_drain : (tenures : List Held) (coming : Place → List Item) (up : ℕ → Bool) (draining : List Drain) → draining ≡ [] → FirstRelays false (old_tenures coming up draining tenures) (serving_hold draining tenures)
 no_drain tenures coming up [] none = λ is. absurd (false≢true is)
 no_drain tenures coming up (d ∷ ds) none = absurd cc
 
-pub first_relays : (s : Connection) (coming : Place → List Item) (up : ℕ → Bool) → StandsAlone s → FirstRelays (is_confirmed s.state) (old_tenures coming up s.draining s.up.tenures) (serving_hold s.draining s.up.tenures)
+pub first_relays : (s : Connection) (coming : Place → List Item) (up : ℕ → Bool) → IsValid s → FirstRelays (is_confirmed s.state) (old_tenures coming up s.draining s.up.tenures) (serving_hold s.draining s.up.tenures)
 first_relays s coming up stands = by_state s.state stands.state where
-  by_state : (state : State) → StandsBy state s.draining s.down s.up.tenures s.link s.waits → FirstRelays (is_confirmed state) (old_tenures coming up s.draining s.up.tenures) (serving_hold s.draining s.up.tenures)
+  by_state : (state : State) → IsValidState state s.draining s.down s.up.tenures s.link s.waits → FirstRelays (is_confirmed state) (old_tenures coming up s.draining s.up.tenures) (serving_hold s.draining s.up.tenures)
   by_state WaitActivation by = no_drain s.up.tenures coming up s.draining by.0.none_drains
   by_state WaitEstablish by = no_drain s.up.tenures coming up s.draining by.0.none_drains
   by_state (Live reference stage) by = none_held s.draining s.up.tenures coming up by.first
@@ -74,8 +74,8 @@ pub record Rowed (s next : Connection) (seat seat2 : Seat) (before after : Place
   pub intact : is_intact seat2 (old_tenures after up next.draining next.up.tenures) (serving_tenure after up next.serving (serving_hold next.draining next.up.tenures)) (target_tenure after up seat2 (commanded_target next.state)) ≡ true
       → is_intact seat (old_tenures before up s.draining s.up.tenures) (serving_tenure before up s.serving (serving_hold s.draining s.up.tenures)) (target_tenure before up seat (commanded_target s.state)) ≡ true
 
-pub row_alive : {m : ℕ} (s next : Connection) (sent : List (List ℕ)) (link : DataLinkState) (seat seat2 : Seat) (commands commands2 : ℕ) (before after : Place → List Item) (up : ℕ → Bool) (relayed out taken : List (List ℕ)) → StandsAlone next → Rowed s next seat seat2 before after up relayed
-    → Stands (is_opening next.state) (is_changing (commanded_target next.state)) commands2 seat2 (controls_in (after (place_of next.serving))) (texts_in (target_tenure after up seat2 (commanded_target next.state)).items) (controls_in (target_tenure after up seat2 (commanded_target next.state)).items) (controls_of (to_be_taken link))
+pub row_alive : {m : ℕ} (s next : Connection) (sent : List (List ℕ)) (link : DataLinkState) (seat seat2 : Seat) (commands commands2 : ℕ) (before after : Place → List Item) (up : ℕ → Bool) (relayed out taken : List (List ℕ)) → IsValid next → Rowed s next seat seat2 before after up relayed
+    → ChangePhase (is_opening next.state) (is_changing (commanded_target next.state)) commands2 seat2 (controls_in (after (place_of next.serving))) (texts_in (target_tenure after up seat2 (commanded_target next.state)).items) (controls_in (target_tenure after up seat2 (commanded_target next.state)).items) (controls_of (to_be_taken link))
     → Alive m (assembled sent link seat s.state commands (old_tenures before up s.draining s.up.tenures) (serving_tenure before up s.serving (serving_hold s.draining s.up.tenures)) (target_tenure before up seat (commanded_target s.state)) out taken)
     → Alive m (assembled sent link seat2 next.state commands2 (old_tenures after up next.draining next.up.tenures) (serving_tenure after up next.serving (serving_hold next.draining next.up.tenures)) (target_tenure after up seat2 (commanded_target next.state)) (out ++ flow relayed) taken)
 row_alive s next sent link seat seat2 commands commands2 before after up relayed out taken alone rowed stands alive = record {

@@ -1,31 +1,31 @@
 -- Where the mobile of a connection is seen after a row, and which commands are on their way to it.
 use Rattle.world_laws.proofs.Prelude.{◌≡◌, ℕ, ◌+◌, ◌≤◌, Bool, true, false, if◌then◌else◌, List, [], ◌++◌, length, Option, Some, None, refl}
 use Rattle.world_laws.proofs.Prelude.{sym, ap, ◌∙◌, subst, arith, AllByRecursion, append-nil, Channel, Place, Target, Connection, is_at}
-use Rattle.world_laws.proofs.Prelude.{place_of, AirMessage, MobileSeat, Tenure, Actors, tenure_at, none-some, no-length, Stays, remains}
+use Rattle.world_laws.proofs.Prelude.{place_of, AirMessage, MobileSeat, Tenure, Actors, tenure_at, none-some, no-length, IsHereOrGone, remains}
 use Rattle.world_laws.proofs.Prelude.{left, after_complete, controls_in, on_serving, on_target, moving, going_down, seat_from, remembered}
 use Rattle.world_laws.proofs.Prelude.{is_opening, commanded_target, OwnStep, Sits, Leads, NoneOn, came, between}
-use Rattle.world_laws.specs.LineUp.Alive.{Stands}
-use Rattle.world_laws.specs.LineUp.Alive.Stands.{opens, rests, waits, leaves, arrives, returns}
+use Rattle.world_laws.specs.LineUp.Alive.{ChangePhase}
+use Rattle.world_laws.specs.LineUp.Alive.ChangePhase.{opens, rests, waits, leaves, arrives, returns}
 use Rattle.world_laws.specs.LineUp.Places.{Item, Seat}
 use Rattle.world_laws.specs.OwnStep.OwnStep.{stays as step_stays, tells, completes, goes_back}
 use Rattle.world_laws.specs.Seated.Remembers.{nothing, told}
 use Rattle.world_laws.specs.Seated.Sits.{stays, gone}
-use Rattle.world_laws.proofs.Apart.{at-itself}
+use Rattle.world_laws.proofs.Apart.{at_itself}
 use Rattle.world_laws.proofs.OwnSteps.{StandsWith}
 
 -- ---- where a change stands
 
-none_commanded : {opening : Bool} {c s x t k : ℕ} {seat : Seat} → Stands opening false c seat s x t k → c ≡ 0
+none_commanded : {opening : Bool} {c s x t k : ℕ} {seat : Seat} → ChangePhase opening false c seat s x t k → c ≡ 0
 none_commanded (opens here none) = omega arith
 none_commanded (rests here none) = omega arith
 
-all_arrived : {opening : Bool} {c s x t k : ℕ} {seat : Seat} → 1 ≤ t → Stands opening true c seat s x t k → Stays on_target seat × (c ≡ 0)
+all_arrived : {opening : Bool} {c s x t k : ℕ} {seat : Seat} → 1 ≤ t → ChangePhase opening true c seat s x t k → IsHereOrGone on_target seat × (c ≡ 0)
 all_arrived more (waits here few none) = absurd (omega arith)
 all_arrived more (leaves none) = absurd (omega arith)
 all_arrived more (arrives here none few) = (here, omega arith)
 all_arrived more (returns here none few) = absurd (omega arith)
 
-all_returned : {opening : Bool} {c s x t k : ℕ} {seat : Seat} → 1 ≤ s → Stands opening true c seat s x t k → Stays on_serving seat × (c ≡ 0)
+all_returned : {opening : Bool} {c s x t k : ℕ} {seat : Seat} → 1 ≤ s → ChangePhase opening true c seat s x t k → IsHereOrGone on_serving seat × (c ≡ 0)
 all_returned more (waits here few none) = absurd (omega arith)
 all_returned more (leaves none) = absurd (omega arith)
 all_returned more (arrives here none few) = absurd (omega arith)
@@ -33,38 +33,38 @@ all_returned more (returns here none few) = (here, omega arith)
 
 -- ---- where the mobile is
 
-not_serving : {seat : Seat} → Stays on_target seat → seat ≡ on_serving → ⊥
+not_serving : {seat : Seat} → IsHereOrGone on_target seat → seat ≡ on_serving → ⊥
 not_serving remains is = absurd cc
 not_serving left is = absurd cc
 
-not_target : {seat : Seat} → Stays on_serving seat → seat ≡ on_target → ⊥
+not_target : {seat : Seat} → IsHereOrGone on_serving seat → seat ≡ on_target → ⊥
 not_target remains is = absurd cc
 not_target left is = absurd cc
 
-not_moving : {here seat : Seat} → Stays here seat → here ≡ on_serving → seat ≡ moving → ⊥
+not_moving : {here seat : Seat} → IsHereOrGone here seat → here ≡ on_serving → seat ≡ moving → ⊥
 not_moving remains is now = absurd (serving_moves (sym is ∙ now)) where
   serving_moves : on_serving ≡ moving → ⊥
   serving_moves is = absurd cc
 not_moving left is now = absurd cc
 
-not_moving_there : {seat : Seat} → Stays on_target seat → seat ≡ moving → ⊥
+not_moving_there : {seat : Seat} → IsHereOrGone on_target seat → seat ≡ moving → ⊥
 not_moving_there remains is = absurd cc
 not_moving_there left is = absurd cc
 
 on_itself : (w : Actors) {tenure : Tenure} (c : Channel) → tenure ≡ tenure_at w (place_of c) → is_at tenure.at c ≡ true
-on_itself w c is = ap (λ (t : Tenure). is_at t.at c) is ∙ at-itself c
+on_itself w c is = ap (λ (t : Tenure). is_at t.at c) is ∙ at_itself c
 
 came_over : (b : Bool) → after_complete (if b then on_serving else on_target) ≡ on_serving
 came_over true = refl
 came_over false = refl
 
-sits_completes : {w : Actors} {serving : Channel} {t : Target} {seat : MobileSeat} → Sits w serving (Some t) seat → Stays on_target (seat_from serving seat) → Sits w t.channel None seat × (after_complete (seat_from serving seat) ≡ seat_from t.channel seat)
+sits_completes : {w : Actors} {serving : Channel} {t : Target} {seat : MobileSeat} → Sits w serving (Some t) seat → IsHereOrGone on_target (seat_from serving seat) → Sits w t.channel None seat × (after_complete (seat_from serving seat) ≡ seat_from t.channel seat)
 sits_completes {w} {serving} (stays is remembers) here = absurd (not_serving here (ap (λ (b : Bool). if b then on_serving else on_target) (on_itself w serving is)))
 sits_completes {w} {serving} {t} (came {tenure = tenure} is) here = (stays is nothing, came_over (is_at tenure.at serving) ∙ ap (λ (b : Bool). if b then on_serving else on_target) (sym (on_itself w t.channel is)))
 sits_completes (between from is) here = absurd (not_moving_there here refl)
 sits_completes gone here = (gone, refl)
 
-sits_goes_back : {w : Actors} {serving : Channel} {t : Target} {seat : MobileSeat} → Sits w serving (Some t) seat → is_at (place_of t.channel) serving ≡ false → Stays on_serving (seat_from serving seat) → remembered seat ≡ 0 → Sits w serving None seat
+sits_goes_back : {w : Actors} {serving : Channel} {t : Target} {seat : MobileSeat} → Sits w serving (Some t) seat → is_at (place_of t.channel) serving ≡ false → IsHereOrGone on_serving (seat_from serving seat) → remembered seat ≡ 0 → Sits w serving None seat
 sits_goes_back (stays is nothing) apart here none = stays is nothing
 sits_goes_back (stays is (told by)) apart here none = absurd (omega arith)
 sits_goes_back {serving = serving} (came is) apart here none = absurd (not_target here (ap (λ (b : Bool). if b then on_serving else on_target) (ap (λ (x : Tenure). is_at x.at serving) is ∙ apart)))
@@ -157,11 +157,11 @@ rest_completes {w} {v} {seat} {s} {next} {before} {seat1 = seat1} {link} was t c
   led = subst (AllByRecursion (λ a. Leads w a (commanded_target next.state))) (sym now_down) tt;
   none = subst (NoneOn v) (sym ended) tt;
 } where
-  here : Stays on_target seat1
+  here : IsHereOrGone on_target seat1
   here = (all_arrived more (subst (λ (o : Option Target). StandsWith (is_opening s.state) o (length (going_down w (place_of s.serving)) + remembered seat) seat1 (controls_in (before (place_of s.serving))) before link) changed was.stands)).0
 
   now_sits : Sits w t.channel None seat × (after_complete (seat_from s.serving seat) ≡ seat_from t.channel seat)
-  now_sits = sits_completes (subst (λ (o : Option Target). Sits w s.serving o seat) changed was.sits) (subst (Stays on_target) was.seen here)
+  now_sits = sits_completes (subst (λ (o : Option Target). Sits w s.serving o seat) changed was.sits) (subst (IsHereOrGone on_target) was.seen here)
 
   now_down : going_down v (place_of next.serving) ≡ []
   now_down = ap (λ (c : Channel). going_down v (place_of c)) serving ∙ downs ∙ subst (NoneOn w) changed was.none
@@ -175,11 +175,11 @@ rest_goes_back {w} {v} {seat} {s} {next} {before} {seat1 = seat1} {link} was t c
   own = step (let counts = ap length same_down in omega arith);
   seen = was.seen ∙ ap (λ (c : Channel). seat_from c seat) (sym serving);
   sits = subst (λ (o : Option Target). Sits w next.serving o seat) (sym ended) (subst (λ (c : Channel). Sits w c None seat) (sym serving)
-      (sits_goes_back (subst (λ (o : Option Target). Sits w s.serving o seat) changed was.sits) (was.apart t changed) (subst (Stays on_serving) was.seen back.0) (let idle = back.1 in omega arith)));
+      (sits_goes_back (subst (λ (o : Option Target). Sits w s.serving o seat) changed was.sits) (was.apart t changed) (subst (IsHereOrGone on_serving) was.seen back.0) (let idle = back.1 in omega arith)));
   led = subst (AllByRecursion (λ a. Leads w a (commanded_target next.state))) (sym (same_down ∙ none_before)) tt;
   none = subst (NoneOn v) (sym ended) tt;
 } where
-  back : Stays on_serving seat1 × (length (going_down w (place_of s.serving)) + remembered seat ≡ 0)
+  back : IsHereOrGone on_serving seat1 × (length (going_down w (place_of s.serving)) + remembered seat ≡ 0)
   back = all_returned more (subst (λ (o : Option Target). StandsWith (is_opening s.state) o (length (going_down w (place_of s.serving)) + remembered seat) seat1 (controls_in (before (place_of s.serving))) before link) changed was.stands)
 
   none_before : going_down w (place_of s.serving) ≡ []

@@ -1,16 +1,16 @@
 -- How a change of channel stands after a row, by what the row does to the roles of channels.
 use Rattle.world_laws.proofs.Prelude.{◌≡◌, ℕ, Bool, true, false, ◌&&◌, ◌||◌, not, if◌then◌else◌, List, [], ◌∷◌, length, Option, Some, None}
 use Rattle.world_laws.proofs.Prelude.{refl, sym, ap, ◌∙◌, subst, arith, Place, Drain, State}
-use Rattle.world_laws.proofs.Prelude.{Live, Target, Connection, place_of, Held, none-some, Stays, some_lost, remains, left, after_complete}
+use Rattle.world_laws.proofs.Prelude.{Live, Target, Connection, place_of, Held, none-some, IsHereOrGone, some_lost, remains, left, after_complete}
 use Rattle.world_laws.proofs.Prelude.{ended, flow, controls_of, controls_in, texts_in, on_serving, on_target, moving, gone, lacks}
 use Rattle.world_laws.proofs.Prelude.{some_lacks, target_items, OwnStep, StillAwaits, is_ended, draining_tenure, old_tenure, old_tenures}
 use Rattle.world_laws.proofs.Prelude.{is_gone, commanded_target, target_tenure, is_changing, is_opening}
-use Rattle.world_laws.specs.LineUp.Alive.{Stands}
-use Rattle.world_laws.specs.LineUp.Alive.Stands.{opens, rests}
+use Rattle.world_laws.specs.LineUp.Alive.{ChangePhase}
+use Rattle.world_laws.specs.LineUp.Alive.ChangePhase.{opens, rests}
 use Rattle.world_laws.specs.LineUp.Places.{Item, Seat}
 use Rattle.world_laws.proofs.LineUp.Standing.{stands_fewer, stands_commands, stands_completes, stands_goes_back}
 use Rattle.world_laws.specs.OwnStep.OwnStep.{stays, tells, completes, goes_back}
-use Rattle.world_laws.specs.LineUps.{came}
+use Rattle.world_laws.specs.LineUps.{has_arrived}
 
 -- ---- whether something is missing, whatever is held
 
@@ -20,24 +20,24 @@ one_lacks coming up d hold = by_done d.is_done where
   by_done true = refl
   by_done false = refl
 
-pub old-lacks : (coming : Place → List Item) (up : ℕ → Bool) (ds : List Drain) (ts : List Held) → some_lost (old_tenures coming up ds ts) ≡ some_lacks coming up ds
-old-lacks coming up [] ts = refl
-old-lacks coming up (d ∷ ds) [] = ap (λ (b : Bool). b || some_lost (old_tenures coming up ds [])) (one_lacks coming up d []) ∙ ap (λ (b : Bool). lacks coming up d || b) (old-lacks coming up ds [])
-old-lacks coming up (d ∷ ds) (t ∷ ts) = ap (λ (b : Bool). b || some_lost (old_tenures coming up ds ts)) (one_lacks coming up d t.zero) ∙ ap (λ (b : Bool). lacks coming up d || b) (old-lacks coming up ds ts)
+pub old_lacks : (coming : Place → List Item) (up : ℕ → Bool) (ds : List Drain) (ts : List Held) → some_lost (old_tenures coming up ds ts) ≡ some_lacks coming up ds
+old_lacks coming up [] ts = refl
+old_lacks coming up (d ∷ ds) [] = ap (λ (b : Bool). b || some_lost (old_tenures coming up ds [])) (one_lacks coming up d []) ∙ ap (λ (b : Bool). lacks coming up d || b) (old_lacks coming up ds [])
+old_lacks coming up (d ∷ ds) (t ∷ ts) = ap (λ (b : Bool). b || some_lost (old_tenures coming up ds ts)) (one_lacks coming up d t.zero) ∙ ap (λ (b : Bool). lacks coming up d || b) (old_lacks coming up ds ts)
 
 -- ---- counts of the target
 
-target-texts : (coming : Place → List Item) (up : ℕ → Bool) (seat : Seat) (o : Option Target) → texts_in (target_tenure coming up seat o).items ≡ texts_in (target_items coming o)
-target-texts coming up seat None = refl
-target-texts coming up seat (Some t) = refl
+target_texts : (coming : Place → List Item) (up : ℕ → Bool) (seat : Seat) (o : Option Target) → texts_in (target_tenure coming up seat o).items ≡ texts_in (target_items coming o)
+target_texts coming up seat None = refl
+target_texts coming up seat (Some t) = refl
 
-target-controls : (coming : Place → List Item) (up : ℕ → Bool) (seat : Seat) (o : Option Target) → controls_in (target_tenure coming up seat o).items ≡ controls_in (target_items coming o)
-target-controls coming up seat None = refl
-target-controls coming up seat (Some t) = refl
+target_controls : (coming : Place → List Item) (up : ℕ → Bool) (seat : Seat) (o : Option Target) → controls_in (target_tenure coming up seat o).items ≡ controls_in (target_items coming o)
+target_controls coming up seat None = refl
+target_controls coming up seat (Some t) = refl
 
 -- by counts alone
 abbrev pub StandsWith : Bool → Option Target → ℕ → Seat → ℕ → (Place → List Item) → ℕ → Type 0
-StandsWith opening o commands seat serving coming link = Stands opening (is_changing o) commands seat serving (texts_in (target_items coming o)) (controls_in (target_items coming o)) link
+StandsWith opening o commands seat serving coming link = ChangePhase opening (is_changing o) commands seat serving (texts_in (target_items coming o)) (controls_in (target_items coming o)) link
 
 -- while the initial message is to come, no change is under way
 pub opening_unchanging : (state : State) → is_opening state ≡ true → commanded_target state ≡ None
@@ -48,18 +48,18 @@ some_none : {t : Target} {o : Option Target} → o ≡ None → o ≡ Some t →
 some_none {t} none is = none-some _ (sym none ∙ is)
 
 -- the COMMAND is put behind the connection request
-commanded : {opening : Bool} {c s x t k : ℕ} {seat : Seat} → (opening ≡ true → ⊥) → Stands opening false c seat s x t k → Stands opening true 1 seat s x t k
+commanded : {opening : Bool} {c s x t k : ℕ} {seat : Seat} → (opening ≡ true → ⊥) → ChangePhase opening false c seat s x t k → ChangePhase opening true 1 seat s x t k
 commanded {opening = false} request stands = stands_commands stands
 commanded {opening = true} request stands = absurd (request refl)
 
 -- a connection begins to wait for its initial message, or waits on
-awaits_stands : (opening opening2 : Bool) (o : Option Target) {c s x t k : ℕ} {seat : Seat} → (opening ≡ true → opening2 ≡ true) → (opening2 ≡ true → o ≡ None) → Stands opening (is_changing o) c seat s x t k → Stands opening2 (is_changing o) c seat s x t k
+awaits_stands : (opening opening2 : Bool) (o : Option Target) {c s x t k : ℕ} {seat : Seat} → (opening ≡ true → opening2 ≡ true) → (opening2 ≡ true → o ≡ None) → ChangePhase opening (is_changing o) c seat s x t k → ChangePhase opening2 (is_changing o) c seat s x t k
 awaits_stands false false o awaits unchanging stands = stands
 awaits_stands true true o awaits unchanging stands = stands
 awaits_stands true false o awaits unchanging stands = absurd (let is = awaits refl in cc)
 awaits_stands false true (Some t) awaits unchanging stands = absurd (some_none (unchanging refl) refl)
 awaits_stands false true None awaits unchanging stands = begins stands where
-  begins : {c s x t k : ℕ} {seat : Seat} → Stands false false c seat s x t k → Stands true false c seat s x t k
+  begins : {c s x t k : ℕ} {seat : Seat} → ChangePhase false false c seat s x t k → ChangePhase true false c seat s x t k
   begins (rests here zero) = opens here (omega arith)
 
 counted : {opening : Bool} {before after : Place → List Item} {up : ℕ → Bool} {s next : Connection} {commands commands2 : ℕ} {seat seat2 : Seat} (link : ℕ) → OwnStep before after up s next commands commands2 seat seat2
@@ -84,24 +84,24 @@ counted {opening} {before} {after} {s} {next} {commands} {commands2} {seat} link
     stands_fewer told (omega arith) (omega arith) (omega arith) (omega arith) back.1)
 
 pub step_stands : {before after : Place → List Item} {up : ℕ → Bool} {s next : Connection} {commands commands2 : ℕ} {seat seat2 : Seat} (link : ℕ) → OwnStep before after up s next commands commands2 seat seat2
-    → StillAwaits s.state next.state → Stands (is_opening s.state) (is_changing (commanded_target s.state)) commands seat (controls_in (before (place_of s.serving))) (texts_in (target_tenure before up seat (commanded_target s.state)).items) (controls_in (target_tenure before up seat (commanded_target s.state)).items) link
-    → Stands (is_opening next.state) (is_changing (commanded_target next.state)) commands2 seat2 (controls_in (after (place_of next.serving))) (texts_in (target_tenure after up seat2 (commanded_target next.state)).items) (controls_in (target_tenure after up seat2 (commanded_target next.state)).items) link
+    → StillAwaits s.state next.state → ChangePhase (is_opening s.state) (is_changing (commanded_target s.state)) commands seat (controls_in (before (place_of s.serving))) (texts_in (target_tenure before up seat (commanded_target s.state)).items) (controls_in (target_tenure before up seat (commanded_target s.state)).items) link
+    → ChangePhase (is_opening next.state) (is_changing (commanded_target next.state)) commands2 seat2 (controls_in (after (place_of next.serving))) (texts_in (target_tenure after up seat2 (commanded_target next.state)).items) (controls_in (target_tenure after up seat2 (commanded_target next.state)).items) link
 step_stands {before} {after} {up} {s} {next} {seat} {seat2} link step awaits stands =
-    let a = target-texts before up seat (commanded_target s.state) in
-    let b = target-controls before up seat (commanded_target s.state) in
-    let c = target-texts after up seat2 (commanded_target next.state) in
-    let d = target-controls after up seat2 (commanded_target next.state) in
+    let a = target_texts before up seat (commanded_target s.state) in
+    let b = target_controls before up seat (commanded_target s.state) in
+    let c = target_texts after up seat2 (commanded_target next.state) in
+    let d = target_controls after up seat2 (commanded_target next.state) in
     stands_fewer (omega arith) (omega arith) (omega arith) (omega arith) (omega arith)
     (awaits_stands (is_opening s.state) (is_opening next.state) (commanded_target next.state) awaits (opening_unchanging next.state)
     (counted link step (λ opens. opening_unchanging next.state (awaits opens)) (stands_fewer (omega arith) (omega arith) (omega arith) (omega arith) (omega arith) stands)))
 
 -- the counts of a line-up
 pub stands_counted : {opening : Bool} (coming : Place → List Item) (up : ℕ → Bool) (seat : Seat) (s : Connection) {commands serving : ℕ} (link : ℕ)
-    → Stands opening (is_changing (commanded_target s.state)) commands seat serving (texts_in (target_tenure coming up seat (commanded_target s.state)).items) (controls_in (target_tenure coming up seat (commanded_target s.state)).items) link
+    → ChangePhase opening (is_changing (commanded_target s.state)) commands seat serving (texts_in (target_tenure coming up seat (commanded_target s.state)).items) (controls_in (target_tenure coming up seat (commanded_target s.state)).items) link
     → StandsWith opening (commanded_target s.state) commands seat serving coming link
 stands_counted coming up seat s link stands =
-    let a = target-texts coming up seat (commanded_target s.state) in
-    let b = target-controls coming up seat (commanded_target s.state) in
+    let a = target_texts coming up seat (commanded_target s.state) in
+    let b = target_controls coming up seat (commanded_target s.state) in
     stands_fewer (omega arith) (omega arith) (omega arith) (omega arith) (omega arith) stands
 
 -- ---- what is missing
@@ -122,29 +122,29 @@ pub missing_none : (seat : Seat) (old serving target : Bool) → NoneMissing sea
 missing_none seat old serving target none = rw (none.here, none.old_none, none.serving_none, none.target_none) refl
 
 -- a target that isn't given up lacks nothing
-target-lost : (coming after : Place → List Item) (up : ℕ → Bool) (seat : Seat) (o : Option Target) → (target_tenure after up seat o).is_lost ≡ (target_tenure coming up seat o).is_lost
-target-lost coming after up seat None = refl
-target-lost coming after up seat (Some t) = refl
+target_lost : (coming after : Place → List Item) (up : ℕ → Bool) (seat : Seat) (o : Option Target) → (target_tenure after up seat o).is_lost ≡ (target_tenure coming up seat o).is_lost
+target_lost coming after up seat None = refl
+target_lost coming after up seat (Some t) = refl
 
-gone-complete : (seat : Seat) → is_gone (after_complete seat) ≡ is_gone seat
-gone-complete on_serving = refl
-gone-complete on_target = refl
-gone-complete moving = refl
-gone-complete gone = refl
+gone_complete : (seat : Seat) → is_gone (after_complete seat) ≡ is_gone seat
+gone_complete on_serving = refl
+gone_complete on_target = refl
+gone_complete moving = refl
+gone_complete gone = refl
 
 either_false : (a b : Bool) → a ≡ false → a && b ≡ false
 either_false false b is = refl
 either_false true b is = absurd cc
 
 -- FAILURE comes from the serving channel: the mobile isn't on the target
-not_came : {seat : Seat} → Stays on_serving seat → is_gone seat ≡ false → came seat ≡ false
+not_came : {seat : Seat} → IsHereOrGone on_serving seat → is_gone seat ≡ false → has_arrived seat ≡ false
 not_came remains here = refl
 not_came left here = absurd cc
 
-lost-away : (coming : Place → List Item) (up : ℕ → Bool) (seat : Seat) (o : Option Target) → came seat ≡ false → (target_tenure coming up seat o).is_lost ≡ false
-lost-away coming up seat None away = refl
-lost-away coming up seat (Some t) away = both (not (up t.channel.station)) away where
-  both : (a : Bool) → came seat ≡ false → a && came seat ≡ false
+lost_away : (coming : Place → List Item) (up : ℕ → Bool) (seat : Seat) (o : Option Target) → has_arrived seat ≡ false → (target_tenure coming up seat o).is_lost ≡ false
+lost_away coming up seat None away = refl
+lost_away coming up seat (Some t) away = both (not (up t.channel.station)) away where
+  both : (a : Bool) → has_arrived seat ≡ false → a && has_arrived seat ≡ false
   both true is = is
   both false is = refl
 
@@ -155,7 +155,7 @@ step_intact {opening} {before} {after} {up} {s} {next} {seat} (stays serving sam
   here = none.here;
   old_none = covers none.old_none;
   serving_none = ap (λ (c : _). not (up c.station)) (sym serving) ∙ none.serving_none;
-  target_none = target-lost after before up seat (commanded_target s.state) ∙ ap (λ (o : Option Target). (target_tenure after up seat o).is_lost) (sym same) ∙ none.target_none;
+  target_none = target_lost after before up seat (commanded_target s.state) ∙ ap (λ (o : Option Target). (target_tenure after up seat o).is_lost) (sym same) ∙ none.target_none;
 }
 step_intact {opening} {before} {up} {s} {seat} (tells serving no_target t to fewer nothing told covers) stands none = record {
   here = none.here;
@@ -164,14 +164,14 @@ step_intact {opening} {before} {up} {s} {seat} (tells serving no_target t to few
   target_none = ap (λ (o : Option Target). (target_tenure before up seat o).is_lost) no_target;
 }
 step_intact {opening} {before} {up} {s} {seat} (completes t was now serving more told covers) stands none = record {
-  here = sym (gone-complete seat) ∙ none.here;
+  here = sym (gone_complete seat) ∙ none.here;
   old_none = (covers none.old_none).0;
   serving_none = (covers none.old_none).1;
-  target_none = ap (λ (o : Option Target). (target_tenure before up seat o).is_lost) was ∙ either_false (not (up t.channel.station)) (came seat) (ap (λ (c : _). not (up c.station)) (sym serving) ∙ none.serving_none);
+  target_none = ap (λ (o : Option Target). (target_tenure before up seat o).is_lost) was ∙ either_false (not (up t.channel.station)) (has_arrived seat) (ap (λ (c : _). not (up c.station)) (sym serving) ∙ none.serving_none);
 }
 step_intact {opening} {before} {up} {s} {commands} {link} {seat} (goes_back t was now serving more told covers) stands none = record {
   here = none.here;
   old_none = covers none.old_none;
   serving_none = ap (λ (c : _). not (up c.station)) (sym serving) ∙ none.serving_none;
-  target_none = lost-away before up seat (commanded_target s.state) (not_came (stands_goes_back more (subst (λ (o : Option Target). StandsWith opening o commands seat (controls_in (before (place_of s.serving))) before link) was stands)).0 none.here);
+  target_none = lost_away before up seat (commanded_target s.state) (not_came (stands_goes_back more (subst (λ (o : Option Target). StandsWith opening o commands seat (controls_in (before (place_of s.serving))) before link) was stands)).0 none.here);
 }

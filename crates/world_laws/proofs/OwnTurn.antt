@@ -5,11 +5,11 @@ use Rattle.world_laws.proofs.Prelude.{eqb-false, flat_map-append, append-nil, ma
 use Rattle.world_laws.proofs.Prelude.{forwarded_by, Rsl, DataRequest, AirMessage, OutboxEntry, Tenure, joined_by, rsl_in, Actors, Link}
 use Rattle.world_laws.proofs.Prelude.{broken_link, link_of, is_up, is_station_up, outbox_of, with_outbox, spot_at, changed_link}
 use Rattle.world_laws.proofs.Prelude.{sccp_reading, leading, leading_by, leading_from_air, leading_from_outbox, going_down, waiting_of}
-use Rattle.world_laws.proofs.Prelude.{entry-out}
+use Rattle.world_laws.proofs.Prelude.{entry_out}
 use Rattle.controller_model.specs.Views.{forwarded}
 use Rattle.world_model.specs.Relay.{entry_of}
 use Rattle.world_laws.proofs.Framing.{AreUp}
-use Rattle.world_laws.proofs.Others.{forwarded-append, down-joined}
+use Rattle.world_laws.proofs.Others.{forwarded-append, down_joined}
 use Rattle.world_laws.proofs.Spots.{set-same, set-apart}
 use Rattle.world_laws.proofs.SwitchTakes.{forwarded-first}
 
@@ -42,8 +42,8 @@ forwards_none out number other = by (out.conn == number) (out.to == SWITCH_LINK)
   by false false other = refl
   by a true other = absurd cc
 
-joined-waiting : (target : Option Tenure) (u : Actors) (out : Out) (number : ℕ) → is_up u SWITCH_LINK ≡ true → waiting_of (joined_by target u out) number ≡ waiting_of u number ++ messages_of (forwarded (out ∷ []) number)
-joined-waiting target u out number up = elim (cases_Bool (out.to == SWITCH_LINK)) [
+joined_waiting : (target : Option Tenure) (u : Actors) (out : Out) (number : ℕ) → is_up u SWITCH_LINK ≡ true → waiting_of (joined_by target u out) number ≡ waiting_of u number ++ messages_of (forwarded (out ∷ []) number)
+joined_waiting target u out number up = elim (cases_Bool (out.to == SWITCH_LINK)) [
   | inl here ↦ to_switch out.to (eqb-true out.to SWITCH_LINK here)
   | inr other ↦ by (is_up u out.to) other ∙ sym (append-nil (waiting_of u number)) ∙ ap (λ (fs : List Forwarded). waiting_of u number ++ messages_of fs) (sym (forwards_none out number other))
 ] where
@@ -54,7 +54,7 @@ joined-waiting target u out number up = elim (cases_Bool (out.to == SWITCH_LINK)
   with_entry = entries ++ entry_of target out ∷ []
 
   read_as : map (λ (entry : OutboxEntry). entry.out) with_entry ≡ map (λ (entry : OutboxEntry). entry.out) entries ++ out ∷ []
-  read_as = map-append (λ (entry : OutboxEntry). entry.out) entries (entry_of target out ∷ []) ∙ ap (λ (o : Out). map (λ (entry : OutboxEntry). entry.out) entries ++ o ∷ []) (entry-out target out)
+  read_as = map-append (λ (entry : OutboxEntry). entry.out) entries (entry_of target out ∷ []) ∙ ap (λ (o : Out). map (λ (entry : OutboxEntry). entry.out) entries ++ o ∷ []) (entry_out target out)
 
   joins : messages_of (forwarded (map (λ (entry : OutboxEntry). entry.out) with_entry) number) ≡ waiting_of u number ++ messages_of (forwarded (out ∷ []) number)
   joins = ap (λ (outs : List Out). messages_of (forwarded outs number)) read_as ∙ ap messages_of (forwarded-append (map (λ (entry : OutboxEntry). entry.out) entries) (out ∷ []) number)
@@ -75,7 +75,7 @@ unfolding forwarded
 turn_waiting target [] u number up = sym (append-nil (waiting_of u number))
 turn_waiting target (out ∷ outs) u number up =
     turn_waiting target outs (joined_by target u out) number (link_up target u out SWITCH_LINK ∙ up)
-    ∙ ap (λ (ms : List (List ℕ)). ms ++ messages_of (forwarded outs number)) (joined-waiting target u out number up)
+    ∙ ap (λ (ms : List (List ℕ)). ms ++ messages_of (forwarded outs number)) (joined_waiting target u out number up)
     ∙ append_assoc (waiting_of u number) (messages_of (forwarded (out ∷ []) number)) (messages_of (forwarded outs number))
     ∙ ap (λ (ms : List (List ℕ)). waiting_of u number ++ ms) (sym (map-append (λ (f : Forwarded). f.message) (forwarded (out ∷ []) number) (forwarded outs number)) ∙ ap messages_of (sym (forwarded-first out outs number)))
 
@@ -95,7 +95,7 @@ pub turn_down : (outs : List Out) (u : Actors) (c : Channel) → going_down (fol
 turn_down [] u c = refl
 turn_down (out ∷ outs) u c = turn_down outs (joined_by None u out) c ∙ by (is_up u out.to) where
   by : (b : Bool) → going_down (if b then with_outbox out.to (outbox_of u out.to ++ entry_of None out ∷ []) u else u) (place_of c) ≡ going_down u (place_of c)
-  by true = down-joined u None out c (λ is. none_leads c.number out)
+  by true = down_joined u None out c (λ is. none_leads c.number out)
   by false = refl
 
 -- one output, with a target: on its channel it is behind what was there, where its link is up

@@ -2,15 +2,15 @@
 use Rattle.world_laws.proofs.Prelude.{◌≡◌, ◌≢◌, ◌⊎◌, inl, inr, ℕ, ◌+◌, ◌==◌, ◌≤◌, ◌<◌, nat_eq, Bool, true, false, cond, if◌then◌else◌, List}
 use Rattle.world_laws.proofs.Prelude.{[], ◌∷◌, ◌++◌, length, option_to_list, Option, Some, None, refl, sym, ap, ◌∙◌, subst, arith}
 use Rattle.world_laws.proofs.Prelude.{true≢false, cases_Bool, eqb-true, eq-eqb, ne_eqb, AllByRecursion, flat_map, Place, Out, SWITCH_LINK}
-use Rattle.world_laws.proofs.Prelude.{AllByRecursion-append, is_link_up, ComesInOctets, IsSent, links_with, step_goes, life_names, is_there}
+use Rattle.world_laws.proofs.Prelude.{AllByRecursion-append, is_link_up, IsOctetStep, IsSent, links_with, step_goes, life_names, is_there}
 use Rattle.world_laws.proofs.Prelude.{life_sends, life_ready, life_uses, Ready, ChannelState, Free, InUse, Step, Take, Word, OnChannel}
 use Rattle.world_laws.proofs.Prelude.{Controller, channel_state, each, ignoring, hears, new_controller, place_at, on_break, on_what}
 use Rattle.world_laws.proofs.Prelude.{on_word, step, rsl_word, Frame, Item, What, ActivationAck, Rsl, AreAllowed, Parameters, Event, Handle}
 use Rattle.world_laws.proofs.Prelude.{Tenure, actors_after, actors_after_all, Agrees, AllAgree, acknowledged_in, asker, said, tenure_behind}
 use Rattle.world_laws.proofs.Prelude.{to_come, owner_in, acknowledgements, due, acknowledged_tenure, target_in, rsl_in, all_steps}
 use Rattle.world_laws.proofs.Prelude.{first_taken, step_at, Actors, base_of, is_active_at, is_up, new_actors, outbox_of, spot_at, tenure_at}
-use Rattle.world_laws.proofs.Prelude.{LivesByTable-new, IsKnown, IsKnownItem, known-inbox, runs, over, heard_of, Serves, hear, Both-empty}
-use Rattle.world_laws.proofs.Prelude.{acks-append, free≢use, life_reaches, tick, word_of, one-at-most, none-due, owned-run, AllSitBy-new}
+use Rattle.world_laws.proofs.Prelude.{LivesByTable-new, IsKnown, IsKnownItem, known_inbox, runs, over, heard_of, Serves, hear, both_empty}
+use Rattle.world_laws.proofs.Prelude.{acks_append, free≢use, life_reaches, tick, word_of, one_at_most, nothing_is_due, owned_run, AllSitBy-new}
 use Rattle.world_laws.proofs.Prelude.{OneMobileEach-new}
 use Rattle.conn_rules.specs.declared.input.Input.TheVariants as inputs
 use Rattle.controller_model.specs.declared.step.Step.TheVariants.{Tick}
@@ -21,7 +21,7 @@ use Rattle.world_model.specs.declared.event.Event.TheVariants as events
 use Rattle.world_model.proofs.OwnerRuns.{ServesAt, ServesThrough}
 use Rattle.world_laws.specs.Owned.{MobilesSitOnTheirs, OneSendsEach, TenuresAreOwned}
 use Rattle.world_laws.proofs.OrderHeard.{FreesNone, none_frees, none_nacks, other_heard, read_known, station_heard, switch_frees}
-use Rattle.world_laws.proofs.OrderHeard.{word-known}
+use Rattle.world_laws.proofs.OrderHeard.{word_known}
 use Rattle.world_laws.proofs.OrderLeads.{LeadsOut, ack_leads}
 use Rattle.world_laws.proofs.OrderServes.{Lawful, LeadsOwn, broken_down, heard_before, serves_by}
 use Rattle.world_laws.proofs.OrderSteps.{break_serves, tick_serves}
@@ -39,7 +39,7 @@ pub life-settings : (p : Parameters) (steps : List Step) → (life p steps).next
 unfolding life
 life-settings p steps = each-settings (new_controller p) steps
 
-pub lawful_life : (p : Parameters) (steps : List Step) (s : Step) → AreAllowed p → AllByRecursion ComesInOctets steps → ComesInOctets s → Lawful (life p steps).next s
+pub lawful_life : (p : Parameters) (steps : List Step) (s : Step) → AreAllowed p → AllByRecursion IsOctetStep steps → IsOctetStep s → Lawful (life p steps).next s
 lawful_life p steps s allowed octets own = record {
   ready = life_ready p steps allowed;
   used = life_uses p steps allowed;
@@ -101,16 +101,16 @@ acknowledged_own owner w p number mobile m rest agrees hearing used asks first =
     let way = agrees.way hearing in
     let behind : List Rsl = rest ++ (acknowledgements p.number (base_of w p.station).messages ++ due p.number (is_active_at w p) (outbox_of w p.station)) in
     let comes : to_come w p ≡ m ∷ behind = ap (λ (xs : List Rsl). xs ++ (acknowledgements p.number (base_of w p.station).messages ++ due p.number (is_active_at w p) (outbox_of w p.station))) first in
-    let none : behind ++ way.lost ≡ [] = one-at-most p.number number (channel_state w.controller p) (to_come w p ++ way.lost) (m ∷ []) (behind ++ way.lost) way.comes used (ap (λ (xs : List Rsl). xs ++ way.lost) comes) (λ is. absurd cc) in
-    let nothing : behind ≡ [] = (Both-empty behind way.lost (sym none)).0 in
-    let parts = Both-empty rest (acknowledgements p.number (base_of w p.station).messages ++ due p.number (is_active_at w p) (outbox_of w p.station)) (sym nothing) in
-    let nothing_due : due p.number (is_active_at w p) (outbox_of w p.station) ≡ [] = (Both-empty (acknowledgements p.number (base_of w p.station).messages) (due p.number (is_active_at w p) (outbox_of w p.station)) (sym parts.1)).1 in
-    ap (λ (k : ℕ). owner (record { at = p; number = k })) (sym (none-due p.number (is_active_at w p) (spot_at w p).tenure (outbox_of w p.station) nothing_due))
+    let none : behind ++ way.lost ≡ [] = one_at_most p.number number (channel_state w.controller p) (to_come w p ++ way.lost) (m ∷ []) (behind ++ way.lost) way.comes used (ap (λ (xs : List Rsl). xs ++ way.lost) comes) (λ is. absurd cc) in
+    let nothing : behind ≡ [] = (both_empty behind way.lost (sym none)).0 in
+    let parts = both_empty rest (acknowledgements p.number (base_of w p.station).messages ++ due p.number (is_active_at w p) (outbox_of w p.station)) (sym nothing) in
+    let nothing_due : due p.number (is_active_at w p) (outbox_of w p.station) ≡ [] = (both_empty (acknowledgements p.number (base_of w p.station).messages) (due p.number (is_active_at w p) (outbox_of w p.station)) (sym parts.1)).1 in
+    ap (λ (k : ℕ). owner (record { at = p; number = k })) (sym (nothing_is_due p.number (is_active_at w p) (spot_at w p).tenure (outbox_of w p.station) nothing_due))
     ∙ agrees.own number mobile hearing used asks (λ down silent. absurd (let both : m ∷ behind ≡ [] = sym comes ∙ silent in cc))
 
 first_heard : (w : Actors) (p : Place) (item : Item) (items : List Item) (frame : Frame) (a : ActivationAck) → w.inbox ≡ item ∷ items → item ≡ record { source = p.station; what = whats.Frame frame } → rsl_in frame ≡ Some (rsl.ChannelActivationAck a) → a.channel ≡ p.number → acknowledged_in p w.inbox ≡ rsl.ChannelActivationAck a ∷ acknowledged_in p items
 first_heard w p item items frame a stands is says same =
-    ap (acknowledged_in p) stands ∙ acks-append p.number (said p.station item) (flat_map (said p.station) items)
+    ap (acknowledged_in p) stands ∙ acks_append p.number (said p.station item) (flat_map (said p.station) items)
     ∙ ap (λ (xs : List Rsl). xs ++ acknowledged_in p items)
     (ap (λ (i : Item). acknowledgements p.number (said p.station i)) is
     ∙ ap (λ (b : Bool). acknowledgements p.number (if b then option_to_list (rsl_in frame) else [])) (eq-eqb p.station p.station refl)
@@ -158,7 +158,7 @@ module _ (settings : Parameters) (owner : Tenure → ℕ) (w : Actors) (agree : 
   frame_leads at source frame items false down least most station stands known hearing at_up sent = tt
   frame_leads at source frame items true up least most station stands (m, is, read, no_nack) hearing at_up sent =
       let says : rsl_in frame ≡ Some m = ap rsl_in is ∙ read_known m read in
-      let word : word_of source frame ≡ rsl_word source m = ap (word_of source) is ∙ word-known source m station read in
+      let word : word_of source frame ≡ rsl_word source m = ap (word_of source) is ∙ word_known source m station read in
       let c : Controller = w.controller in
       subst (λ (o : Option Rsl). AllByRecursion (LeadsOwn owner w at (acknowledged_tenure w source o)) (on_word source (word_of source frame) c).outs) (sym says)
       (message_leads at source frame items m (on_word source (word_of source frame) c).outs least most station up stands says hearing at_up
@@ -197,13 +197,13 @@ snoc_steps P w (x ∷ xs) e all own =
     (snoc_steps P (actors_after w x) xs e (all_right P (step_at w x) (all_steps (actors_after w x) xs) all) own)
 
 -- the actors after the events that are done
-pub serves_event : (settings : Parameters) (owner : Tenure → ℕ) (done : List Event) (w : Actors) (event : Event) → w ≡ world settings done → AreAllowed settings → AllByRecursion ComesInOctets (all_steps (new_actors settings) done) → AllByRecursion ComesInOctets (step_at w event) → AllAgree settings owner w → ServesAt settings owner w event
+pub serves_event : (settings : Parameters) (owner : Tenure → ℕ) (done : List Event) (w : Actors) (event : Event) → w ≡ world settings done → AreAllowed settings → AllByRecursion IsOctetStep (all_steps (new_actors settings) done) → AllByRecursion IsOctetStep (step_at w event) → AllAgree settings owner w → ServesAt settings owner w event
 unfolding ServesAt
 serves_event settings owner done w Handle is allowed octets own agree = λ item items stands.
     let lives : w.controller ≡ (life settings (all_steps (new_actors settings) done)).next = ap (λ (x : Actors). x.controller) is ∙ LivesByTable-new settings done in
-    let came : AllByRecursion ComesInOctets (first_taken (item ∷ items)) = subst (λ (xs : List Item). AllByRecursion ComesInOctets (first_taken xs)) stands own in
+    let came : AllByRecursion IsOctetStep (first_taken (item ∷ items)) = subst (λ (xs : List Item). AllByRecursion IsOctetStep (first_taken xs)) stands own in
     let laws : Lawful w.controller (Take item) = subst (λ (c : Controller). Lawful c (Take item)) (sym lives) (lawful_life settings (all_steps (new_actors settings) done) (Take item) allowed octets came.0) in
-    let known : AllByRecursion IsKnownItem (item ∷ items) = subst (AllByRecursion IsKnownItem) stands (subst (λ (x : Actors). AllByRecursion IsKnownItem x.inbox) (sym is) (known-inbox settings done)) in
+    let known : AllByRecursion IsKnownItem (item ∷ items) = subst (AllByRecursion IsKnownItem) stands (subst (λ (x : Actors). AllByRecursion IsKnownItem x.inbox) (sym is) (known_inbox settings done)) in
     serves_handle settings owner w agree (ap (λ (c : Controller). c.settings) lives ∙ life-settings settings (all_steps (new_actors settings) done)) laws.ready item items stands laws known.0
 serves_event settings owner done w (events.Tick ms) is allowed octets own agree =
     let lives : w.controller ≡ (life settings (all_steps (new_actors settings) done)).next = ap (λ (x : Actors). x.controller) is ∙ LivesByTable-new settings done in
@@ -211,19 +211,19 @@ serves_event settings owner done w (events.Tick ms) is allowed octets own agree 
     serves_tick settings owner w agree (ap (λ (c : Controller). c.settings) lives ∙ life-settings settings (all_steps (new_actors settings) done)) laws.ready ms laws
 serves_event settings owner done w _ is allowed octets own agree = tt
 
-pub serves_through : (settings : Parameters) (owner : Tenure → ℕ) (done rest : List Event) (w : Actors) → w ≡ world settings done → AreAllowed settings → AllByRecursion ComesInOctets (all_steps (new_actors settings) done) → AllByRecursion ComesInOctets (all_steps w rest) → ServesThrough settings owner w rest
+pub serves_through : (settings : Parameters) (owner : Tenure → ℕ) (done rest : List Event) (w : Actors) → w ≡ world settings done → AreAllowed settings → AllByRecursion IsOctetStep (all_steps (new_actors settings) done) → AllByRecursion IsOctetStep (all_steps w rest) → ServesThrough settings owner w rest
 unfolding ServesThrough
 serves_through settings owner done [] w is allowed octets later = tt
 serves_through settings owner done (event ∷ rest) w is allowed octets later =
-    let own = all_left ComesInOctets (step_at w event) (all_steps (actors_after w event) rest) later in (
+    let own = all_left IsOctetStep (step_at w event) (all_steps (actors_after w event) rest) later in (
       λ agree. serves_event settings owner done w event is allowed octets own agree,
       serves_through settings owner (done ++ event ∷ []) rest (actors_after w event) (ap (λ (x : Actors). actors_after x event) is ∙ sym (snoc_actors (new_actors settings) done event)) allowed
-          (snoc_steps ComesInOctets (new_actors settings) done event octets (subst (λ (x : Actors). AllByRecursion ComesInOctets (step_at x event)) is own))
-          (all_right ComesInOctets (step_at w event) (all_steps (actors_after w event) rest) later),
+          (snoc_steps IsOctetStep (new_actors settings) done event octets (subst (λ (x : Actors). AllByRecursion IsOctetStep (step_at x event)) is own))
+          (all_right IsOctetStep (step_at w event) (all_steps (actors_after w event) rest) later),
     )
 
 pub tenures_are_owned_new : (settings : Parameters) (events : List Event) → TenuresAreOwned settings events
-tenures_are_owned_new settings events allowed octets = owned-run settings events (serves_through settings (owner_in (new_actors settings) events) [] events (new_actors settings) refl allowed tt octets)
+tenures_are_owned_new settings events allowed octets = owned_run settings events (serves_through settings (owner_in (new_actors settings) events) [] events (new_actors settings) refl allowed tt octets)
 
 pub mobiles_sit_on_theirs_new : (settings : Parameters) (events : List Event) → MobilesSitOnTheirs settings events
 mobiles_sit_on_theirs_new settings events allowed octets = AllSitBy-new settings events (owner_in (new_actors settings) events) (tenures_are_owned_new settings events allowed octets)

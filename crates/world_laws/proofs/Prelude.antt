@@ -33,15 +33,15 @@ pub use Rattle.conn_rules.proofs.Closing.{IsFinal-row}
 pub use Rattle.conn_rules.proofs.DownlinkMessages.{AllByRecursion-append, AllByRecursion-filter, AllByRecursion-so}
 pub use Rattle.conn_rules.proofs.RolesAccount.{KeepsAccount-by, undone-still_draining}
 pub use Rattle.conn_rules.proofs.RowPuts.{either, where_fits}
-pub use Rattle.conn_rules.proofs.RolesApart.{target_in-role, channels_of-roles}
-pub use Rattle.conn_rules.proofs.RolesTable.{ChangesRoles-row}
+pub use Rattle.conn_rules.proofs.RolesApart.{target_in_role, channels_of-roles}
+pub use Rattle.conn_rules.proofs.RolesTable.{changes_roles_row}
 pub use Rattle.conn_rules.proofs.Standing.{nothing as no-length}
 pub use Rattle.conn_rules.proofs.StandingTable.{Stands-row}
-pub use Rattle.conn_rules.proofs.UplinkPlaces.{AreAway, apart_behind, same_place as place-is, away-of}
-pub use Rattle.conn_rules.proofs.UplinkTable.{row-keeps}
+pub use Rattle.conn_rules.proofs.UplinkPlaces.{AreAway, apart_behind, same_place as place-is, away_of}
+pub use Rattle.conn_rules.proofs.UplinkTable.{row_keeps}
 pub use Rattle.conn_rules.specs.Connection.{Connection, drain_at, enter, is_at, new_connection}
 pub use Rattle.conn_rules.specs.Putting.{same_place}
-pub use Rattle.conn_rules.specs.Roles.{ChangesRoles, ChangesRolesBy, GoesOn, MayBegin, RoleEnd, RoleStep, Roles, TargetRole, after_step}
+pub use Rattle.conn_rules.specs.Roles.{ChangesRoles, ChangesRolesBy, RemainsOpen, MayBegin, RoleEnd, RoleStep, Roles, TargetRole, after_step}
 pub use Rattle.conn_rules.specs.Roles.{awaits_at, begin_orders, changes_by, commanded, completed, end_messages, is_order, is_target_at}
 pub use Rattle.conn_rules.specs.Roles.{leaves_at, orders, roles_of, step_by, step_orders, target_channels, target_role, those_that_go}
 pub use Rattle.conn_rules.specs.Roles.{with_target, IsCommand, KeepsChannels, commanded as commanded_role, is_to_station}
@@ -52,8 +52,8 @@ pub use Rattle.conn_rules.specs.Roles.RoleStep.{commands, commands as role_comma
 pub use Rattle.conn_rules.specs.Roles.RoleStep.{goes_back as role_goes_back, leaves, leaves as role_leaves, stays, stays as roles_stay}
 pub use Rattle.conn_rules.specs.Roles.RoleStep.{commands as it_commands, completes as it_completes, goes_back as it_goes_back}
 pub use Rattle.conn_rules.specs.Roles.RoleStep.{leaves as it_leaves, stays as it_stays}
-pub use Rattle.conn_rules.specs.Standing.{IsCarried, Stands, StandsBy, FirstIsEmpty, IsHeldTenure, Stands as StandsAlone}
-pub use Rattle.conn_rules.specs.Steps.{Row, done_at, dropping, row, without_station, begin, goes_to}
+pub use Rattle.conn_rules.specs.Validity.{IsCarried, IsValid, IsValidState, FirstIsEmpty, IsHeldTenure}
+pub use Rattle.conn_rules.specs.Steps.{Row, done_at, dropping, row, without_station, begin, is_for_station}
 pub use Rattle.conn_rules.specs.Streams.{AreApart, Future, IsApart, IsOpen, KeepsUplink, OfRow, from_input, is_dtap, relayed, undone}
 pub use Rattle.conn_rules.specs.Streams.{used_channels, Ends, IsFinal, first_at, of_prepared, of_target, still_of, still_to_relay}
 pub use Rattle.conn_rules.specs.Table.{access, assign_immediately, command_to, dtap_in, on_activation_ack, on_activation_nack}
@@ -114,7 +114,7 @@ pub use Rattle.controller_model.specs.Controller.{with_entry, with_state, channe
 pub use Rattle.controller_model.specs.Life.{aged, all_aged, break_of, by_fitting, concerning, concerning_too, entry_at, expiry, frees}
 pub use Rattle.controller_model.specs.Life.{given, may_open, measured, measures, on_break, on_decision, on_expiry, on_freed, on_report}
 pub use Rattle.controller_model.specs.Life.{on_state, on_what, on_word, pong, row_in, step, timed, with_report, by_row, entry_after}
-pub use Rattle.controller_model.specs.Life.{on_expiry as expires, life, new_entry, take, tick, told}
+pub use Rattle.controller_model.specs.Life.{on_expiry as expires, life, new_entry, take, tick, with_own_input}
 pub use Rattle.controller_model.specs.LifeLaws.Acts.{Acts, ActsOn, Brought, FitsNone, IsAged, IsBrought, brought_by, brought_in}
 pub use Rattle.controller_model.specs.LifeLaws.Acts.{brought_with, if_held, kept, kept_in, IsTimer, MissesOf}
 pub use Rattle.controller_model.specs.LifeLaws.Acts.Acts.{ages, goes, opens, rests}
@@ -127,7 +127,7 @@ pub use Rattle.controller_model.specs.LifeLaws.Naming.{Names, NamesItsMobile, Sa
 pub use Rattle.controller_model.specs.LifeLaws.Numbers.{AreRising, IsAbove, IsNumbered, IsBelow}
 pub use Rattle.controller_model.specs.LifeLaws.Owning.{AreIn, Owns, OwnsOpen, is_link_up, LinkedOf, used_in}
 pub use Rattle.controller_model.specs.LifeLaws.Seen.{messages_on, passed_by, is_same_sapi}
-pub use Rattle.controller_model.specs.LifeLaws.Sending.{ComesInOctets, IsOfOctets, IsSent, IsMessage, SendsMessages}
+pub use Rattle.controller_model.specs.LifeLaws.Sending.{IsOctetStep, IsOfOctets, IsSent, IsMessage, SendsMessages}
 pub use Rattle.controller_model.specs.LifeLaws.Using.{AreUsed, used_places}
 pub use Rattle.controller_model.specs.Ownership.{concerned}
 pub use Rattle.controller_model.specs.Reading.{body_word, bssap_word, change_word, data_word, management_of_link, management_word, of_sapi}
@@ -145,7 +145,7 @@ pub use Rattle.controller_model.specs.declared.step.Step.{Step}
 pub use Rattle.controller_model.specs.declared.step.Step.TheVariants.{Take}
 pub use Rattle.controller_model.specs.declared.word.Word.{Word}
 pub use Rattle.controller_model.specs.declared.word.Word.TheVariants.{Asks, Nothing, OnChannel, OnConnection, Ping, Reports}
-pub use Rattle.dtap_codec.proofs.Numbers.{is_flow-with_number}
+pub use Rattle.dtap_codec.proofs.Numbers.{is_flow_with_number}
 pub use Rattle.dtap_codec.proofs.Rising.{Rise-cut, Rise-front, Rise-grow, Rise-of_flow}
 pub use Rattle.dtap_codec.specs.Message.{is_flow_message}
 pub use Rattle.dtap_codec.specs.Number.{with_number, count_of}
@@ -168,7 +168,7 @@ pub use Rattle.controller_model.specs.Decision.TheVariants.{Stay}
 pub use Rattle.hold_queue.specs.ChainState.{Tenure as Held, empty_tenure, chain_count, put_in, tenure_messages}
 pub use Rattle.hold_queue.specs.HoldState.{HoldState, count, messages, with_messages}
 pub use Rattle.mobile_end.proofs.GoingOn.{GoesOn-acknowledged, GoesOn-lent, GoesOn-new, GoesOn-numbered, GoesOn-resumed, GoesOn-unnumbered}
-pub use Rattle.mobile_end.proofs.Lives.{IsKept-calls, is_initial-clear, is_sendable-clear}
+pub use Rattle.mobile_end.proofs.Lives.{IsKept-calls, is_initial_clear, is_sendable_clear}
 pub use Rattle.mobile_end.proofs.Numbering.{IsClear-flow, to_be_taken-acknowledged, to_be_taken-lent_message, to_be_taken-waits}
 pub use Rattle.mobile_end.specs.Calls.{Call, after_call, after_calls, frame_lent, taken_on_three_by_call, taken_on_three_by_calls}
 pub use Rattle.mobile_end.specs.Lawful.{has_clear_number, is_initial, is_sendable}
@@ -179,9 +179,9 @@ pub use Rattle.octets.specs.Lists.{IsPrefix}
 pub use Rattle.world_laws.specs.Access.Arriving.{LetsNoneGo, is_of_others, is_release}
 pub use Rattle.world_laws.specs.Access.Coming.{AreAssigned, Assigns, AssignsBy, AssignsIn, BeginsOnce, IsComing, IsNew, behind_first}
 pub use Rattle.world_laws.specs.Access.Coming.{data_by, data_up}
-pub use Rattle.world_laws.specs.Access.Requested.{AreBeside, AreForOthers, AreOneEach, AssignsAnother, Came, ControllerBringsComing}
+pub use Rattle.world_laws.specs.Access.Requested.{AreBeside, AreForOthers, AreOneEach, AssignsAnother, HasAccess, ControllerBringsComing}
 pub use Rattle.world_laws.specs.Access.Requested.{IsBeside, NamesAnother}
-pub use Rattle.world_laws.specs.Access.Requested.Came.{requests as has_requested, requests, comes as still_comes}
+pub use Rattle.world_laws.specs.Access.Requested.HasAccess.{requests as has_requested, requests, comes as still_comes}
 pub use Rattle.world_laws.specs.Acknowledged.{AcksFlow, AcksTell, AllAcksTell, NoneReleases, ReleasesLast, acknowledgements_taken}
 pub use Rattle.world_laws.specs.Acknowledged.{acknowledgements_up, is_release_ack, messages_up, read_by, read_of}
 pub use Rattle.world_laws.specs.Channels.Roles.{AcknowledgementsAgree, ChannelsEnd, FreeAreSilent, IsSilent, OldChannelsEnd}
@@ -190,11 +190,11 @@ pub use Rattle.world_laws.specs.Ended.{DeliversAt, EndedAreInOrder, EndedStayInO
 pub use Rattle.world_laws.specs.FromTheBeginning.{ConnectionsStand, MessagesAreWhole}
 pub use Rattle.world_laws.specs.GoingDown.{going_down, leading, leading_by, leading_from_air, leading_from_outbox}
 pub use Rattle.world_laws.specs.Handled.{FramesKeepLineUps, IsReadyFor, awaited_in}
-pub use Rattle.world_laws.specs.Handling.Faring.{FaresOn, LiveConnectionsFareOn, is_of_controller}
-pub use Rattle.world_laws.specs.LineUp.Alive.{Alive, Stands as AliveStands, Condition, FirstRelays, Follows, Stays, some_lost}
+pub use Rattle.world_laws.specs.Handling.OpenOrEnded.{IsOpenOrEnded, LiveConnectionsFareOn, is_of_controller}
+pub use Rattle.world_laws.specs.LineUp.Alive.{Alive, ChangePhase, Condition, FirstRelays, Follows, IsHereOrGone, some_lost}
 pub use Rattle.world_laws.specs.LineUp.Alive.Condition.{left_the_cell, lost_old, lost_serving, lost_target, sound}
 pub use Rattle.world_laws.specs.LineUp.Alive.Follows.{rises}
-pub use Rattle.world_laws.specs.LineUp.Alive.Stays.{left, remains}
+pub use Rattle.world_laws.specs.LineUp.Alive.IsHereOrGone.{left, remains}
 pub use Rattle.world_laws.specs.LineUp.BreakStep.{BreakStep, lost}
 pub use Rattle.world_laws.specs.LineUp.BreakStep.BreakStep.{breaks_old, breaks_serving, breaks_target}
 pub use Rattle.world_laws.specs.LineUp.ChangeStep.{ChangeStep, after_complete, done, ended}
@@ -208,8 +208,8 @@ pub use Rattle.world_laws.specs.LineUp.Steps.Steps.{first, none}
 pub use Rattle.world_laws.specs.LineUps.{assembled, commanded_target, draining_tenure, is_changing, is_confirmed, is_ended, is_gone}
 pub use Rattle.world_laws.specs.LineUps.{is_intact, is_of_peer, is_opening, line_up, lined, old_tenure, old_tenures, remembered, seat_from}
 pub use Rattle.world_laws.specs.LineUps.{serving_hold, serving_tenure, taken_in, taken_of, target_tenure, waiting_of}
-pub use Rattle.world_laws.specs.Lives.{AcksAgree, HasOpened, IsBeyondAsking, IsLed, IsUnconfirmed, IsUnheard, Lives, TargetIsFresh}
-pub use Rattle.world_laws.specs.Lives.{initial_by, initials_up}
+pub use Rattle.world_laws.specs.AccountedFor.{AcksAgree, HasOpened, IsBeyondAsking, IsLed, IsUnconfirmed, IsUnknownForGood, IsOpenAndLinedUp, TargetIsFresh}
+pub use Rattle.world_laws.specs.AccountedFor.{initial_by, initials_up}
 pub use Rattle.world_laws.specs.Order.Beginning.{Begins, ConnectionsBegin, ConnectionsBeginComing, HasBegun}
 pub use Rattle.world_laws.specs.Order.LineUps.{AllNumbersStand, AllPlacesRise, IsLinedUp, PlacesRise, still_to_come}
 pub use Rattle.world_laws.specs.Order.OctetEvents.{AreOctetEvents, ComeInOctets, HasFairCause, IsFair, IsFairEntry, IsOctetAction}
@@ -223,7 +223,7 @@ pub use Rattle.world_laws.specs.Order.Standing.{IsComingTo, IsFresh, IsOfModulus
 pub use Rattle.world_laws.specs.Order.Standing.OnceDown.{cut, silent}
 pub use Rattle.world_laws.specs.Order.Standing.Standing.{once_down, while_up}
 pub use Rattle.world_laws.specs.Order.Unanswered.{IsAsItConnected, NoneNames, StillAsks, UnansweredMobilesAsk, WasNeverAnswered}
-pub use Rattle.world_laws.specs.OthersFrame.{CameInOctets, FramesAreForOthers, IsHad}
+pub use Rattle.world_laws.specs.OthersFrame.{TookOctets, FramesAreForOthers, IsHad}
 pub use Rattle.world_laws.specs.OwnFrame.{FrameIsHandled, IsFrameFor, IsRequested, IsSaidTo, freed_for}
 pub use Rattle.world_laws.specs.OwnFrame.IsSaidTo.{on_channel as is_on_channel, on_connection as is_on_connection, on_channel}
 pub use Rattle.world_laws.specs.OwnFrame.IsSaidTo.{on_connection}
@@ -234,10 +234,10 @@ pub use Rattle.world_laws.specs.Owners.Alone.{ChannelsAreMobiles, ConnectionsAre
 pub use Rattle.world_laws.specs.Owners.OneEach.{IsUnanswered, is_request_of, made_by, requests_in, requests_up, said_in}
 pub use Rattle.world_laws.specs.References.Agree.Agrees.{is_asking, is_known, is_unasked, is_unheard}
 pub use Rattle.world_laws.specs.References.Over.{IsOver, OverPutsNoMore, TakesOctets}
-pub use Rattle.world_laws.specs.References.Taken.{ArePeers, DroppedAreUnheard, HasNotAsked, IsEarlyIn, IsUnheardOf, NamesAlwaysAgree}
-pub use Rattle.world_laws.specs.References.Taken.{PeersDiffer, SwitchDeliversOrRefuses, UnaskedAreUnheardOf, UnheardStayUnheard}
+pub use Rattle.world_laws.specs.References.Taken.{ArePeers, DroppedAreUnknown, HasNotAsked, IsEarlyIn, IsUnknownToSwitch, NamesAlwaysAgree}
+pub use Rattle.world_laws.specs.References.Taken.{PeersDiffer, SwitchDeliversOrRefuses, UnaskedAreUnknown, UnknownStayUnknown}
 pub use Rattle.world_laws.specs.Refusals.{NoneRefuse, RefusesNone}
-pub use Rattle.world_laws.specs.SapiThree.{BringsBesideFlow, FlowComesOnSapiZero, IsBesideFlow, SaysBesideFlow}
+pub use Rattle.world_laws.specs.SapiThree.{BringsBesideFlow, FlowIsOnSapiZero, IsBesideFlow, SaysBesideFlow}
 pub use Rattle.world_laws.specs.Seated.{AreActiveAt, IsAlone, IsElsewhere, Leads, LinedUp, NoneOn, Remembers, Sits, change_in}
 pub use Rattle.world_laws.specs.Seated.{commanded_channels}
 pub use Rattle.world_laws.specs.Seated.Leads.{leads}
@@ -248,13 +248,13 @@ pub use Rattle.world_laws.specs.Staying.{TimeLeavesOthers, carried_for, is_besid
 pub use Rattle.world_laws.specs.TakingTurns.{Order, OrdersTakeTurns, Spares, TakesTurns, Turns, freed_by, order_by, order_in}
 pub use Rattle.world_laws.specs.Targets.Fresh.{BeginWith, FreshTells, IsAwaited, IsFreshIn, IsLedBy, IsOnPlace, TargetsStayFresh}
 pub use Rattle.world_laws.specs.Targets.Quiet.{ChannelsAreSettled, FreeChannelsAreQuiet, IsQuiet, IsSettled, StandWithin, is_ending}
-pub use Rattle.world_laws.specs.ToCome.{AreHeld, AreLayer3, AsOld, AsServing, AsTarget, StandsFor, mark, texts_of}
+pub use Rattle.world_laws.specs.ToCome.{AreHeld, AreLayer3, AsOld, AsServing, AsTarget, IsFutureOf, mark, texts_of}
 pub use Rattle.world_model.proofs.Accepting.{accepted_list_from-rise, progress_from-rise}
 pub use Rattle.world_model.proofs.Footprints.Joins.{connects, connects as joins_by_connecting}
 pub use Rattle.world_model.proofs.Footprints.Respots.{airs, asks_up, counts, goes_down, is_left, short_up}
 pub use Rattle.world_model.proofs.LinkMessages.{HoldsOf, acked_holds, arrival_holds, frame_holds, lent_holds, link_holds, queue_holds}
-pub use Rattle.world_model.proofs.OwnerKeeping.{one-at-most}
-pub use Rattle.world_model.proofs.OwnerLines.{AllAgree-new, none-due, tenure-append}
+pub use Rattle.world_model.proofs.OwnerKeeping.{one_at_most}
+pub use Rattle.world_model.proofs.OwnerLines.{AllAgree-new, nothing_is_due, tenure-append}
 pub use Rattle.world_model.specs.AcceptedList.{accepted_list, progress}
 pub use Rattle.world_model.specs.Calls.{all_calls}
 pub use Rattle.world_model.specs.Frame.{Frame}
@@ -270,7 +270,7 @@ pub use Rattle.link_model.specs.Tenures.Tenures.{apart, brings as tenure_brings}
 pub use Rattle.link_model.specs.declared.air_link.Air.TheVariants.{Empty, Given, Reached}
 pub use Rattle.link_model.specs.declared.fault.LinkFault.{LinkFault}
 pub use Rattle.link_model.specs.declared.fault.LinkFault.TheVariants.{Busy}
-pub use Rattle.mobile_end.proofs.Resuming.{is_control-apart, without_control-flow}
+pub use Rattle.mobile_end.proofs.Resuming.{is_control_apart, without_control-flow}
 pub use Rattle.mobile_end.specs.Control.{is_control, without_control}
 pub use Rattle.mobile_end.specs.DataLink.{after_acknowledgement, after_lending, after_resume, lent_message, outstanding_messages}
 pub use Rattle.mobile_end.specs.DataLink.{to_be_taken, waits, after_load_from, waits as waits_in}
@@ -325,42 +325,42 @@ pub use Rattle.std.specs.List.{AllByRecursion, flat_map, list_any}
 pub use Rattle.std.specs.Option.{is_none, option_and_then, option_or}
 pub use Rattle.std.specs.Prelude.{slice_get, slice_set}
 pub use Rattle.std.specs.Result.{result_ok}
-pub use Rattle.world_model.proofs.Found.{back-found, back-other, found-front, found-number}
-pub use Rattle.world_model.proofs.Footprints.{Becomes, Joins, Lends, Respots, Tells, air-after, became-number, event-keeps}
+pub use Rattle.world_model.proofs.Found.{back_found, back_other, found_front, number_found}
+pub use Rattle.world_model.proofs.Footprints.{Becomes, Joins, Lends, Respots, Tells, air_after, became_number, event-keeps}
 pub use Rattle.world_model.proofs.Footprints.{hearing-end, hearing-number, hearing-opens, is_on_air}
-pub use Rattle.world_model.proofs.Heard.{Good, end-of, good-all, good-new, good-step}
-pub use Rattle.world_model.proofs.Honesty.{Plain, SameEnds, base-elsewhere, base-there, base-with_spot, reached-up, up-right, AreHonest-new}
-pub use Rattle.world_model.proofs.Honesty.{Kept, breaking, kept-all, less_one, new_ends, pushing, set-elsewhere, set-or-not, tenures-kept}
+pub use Rattle.world_model.proofs.Heard.{Good, end_of, good_all, good_new, good_step}
+pub use Rattle.world_model.proofs.Honesty.{Plain, SameEnds, base-elsewhere, base-there, base_with_spot, reached_up, up_right, AreHonest-new}
+pub use Rattle.world_model.proofs.Honesty.{Kept, breaking, kept_all, less_one, new_ends, pushing, set-elsewhere, set-or-not, tenures_kept}
 pub use Rattle.world_model.proofs.Honesty.{up_and_down}
 pub use Rattle.world_model.proofs.Honesty.Plain.{as_before, ends_now}
-pub use Rattle.world_model.proofs.Inboxes.{inbox-goes, inbox-all}
-pub use Rattle.world_model.proofs.Leads.{aerial-leads, taking-leads, after-taken, air_ack-leads, air_down-leads, air_down_lost-leads}
-pub use Rattle.world_model.proofs.Leads.{air_up-leads, and-left, and-right, arrive-leads, assigned-leads, base_takes-leads, broken-leads}
-pub use Rattle.world_model.proofs.Leads.{by_mobile-leads, connect-leads, does-leads, handle-leads, move-leads, only_if-leads, push-leads}
-pub use Rattle.world_model.proofs.Leads.{report-leads, return-leads, switch_takes-leads, switch_took-leads, took-leads, touch-leads}
-pub use Rattle.world_model.proofs.Leads.{turn-leads, unless_last-leads, upper-leads, OfTaken}
+pub use Rattle.world_model.proofs.Inboxes.{inbox_goes, inbox-all}
+pub use Rattle.world_model.proofs.Leads.{aerial_leads, taking_leads, after_taken, air_ack_leads, air_down_leads, air_down_lost_leads}
+pub use Rattle.world_model.proofs.Leads.{air_up_leads, and_left, and_right, arrive_leads, assigned-leads, base_takes_leads, broken_leads}
+pub use Rattle.world_model.proofs.Leads.{by_mobile-leads, connect_leads, does_leads, handle_leads, move_leads, only_if-leads, push_leads}
+pub use Rattle.world_model.proofs.Leads.{report-leads, return_leads, switch_takes_leads, switch_took-leads, took-leads, touch_leads}
+pub use Rattle.world_model.proofs.Leads.{turn_leads, unless_last_leads, upper_leads, OfTaken}
 pub use Rattle.world_model.proofs.Living.{LivesByTable-new}
-pub use Rattle.world_model.proofs.Mobility.{control-complete, found-all, MobilesLive-new, back-all, behind-all, control-failure}
-pub use Rattle.world_model.proofs.Outboxes.{Both-empty, Step as OutboxStep, all_join, changed_link, down-after, new_outbox}
-pub use Rattle.world_model.proofs.Outboxes.{step as outbox-step, KeepsQueues-new, Step as LinkStep, down-outbox, other_link as link-else}
+pub use Rattle.world_model.proofs.Mobility.{control_complete, found_all, MobilesLive-new, back_all, behind_all, control_failure}
+pub use Rattle.world_model.proofs.Outboxes.{both_empty, Step as OutboxStep, all_join, changed_link, down_after, new_outbox}
+pub use Rattle.world_model.proofs.Outboxes.{step as outbox-step, KeepsQueues-new, Step as LinkStep, down_outbox, other_link as link-else}
 pub use Rattle.world_model.proofs.Outboxes.{other_link}
 pub use Rattle.world_model.proofs.Outboxes.Step.{breaks}
-pub use Rattle.world_model.proofs.OwnerEvents.{Rests, beside-rests}
-pub use Rattle.world_model.proofs.OwnerItems.{IsKnown, IsKnownItem, known-inbox, IsKnown as IsKnownWhat}
-pub use Rattle.world_model.proofs.OwnerPuts.{Goes, Passes, Runs, entries_to, said_to, FitAll, FitsBeside, entry-out, goes-put, runs-kept}
+pub use Rattle.world_model.proofs.OwnerEvents.{Rests, beside_rests}
+pub use Rattle.world_model.proofs.OwnerItems.{IsKnown, IsKnownItem, known_inbox, IsKnown as IsKnownWhat}
+pub use Rattle.world_model.proofs.OwnerPuts.{Goes, Passes, Runs, entries_to, said_to, FitAll, FitsBeside, entry_out, goes_put, runs_kept}
 pub use Rattle.world_model.proofs.OwnerPuts.Goes.{activates, first_passes, runs, activates as goes_activates}
 pub use Rattle.world_model.proofs.OwnerPuts.Runs.{over, passes, releases}
-pub use Rattle.world_model.proofs.OwnerRuns.{Right, handle-turned, heard_of, kinds, right-new, right-step, there-of, tick-turned}
-pub use Rattle.world_model.proofs.OwnerRuns.{beside-number, new-down, owned-run, takes-number}
-pub use Rattle.world_model.proofs.OwnerTakes.{kept-controller, takes-rests}
-pub use Rattle.world_model.proofs.OwnerTenures.{beside-step, HaveSpots-new, is_beside}
+pub use Rattle.world_model.proofs.OwnerRuns.{Right, handle_turned, heard_of, kinds, right_new, right_step, there_of, tick-turned}
+pub use Rattle.world_model.proofs.OwnerRuns.{beside_number, new_down, owned_run, takes_number}
+pub use Rattle.world_model.proofs.OwnerTakes.{kept_controller, takes_rests}
+pub use Rattle.world_model.proofs.OwnerTenures.{beside_step, HaveSpots-new, is_beside}
 pub use Rattle.world_model.proofs.OwnerTurn.{IsOne, Serves, Turned, hear, hear-use, hear_in_use}
-pub use Rattle.world_model.proofs.Piping.{Step as PipeStep, acks-append, length-stations_from, step as pipe-step, ArePipes-new, acks-start}
+pub use Rattle.world_model.proofs.Piping.{Step as PipeStep, acks_append, length-stations_from, step as pipe-step, ArePipes-new, acks_start}
 pub use Rattle.world_model.proofs.Piping.{due-append}
 pub use Rattle.world_model.proofs.Piping.Step.{flows, stops}
 pub use Rattle.world_model.proofs.Rows.{opened}
-pub use Rattle.world_model.proofs.Soundness.{IsSound, sound-read, is_nack}
-pub use Rattle.world_model.proofs.Ticketing.{reached-station, spot-with_base, AllSitBy-new, OneMobileEach-new, on_own}
+pub use Rattle.world_model.proofs.Soundness.{IsSound, sound_read, is_nack}
+pub use Rattle.world_model.proofs.Ticketing.{reached_station, spot_with_base, AllSitBy-new, OneMobileEach-new, on_own}
 pub use Rattle.world_model.proofs.Worlds.{after_all}
 pub use Rattle.world_model.specs.Life.{actors_after, actors_after_all, event_after}
 pub use Rattle.world_model.specs.Lists.{first_in}
@@ -370,8 +370,8 @@ pub use Rattle.world_model.specs.Mobiles.{channel_required, complete, connected,
 pub use Rattle.world_model.specs.Mobiles.{hearing, is_new, may_send, measurement_result, remembering, seated, sent_by}
 pub use Rattle.world_model.specs.Mobiles.{short_message_brought, signalling_brought, brought as brought_in_world, reported_at}
 pub use Rattle.world_model.specs.OwnerLines.{Agrees, AllAgree, acknowledged_in, active_behind, asker, is_in_use, said, said_by}
-pub use Rattle.world_model.specs.OwnerLines.{tenure_behind, to_come, Comes, tenure_all, tenure_then}
-pub use Rattle.world_model.specs.OwnerLines.Comes.{began, begins, begins_and_ends}
+pub use Rattle.world_model.specs.OwnerLines.{tenure_behind, to_come, IsOwed, tenure_all, tenure_then}
+pub use Rattle.world_model.specs.OwnerLines.IsOwed.{began, begins, begins_and_ends}
 pub use Rattle.world_model.specs.Owners.{owner_in}
 pub use Rattle.world_model.specs.Pipe.{acknowledgement, acknowledgements, active_all, due, is_active_then}
 pub use Rattle.world_model.specs.Queues.{all_popped, all_pushed, first_of, outputs, outputs_at, pushed, put, taken, to_link, all_put}

@@ -4,12 +4,12 @@ use Rattle.world_laws.proofs.Prelude.{refl, subst, sym, ap, ◌∙◌, append_as
 use Rattle.world_laws.proofs.Prelude.{eqb-false, flat_map-append, append-nil, Sccp, Place, SWITCH_LINK, BaseState, is_active, after_next}
 use Rattle.world_laws.proofs.Prelude.{first_message, first_of_messages, messages_behind_first, Item, RslFault, Rsl, rsl_reading, rsl_text}
 use Rattle.world_laws.proofs.Prelude.{station_item, switch_item, with_item, Actors, no_station, is_station_up, base_of, with_base}
-use Rattle.world_laws.proofs.Prelude.{is_active_at, SameEnds, base-elsewhere, base-there, up-right, false≢true, same_Some, none-some}
+use Rattle.world_laws.proofs.Prelude.{is_active_at, SameEnds, base-elsewhere, base-there, up_right, false≢true, same_Some, none-some}
 use Rattle.world_laws.proofs.Prelude.{Result, brings, brings_if, brings_in, made_of, coming_up}
 use Rattle.world_laws.specs.LineUp.Places.{Item as Brought}
 
-pub made-append : (channel : ℕ) (xs ys : List Rsl) → made_of channel (xs ++ ys) ≡ made_of channel xs ++ made_of channel ys
-made-append channel xs ys = flat_map-append (brings channel) xs ys
+pub made_append : (channel : ℕ) (xs ys : List Rsl) → made_of channel (xs ++ ys) ≡ made_of channel xs ++ made_of channel ys
+made_append channel xs ys = flat_map-append (brings channel) xs ys
 
 -- ---- a station's end has one message more
 
@@ -24,17 +24,17 @@ IsMade w station at messages = (base_of w station ≢ no_station.base) ⊎ (made
 pub active_there : (w : Actors) (at : Place) → is_active_at w at ≡ true → base_of w at.station ≢ no_station.base
 active_there w at active nowhere = absurd (false≢true (sym (ap (λ (b : BaseState). is_active b.active at.number) nowhere) ∙ active))
 
-pub coming-same : (w v : Actors) (at : Place) → v.inbox ≡ w.inbox → base_of v at.station ≡ base_of w at.station → coming_up v at ≡ coming_up w at
-coming-same w v at inbox base = ap (λ (items : List Item). flat_map (brings_in at) items ++ made_of at.number (base_of v at.station).messages) inbox ∙ ap (λ (b : BaseState). flat_map (brings_in at) w.inbox ++ made_of at.number b.messages) base
+pub coming_same : (w v : Actors) (at : Place) → v.inbox ≡ w.inbox → base_of v at.station ≡ base_of w at.station → coming_up v at ≡ coming_up w at
+coming_same w v at inbox base = ap (λ (items : List Item). flat_map (brings_in at) items ++ made_of at.number (base_of v at.station).messages) inbox ∙ ap (λ (b : BaseState). flat_map (brings_in at) w.inbox ++ made_of at.number b.messages) base
 
 -- where the end has these messages more
-coming-more : (w u : Actors) (station : ℕ) (at : Place) (base : BaseState) (messages : List Rsl) → at.station ≢ 0 → is_station_up w station ≡ true → SameEnds w u → u.inbox ≡ w.inbox → made_of at.number (base_of (with_base station base u) station).messages ≡ made_of at.number (base_of w station).messages ++ made_of at.number messages
+coming_more : (w u : Actors) (station : ℕ) (at : Place) (base : BaseState) (messages : List Rsl) → at.station ≢ 0 → is_station_up w station ≡ true → SameEnds w u → u.inbox ≡ w.inbox → made_of at.number (base_of (with_base station base u) station).messages ≡ made_of at.number (base_of w station).messages ++ made_of at.number messages
     → coming_up (with_base station base u) at ≡ coming_up w at ++ added_by at station messages
-coming-more w u station at base messages at_is up same inbox made_now =
+coming_more w u station at base messages at_is up same inbox made_now =
     elim (cases_Bool (nat_eq station at.station)) [
       | inl here ↦ at_it (eqb-true station at.station here) ∙ ap (λ (b : Bool). coming_up w at ++ cond b (made_of at.number messages) []) (sym here)
       | inr other ↦
-          coming-same w (with_base station base u) at inbox (base-elsewhere u at.station station base at_is (up-right station w up).0 (λ is. eqb-false station at.station other (sym is)) ∙ same at.station)
+          coming_same w (with_base station base u) at inbox (base-elsewhere u at.station station base at_is (up_right station w up).0 (λ is. eqb-false station at.station other (sym is)) ∙ same at.station)
           ∙ sym (append-nil (coming_up w at)) ∙ ap (λ (b : Bool). coming_up w at ++ cond b (made_of at.number messages) []) (sym other)
     ] where
       v : Actors
@@ -49,11 +49,11 @@ coming-more w u station at base messages at_is up same inbox made_now =
           ∙ ap (λ (n : ℕ). flat_map (brings_in at) w.inbox ++ made_of at.number (base_of w n).messages ++ made_of at.number messages) is
 
 told_there : (w : Actors) (v : Actors) (station : ℕ) (at : Place) (base : BaseState) (messages : List Rsl) → base.messages ≡ (base_of w station).messages ++ messages → base_of v station ≡ base → made_of at.number (base_of v station).messages ≡ made_of at.number (base_of w station).messages ++ made_of at.number messages
-told_there w v station at base messages told is = ap (λ (b : BaseState). made_of at.number b.messages) is ∙ ap (made_of at.number) told ∙ made-append at.number (base_of w station).messages messages
+told_there w v station at base messages told is = ap (λ (b : BaseState). made_of at.number b.messages) is ∙ ap (made_of at.number) told ∙ made_append at.number (base_of w station).messages messages
 
-pub coming-told : (w u : Actors) (station : ℕ) (at : Place) (base : BaseState) (messages : List Rsl) → at.station ≢ 0 → is_station_up w station ≡ true → SameEnds w u → u.inbox ≡ w.inbox → base.messages ≡ (base_of w station).messages ++ messages → IsMade w station at messages
+pub coming_told : (w u : Actors) (station : ℕ) (at : Place) (base : BaseState) (messages : List Rsl) → at.station ≢ 0 → is_station_up w station ≡ true → SameEnds w u → u.inbox ≡ w.inbox → base.messages ≡ (base_of w station).messages ++ messages → IsMade w station at messages
     → coming_up (with_base station base u) at ≡ coming_up w at ++ added_by at station messages
-coming-told w u station at base messages at_is up same inbox told made = coming-more w u station at base messages at_is up same inbox made_now where
+coming_told w u station at base messages at_is up same inbox told made = coming_more w u station at base messages at_is up same inbox made_now where
   v : Actors
   v = with_base station base u
 
@@ -72,19 +72,19 @@ pub coming_told_or : (w u : Actors) (station : ℕ) (at : Place) (base : BaseSta
     → (coming_up (with_base station base u) at ≡ coming_up w at ++ added_by at station messages) ⊎ (coming_up (with_base station base u) at ≡ coming_up w at)
 coming_told_or w u station at base messages at_is up same inbox told =
     elim (base-there u station base) [
-      | inl is ↦ inl (coming-more w u station at base messages at_is up same inbox (told_there w (with_base station base u) station at base messages told is))
-      | inr is ↦ inr (coming-same w (with_base station base u) at inbox (ends is.0 is.1))
+      | inl is ↦ inl (coming_more w u station at base messages at_is up same inbox (told_there w (with_base station base u) station at base messages told is))
+      | inr is ↦ inr (coming_same w (with_base station base u) at inbox (ends is.0 is.1))
     ] where
       ends : base_of (with_base station base u) station ≡ no_station.base → base_of u station ≡ no_station.base → base_of (with_base station base u) at.station ≡ base_of w at.station
       ends now before = elim (cases_Bool (nat_eq at.station station)) [
         | inl here ↦ subst (λ (n : ℕ). base_of (with_base station base u) n ≡ base_of w n) (sym (eqb-true at.station station here)) (now ∙ sym before ∙ same station)
-        | inr other ↦ base-elsewhere u at.station station base at_is (up-right station w up).0 (eqb-false at.station station other) ∙ same at.station
+        | inr other ↦ base-elsewhere u at.station station base at_is (up_right station w up).0 (eqb-false at.station station other) ∙ same at.station
       ]
 
 -- messages that bring nothing
-pub coming-quiet : (w u : Actors) (station : ℕ) (at : Place) (base : BaseState) (messages : List Rsl) → at.station ≢ 0 → is_station_up w station ≡ true → SameEnds w u → u.inbox ≡ w.inbox → base.messages ≡ (base_of w station).messages ++ messages → made_of at.number messages ≡ []
+pub coming_quiet : (w u : Actors) (station : ℕ) (at : Place) (base : BaseState) (messages : List Rsl) → at.station ≢ 0 → is_station_up w station ≡ true → SameEnds w u → u.inbox ≡ w.inbox → base.messages ≡ (base_of w station).messages ++ messages → made_of at.number messages ≡ []
     → coming_up (with_base station base u) at ≡ coming_up w at
-coming-quiet w u station at base messages at_is up same inbox told nothing = coming-told w u station at base messages at_is up same inbox told (inr nothing) ∙ ap (λ (xs : List Brought). coming_up w at ++ xs) (none (station == at.station)) ∙ append-nil (coming_up w at) where
+coming_quiet w u station at base messages at_is up same inbox told nothing = coming_told w u station at base messages at_is up same inbox told (inr nothing) ∙ ap (λ (xs : List Brought). coming_up w at ++ xs) (none (station == at.station)) ∙ append-nil (coming_up w at) where
   none : (b : Bool) → (if b then made_of at.number messages else []) ≡ []
   none true = nothing
   none false = refl
@@ -96,15 +96,15 @@ first_made channel [] message is = absurd cc
 first_made channel (first ∷ others) message is = ap (λ (m : Rsl). brings channel m ++ made_of channel others) (same_Some _ _ is)
 
 -- the first message that a station made is there no more
-pub base-pushed : (w : Actors) (station : ℕ) (message : Rsl) → first_message (base_of w station) ≡ Some message → base_of (with_base station (after_next (base_of w station)) w) station ≡ after_next (base_of w station)
-base-pushed w station message first = elim (base-there w station (after_next (base_of w station))) [
+pub base_pushed : (w : Actors) (station : ℕ) (message : Rsl) → first_message (base_of w station) ≡ Some message → base_of (with_base station (after_next (base_of w station)) w) station ≡ after_next (base_of w station)
+base_pushed w station message first = elim (base-there w station (after_next (base_of w station))) [
   | inl is ↦ is
   | inr nowhere ↦ absurd (none-some message (sym (ap first_message nowhere.1) ∙ first))
 ]
 
-pub coming-pushed : (w : Actors) (station : ℕ) (message : Rsl) (at : Place) → at.station ≢ 0 → station ≢ 0 → first_message (base_of w station) ≡ Some message → rsl_reading (rsl_text message) ≡ Ok message
+pub coming_pushed : (w : Actors) (station : ℕ) (message : Rsl) (at : Place) → at.station ≢ 0 → station ≢ 0 → first_message (base_of w station) ≡ Some message → rsl_reading (rsl_text message) ≡ Ok message
     → coming_up (with_item (station_item station message) (with_base station (after_next (base_of w station)) w)) at ≡ coming_up w at
-coming-pushed w station message at at_is station_is first read =
+coming_pushed w station message at at_is station_is first read =
     ap (λ (xs : List Brought). xs ++ made_of at.number (base_of v at.station).messages) (flat_map-append (brings_in at) w.inbox (station_item station message ∷ []))
     ∙ append_assoc (flat_map (brings_in at) w.inbox) (flat_map (brings_in at) (station_item station message ∷ [])) (made_of at.number (base_of v at.station).messages)
     ∙ ap (λ (xs : List Brought). flat_map (brings_in at) w.inbox ++ xs) behind where
@@ -119,7 +119,7 @@ coming-pushed w station message at at_is station_is first read =
         | inl here ↦
             ap (λ (xs : List Brought). xs ++ made_of at.number (base_of v at.station).messages) (item ∙ ap (λ (b : Bool). cond b (brings at.number message) []) here)
             ∙ ap (λ (n : ℕ). brings at.number message ++ made_of at.number (base_of v n).messages) (sym (eqb-true station at.station here))
-            ∙ ap (λ (b : BaseState). brings at.number message ++ made_of at.number b.messages) (base-pushed w station message first)
+            ∙ ap (λ (b : BaseState). brings at.number message ++ made_of at.number b.messages) (base_pushed w station message first)
             ∙ sym (first_made at.number (base_of w station).messages message first)
             ∙ ap (λ (n : ℕ). made_of at.number (base_of w n).messages) (eqb-true station at.station here)
         | inr other ↦
@@ -128,8 +128,8 @@ coming-pushed w station message at at_is station_is first read =
       ]
 
 -- an item of the switch brings nothing
-pub coming-of_switch : (w : Actors) (first : Sccp) (others : List Sccp) (at : Place) → coming_up (with_item (switch_item first) (record w { switch_made = others })) at ≡ coming_up w at
-coming-of_switch w first others at =
+pub coming_of_switch : (w : Actors) (first : Sccp) (others : List Sccp) (at : Place) → coming_up (with_item (switch_item first) (record w { switch_made = others })) at ≡ coming_up w at
+coming_of_switch w first others at =
     ap (λ (xs : List Brought). xs ++ made_of at.number (base_of w at.station).messages) (flat_map-append (brings_in at) w.inbox (switch_item first ∷ []) ∙ ap (λ (xs : List Brought). flat_map (brings_in at) w.inbox ++ xs) (none (SWITCH_LINK == at.station)) ∙ append-nil (flat_map (brings_in at) w.inbox)) where
       none_if : Bool → List Brought
       none_if b = if b then [] else []

@@ -3,8 +3,8 @@ use Rattle.world_laws.proofs.Prelude.{◌≡◌, ◌≢◌, ℕ, ◌≤◌, ◌<
 use Rattle.world_laws.proofs.Prelude.{Option, Some, None, option_map, unwrap_or, refl, sym, ap, ◌∙◌, subst, arith, AllByRecursion, flat_map}
 use Rattle.world_laws.proofs.Prelude.{IsLayer3, Channel, Place, Message, SWITCH_LINK, IsReadOf, outs_of, Input, Drain, Active, Preparing}
 use Rattle.world_laws.proofs.Prelude.{Changing, Draining, State, WaitActivation, WaitEstablish, WaitConfirm, Live, Closed, Removed}
-use Rattle.world_laws.proofs.Prelude.{Connection, roles_of, target_channels, target_role, IsCarried, Stands, Row, AreApart, Future, IsOpen}
-use Rattle.world_laws.proofs.Prelude.{KeepsUplink, OfRow, from_input, relayed, undone, used_channels, AllByRecursion-append, target_in-role}
+use Rattle.world_laws.proofs.Prelude.{Connection, roles_of, target_channels, target_role, IsCarried, IsValid, Row, AreApart, Future, IsOpen}
+use Rattle.world_laws.proofs.Prelude.{KeepsUplink, OfRow, from_input, relayed, undone, used_channels, AllByRecursion-append, target_in_role}
 use Rattle.world_laws.proofs.Prelude.{kept_in, IsThere, connection_of, word_by, Owns, OwnsOpen, messages_on, passed_by, IsOfOctets, IsSent}
 use Rattle.world_laws.proofs.Prelude.{AreUsed, outs_own, forwarded_seen, IsSoundAll, life_sound, offer_list, request_sound, RefersBy}
 use Rattle.world_laws.proofs.Prelude.{life_after, run_step, IsHere, Ready, here_of, PutsUsual, usual_row, ChannelState, Free, InUse}
@@ -13,7 +13,7 @@ use Rattle.world_laws.proofs.Prelude.{entry_of, freed, ignoring, place_at, place
 use Rattle.world_laws.proofs.Prelude.{frees, on_freed, on_what, on_word, row_in, step, keeps_number, Sapi, Zero, Three, Held, Frame}
 use Rattle.world_laws.proofs.Prelude.{AreOctets, RelayItem, What, Parameters, Event, all_steps, Actors, new_actors, LivesByTable-new}
 use Rattle.world_laws.proofs.Prelude.{out_of, message_again, IsHeldTenure, Ends, first_at, of_prepared, of_target, still_of, still_to_relay}
-use Rattle.world_laws.proofs.Prelude.{row_of, row-keeps, row_found, IsSoundCell, RefersIn, SoundParts, sent_message, word_refers}
+use Rattle.world_laws.proofs.Prelude.{row_of, row_keeps, row_found, IsSoundCell, RefersIn, SoundParts, sent_message, word_refers}
 use Rattle.world_laws.proofs.Prelude.{IsSoundChannel, IsSoundRow, row_sound, used_apart, IsAfter, ready_by, ready_uses, AreUsual, life}
 use Rattle.world_laws.proofs.Prelude.{word_of, forwarded, held_up, held_up_for, tenure_messages, flow, IsRequested, IsSaidTo, freed_for}
 use Rattle.world_laws.proofs.Prelude.{is_on_channel, is_on_connection, BringsBesideFlow, IsBesideFlow, SaysBesideFlow}
@@ -87,10 +87,10 @@ module _ (P : List ℕ → Type 0) where
   all_of_target f _ each = tt
 
   -- what is relayed was held, or comes with the input
-  all_relayed : (sapi : Sapi) (s : Connection) (input : Input) (offer : Option Channel) (r : Row) → Stands s → AreApart (used_channels s) → row_of s input offer ≡ Some r → IsOpen r.next.state
+  all_relayed : (sapi : Sapi) (s : Connection) (input : Input) (offer : Option Channel) (r : Row) → IsValid s → AreApart (used_channels s) → row_of s input offer ≡ Some r → IsOpen r.next.state
       → ((at : Place) → AllByRecursion P (from_input sapi input none at)) → AllByRecursion (λ t. AllByRecursion P (tenure_messages t sapi)) s.up.tenures → AllByRecursion P (relayed sapi r.outs)
   all_relayed sapi s input offer r stands apart fits is_open each all =
-      let keeps : KeepsUplink sapi none s input r = subst (OfRow (KeepsUplink sapi none s input)) fits (row-keeps s input offer sapi none stands apart (ends_none input s.state)) in
+      let keeps : KeepsUplink sapi none s input r = subst (OfRow (KeepsUplink sapi none s input)) fits (row_keeps s input offer sapi none stands apart (ends_none input s.state)) in
       all_left P (relayed sapi r.outs) (still_to_relay sapi none r.next)
       (subst (AllByRecursion P) (sym (keeps is_open))
       (AllByRecursion-append P (still_of sapi (from_input sapi input none) s.serving s.draining s.up.tenures) (of_target (from_input sapi input none) s.state)
@@ -151,17 +151,17 @@ still_there (Closed clearing) s is_open = absurd is_open
 still_there Removed s is_open = absurd is_open
 still_there _ s is_open = refl
 
-row-next : (c : Controller) (otherwise : Turn) (e : Entry) (input : Input) (r : Row) → AreRising c.entries → entry_of c e.connection.number ≡ Some e → row_in c e.connection input ≡ Some r → IsOpen r.next.state
+row_next : (c : Controller) (otherwise : Turn) (e : Entry) (input : Input) (r : Row) → AreRising c.entries → entry_of c e.connection.number ≡ Some e → row_in c e.connection input ≡ Some r → IsOpen r.next.state
     → connection_of (by_fitting otherwise e (row_in c e.connection input) c).next e.connection.number ≡ Some r.next
-row-next c otherwise e input r rising there fits is_open =
+row_next c otherwise e input r rising there fits is_open =
     ap (λ (o : Option Row). connection_of (by_fitting otherwise e o c).next e.connection.number) fits
     ∙ row_found c e e r rising (subst (OfRow (λ (q : Row). q.next.number ≡ e.connection.number)) fits (keeps_number e.connection input (request_offer c e.connection input))) there
     ∙ still_there r.next.state r.next is_open
 
-freed-next : (b : Bool) (at : Place) (input : Input) (c : Controller) (e : Entry) (r : Row) → AreRising c.entries → entry_of c e.connection.number ≡ Some e → row_in (if b then freed at c else c) e.connection input ≡ Some r → IsOpen r.next.state
+freed_next : (b : Bool) (at : Place) (input : Input) (c : Controller) (e : Entry) (r : Row) → AreRising c.entries → entry_of c e.connection.number ≡ Some e → row_in (if b then freed at c else c) e.connection input ≡ Some r → IsOpen r.next.state
     → connection_of (on_freed b at input c (Some e)).next e.connection.number ≡ Some r.next
-freed-next true at input c e r rising there fits is_open = row-next (freed at c) (turn [] (freed at c)) e input r rising there fits is_open
-freed-next false at input c e r rising there fits is_open = row-next c (ignoring c) e input r rising there fits is_open
+freed_next true at input c e r rising there fits is_open = row_next (freed at c) (turn [] (freed at c)) e input r rising there fits is_open
+freed_next false at input c e r rising there fits is_open = row_next c (ignoring c) e input r rising there fits is_open
 
 word-next : {c : Controller} {word : Word} {s : Connection} {input : Input} {offer : Option Channel} (source : ℕ) (r : Row) → Ready c → IsSaidTo c word s input offer → row_of s input offer ≡ Some r → IsOpen r.next.state → connection_of (on_word source word c).next s.number ≡ Some r.next
 word-next {c} {s = s} source r ready (is_on_channel at input e word_is found is) fits is_open =
@@ -170,14 +170,14 @@ word-next {c} {s = s} source r ready (is_on_channel at input e word_is found is)
     ap (λ (w : Word). connection_of (on_word source w c).next s.number) word_is
     ∙ ap (λ (o : Option Entry). connection_of (on_freed (frees (channel_state c at) o input) at input c o).next s.number) found
     ∙ ap (λ (x : Connection). connection_of (on_freed (frees (channel_state c at) (Some e) input) at input c (Some e)).next x.number) (sym is)
-    ∙ freed-next (frees (channel_state c at) (Some e) input) at input c e r here.rising here.there
+    ∙ freed_next (frees (channel_state c at) (Some e) input) at input c e r here.rising here.there
     (ap (λ (o : Option Entry). row_in (if frees (channel_state c at) o input then freed at c else c) e.connection input) (sym found) ∙ ap (λ (x : Connection). row_in (freed_for c at input) x input) is ∙ fits) is_open
 word-next {c} {s = s} source r ready (is_on_connection number input e word_is found is) fits is_open =
     let here : IsHere c.links c e = here_of c number e ready found in
     ap (λ (w : Word). connection_of (on_word source w c).next s.number) word_is
     ∙ ap (λ (o : Option Entry). connection_of (concerning input c o).next s.number) found
     ∙ ap (λ (x : Connection). connection_of (concerning input c (Some e)).next x.number) (sym is)
-    ∙ row-next c (ignoring c) e input r here.rising here.there (ap (λ (x : Connection). row_in c x input) is ∙ fits) is_open
+    ∙ row_next c (ignoring c) e input r here.rising here.there (ap (λ (x : Connection). row_in c x input) is ∙ fits) is_open
 
 -- ---- its channels are different ones, of stations
 
@@ -189,7 +189,7 @@ used_placed c state (x ∷ xs) used isnt all = (
 )
 
 owns_placed : (c : Controller) (s : Connection) → AreUsed c → Owns c.channels c.links s.number (roles_of s) → AllByRecursion (λ (x : Channel). x.station ≢ SWITCH_LINK) (used_channels s)
-owns_placed c s used owns = subst (λ (cs : List Channel). AllByRecursion (λ (x : Channel). x.station ≢ SWITCH_LINK) (undone s.draining ++ s.serving ∷ cs)) (target_in-role s.state)
+owns_placed c s used owns = subst (λ (cs : List Channel). AllByRecursion (λ (x : Channel). x.station ≢ SWITCH_LINK) (undone s.draining ++ s.serving ∷ cs)) (target_in_role s.state)
     (AllByRecursion-append (λ (x : Channel). x.station ≢ SWITCH_LINK) (undone s.draining) (s.serving ∷ target_channels (target_role s.state))
     (used_placed c (Releasing s.number) (undone s.draining) used (λ is. absurd cc) owns.releasing)
     (used_placed c (InUse s.number) (s.serving ∷ target_channels (target_role s.state)) used (λ is. absurd cc) owns.using))
@@ -229,7 +229,7 @@ parts_of o s is sound = subst SoundOf is sound
 record IsKnown (c : Controller) (s : Connection) : Type 0 where
   from_one : 1 ≤ s.number
   few : s.number < 2 ^ 24
-  stands : Stands s
+  stands : IsValid s
   there : connection_of c s.number ≡ Some s
   owns : Owns c.channels c.links s.number (roles_of s)
   parts : SoundParts s

@@ -2,8 +2,8 @@
 use Rattle.world_laws.proofs.Prelude.{◌≡◌, ℕ, suc, Bool, true, false, ◌&&◌, ◌||◌, not, if◌then◌else◌, cond, List, [], ◌∷◌, Option, Some}
 use Rattle.world_laws.proofs.Prelude.{None, option_map, refl, sym, ap, ◌∙◌, subst, inl, inr, AllByRecursion, cases_Bool, Channel}
 use Rattle.world_laws.proofs.Prelude.{Place, Input, Drain, Preparing, Changing, State, Live, Target, Connection, is_at, drain_at}
-use Rattle.world_laws.proofs.Prelude.{TargetRole, Roles, RoleStep, target_role, after_step, with_target, MayBegin, GoesOn, Row, done_at}
-use Rattle.world_laws.proofs.Prelude.{place_of, same_Some, and-left, still_draining, HoldState, is_ended, commanded_target, lacks}
+use Rattle.world_laws.proofs.Prelude.{TargetRole, Roles, RoleStep, target_role, after_step, with_target, MayBegin, RemainsOpen, Row, done_at}
+use Rattle.world_laws.proofs.Prelude.{place_of, same_Some, and_left, still_draining, HoldState, is_ended, commanded_target, lacks}
 use Rattle.world_laws.proofs.Prelude.{some_lacks}
 use Rattle.world_laws.specs.LineUp.Places.{Item}
 
@@ -13,12 +13,12 @@ unfoldable pub commanded_of : Option TargetRole → Option Target
 commanded_of None = None
 commanded_of (Some t) = if t.is_commanded then Some t.target else None
 
-pub commanded-role : (state : State) → commanded_target state ≡ commanded_of (target_role state)
+pub commanded_role : (state : State) → commanded_target state ≡ commanded_of (target_role state)
 unfolding commanded_of
-commanded-role (Live reference (Changing target)) = refl
-commanded-role (Live reference (Preparing target)) = refl
-commanded-role (Live reference _) = refl
-commanded-role _ = refl
+commanded_role (Live reference (Changing target)) = refl
+commanded_role (Live reference (Preparing target)) = refl
+commanded_role (Live reference _) = refl
+commanded_role _ = refl
 
 pub record ChannelsAfter (next : Connection) (roles : Roles) : Type 0 where
   pub serving : next.serving ≡ roles.serving
@@ -32,23 +32,23 @@ begun_roles None input offer roles may = (refl, refl, refl)
 begun_roles (Some target) input offer roles may = (refl, refl, sym (ap commanded_of may.2))
 
 -- a change that begins leaves them, as its mobile isn't commanded yet
-pub channels_after : (step : RoleStep) (before : Roles) (down : HoldState) (input : Input) (offer : Option Channel) (r : Row) → GoesOn step before down input offer r → ChannelsAfter r.next (after_step step before)
+pub channels_after : (step : RoleStep) (before : Roles) (down : HoldState) (input : Input) (offer : Option Channel) (r : Row) → RemainsOpen step before down input offer r → ChannelsAfter r.next (after_step step before)
 channels_after step before down input offer r goes =
     let begun = begun_roles goes.begun input offer (after_step step before) goes.may in
     record {
       serving = ap (λ (roles : Roles). roles.serving) goes.roles ∙ begun.0;
       draining = ap (λ (roles : Roles). roles.draining) goes.roles ∙ begun.1;
-      target = commanded-role r.next.state ∙ ap (λ (roles : Roles). commanded_of roles.target) goes.roles ∙ begun.2;
+      target = commanded_role r.next.state ∙ ap (λ (roles : Roles). commanded_of roles.target) goes.roles ∙ begun.2;
     }
 
 -- ---- an old channel is released, and leaves
 
 -- those that leave lack nothing
-pub still-lacks : (coming : Place → List Item) (up : ℕ → Bool) (ds : List Drain) → some_lacks coming up (still_draining ds) ≡ some_lacks coming up ds
-still-lacks coming up [] = refl
-still-lacks coming up (d ∷ ds) =
+pub still_lacks : (coming : Place → List Item) (up : ℕ → Bool) (ds : List Drain) → some_lacks coming up (still_draining ds) ≡ some_lacks coming up ds
+still_lacks coming up [] = refl
+still_lacks coming up (d ∷ ds) =
     elim (cases_Bool d.is_done) [
-      | inl done ↦ ap (λ (b : Bool). some_lacks coming up (cond b (still_draining ds) (d ∷ ds))) done ∙ still-lacks coming up ds ∙ ap (λ (b : Bool). (cond b false (not (up d.channel.station) && not (is_ended (coming (place_of d.channel))))) || some_lacks coming up ds) (sym done)
+      | inl done ↦ ap (λ (b : Bool). some_lacks coming up (cond b (still_draining ds) (d ∷ ds))) done ∙ still_lacks coming up ds ∙ ap (λ (b : Bool). (cond b false (not (up d.channel.station) && not (is_ended (coming (place_of d.channel))))) || some_lacks coming up ds) (sym done)
       | inr drains ↦ ap (λ (b : Bool). some_lacks coming up (cond b (still_draining ds) (d ∷ ds))) drains
     ]
 
@@ -79,7 +79,7 @@ done_lacks before after up at place (d ∷ ds) found released none =
     ] where
       first : is_at at d.channel && not d.is_done ≡ true → 0 ≡ place → some_lacks after up (done_at place (d ∷ ds)) ≡ false → some_lacks before up (d ∷ ds) ≡ false
       first here is none =
-          ap (λ (b : Bool). b || some_lacks before up ds) (released.0.0 (and-left (is_at at d.channel) (not d.is_done) here))
+          ap (λ (b : Bool). b || some_lacks before up ds) (released.0.0 (and_left (is_at at d.channel) (not d.is_done) here))
           ∙ same_lacks before after up at ds released.1 (subst (λ (n : ℕ). some_lacks after up (done_at n (d ∷ ds)) ≡ false) (sym is) none)
 
       one : lacks after up d ≡ false → lacks before up d ≡ false
@@ -96,4 +96,4 @@ done_lacks before after up at place (d ∷ ds) found released none =
 
 -- so a channel that leaves, leaves nothing missing behind
 pub leaves_covers : (before after : Place → List Item) (up : ℕ → Bool) (at : Place) (place : ℕ) (ds : List Drain) → drain_at at ds ≡ Some place → AreReleased before after up at ds → some_lacks after up (still_draining (done_at place ds)) ≡ false → some_lacks before up ds ≡ false
-leaves_covers before after up at place ds found released none = done_lacks before after up at place ds found released (sym (still-lacks after up (done_at place ds)) ∙ none)
+leaves_covers before after up at place ds found released none = done_lacks before after up at place ds found released (sym (still_lacks after up (done_at place ds)) ∙ none)

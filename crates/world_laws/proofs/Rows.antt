@@ -9,9 +9,10 @@ use Rattle.world_laws.proofs.Prelude.{SwitchDoes, BaseDown, Assign, Clear, Actor
 use Rattle.world_laws.proofs.Prelude.{outbox_of, opened, after_all, rise_over, again, Alive, remains, sound, LineUp, controls_in, fresh}
 use Rattle.world_laws.proofs.Prelude.{line, released, on_serving, on_target, moving, coming_up, HasEnded, going_down, taken_of, line_up}
 use Rattle.world_laws.proofs.Prelude.{LinedUp, Sits, is_beside_relay, carried_for, IsForOthers}
+use Rattle.octets.proofs.Hex.{hex}
 use Rattle.mobile_end.specs.declared.mobile_end.Place.TheVariants.{OnChannel}
 use Rattle.world_laws.specs.LineUp.Alive.Follows.{goes_on}
-use Rattle.world_laws.specs.LineUp.Alive.Stands.{rests}
+use Rattle.world_laws.specs.LineUp.Alive.ChangePhase.{rests}
 use Rattle.world_laws.proofs.LineUp.Ordering.{is_in_order_alive}
 use Rattle.world_laws.specs.LineUp.Places.{Seat, Tenure}
 use Rattle.world_laws.specs.LineUp.Places.Item.{brought}
@@ -29,8 +30,8 @@ line_up_of w mobile number = option_and_then (λ p. option_map (λ e. line_up w.
 -- the second message stands in the air, the third waits behind it, and nothing is missing
 abbrev second_in_air : Seat → Bool → List Tenure → Tenure → Tenure → List (List ℕ) → List (List ℕ) → LineUp
 second_in_air seat changing old serving target out taken = record {
-  sent = (0x05 ∷ 0x24 ∷ 0x71 ∷ []) ∷ (0x03 ∷ 0x05 ∷ []) ∷ (0x03 ∷ 0x0f ∷ []) ∷ [];
-  link = record { waiting = (0x03 ∷ 0x8f ∷ []) ∷ []; air = Reached (0x03 ∷ 0x45 ∷ []) };
+  sent = (hex "05 24 71") ∷ (hex "03 05") ∷ (hex "03 0f") ∷ [];
+  link = record { waiting = (hex "03 8f") ∷ []; air = Reached (hex "03 45") };
   seat = seat;
   is_intact = true;
   is_opening = false;
@@ -46,17 +47,17 @@ second_in_air seat changing old serving target out taken = record {
 
 -- a message is with the station and not acknowledged; the next waits
 abbrev sending : World
-sending = after_all opened (Upper 1 Zero (0x03 ∷ 0x05 ∷ []) ∷ AirUp 1 Zero ∷ Upper 1 Zero (0x03 ∷ 0x0f ∷ []) ∷ Upper 1 Three (0x09 ∷ 0x01 ∷ []) ∷ AirUp 1 Three ∷ [])
+sending = after_all opened (Upper 1 Zero (hex "03 05") ∷ AirUp 1 Zero ∷ Upper 1 Zero (hex "03 0f") ∷ Upper 1 Three (hex "09 01") ∷ AirUp 1 Three ∷ [])
 
 sending_is : line_up_of sending 1 1 ≡ Some (second_in_air on_serving false []
-    (record { hold = []; items = brought (0x03 ∷ 0x45 ∷ []) ∷ []; is_lost = false; is_done = false }) fresh [] ((0x05 ∷ 0x24 ∷ 0x71 ∷ []) ∷ []))
+    (record { hold = []; items = brought (hex "03 45") ∷ []; is_lost = false; is_done = false }) fresh [] ((hex "05 24 71") ∷ []))
 unfolding on_literals
 sending_is = refl
 
 -- a mobile that was called came onto its channel with a PAGING RESPONSE, which its station then
 -- makes an ESTABLISH INDICATION of
 abbrev answering : World
-answering = after_all (new_world usual_settings) (Connect 1 1 (0x06 ∷ 0x27 ∷ 0x00 ∷ []) true ∷ BasePush 1 ∷ Handle ∷ BaseTakes 1 ∷ BasePush 1 ∷ Handle ∷ BaseTakes 1 ∷ AirUp 1 Zero ∷ [])
+answering = after_all (new_world usual_settings) (Connect 1 1 (hex "06 27 00") true ∷ BasePush 1 ∷ Handle ∷ BaseTakes 1 ∷ BasePush 1 ∷ Handle ∷ BaseTakes 1 ∷ AirUp 1 Zero ∷ [])
 
 -- it is still to open, though that message of radio resource management is on its way
 answering_opens : option_map (λ l. l.is_opening) (line_up_of answering 1 1) ≡ Some true
@@ -80,7 +81,7 @@ answered_brings = refl
 abbrev told : World
 told = after_all sending (SwitchDoes (Assign 1) ∷ BasePush 0 ∷ Handle ∷ BaseTakes 1 ∷ BasePush 1 ∷ Handle ∷ BasePush 1 ∷ BasePush 1 ∷ Handle ∷ Handle ∷ BasePush 1 ∷ Handle ∷ [])
 
-told_is : option_map (λ l. l.out) (line_up_of told 1 1) ≡ Some ((0x03 ∷ 0x45 ∷ []) ∷ [])
+told_is : option_map (λ l. l.out) (line_up_of told 1 1) ≡ Some ((hex "03 45") ∷ [])
 unfolding on_literals
 told_is = refl
 
@@ -92,7 +93,7 @@ told_changes : option_map (λ l. l.is_changing) (line_up_of told 1 1) ≡ Some t
 unfolding on_literals
 told_changes = refl
 
-told_goes_down : map (λ a. a.message) (going_down (told).actors (place_at 1 0x41)) ≡ (0x06 ∷ 0x2e ∷ 0x0a ∷ 0x20 ∷ 0x14 ∷ 0x00 ∷ []) ∷ []
+told_goes_down : map (λ a. a.message) (going_down (told).actors (place_at 1 0x41)) ≡ (hex "06 2e 0a 20 14 00") ∷ []
 unfolding on_literals
 told_goes_down = refl
 
@@ -118,12 +119,12 @@ abbrev come : World
 come = after_all told (BaseTakes 1 ∷ AirDown 1 ∷ Move 1 ∷ Arrive 1 ∷ AirUp 1 Zero ∷ AirAck 1 Zero ∷ AirUp 1 Zero ∷ BasePush 1 ∷ BasePush 1 ∷ [])
 
 come_is : line_up_of come 1 1 ≡ Some (second_in_air on_target true [] fresh
-    (record { hold = []; items = brought (0x06 ∷ 0x29 ∷ 0x00 ∷ []) ∷ brought (0x03 ∷ 0x45 ∷ []) ∷ []; is_lost = false; is_done = false })
-    ((0x03 ∷ 0x45 ∷ []) ∷ []) ((0x05 ∷ 0x24 ∷ 0x71 ∷ []) ∷ []))
+    (record { hold = []; items = brought (hex "06 29 00") ∷ brought (hex "03 45") ∷ []; is_lost = false; is_done = false })
+    ((hex "03 45") ∷ []) ((hex "05 24 71") ∷ []))
 unfolding on_literals
 come_is = refl
 
-come_line : option_map line (line_up_of come 1 1) ≡ Some ((0x05 ∷ 0x24 ∷ 0x71 ∷ []) ∷ (0x03 ∷ 0x45 ∷ []) ∷ (0x03 ∷ 0x45 ∷ []) ∷ [])
+come_line : option_map line (line_up_of come 1 1) ≡ Some ((hex "05 24 71") ∷ (hex "03 45") ∷ (hex "03 45") ∷ [])
 unfolding on_literals
 come_line = refl
 
@@ -133,7 +134,7 @@ abbrev draining : World
 draining = after_all come (Handle ∷ Handle ∷ BasePush 1 ∷ Handle ∷ SwitchTakes ∷ BaseTakes 1 ∷ BasePush 1 ∷ [])
 
 draining_is : line_up_of draining 1 1 ≡ Some (second_in_air on_serving false (record { hold = []; items = released ∷ []; is_lost = false; is_done = false } ∷ [])
-    (record { hold = (0x03 ∷ 0x45 ∷ []) ∷ []; items = []; is_lost = false; is_done = false }) fresh [] ((0x05 ∷ 0x24 ∷ 0x71 ∷ []) ∷ (0x03 ∷ 0x45 ∷ []) ∷ []))
+    (record { hold = (hex "03 45") ∷ []; items = []; is_lost = false; is_done = false }) fresh [] ((hex "05 24 71") ∷ (hex "03 45") ∷ []))
 unfolding on_literals
 draining_is = refl
 
@@ -177,7 +178,7 @@ beside = refl
 
 -- ---- the switch takes
 
-carries_its_own : map (λ entry. carried_for 1 entry.out) (outbox_of (told).actors 0) ≡ ((0x03 ∷ 0x45 ∷ []) ∷ []) ∷ ((0x09 ∷ 0x01 ∷ []) ∷ []) ∷ []
+carries_its_own : map (λ entry. carried_for 1 entry.out) (outbox_of (told).actors 0) ≡ ((hex "03 45") ∷ []) ∷ ((hex "09 01") ∷ []) ∷ []
 unfolding on_literals forwarded
 carries_its_own = refl
 
@@ -185,11 +186,11 @@ carries_of_no_other : map (λ entry. carried_for 2 entry.out) (outbox_of (told).
 unfolding on_literals forwarded
 carries_of_no_other = refl
 
-took_before : taken_of (told).actors 1 ≡ (0x05 ∷ 0x24 ∷ 0x71 ∷ []) ∷ []
+took_before : taken_of (told).actors 1 ≡ (hex "05 24 71") ∷ []
 unfolding on_literals forwarded
 took_before = refl
 
-takes_what_it_carries : taken_of (after_all told (SwitchTakes ∷ [])).actors 1 ≡ (0x05 ∷ 0x24 ∷ 0x71 ∷ []) ∷ (0x03 ∷ 0x45 ∷ []) ∷ []
+takes_what_it_carries : taken_of (after_all told (SwitchTakes ∷ [])).actors 1 ≡ (hex "05 24 71") ∷ (hex "03 45") ∷ []
 unfolding on_literals forwarded
 takes_what_it_carries = refl
 
@@ -202,33 +203,33 @@ takes_of_no_other = refl
 -- Of the messages sent the first two were taken; the second is held once more, the third stands in
 -- the inbox, the station made the fourth, which stands in the air, and the fifth waits.
 abbrev spread : World
-spread = after_all draining (AirAck 1 Zero ∷ AirUp 1 Zero ∷ BasePush 1 ∷ AirAck 1 Zero ∷ Upper 1 Zero (0x03 ∷ 0x10 ∷ []) ∷ Upper 1 Zero (0x03 ∷ 0x11 ∷ []) ∷ AirUp 1 Zero ∷ [])
+spread = after_all draining (AirAck 1 Zero ∷ AirUp 1 Zero ∷ BasePush 1 ∷ AirAck 1 Zero ∷ Upper 1 Zero (hex "03 10") ∷ Upper 1 Zero (hex "03 11") ∷ AirUp 1 Zero ∷ [])
 
 abbrev spread_sent : List (List ℕ)
-spread_sent = (0x05 ∷ 0x24 ∷ 0x71 ∷ []) ∷ (0x03 ∷ 0x05 ∷ []) ∷ (0x03 ∷ 0x0f ∷ []) ∷ (0x03 ∷ 0x10 ∷ []) ∷ (0x03 ∷ 0x11 ∷ []) ∷ []
+spread_sent = (hex "05 24 71") ∷ (hex "03 05") ∷ (hex "03 0f") ∷ (hex "03 10") ∷ (hex "03 11") ∷ []
 
-at_0 : Carries 4 spread_sent 0 (0x05 ∷ 0x24 ∷ 0x71 ∷ [])
-at_0 = record { message = 0x05 ∷ 0x24 ∷ 0x71 ∷ []; is_sent = refl; is_clear = record { is_flow = refl; cleared = refl }; carries = refl }
+at_0 : Carries 4 spread_sent 0 (hex "05 24 71")
+at_0 = record { message = hex "05 24 71"; is_sent = refl; is_clear = record { is_flow = refl; cleared = refl }; carries = refl }
 
-at_1 : Carries 4 spread_sent 1 (0x03 ∷ 0x45 ∷ [])
-at_1 = record { message = 0x03 ∷ 0x05 ∷ []; is_sent = refl; is_clear = record { is_flow = refl; cleared = refl }; carries = refl }
+at_1 : Carries 4 spread_sent 1 (hex "03 45")
+at_1 = record { message = hex "03 05"; is_sent = refl; is_clear = record { is_flow = refl; cleared = refl }; carries = refl }
 
-at_2 : Carries 4 spread_sent 2 (0x03 ∷ 0x8f ∷ [])
-at_2 = record { message = 0x03 ∷ 0x0f ∷ []; is_sent = refl; is_clear = record { is_flow = refl; cleared = refl }; carries = refl }
+at_2 : Carries 4 spread_sent 2 (hex "03 8f")
+at_2 = record { message = hex "03 0f"; is_sent = refl; is_clear = record { is_flow = refl; cleared = refl }; carries = refl }
 
-at_3 : Carries 4 spread_sent 3 (0x03 ∷ 0xd0 ∷ [])
-at_3 = record { message = 0x03 ∷ 0x10 ∷ []; is_sent = refl; is_clear = record { is_flow = refl; cleared = refl }; carries = refl }
+at_3 : Carries 4 spread_sent 3 (hex "03 d0")
+at_3 = record { message = hex "03 10"; is_sent = refl; is_clear = record { is_flow = refl; cleared = refl }; carries = refl }
 
-at_4 : Carries 4 spread_sent 4 (0x03 ∷ 0x11 ∷ [])
-at_4 = record { message = 0x03 ∷ 0x11 ∷ []; is_sent = refl; is_clear = record { is_flow = refl; cleared = refl }; carries = refl }
+at_4 : Carries 4 spread_sent 4 (hex "03 11")
+at_4 = record { message = hex "03 11"; is_sent = refl; is_clear = record { is_flow = refl; cleared = refl }; carries = refl }
 
 -- its line-up, where the switch took these
 abbrev spread_line_up : List (List ℕ) → LineUp
 spread_line_up taken = record (second_in_air on_serving false (record { hold = []; items = released ∷ []; is_lost = false; is_done = false } ∷ [])
-    (record { hold = (0x03 ∷ 0x45 ∷ []) ∷ []; items = brought (0x03 ∷ 0x8f ∷ []) ∷ brought (0x03 ∷ 0xd0 ∷ []) ∷ []; is_lost = false; is_done = false })
-    fresh [] taken) { sent = spread_sent; link = record { waiting = (0x03 ∷ 0x11 ∷ []) ∷ []; air = Reached (0x03 ∷ 0xd0 ∷ []) } }
+    (record { hold = (hex "03 45") ∷ []; items = brought (hex "03 8f") ∷ brought (hex "03 d0") ∷ []; is_lost = false; is_done = false })
+    fresh [] taken) { sent = spread_sent; link = record { waiting = (hex "03 11") ∷ []; air = Reached (hex "03 d0") } }
 
-spread_is_alive : Alive 4 (spread_line_up ((0x05 ∷ 0x24 ∷ 0x71 ∷ []) ∷ (0x03 ∷ 0x45 ∷ []) ∷ []))
+spread_is_alive : Alive 4 (spread_line_up ((hex "05 24 71") ∷ (hex "03 45") ∷ []))
 spread_is_alive = record {
   follows = goes_on (record {
     now = next at_0 (next at_1 (again refl at_1 (next at_2 (next at_3 (next at_4 (rise_over 5))))));
@@ -241,10 +242,10 @@ spread_is_alive = record {
 }
 
 -- where the switch took the third message without the second
-skipping_is_not_alive : Alive 4 (spread_line_up ((0x05 ∷ 0x24 ∷ 0x71 ∷ []) ∷ (0x03 ∷ 0x8f ∷ []) ∷ [])) → ⊥
+skipping_is_not_alive : Alive 4 (spread_line_up ((hex "05 24 71") ∷ (hex "03 8f") ∷ [])) → ⊥
 skipping_is_not_alive alive = let order = (is_in_order_alive (omega arith) alive).no_gap in cc
 
-spread_is : line_up_of spread 1 1 ≡ Some (spread_line_up ((0x05 ∷ 0x24 ∷ 0x71 ∷ []) ∷ (0x03 ∷ 0x45 ∷ []) ∷ []))
+spread_is : line_up_of spread 1 1 ≡ Some (spread_line_up ((hex "05 24 71") ∷ (hex "03 45") ∷ []))
 unfolding on_literals
 spread_is = refl
 
@@ -253,7 +254,7 @@ abbrev connection : Connection
 connection = record (new_connection 1 (channel 1 0x0a) (record { access = 7; frame = 0 }) 0) {
   state = Live 0x800001 Draining;
   draining = record { channel = channel 1 0x41; is_done = false } ∷ [];
-  up = record { limit = 32; tenures = empty_tenure ∷ record { zero = (0x03 ∷ 0x45 ∷ []) ∷ []; three = [] } ∷ [] };
+  up = record { limit = 32; tenures = empty_tenure ∷ record { zero = (hex "03 45") ∷ []; three = [] } ∷ [] };
 }
 
 -- in this tenure of the channel
@@ -265,7 +266,7 @@ mobile_in tenure = record {
     stage = Connected;
     place = OnChannel;
     sent = spread_sent;
-    zero = record { waiting = (0x03 ∷ 0x11 ∷ []) ∷ []; air = Reached (0x03 ∷ 0xd0 ∷ []) };
+    zero = record { waiting = (hex "03 11") ∷ []; air = Reached (hex "03 d0") };
     three = record { waiting = []; air = Empty };
   };
   accepts_sapi_three = true;
@@ -279,17 +280,17 @@ actors taken = record {
   modulus = 4;
   mobiles = mobile_in 3 ∷ [];
   stations = record {
-    base = record { station = 1; active = 0x41 ∷ 0x0a ∷ []; messages = data_indication 0x0a Zero (0x03 ∷ 0xd0 ∷ []) ∷ [] };
+    base = record { station = 1; active = hex "41 0a"; messages = data_indication 0x0a Zero (hex "03 d0") ∷ [] };
     spots = replicate 0x0a new_spot ++ record { tenure = 3; sapi_three_up = false; air = []; reports = 0 } ∷ [];
   } ∷ [];
   switch = record { modulus = 4; connections = record { peer = 1; number = 0x800001; stage = Open; reception = record { modulus = 4; taken = taken } } ∷ [] };
   switch_made = [];
-  inbox = station_item 1 (RfChannelReleaseAck 0x41) ∷ station_item 1 (data_indication 0x0a Zero (0x03 ∷ 0x8f ∷ [])) ∷ [];
+  inbox = station_item 1 (RfChannelReleaseAck 0x41) ∷ station_item 1 (data_indication 0x0a Zero (hex "03 8f")) ∷ [];
   controller = new_controller usual_settings;
   links = new_link ∷ new_link ∷ [];
 }
 
-is_lined_up : LinedUp 4 (actors ((0x05 ∷ 0x24 ∷ 0x71 ∷ []) ∷ (0x03 ∷ 0x45 ∷ []) ∷ [])) (mobile_in 3) connection
+is_lined_up : LinedUp 4 (actors ((hex "05 24 71") ∷ (hex "03 45") ∷ [])) (mobile_in 3) connection
 unfolding on_literals forwarded
 is_lined_up = record {
   alive = spread_is_alive;
@@ -300,15 +301,15 @@ is_lined_up = record {
   placed = ((λ h. absurd cc), ((λ h. absurd cc), tt));
 }
 
-skipping_is_not_lined_up : LinedUp 4 (actors ((0x05 ∷ 0x24 ∷ 0x71 ∷ []) ∷ (0x03 ∷ 0x8f ∷ []) ∷ [])) (mobile_in 3) connection → ⊥
+skipping_is_not_lined_up : LinedUp 4 (actors ((hex "05 24 71") ∷ (hex "03 8f") ∷ [])) (mobile_in 3) connection → ⊥
 unfolding on_literals forwarded
 skipping_is_not_lined_up h = skipping_is_not_alive h.alive
 
 -- nor is it in another tenure of its channel
-in_another_tenure : LinedUp 4 (actors ((0x05 ∷ 0x24 ∷ 0x71 ∷ []) ∷ (0x03 ∷ 0x45 ∷ []) ∷ [])) (mobile_in 4) connection → ⊥
+in_another_tenure : LinedUp 4 (actors ((hex "05 24 71") ∷ (hex "03 45") ∷ [])) (mobile_in 4) connection → ⊥
 unfolding on_literals forwarded
 in_another_tenure h = no_seat h.sits where
-  no_seat : Sits (actors ((0x05 ∷ 0x24 ∷ 0x71 ∷ []) ∷ (0x03 ∷ 0x45 ∷ []) ∷ [])) (channel 1 0x0a) None (On (record { at = place_at 1 0x0a; number = 4 }) None) → ⊥
+  no_seat : Sits (actors ((hex "05 24 71") ∷ (hex "03 45") ∷ [])) (channel 1 0x0a) None (On (record { at = place_at 1 0x0a; number = 4 }) None) → ⊥
   no_seat (stays is remembers) = let number = ap (λ (t : ChannelTenure). t.number) is in absurd cc
 
 -- ---- outputs that are another connection's: of connection 1, whose channel is 0A of station 1
@@ -318,7 +319,7 @@ one = record (new_connection 1 (channel 1 0x0a) (record { access = 7; frame = 0 
 
 -- DTAP of a connection, for the switch
 abbrev dtap_of : ℕ → Out
-dtap_of number = record { to = 0; conn = number; frame = record { stream = 0xfd; body = 0x06 ∷ 0x80 ∷ 0x00 ∷ 0x01 ∷ 0x00 ∷ 0x01 ∷ 0x05 ∷ 0x01 ∷ 0x00 ∷ 0x02 ∷ 0x03 ∷ 0x45 ∷ [] } }
+dtap_of number = record { to = 0; conn = number; frame = record { stream = 0xfd; body = hex "06 80 00 01 00 01 05 01 00 02 03 45" } }
 
 -- an ASSIGNMENT COMMAND on a channel of a station
 abbrev command_on : ℕ → ℕ → Out
@@ -354,6 +355,6 @@ command_at_another_station = record { carries = refl; leads = ((λ h. absurd cc)
 -- ---- a connection that closed
 
 -- where the switch took the third message without the second, it isn't in order
-skipping_is_out_of_order : HasEnded 4 (actors ((0x05 ∷ 0x24 ∷ 0x71 ∷ []) ∷ (0x03 ∷ 0x8f ∷ []) ∷ [])) 1 1 → ⊥
+skipping_is_out_of_order : HasEnded 4 (actors ((hex "05 24 71") ∷ (hex "03 8f") ∷ [])) 1 1 → ⊥
 unfolding on_literals forwarded
-skipping_is_out_of_order ended = let order = (ended_are_in_order_new 4 (actors ((0x05 ∷ 0x24 ∷ 0x71 ∷ []) ∷ (0x03 ∷ 0x8f ∷ []) ∷ [])) 1 1 (omega arith) ended).no_gap in cc
+skipping_is_out_of_order ended = let order = (ended_are_in_order_new 4 (actors ((hex "05 24 71") ∷ (hex "03 8f") ∷ [])) 1 1 (omega arith) ended).no_gap in cc

@@ -13,8 +13,8 @@ use Rattle.world_laws.proofs.Prelude.{messages_behind_first, frame_answer, new_m
 use Rattle.world_laws.proofs.Prelude.{rsl_text, CellParameters, Parameters, Event, BasePush, Handle, Tick, BaseDown, actors_after}
 use Rattle.world_laws.proofs.Prelude.{actors_after_all, frame_in, all_popped, all_pushed, first_of, pushed, station_item, switch_item}
 use Rattle.world_laws.proofs.Prelude.{all_steps, first_taken, step_at, Actors, Mobile, Spot, base_of, is_up, mobile_of, modulus_in}
-use Rattle.world_laws.proofs.Prelude.{new_actors, no_station, station_of, stations_from, with_base, with_spot, Good, end-of, good-new}
-use Rattle.world_laws.proofs.Prelude.{good-step, IsSound, sound-read, Tells, event-keeps, AllByRecursion-so, Both-empty, Result}
+use Rattle.world_laws.proofs.Prelude.{new_actors, no_station, station_of, stations_from, with_base, with_spot, Good, end_of, good_new}
+use Rattle.world_laws.proofs.Prelude.{good_step, IsSound, sound_read, Tells, event-keeps, AllByRecursion-so, both_empty, Result}
 use Rattle.world_laws.proofs.Prelude.{sccp_reading, valid_word, rr_reading, MobileFault, Call, after_call, after_calls, frame_lent}
 use Rattle.world_laws.proofs.Prelude.{taken_on_three_by_call, taken_on_three_by_calls, all_calls, popped, set-or-not, set-elsewhere}
 use Rattle.world_laws.proofs.Prelude.{inbox-all, MobilesLive-new, IsBesideFlow, SaysBesideFlow, RefusesNone}
@@ -26,7 +26,7 @@ use Rattle.mobile_end.specs.Calls.Call.{frames}
 use Rattle.mobile_end.proofs.OnSapiThree.{takes_no_flow}
 use Rattle.ruled_relay.specs.declared.item.What.TheVariants as whats
 use Rattle.rsl_codec.specs.declared.rsl.Rsl.TheVariants as rsl
-use Rattle.world_model.specs.Mobiles.{told}
+use Rattle.world_model.specs.Mobiles.{with_message_made}
 use Rattle.world_model.specs.World.{Station}
 use Rattle.world_laws.proofs.Framing.{all_left, all_right}
 use Rattle.world_model.proofs.Footprints.Tells.{answers, brings, detects, establishes, links, opens_with, reports, requires}
@@ -47,9 +47,9 @@ beside frame none = by (is_flow_message frame) none where
   by true is = absurd cc
   by false is = refl
 
-lent-in : (r : Result (Option (List ℕ)) MobileFault) (frame : List ℕ) → frame_in r ≡ Some frame → frame_lent r ≡ frame ∷ []
-lent-in (Ok o) frame is = ap option_to_list is
-lent-in (Err fault) frame is = absurd cc
+lent_in : (r : Result (Option (List ℕ)) MobileFault) (frame : List ℕ) → frame_in r ≡ Some frame → frame_lent r ≡ frame ∷ []
+lent_in (Ok o) frame is = ap option_to_list is
+lent_in (Err fault) frame is = absurd cc
 
 -- the next frame of each mobile
 NoneLent : Actors → Type 0
@@ -62,8 +62,8 @@ none_lent settings events number p frame found is =
     let m : ℕ = modulus_in settings in
     let mobile : MobileState = new_mobile m in
     let calls : List Call = all_calls (new_actors settings) events number in
-    let last : frame_lent (frame_answer (after_calls mobile calls) Three) ≡ frame ∷ [] = ap (λ (e : MobileState). frame_lent (frame_answer e Three)) (sym lives.is) ∙ lent-in (frame_answer p.end Three) frame is in
-    beside frame ((Both-empty (filter is_flow_message (taken_on_three_by_calls mobile calls)) (filter is_flow_message (frame ∷ []))
+    let last : frame_lent (frame_answer (after_calls mobile calls) Three) ≡ frame ∷ [] = ap (λ (e : MobileState). frame_lent (frame_answer e Three)) (sym lives.is) ∙ lent_in (frame_answer p.end Three) frame is in
+    beside frame ((both_empty (filter is_flow_message (taken_on_three_by_calls mobile calls)) (filter is_flow_message (frame ∷ []))
     (sym (sym (filter-append is_flow_message (taken_on_three_by_calls mobile calls) (frame ∷ []))
     ∙ ap (λ (xs : List (List ℕ)). filter is_flow_message (taken_on_three_by_calls mobile calls ++ xs)) (sym last)
     ∙ ap (filter is_flow_message) (sym (one_more mobile calls))
@@ -104,7 +104,7 @@ short_spot : (at : Place) (spot : Spot) (u : Actors) → AreShort u → AreShort
 unfolding AreShort
 short_spot at spot u all = set_short u.stations (at.station - 1) _ (short_of u at.station all) all
 
-short_told : (station : ℕ) (message : Rsl) (u : Actors) → IsShort message → AreShort u → AreShort (told station message u)
+short_told : (station : ℕ) (message : Rsl) (u : Actors) → IsShort message → AreShort u → AreShort (with_message_made station message u)
 short_told station message u short all = short_base station (after_tell (base_of u station) message) u (AllByRecursion-append IsShort (base_of u station).messages (message ∷ []) (short_of u station all) (short, tt)) all
 
 short_tells : {w : Actors} {event : Event} {n : ℕ} {message : Rsl} → NoneLent w → Tells w event n message → IsShort message
@@ -252,11 +252,11 @@ says_pushed w (BasePush source) good all = by_source (nat_eq source SWITCH_LINK)
 
   of_station : (messages : List Rsl) → AllByRecursion IsSound messages → AllByRecursion IsShort messages → AllByRecursion SaysItem (map (station_item source) (option_to_list (first_of_messages messages)))
   of_station [] sound short = tt
-  of_station (first ∷ others) sound short = (of_station_item source first short.0 (sound-read first sound.0), tt)
+  of_station (first ∷ others) sound short = (of_station_item source first short.0 (sound_read first sound.0), tt)
 
   by_source : (b : Bool) → AllByRecursion SaysItem (if b then map switch_item (first_of w.switch_made) else map (station_item source) (option_to_list (first_message (base_of w source))))
   by_source true = of_switch w.switch_made
-  by_source false = of_station (base_of w source).messages (end-of w source good).made (short_of w source all)
+  by_source false = of_station (base_of w source).messages (end_of w source good).made (short_of w source all)
 says_pushed w (BaseDown source) good all = by_link (is_up w source) where
   by_link : (b : Bool) → AllByRecursion SaysItem (if b then record { source = source; what = whats.Down } ∷ [] else [])
   by_link true = ((tt, tt), tt)
@@ -273,7 +273,7 @@ says_all : (w : Actors) (events : List Event) → ((before : List Event) → Non
 says_all w [] none begins = tt
 says_all w (event ∷ events) none begins =
     AllByRecursion-append SaysItem (pushed w event) (all_pushed (actors_after w event) events) (says_pushed w event begins.good begins.short)
-    (says_all (actors_after w event) events (λ before. none (event ∷ before)) (record { good = good-step w event begins.good; short = short_step w event (none []) begins.short }))
+    (says_all (actors_after w event) events (λ before. none (event ∷ before)) (record { good = good_step w event begins.good; short = short_step w event (none []) begins.short }))
 
 new_short : (from k : ℕ) (cells : List CellParameters) → AllByRecursion IsShort (get_or (stations_from from cells) k no_station).base.messages
 new_short from k [] = tt
@@ -283,7 +283,7 @@ new_short from (suc k) (cell ∷ cells) = new_short (from + 1) k cells
 says_new : (settings : Parameters) (events : List Event) → AllByRecursion SaysItem (all_popped (new_actors settings) events ++ (world settings events).inbox)
 unfolding AreShort
 says_new settings events = subst (AllByRecursion SaysItem) (inbox-all (new_actors settings) events)
-    (says_all (new_actors settings) events (none_lent settings) (record { good = good-new settings; short = λ k. new_short 1 k settings.cells }))
+    (says_all (new_actors settings) events (none_lent settings) (record { good = good_new settings; short = λ k. new_short 1 k settings.cells }))
 
 -- the steps of the controller are what it handled, and ticks
 says_first : (items : List Item) → AllByRecursion SaysItem (first_of items) → AllByRecursion (λ step. Says (word_in step)) (first_taken items)

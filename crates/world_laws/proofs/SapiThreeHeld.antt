@@ -3,7 +3,7 @@ use Rattle.world_laws.proofs.Prelude.{◌≡◌, ℕ, ◌≤◌, Bool, true, fal
 use Rattle.world_laws.proofs.Prelude.{AllByRecursion, Place, Message, AllByRecursion-append, Input, relayed, IsThere, connection_of}
 use Rattle.world_laws.proofs.Prelude.{word_in, Step, Word, OnChannel, Controller, new_controller, step, Sapi, Zero, Three, AreAllowed}
 use Rattle.world_laws.proofs.Prelude.{Parameters, Event, all_steps, new_actors, LivesByTable-new, IsHistory, Moment, all_messages}
-use Rattle.world_laws.proofs.Prelude.{life_conserves_up, life, held_up, BringsBesideFlow, FlowComesOnSapiZero, IsBesideFlow, SaysBesideFlow}
+use Rattle.world_laws.proofs.Prelude.{life_conserves_up, life, held_up, BringsBesideFlow, FlowIsOnSapiZero, IsBesideFlow, SaysBesideFlow}
 use Rattle.conn_rules.specs.declared.input.Input.TheVariants as inputs
 use Rattle.controller_model.specs.LifeLaws.Downlink.{requests}
 use Rattle.controller_model.specs.LifeLaws.Uplink.{Tenure, after_input, after_moment, after_word, begin_first, begin_next, ended, heard}
@@ -87,7 +87,7 @@ held_beside settings steps number allowed from_one says there =
     all_right IsBesideFlow (relayed Three (all_messages law.moments)) (held_up (life settings steps).next number Three)
     (subst (AllByRecursion IsBesideFlow) (sym (law.uplink there Three)) (joined_beside (service law.moments) (service_beside number (new_controller settings) steps law.moments [] law.history says tt)))
 
-pub flow_comes_on_sapi_zero_new : (settings : Parameters) (events : List Event) → FlowComesOnSapiZero settings events
+pub flow_comes_on_sapi_zero_new : (settings : Parameters) (events : List Event) → FlowIsOnSapiZero settings events
 flow_comes_on_sapi_zero_new settings events = record {
   came = says_came settings events;
   waits = says_waits settings events;

@@ -3,8 +3,8 @@ use Rattle.world_laws.proofs.Prelude.{◌≡◌, ℕ, nat_eq, Bool, true, false,
 use Rattle.world_laws.proofs.Prelude.{append_assoc, eqb-true, eqb-false, append-nil, is_flow_message, Sapi, Zero, Three, Whereabouts, Stage}
 use Rattle.world_laws.proofs.Prelude.{Connected, waits, DataLinkState, after_acked, after_acked_at, after_frame, after_frame_at}
 use Rattle.world_laws.proofs.Prelude.{after_number, after_queue, MobileState, Event, actors_after, connected, Actors, Mobile, has_number}
-use Rattle.world_laws.proofs.Prelude.{mobile_of, put_back, back-found, back-other, found-number, Becomes, event-keeps, hearing-end}
-use Rattle.world_laws.proofs.Prelude.{hearing-number, same_Some, found-front}
+use Rattle.world_laws.proofs.Prelude.{mobile_of, put_back, back_found, back_other, number_found, Becomes, event-keeps, hearing-end}
+use Rattle.world_laws.proofs.Prelude.{hearing-number, same_Some, found_front}
 use Rattle.mobile_end.specs.declared.mobile_end.Place.TheVariants as places
 use Rattle.mobile_end.specs.Mobile.{link_of, with_link}
 use Rattle.world_model.proofs.Footprints.Becomes.{hears, is_acked, lends, opens, queues as is_queued}
@@ -31,13 +31,13 @@ stays {mobile} mobiles has = record { one = has.one; found = ap (λ (ms : List M
 acts : {mobile : ℕ} {sent : List (List ℕ)} {w v : Actors} (number : ℕ) (p q : Mobile) → mobile_of w number ≡ Some p → v.mobiles ≡ put_back q w.mobiles → Grows p q → HasSent mobile sent w → HasSent mobile sent v
 acts {mobile} {sent} {w} {v} number p q acting mobiles grows has = by_number (nat_eq number mobile) refl where
   is_number : q.number ≡ number
-  is_number = grows.number ∙ found-number number w.mobiles p acting
+  is_number = grows.number ∙ number_found number w.mobiles p acting
 
   own : number ≡ mobile → HasSent mobile sent v
   own here = record {
     one = q;
     found = ap (λ (ms : List Mobile). find (has_number mobile) ms) mobiles ∙ ap (λ (n : ℕ). find (has_number n) (put_back q w.mobiles)) (sym (is_number ∙ here))
-        ∙ back-found q w.mobiles p (ap (λ (n : ℕ). find (has_number n) w.mobiles) is_number ∙ acting);
+        ∙ back_found q w.mobiles p (ap (λ (n : ℕ). find (has_number n) w.mobiles) is_number ∙ acting);
     more = has.more ++ grows.more;
     is = grows.is ∙ ap (λ (x : Mobile). x.end.sent ++ grows.more) (same_Some _ _ (sym acting ∙ ap (mobile_of w) here ∙ has.found)) ∙ ap (λ (xs : List (List ℕ)). xs ++ grows.more) has.is ∙ append_assoc sent has.more grows.more;
   }
@@ -46,7 +46,7 @@ acts {mobile} {sent} {w} {v} number p q acting mobiles grows has = by_number (na
   by_number true is = own (eqb-true number mobile is)
   by_number false is = record {
     one = has.one;
-    found = ap (λ (ms : List Mobile). find (has_number mobile) ms) mobiles ∙ back-other q w.mobiles mobile (λ here. eqb-false number mobile is (sym is_number ∙ here)) ∙ has.found;
+    found = ap (λ (ms : List Mobile). find (has_number mobile) ms) mobiles ∙ back_other q w.mobiles mobile (λ here. eqb-false number mobile is (sym is_number ∙ here)) ∙ has.found;
     more = has.more;
     is = has.is;
   }
@@ -54,7 +54,7 @@ acts {mobile} {sent} {w} {v} number p q acting mobiles grows has = by_number (na
 -- one that comes stands behind the others
 
 joins : {mobile : ℕ} {sent : List (List ℕ)} {w v : Actors} (p : Mobile) → v.mobiles ≡ w.mobiles ++ p ∷ [] → HasSent mobile sent w → HasSent mobile sent v
-joins {mobile} {w = w} p mobiles has = record { one = has.one; found = ap (λ (ms : List Mobile). find (has_number mobile) ms) mobiles ∙ found-front mobile has.one w.mobiles (p ∷ []) has.found; more = has.more; is = has.is }
+joins {mobile} {w = w} p mobiles has = record { one = has.one; found = ap (λ (ms : List Mobile). find (has_number mobile) ms) mobiles ∙ found_front mobile has.one w.mobiles (p ∷ []) has.found; more = has.more; is = has.is }
 
 -- ---- what a mobile sent, call by call
 

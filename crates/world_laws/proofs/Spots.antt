@@ -2,7 +2,7 @@
 use Rattle.world_laws.proofs.Prelude.{◌≡◌, ◌≢◌, ℕ, suc, zero, ◌-◌, ◌&&◌, nat_eq, Bool, true, false, List, [], ◌∷◌, get_or, set, refl, sym}
 use Rattle.world_laws.proofs.Prelude.{ap, ◌∙◌, inl, inr, arith, cases_Bool, eqb-false, eq-eqb, Channel, Place, is_at, place_of, BaseState}
 use Rattle.world_laws.proofs.Prelude.{Actors, Spot, new_spot, no_station, station_of, with_base, spot_at, with_spot, tenure_at}
-use Rattle.world_laws.proofs.Prelude.{true≢false, spot-with_base}
+use Rattle.world_laws.proofs.Prelude.{true≢false, spot_with_base}
 use Rattle.world_model.specs.World.{Station}
 
 -- ---- lists
@@ -34,11 +34,11 @@ spot-same f u at spot other same =
     set-same (λ (s : Station). f (get_or s.spots other.number new_spot)) u.stations no_station (at.station - 1) (other.station - 1) (record (station_of u at.station) { spots = set (station_of u at.station).spots at.number spot })
     (set-same f (station_of u at.station).spots new_spot at.number other.number spot same)
 
-pub tenure-with_spot : (u : Actors) (at : Place) (spot : Spot) (other : Place) → spot.tenure ≡ (spot_at u at).tenure → tenure_at (with_spot at spot u) other ≡ tenure_at u other
-tenure-with_spot u at spot other same = ap (λ (n : ℕ). record { at = other; number = n }) (spot-same (λ (s : Spot). s.tenure) u at spot other same)
+pub tenure_with_spot : (u : Actors) (at : Place) (spot : Spot) (other : Place) → spot.tenure ≡ (spot_at u at).tenure → tenure_at (with_spot at spot u) other ≡ tenure_at u other
+tenure_with_spot u at spot other same = ap (λ (n : ℕ). record { at = other; number = n }) (spot-same (λ (s : Spot). s.tenure) u at spot other same)
 
-pub tenure-with_base : (u : Actors) (station : ℕ) (base : BaseState) (at : Place) → tenure_at (with_base station base u) at ≡ tenure_at u at
-tenure-with_base u station base at = ap (λ (s : Spot). record { at = at; number = s.tenure }) (spot-with_base station base u at)
+pub tenure_with_base : (u : Actors) (station : ℕ) (base : BaseState) (at : Place) → tenure_at (with_base station base u) at ≡ tenure_at u at
+tenure_with_base u station base at = ap (λ (s : Spot). record { at = at; number = s.tenure }) (spot_with_base station base u at)
 
 -- another channel
 pub spot-elsewhere : (u : Actors) (at : Place) (spot : Spot) (c : Channel) → at.station ≢ 0 → c.station ≢ 0 → is_at at c ≡ false → spot_at (with_spot at spot u) (place_of c) ≡ spot_at u (place_of c)

@@ -1,10 +1,10 @@
 -- The connections of the controller stand, whatever happened.
-use Rattle.world_laws.proofs.Prelude.{◌≡◌, List, Option, Some, subst, arith, Connection, Stands, connection_of, life_fits, Step}
+use Rattle.world_laws.proofs.Prelude.{◌≡◌, List, Option, Some, subst, arith, Connection, IsValid, connection_of, life_fits, Step}
 use Rattle.world_laws.proofs.Prelude.{Controller, Parameters, Event, all_steps, new_actors, LivesByTable-new, fine_at, life}
 use Rattle.world_laws.proofs.Prelude.{ConnectionsStand}
 use Rattle.controller_model.proofs.LifeLaws.Fitting.{IsFine}
 
-stands_of : (o : Option Connection) (s : Connection) → o ≡ Some s → IsFine o → Stands s
+stands_of : (o : Option Connection) (s : Connection) → o ≡ Some s → IsFine o → IsValid s
 unfolding IsFine
 stands_of o s is fine = (subst IsFine is fine).1
 

@@ -9,9 +9,9 @@ use Rattle.world_laws.proofs.Prelude.{RfChannelReleaseAck, Parameters, Event, MA
 use Rattle.world_laws.proofs.Prelude.{rsl_in, new_tenure, activated_unless, activated, link_answer, answered, accepts}
 use Rattle.world_laws.proofs.Prelude.{mobile_on, took, after_base_takes, Actors, Mobile, Spot, Link, new_spot, no_station, station_of}
 use Rattle.world_laws.proofs.Prelude.{has_number, mobile_of, with_mobile, broken_link, link_of, is_station_up, outbox_of}
-use Rattle.world_laws.proofs.Prelude.{with_outbox, base_of, with_base, spot_at, with_spot, is_active_at, tenure_at, back-other}
-use Rattle.world_laws.proofs.Prelude.{found-number, SameEnds, base-with_spot, up-right, base_takes-leads, assigned-leads, unless_last-leads}
-use Rattle.world_laws.proofs.Prelude.{after-taken, changed_link, same_Some, spot-with_base, forwarded, rr_reading, release_ack, made_of}
+use Rattle.world_laws.proofs.Prelude.{with_outbox, base_of, with_base, spot_at, with_spot, is_active_at, tenure_at, back_other}
+use Rattle.world_laws.proofs.Prelude.{number_found, SameEnds, base_with_spot, up_right, base_takes_leads, assigned-leads, unless_last_leads}
+use Rattle.world_laws.proofs.Prelude.{after_taken, changed_link, same_Some, spot_with_base, forwarded, rr_reading, release_ack, made_of}
 use Rattle.world_laws.proofs.Prelude.{coming_up, leading, leading_from_air, leading_by, leading_from_outbox, going_down, commanded_target}
 use Rattle.world_laws.proofs.Prelude.{waiting_of, Sits, commanded_channels, AreActiveAt, AreLinedUp, StationsKeepLineUps}
 use Rattle.conn_rules.specs.Streams.{target_in}
@@ -20,14 +20,14 @@ use Rattle.world_model.specs.Life.{event_after}
 use Rattle.world_model.specs.Stations.{released}
 use Rattle.world_model.specs.World.{Station}
 use Rattle.world_model.proofs.Leads.{OfTaken, Seats}
-use Rattle.world_laws.proofs.Apart.{all_both, target-in}
+use Rattle.world_laws.proofs.Apart.{all_both, target_in_is_so}
 use Rattle.world_laws.proofs.BaseTakes.{Grown, AreGrown, SeesLess, lined_up_less}
 use Rattle.world_laws.proofs.BaseTakes.Grown.{rests, ends}
 use Rattle.world_laws.proofs.Framing.{AreUp, all_right}
-use Rattle.world_laws.proofs.Projecting.{coming-quiet, coming_told_or}
-use Rattle.world_laws.proofs.Quiet.{all_of, ArePlaced, down-with_base, coming-with_spot, sees_itself, sees_mobiles}
+use Rattle.world_laws.proofs.Projecting.{coming_quiet, coming_told_or}
+use Rattle.world_laws.proofs.Quiet.{all_of, ArePlaced, down_with_base, coming_with_spot, sees_itself, sees_mobiles}
 use Rattle.world_laws.proofs.Seeing.{lined_up_same}
-use Rattle.world_laws.proofs.Spots.{set-same, set-apart, spot-elsewhere, tenure-with_base, tenure-with_spot}
+use Rattle.world_laws.proofs.Spots.{set-same, set-apart, spot-elsewhere, tenure_with_base, tenure_with_spot}
 use Rattle.world_laws.proofs.Sublists.{Sub, sub_itself, sub_none, sub_front, sub_append, sub_flat_map, sub_trans, set_related}
 use Rattle.world_laws.proofs.Sublists.Sub.{drops}
 use Rattle.world_laws.proofs.Events.{world}
@@ -41,8 +41,8 @@ outbox_sub w station first others n stood =
 up_taken : (w : Actors) (station : ℕ) (others : List OutboxEntry) → AreUp (is_station_up (with_outbox station others w)) (is_station_up w)
 up_taken w station others n = ap (λ (b : Bool). not (n == SWITCH_LINK) && b) (set-same (λ (link : Link). link.up) w.links broken_link station n (record (link_of w station) { outbox = others }) refl)
 
-pub waiting-taken : (w : Actors) (station : ℕ) (others : List OutboxEntry) (number : ℕ) → station ≢ SWITCH_LINK → waiting_of (with_outbox station others w) number ≡ waiting_of w number
-waiting-taken w station others number differs =
+pub waiting_taken : (w : Actors) (station : ℕ) (others : List OutboxEntry) (number : ℕ) → station ≢ SWITCH_LINK → waiting_of (with_outbox station others w) number ≡ waiting_of w number
+waiting_taken w station others number differs =
     ap (λ (link : Link). map (λ f. f.message) (forwarded (map (λ entry. entry.out) link.outbox) number)) (set-apart w.links broken_link station SWITCH_LINK (record (link_of w station) { outbox = others }) (λ is. differs (sym is)))
 
 down_taken : (w : Actors) (station : ℕ) (first : OutboxEntry) (others : List OutboxEntry) (at : Place) → outbox_of w station ≡ first ∷ others → Sub (going_down (with_outbox station others w) at) (going_down w at)
@@ -56,7 +56,7 @@ less_taken {w} {s} station first others differs stood = record {
   target = λ t is. down_taken w station first others (place_of t.channel) stood;
   on_serving = refl;
   on_target = λ t is. refl;
-  waiting = waiting-taken w station others s.number differs;
+  waiting = waiting_taken w station others s.number differs;
   taken = refl;
 }
 
@@ -66,12 +66,12 @@ less_told : {w u : Actors} {s : Connection} (station : ℕ) (base : BaseState) (
     → SeesLess w u s → SeesLess w (with_base station base u) s
 less_told {w} {u} {s} station base messages placed up same inbox told nothing sees = record {
   coming = all_both (λ c. c.station ≢ SWITCH_LINK) (λ c. c.station ≢ SWITCH_LINK) (λ c. Grown (is_station_up w c.station) (coming_up (with_base station base u) (place_of c)) (coming_up w (place_of c))) (used_channels s)
-      (λ c c_is _. rests (coming-quiet w u station (place_of c) base messages c_is up same inbox told (nothing c.number))) placed placed;
+      (λ c c_is _. rests (coming_quiet w u station (place_of c) base messages c_is up same inbox told (nothing c.number))) placed placed;
   up = sees.up;
-  serving = subst (λ (entries : List AirMessage). Sub entries (going_down w (place_of s.serving))) (sym (down-with_base u station base (place_of s.serving))) sees.serving;
-  target = λ t is. subst (λ (entries : List AirMessage). Sub entries (going_down w (place_of t.channel))) (sym (down-with_base u station base (place_of t.channel))) (sees.target t is);
-  on_serving = tenure-with_base u station base (place_of s.serving) ∙ sees.on_serving;
-  on_target = λ t is. tenure-with_base u station base (place_of t.channel) ∙ sees.on_target t is;
+  serving = subst (λ (entries : List AirMessage). Sub entries (going_down w (place_of s.serving))) (sym (down_with_base u station base (place_of s.serving))) sees.serving;
+  target = λ t is. subst (λ (entries : List AirMessage). Sub entries (going_down w (place_of t.channel))) (sym (down_with_base u station base (place_of t.channel))) (sees.target t is);
+  on_serving = tenure_with_base u station base (place_of s.serving) ∙ sees.on_serving;
+  on_target = λ t is. tenure_with_base u station base (place_of t.channel) ∙ sees.on_target t is;
   waiting = sees.waiting;
   taken = sees.taken;
 }
@@ -91,7 +91,7 @@ down_less u at spot other less = sub_append (spot_related LeadsLess (λ x. sub_i
 
 grown_spot : (w u : Actors) (at : Place) (spot : Spot) (cs : List Channel) → AreGrown (is_station_up w) (coming_up u) (coming_up w) cs → AreGrown (is_station_up w) (coming_up (with_spot at spot u)) (coming_up w) cs
 grown_spot w u at spot [] grown = tt
-grown_spot w u at spot (c ∷ cs) grown = (subst (λ (items : List Item). Grown (is_station_up w c.station) items (coming_up w (place_of c))) (sym (coming-with_spot u at spot (place_of c))) grown.0, grown_spot w u at spot cs grown.1)
+grown_spot w u at spot (c ∷ cs) grown = (subst (λ (items : List Item). Grown (is_station_up w c.station) items (coming_up w (place_of c))) (sym (coming_with_spot u at spot (place_of c))) grown.0, grown_spot w u at spot cs grown.1)
 
 less_spot : {w u : Actors} {s : Connection} (at : Place) (spot : Spot) → LeadsLess spot (spot_at u at) → tenure_at (with_spot at spot u) (place_of s.serving) ≡ tenure_at u (place_of s.serving) → ((t : Target) → commanded_target s.state ≡ Some t → tenure_at (with_spot at spot u) (place_of t.channel) ≡ tenure_at u (place_of t.channel))
     → SeesLess w u s → SeesLess w (with_spot at spot u) s
@@ -108,7 +108,7 @@ less_spot {w} {u} {s} at spot less on to sees = record {
 
 -- in the same tenure
 less_same_tenure : {w u : Actors} {s : Connection} (at : Place) (spot : Spot) → LeadsLess spot (spot_at u at) → spot.tenure ≡ (spot_at u at).tenure → SeesLess w u s → SeesLess w (with_spot at spot u) s
-less_same_tenure {u} {s} at spot less tenure sees = less_spot at spot less (tenure-with_spot u at spot (place_of s.serving) tenure) (λ t is. tenure-with_spot u at spot (place_of t.channel) tenure) sees
+less_same_tenure {u} {s} at spot less tenure sees = less_spot at spot less (tenure_with_spot u at spot (place_of s.serving) tenure) (λ t is. tenure_with_spot u at spot (place_of t.channel) tenure) sees
 
 -- ---- a channel is activated: none of those that are active
 
@@ -129,7 +129,7 @@ less_activated : {w u : Actors} {s : Connection} (station channel : ℕ) → Are
     → SeesLess w u s → SeesLess w (with_spot (place_at station channel) (new_tenure (spot_at u (place_at station channel))) (with_base station (after_activate (base_of u station) channel) u)) s
 less_activated {w} {u} {s} station channel placed up same inbox free active sees =
     less_spot (place_at station channel) (new_tenure (spot_at u (place_at station channel))) (sub_none _) (elsewhere s.serving placed_rest.0 active.0)
-    (λ t is. elsewhere t.channel (subst ArePlaced (target-in s.state t is) placed_rest.1).0 (subst (λ (o : Option Target). AllByRecursion (λ c. c.station ≡ station → is_active_at w (place_of c) ≡ true) (commanded_channels o)) is active.1).0)
+    (λ t is. elsewhere t.channel (subst ArePlaced (target_in_is_so s.state t is) placed_rest.1).0 (subst (λ (o : Option Target). AllByRecursion (λ c. c.station ≡ station → is_active_at w (place_of c) ≡ true) (commanded_channels o)) is active.1).0)
     (less_told station (after_activate (base_of u station) channel) (activation_ack channel ∷ []) placed up same inbox (ap (λ (b : BaseState). b.messages ++ activation_ack channel ∷ []) (same station)) (λ k. refl) sees) where
       v : Actors
       v = with_base station (after_activate (base_of u station) channel) u
@@ -138,7 +138,7 @@ less_activated {w} {u} {s} station channel placed up same inbox free active sees
       placed_rest = all_right (λ c. c.station ≢ SWITCH_LINK) (undone s.draining) (s.serving ∷ target_in s.state) placed
 
       elsewhere : (c : Channel) → c.station ≢ SWITCH_LINK → (c.station ≡ station → is_active_at w (place_of c) ≡ true) → tenure_at (with_spot (place_at station channel) (new_tenure (spot_at u (place_at station channel))) v) (place_of c) ≡ tenure_at v (place_of c)
-      elsewhere c c_is is = ap (λ (x : Spot). record { at = place_of c; number = x.tenure }) (spot-elsewhere v (place_at station channel) (new_tenure (spot_at u (place_at station channel))) c (up-right station w up).0 c_is
+      elsewhere c c_is is = ap (λ (x : Spot). record { at = place_of c; number = x.tenure }) (spot-elsewhere v (place_at station channel) (new_tenure (spot_at u (place_at station channel))) c (up_right station w up).0 c_is
           (apart_active w station channel c (subst (λ (b : BaseState). refusal_of_activate b channel ≡ None) (same station) free) is))
 
 -- ---- a message goes into the air of an active channel
@@ -169,7 +169,7 @@ down_aired w station channel message first others c c_is up stood leads = by_bot
       (sub_itself (flat_map leading_from_air (spot_at w at).air ++ leading message first.target)))
 
   now_there : outbox_of u station ≡ others
-  now_there = ap (λ (link : Link). link.outbox) (changed_link w.links station (record (link_of w station) { outbox = others }) (up-right station w up).1)
+  now_there = ap (λ (link : Link). link.outbox) (changed_link w.links station (record (link_of w station) { outbox = others }) (up_right station w up).1)
 
   here : station ≡ c.station → (channel == c.number) ≡ true → Sub (going_down (with_spot at spot u) (place_of c)) (going_down w (place_of c))
   here same number =
@@ -180,7 +180,7 @@ down_aired w station channel message first others c c_is up stood leads = by_bot
       (sub_append (in_air (place_of c)) (subst (λ (entries : List OutboxEntry). Sub (flat_map (leading_from_outbox c.number) entries) (flat_map (leading_from_outbox c.number) others)) (sym now_there ∙ ap (outbox_of u) same) (sub_itself (flat_map (leading_from_outbox c.number) others))))
 
   elsewhere : is_at at c ≡ false → Sub (going_down (with_spot at spot u) (place_of c)) (going_down w (place_of c))
-  elsewhere other = subst (λ (x : Spot). Sub (flat_map leading_from_air x.air ++ flat_map (leading_from_outbox c.number) (outbox_of u c.station)) (going_down w (place_of c))) (sym (spot-elsewhere u at spot c (up-right station w up).0 c_is other)) (down_taken w station first others (place_of c) stood)
+  elsewhere other = subst (λ (x : Spot). Sub (flat_map leading_from_air x.air ++ flat_map (leading_from_outbox c.number) (outbox_of u c.station)) (going_down w (place_of c))) (sym (spot-elsewhere u at spot c (up_right station w up).0 c_is other)) (down_taken w station first others (place_of c) stood)
 
   by_both : (a b : Bool) → nat_eq station c.station ≡ a → nat_eq channel c.number ≡ b → Sub (going_down (with_spot at spot u) (place_of c)) (going_down w (place_of c))
   by_both true true one two = here (eqb-true station c.station one) two
@@ -194,9 +194,9 @@ less_aired {w} {s} station channel message first others placed up stood leads = 
   coming = grown_spot w u at spot (used_channels s) taken_first.coming;
   up = taken_first.up;
   serving = down_aired w station channel message first others s.serving placed_rest.0 up stood leads;
-  target = λ t is. down_aired w station channel message first others t.channel (subst ArePlaced (target-in s.state t is) placed_rest.1).0 up stood leads;
-  on_serving = tenure-with_spot u at spot (place_of s.serving) refl;
-  on_target = λ t is. tenure-with_spot u at spot (place_of t.channel) refl;
+  target = λ t is. down_aired w station channel message first others t.channel (subst ArePlaced (target_in_is_so s.state t is) placed_rest.1).0 up stood leads;
+  on_serving = tenure_with_spot u at spot (place_of s.serving) refl;
+  on_target = λ t is. tenure_with_spot u at spot (place_of t.channel) refl;
   waiting = taken_first.waiting;
   taken = refl;
 } where
@@ -210,7 +210,7 @@ less_aired {w} {s} station channel message first others placed up stood leads = 
   spot = record (spot_at w at) { air = (spot_at w at).air ++ record { message = message; target = first.target } ∷ [] }
 
   taken_first : SeesLess w u s
-  taken_first = less_taken station first others (up-right station w up).0 stood
+  taken_first = less_taken station first others (up_right station w up).0 stood
 
   placed_rest : ArePlaced (s.serving ∷ target_in s.state)
   placed_rest = all_right (λ c. c.station ≢ SWITCH_LINK) (undone s.draining) (s.serving ∷ target_in s.state) placed
@@ -233,14 +233,14 @@ grown_released w u station channel c c_is up same inbox =
 
 less_released : {w u : Actors} {s : Connection} (station channel : ℕ) → ArePlaced (used_channels s) → is_station_up w station ≡ true → SameEnds w u → u.inbox ≡ w.inbox → SeesLess w u s → SeesLess w (released (place_at station channel) u) s
 less_released {w} {u} {s} station channel placed up same inbox sees =
-    less_same_tenure (place_at station channel) (record (spot_at u (place_at station channel)) { sapi_three_up = false; air = [] }) (sub_none _) (sym (ap (λ (x : Spot). x.tenure) (spot-with_base station (after_release (base_of u station) channel) u (place_at station channel)))) (record {
+    less_same_tenure (place_at station channel) (record (spot_at u (place_at station channel)) { sapi_three_up = false; air = [] }) (sub_none _) (sym (ap (λ (x : Spot). x.tenure) (spot_with_base station (after_release (base_of u station) channel) u (place_at station channel)))) (record {
       coming = all_both (λ c. c.station ≢ SWITCH_LINK) (λ c. c.station ≢ SWITCH_LINK) (λ c. Grown (is_station_up w c.station) (coming_up (with_base station (after_release (base_of u station) channel) u) (place_of c)) (coming_up w (place_of c))) (used_channels s)
           (λ c c_is _. grown_released w u station channel c c_is up same inbox) placed placed;
       up = sees.up;
-      serving = subst (λ (entries : List AirMessage). Sub entries (going_down w (place_of s.serving))) (sym (down-with_base u station (after_release (base_of u station) channel) (place_of s.serving))) sees.serving;
-      target = λ t is. subst (λ (entries : List AirMessage). Sub entries (going_down w (place_of t.channel))) (sym (down-with_base u station (after_release (base_of u station) channel) (place_of t.channel))) (sees.target t is);
-      on_serving = tenure-with_base u station (after_release (base_of u station) channel) (place_of s.serving) ∙ sees.on_serving;
-      on_target = λ t is. tenure-with_base u station (after_release (base_of u station) channel) (place_of t.channel) ∙ sees.on_target t is;
+      serving = subst (λ (entries : List AirMessage). Sub entries (going_down w (place_of s.serving))) (sym (down_with_base u station (after_release (base_of u station) channel) (place_of s.serving))) sees.serving;
+      target = λ t is. subst (λ (entries : List AirMessage). Sub entries (going_down w (place_of t.channel))) (sym (down_with_base u station (after_release (base_of u station) channel) (place_of t.channel))) (sees.target t is);
+      on_serving = tenure_with_base u station (after_release (base_of u station) channel) (place_of s.serving) ∙ sees.on_serving;
+      on_target = λ t is. tenure_with_base u station (after_release (base_of u station) channel) (place_of t.channel) ∙ sees.on_target t is;
       waiting = sees.waiting;
       taken = sees.taken;
     })
@@ -250,8 +250,8 @@ less_released {w} {u} {s} station channel placed up same inbox sees =
 less_answered : {w u : Actors} {s : Connection} (answer : Bool) (station channel : ℕ) → ArePlaced (used_channels s) → is_station_up w station ≡ true → SameEnds w u → u.inbox ≡ w.inbox → SeesLess w u s → SeesLess w (answered answer (place_at station channel) u) s
 less_answered {w} {u} {s} answer station channel placed up same inbox sees =
     let spot : Spot = record (spot_at u (place_at station channel)) { sapi_three_up = answer } in
-    less_told station (after_tell (base_of (with_spot (place_at station channel) spot u) station) (link_answer answer channel)) (link_answer answer channel ∷ []) placed up (λ k. base-with_spot (place_at station channel) spot u k ∙ same k) inbox
-    (ap (λ (b : BaseState). b.messages ++ link_answer answer channel ∷ []) (base-with_spot (place_at station channel) spot u station ∙ same station)) (λ k. none answer k)
+    less_told station (after_tell (base_of (with_spot (place_at station channel) spot u) station) (link_answer answer channel)) (link_answer answer channel ∷ []) placed up (λ k. base_with_spot (place_at station channel) spot u k ∙ same k) inbox
+    (ap (λ (b : BaseState). b.messages ++ link_answer answer channel ∷ []) (base_with_spot (place_at station channel) spot u station ∙ same station)) (λ k. none answer k)
     (less_same_tenure (place_at station channel) spot (sub_itself _) refl sees) where
       none : (b : Bool) (k : ℕ) → made_of k (link_answer b channel ∷ []) ≡ []
       none true k = refl
@@ -274,7 +274,7 @@ seats_other {m} {u} {mobile} {s} q number tenure lined acts asking = by_number (
       absurd (none_asking (subst (Sits u s.serving (commanded_target s.state)) (ap (λ (p : Mobile). p.seat) (sym one) ∙ asking) lined.lined.sits))
   by_number false is = record {
     one = lined.one;
-    found = back-other (record q { seat = On tenure None }) u.mobiles mobile (λ same. eqb-false number mobile is (sym (found-number number u.mobiles q acts) ∙ same)) ∙ lined.found;
+    found = back_other (record q { seat = On tenure None }) u.mobiles mobile (λ same. eqb-false number mobile is (sym (number_found number u.mobiles q acts) ∙ same)) ∙ lined.found;
     lined = lined_up_same lined.one lined.one (sees_mobiles _ (sees_itself u s)) refl refl refl lined.lined;
   }
 
@@ -292,7 +292,7 @@ took_keeps {m} {w} {mobile} {s} station first others active lined up stood = by_
   placed = lined.lined.placed
 
   taken_first : SeesLess w u s
-  taken_first = less_taken station first others (up-right station w up).0 stood
+  taken_first = less_taken station first others (up_right station w up).0 stood
 
   stays : P u
   stays = keeps lined refl taken_first
@@ -307,7 +307,7 @@ took_keeps {m} {w} {mobile} {s} station first others active lined up stood = by_
   airing channel message leads false = stays
 
   by_message : (o : Option Rsl) → rsl_in first.out.frame ≡ o → OfTaken P (took station first.target o u)
-  by_message (Some (ChannelActivation a)) is = unless_last-leads P ((spot_at u (place_at station a.channel)).tenure == MAX_TENURE) (activated (place_at station a.channel) u) (activating a.channel (refusal_of_activate (base_of u station) a.channel) refl)
+  by_message (Some (ChannelActivation a)) is = unless_last_leads P ((spot_at u (place_at station a.channel)).tenure == MAX_TENURE) (activated (place_at station a.channel) u) (activating a.channel (refusal_of_activate (base_of u station) a.channel) refl)
   by_message (Some (ImmediateAssignCommand i)) is = assigned-leads P station u (rr_reading i.information) stays (λ q number channel acts asking. seats_other q number (tenure_at u (place_at station channel)) stays acts asking)
   by_message (Some (DataRequest d)) is = airing d.channel d.l3
       (λ n same. ap (leading_by n first.target) is ∙ ap (λ (b : Bool). cond b (leading d.l3 first.target) []) same) (is_active_at u (place_at station d.channel))
@@ -319,4 +319,4 @@ pub stations_keep_line_ups_new : (settings : Parameters) (events : List Event) (
 unfolding event_after
 stations_keep_line_ups_new settings events station mobile s active lined =
     let w : Actors = world settings events in
-    after-taken (λ v. AreLinedUp _ v mobile s) (after_base_takes w station) w (base_takes-leads (λ v. AreLinedUp _ v mobile s) w station (λ first others up stood. took_keeps station first others active lined up stood)) lined
+    after_taken (λ v. AreLinedUp _ v mobile s) (after_base_takes w station) w (base_takes_leads (λ v. AreLinedUp _ v mobile s) w station (λ first others up stood. took_keeps station first others active lined up stood)) lined

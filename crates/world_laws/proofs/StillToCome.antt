@@ -6,7 +6,7 @@ use Rattle.world_laws.proofs.Prelude.{Connection, Row, Future, IsOpen, KeepsUpli
 use Rattle.world_laws.proofs.Prelude.{of_target, still_of, still_to_relay, ended, flow, messages_in, part_of, parts_of}
 use Rattle.world_laws.proofs.Prelude.{without_control-flow, is_ended, draining_tenure, old_tenure, old_tenures, serving_hold}
 use Rattle.world_laws.proofs.Prelude.{serving_tenure, commanded_target, target_tenure, AreLayer3, mark, texts_of, AsOld, AsServing}
-use Rattle.world_laws.proofs.Prelude.{AsTarget, AreHeld, StandsFor}
+use Rattle.world_laws.proofs.Prelude.{AsTarget, AreHeld, IsFutureOf}
 use Rattle.world_laws.specs.LineUp.Places.{Item, Tenure, Seat}
 use Rattle.world_laws.proofs.LineUp.Lines.{flow-append}
 
@@ -59,17 +59,17 @@ old_part future coming up d ds hold rest others stand held is = by_done d.is_don
     all.1,
   )
 
-still-parts : (future : Future) (coming : Place → List Item) (up : ℕ → Bool) (serving : Channel) (ds : List Drain) (ts : List Held) (rest : List (List ℕ)) (others : List Tenure) → AllByRecursion (AsOld future coming up) (undone ds) → AsServing future coming up serving → AreHeld ds ts → flow (cut rest) ≡ parts_of others
+still_parts : (future : Future) (coming : Place → List Item) (up : ℕ → Bool) (serving : Channel) (ds : List Drain) (ts : List Held) (rest : List (List ℕ)) (others : List Tenure) → AllByRecursion (AsOld future coming up) (undone ds) → AsServing future coming up serving → AreHeld ds ts → flow (cut rest) ≡ parts_of others
     → flow (cut (still_of Zero future serving ds ts ++ rest)) ≡ parts_of (old_tenures coming up ds ts ++ serving_tenure coming up serving (serving_hold ds ts) ∷ others)
-still-parts future coming up serving ds [] rest others stand is held behind = elim held [ ]
-still-parts future coming up serving [] (t ∷ ts) rest others stand is held behind =
+still_parts future coming up serving ds [] rest others stand is held behind = elim held [ ]
+still_parts future coming up serving [] (t ∷ ts) rest others stand is held behind =
     ap (λ (xs : List (List ℕ)). flow (cut xs)) (append_assoc t.zero (future (place_of serving)) rest)
     ∙ ap (λ (xs : List (List ℕ)). flow (cut (t.zero ++ (xs ++ rest)))) is.0
     ∙ cut-items t.zero (coming (place_of serving)) (not (up serving.station)) rest held is.1
     ∙ ap (λ (xs : List (List ℕ)). part_of (serving_tenure coming up serving t.zero) ++ (if not (up serving.station) then [] else xs)) behind
-still-parts future coming up serving (d ∷ ds) (t ∷ ts) rest others stand is held behind =
+still_parts future coming up serving (d ∷ ds) (t ∷ ts) rest others stand is held behind =
     let split = old_part future coming up d ds t.zero (still_of Zero future serving ds ts ++ rest) (old_tenures coming up ds ts ++ serving_tenure coming up serving (serving_hold ds ts) ∷ others) stand held.0
-    (still-parts future coming up serving ds ts rest others (tail d ds stand) is held.1 behind) in
+    (still_parts future coming up serving ds ts rest others (tail d ds stand) is held.1 behind) in
     ap (λ (xs : List (List ℕ)). flow (cut xs)) (append_assoc t.zero ((if d.is_done then [] else future (place_of d.channel)) ++ still_of Zero future serving ds ts) rest
     ∙ ap (λ (xs : List (List ℕ)). t.zero ++ xs) (append_assoc (if d.is_done then [] else future (place_of d.channel)) (still_of Zero future serving ds ts) rest)) ∙ split.0 where
       tail : (d : Drain) (ds : List Drain) → AllByRecursion (AsOld future coming up) (undone (d ∷ ds)) → AllByRecursion (AsOld future coming up) (undone ds)
@@ -78,8 +78,8 @@ still-parts future coming up serving (d ∷ ds) (t ∷ ts) rest others stand is 
         by_done true all = all
         by_done false all = all.1
 
-target-part : (future : Future) (coming : Place → List Item) (up : ℕ → Bool) (seat : Seat) (state : State) → AsTarget future coming (commanded_target state) → flow (cut (of_target future state)) ≡ parts_of (target_tenure coming up seat (commanded_target state) ∷ [])
-target-part future coming up seat (Live reference (Changing t)) stand =
+target_part : (future : Future) (coming : Place → List Item) (up : ℕ → Bool) (seat : Seat) (state : State) → AsTarget future coming (commanded_target state) → flow (cut (of_target future state)) ≡ parts_of (target_tenure coming up seat (commanded_target state) ∷ [])
+target_part future coming up seat (Live reference (Changing t)) stand =
     ap (λ (xs : List (List ℕ)). flow (cut xs)) (stand.1 ∙ sym (append-nil (texts_of (coming (place_of t.channel)) ++ mark stand.0)))
     ∙ cut-items [] (coming (place_of t.channel)) stand.0 [] tt stand.2
     ∙ ap (λ (xs : List (List ℕ)). ([] ++ flow (messages_in (coming (place_of t.channel)))) ++ xs) (either stand.0 ∙ sym (either _)) where
@@ -89,22 +89,22 @@ target-part future coming up seat (Live reference (Changing t)) stand =
       either : (b : Bool) → nothing_if b ≡ []
       either true = refl
       either false = refl
-target-part future coming up seat _ stand = refl
+target_part future coming up seat _ stand = refl
 
 -- The line behind the outbox is what is still to be relayed, up to where something is missing.
-pub parts-still : (future : Future) (coming : Place → List Item) (up : ℕ → Bool) (seat : Seat) (s : Connection) → StandsFor future coming up s
+pub parts_still : (future : Future) (coming : Place → List Item) (up : ℕ → Bool) (seat : Seat) (s : Connection) → IsFutureOf future coming up s
     → parts_of (old_tenures coming up s.draining s.up.tenures ++ serving_tenure coming up s.serving (serving_hold s.draining s.up.tenures) ∷ target_tenure coming up seat (commanded_target s.state) ∷ []) ≡ flow (cut (still_to_relay Zero future s))
-parts-still future coming up seat s stands =
-    sym (still-parts future coming up s.serving s.draining s.up.tenures (of_target future s.state) (target_tenure coming up seat (commanded_target s.state) ∷ []) stands.old stands.serving stands.held (target-part future coming up seat s.state stands.target))
+parts_still future coming up seat s stands =
+    sym (still_parts future coming up s.serving s.draining s.up.tenures (of_target future s.state) (target_tenure coming up seat (commanded_target s.state) ∷ []) stands.old stands.serving stands.held (target_part future coming up seat s.state stands.target))
 
 -- So a row moves messages along the line: what it relays, and the line behind it, are the line
 -- before.
-pub row_line : (s : Connection) (input : Input) (r : Row) (future : Future) (before after : Place → List Item) (up : ℕ → Bool) (seat seat2 : Seat) → KeepsUplink Zero future s input r → IsOpen r.next.state → StandsFor (from_input Zero input future) before up s → StandsFor future after up r.next → AreLayer3 (relayed Zero r.outs)
+pub row_line : (s : Connection) (input : Input) (r : Row) (future : Future) (before after : Place → List Item) (up : ℕ → Bool) (seat seat2 : Seat) → KeepsUplink Zero future s input r → IsOpen r.next.state → IsFutureOf (from_input Zero input future) before up s → IsFutureOf future after up r.next → AreLayer3 (relayed Zero r.outs)
     → parts_of (old_tenures before up s.draining s.up.tenures ++ serving_tenure before up s.serving (serving_hold s.draining s.up.tenures) ∷ target_tenure before up seat (commanded_target s.state) ∷ [])
     ≡ flow (relayed Zero r.outs) ++ parts_of (old_tenures after up r.next.draining r.next.up.tenures ++ serving_tenure after up r.next.serving (serving_hold r.next.draining r.next.up.tenures) ∷ target_tenure after up seat2 (commanded_target r.next.state) ∷ [])
 row_line s input r future before after up seat seat2 keeps stays was now whole =
-    parts-still (from_input Zero input future) before up seat s was
+    parts_still (from_input Zero input future) before up seat s was
     ∙ ap (λ (xs : List (List ℕ)). flow (cut xs)) (sym (keeps stays))
     ∙ ap flow (cut-front (relayed Zero r.outs) (still_to_relay Zero future r.next) whole)
     ∙ flow-append (relayed Zero r.outs) (cut (still_to_relay Zero future r.next))
-    ∙ ap (λ (xs : List (List ℕ)). flow (relayed Zero r.outs) ++ xs) (sym (parts-still future after up seat2 r.next now))
+    ∙ ap (λ (xs : List (List ℕ)). flow (relayed Zero r.outs) ++ xs) (sym (parts_still future after up seat2 r.next now))

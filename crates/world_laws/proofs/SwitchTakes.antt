@@ -4,7 +4,7 @@ use Rattle.world_laws.proofs.Prelude.{Option, Some, None, refl, sym, ap, ◌∙�
 use Rattle.world_laws.proofs.Prelude.{map-append, Sccp, Channel, Out, SWITCH_LINK, Connection, undone, used_channels, Forwarded, place_of}
 use Rattle.world_laws.proofs.Prelude.{forwarded_by, replies, SwitchState, Parameters, Event, OutboxEntry, sccp_in, switch_took}
 use Rattle.world_laws.proofs.Prelude.{after_switch_takes, Actors, Mobile, Link, broken_link, link_of, modulus_in, is_up, is_station_up}
-use Rattle.world_laws.proofs.Prelude.{outbox_of, with_outbox, spot_at, switch_takes-leads, after-taken, changed_link, AllByRecursion-so}
+use Rattle.world_laws.proofs.Prelude.{outbox_of, with_outbox, spot_at, switch_takes_leads, after_taken, changed_link, AllByRecursion-so}
 use Rattle.world_laws.proofs.Prelude.{sccp_reading, to_switch, Alive, LineUp, flow, coming_up, leading_from_air, leading_from_outbox}
 use Rattle.world_laws.proofs.Prelude.{going_down, commanded_target, waiting_of, is_of_peer, taken_in, taken_of, line_up, Leads, LinedUp}
 use Rattle.world_laws.proofs.Prelude.{AreLinedUp, carried_for, DeliversFirst, SwitchKeepsLineUps}
@@ -15,7 +15,7 @@ use Rattle.world_laws.proofs.LineUp.Lines.{flow-append}
 use Rattle.world_laws.proofs.LineUp.Relaying.{alive_relay}
 use Rattle.msc_end.specs.Switch.{after}
 use Rattle.world_model.specs.Life.{event_after}
-use Rattle.world_laws.proofs.Apart.{target-in}
+use Rattle.world_laws.proofs.Apart.{target_in_is_so}
 use Rattle.world_laws.proofs.Framing.{AreUp, all_right, lined-same}
 use Rattle.world_laws.proofs.Quiet.{all_of, ArePlaced}
 use Rattle.world_laws.proofs.Seeing.{SameTenures, sits_same, leads_same, none_same}
@@ -41,8 +41,8 @@ forwarded-first out outs number = by_link (to_switch number out) where
   by_link true = ap (λ (fs : List Forwarded). fs ++ flat_map (λ o. forwarded_by (sccp_reading o.frame.body)) (filter (to_switch number) outs)) (sym (append-nil (forwarded_by (sccp_reading out.frame.body))))
   by_link false = refl
 
-waiting-first : (w : Actors) (number : ℕ) (first : OutboxEntry) (others : List OutboxEntry) → is_up w SWITCH_LINK ≡ true → outbox_of w SWITCH_LINK ≡ first ∷ others → waiting_of w number ≡ carried_for number first.out ++ waiting_of (with_outbox SWITCH_LINK others w) number
-waiting-first w number first others up stood =
+waiting_first : (w : Actors) (number : ℕ) (first : OutboxEntry) (others : List OutboxEntry) → is_up w SWITCH_LINK ≡ true → outbox_of w SWITCH_LINK ≡ first ∷ others → waiting_of w number ≡ carried_for number first.out ++ waiting_of (with_outbox SWITCH_LINK others w) number
+waiting_first w number first others up stood =
     ap (λ (entries : List OutboxEntry). map (λ f. f.message) (forwarded (map (λ entry. entry.out) entries) number)) stood
     ∙ ap (λ (fs : List Forwarded). map (λ f. f.message) fs) (forwarded-first first.out (map (λ entry. entry.out) others) number)
     ∙ map-append (λ f. f.message) (forwarded (first.out ∷ []) number) (forwarded (map (λ entry. entry.out) others) number)
@@ -60,7 +60,7 @@ keeps_taking {m} {w} {s} p next made first others up stood takes kept = record {
       (all_of (λ c. coming_up w (place_of c) ≡ coming_up w (place_of c)) (used_channels s) (λ c. refl)) up_same (down_same s.serving placed_rest.0) refl refl refl refl refl)) alive_now;
   sits = sits_same same_tenures kept.sits;
   led = subst (AllByRecursion (λ a. Leads v a (commanded_target s.state))) (sym (down_same s.serving placed_rest.0)) (AllByRecursion-so (λ a. Leads w a (commanded_target s.state)) (λ a. Leads v a (commanded_target s.state)) (λ a. leads_same same_tenures) (going_down w (place_of s.serving)) kept.led);
-  none_on_target = none_same w v (commanded_target s.state) (λ t is. down_same t.channel (subst ArePlaced (target-in s.state t is) placed_rest.1).0) kept.none_on_target;
+  none_on_target = none_same w v (commanded_target s.state) (λ t is. down_same t.channel (subst ArePlaced (target_in_is_so s.state t is) placed_rest.1).0) kept.none_on_target;
   apart = kept.apart;
   placed = kept.placed;
 } where
@@ -77,7 +77,7 @@ keeps_taking {m} {w} {s} p next made first others up stood takes kept = record {
   same_tenures at = refl
 
   flows_out : flow (waiting_of w s.number) ≡ flow x ++ flow (waiting_of v s.number)
-  flows_out = ap flow (waiting-first w s.number first others up stood) ∙ flow-append x (waiting_of v s.number)
+  flows_out = ap flow (waiting_first w s.number first others up stood) ∙ flow-append x (waiting_of v s.number)
 
   down_same : (c : Channel) → c.station ≢ SWITCH_LINK → going_down v (place_of c) ≡ going_down w (place_of c)
   down_same c c_is = ap (λ (link : Link). flat_map leading_from_air (spot_at w (place_of c)).air ++ flat_map (leading_from_outbox c.number) link.outbox) (set-apart w.links broken_link SWITCH_LINK c.station (record (link_of w SWITCH_LINK) { outbox = others }) c_is)
@@ -103,5 +103,5 @@ pub switch_keeps_line_ups_new : (settings : Parameters) (events : List Event) �
 unfolding event_after
 switch_keeps_line_ups_new settings events mobile s delivers lined =
     let w : Actors = world settings events in
-    after-taken (λ v. AreLinedUp (modulus_in settings) v mobile s) (after_switch_takes w) w
-    (switch_takes-leads (λ v. AreLinedUp (modulus_in settings) v mobile s) w (λ first others up stood. taking_keeps first others (sccp_in first.out.frame) up stood (subst (DeliversFirst w s.number) stood delivers) lined)) lined
+    after_taken (λ v. AreLinedUp (modulus_in settings) v mobile s) (after_switch_takes w) w
+    (switch_takes_leads (λ v. AreLinedUp (modulus_in settings) v mobile s) w (λ first others up stood. taking_keeps first others (sccp_in first.out.frame) up stood (subst (DeliversFirst w s.number) stood delivers) lined)) lined

@@ -5,13 +5,13 @@ use Rattle.world_laws.proofs.Prelude.{assignment_request, clear_command, data_fo
 use Rattle.world_laws.proofs.Prelude.{Handle, SwitchTakes, SwitchDoes, Tick, BaseDown, SwitchAction, Assign, Clear, Dtap, OutboxEntry}
 use Rattle.world_laws.proofs.Prelude.{actors_after, first_of, taken, target_in, after_base_takes, after_switch_does, is_layer_3}
 use Rattle.world_laws.proofs.Prelude.{may_send_on, sccp_in, sent_on, switch_took, switch_took_first, Actors, is_up, outbox_of, with_outbox}
-use Rattle.world_laws.proofs.Prelude.{after-taken, handle-leads, turn-leads, push-leads, broken-leads, aerial-leads, taking-leads, is_some}
+use Rattle.world_laws.proofs.Prelude.{after_taken, handle_leads, turn_leads, push_leads, broken_leads, aerial_leads, taking_leads, is_some}
 use Rattle.world_laws.proofs.Prelude.{take, tick, DeliversAt, is_of_peer, taken_in, taken_of, DeliversFirst}
 use Rattle.controller_model.specs.Views.{forwarded}
 use Rattle.msc_end.specs.Switch.{connection_of}
 use Rattle.world_model.specs.Life.{event_after}
 use Rattle.world_model.proofs.Leads.{FromAir, OfTaken}
-use Rattle.world_laws.proofs.BesideRelay.{clear-same}
+use Rattle.world_laws.proofs.BesideRelay.{clear_same}
 
 abbrev pub waiting_in : List OutboxEntry → ℕ → List (List ℕ)
 waiting_in entries number = map (λ f. f.message) (forwarded (map (λ entry. entry.out) entries) number)
@@ -30,7 +30,7 @@ does w number action = by_action action where
 
   by_action : (action : SwitchAction) → OfTaken (Took number (taken_of w number)) (after_switch_does w action)
   by_action (Assign connection) = on connection assignment_request w.switch refl
-  by_action (Clear connection) = on connection clear_command (after_clear w.switch connection) (clear-same number connection w.switch.connections)
+  by_action (Clear connection) = on connection clear_command (after_clear w.switch connection) (clear_same number connection w.switch.connections)
   by_action (Dtap connection sapi message) = by_length (is_layer_3 message) where
     by_length : (b : Bool) → OfTaken (Took number (taken_of w number)) (if b then sent_on w connection (Transfer (dlci_for sapi) message) w.switch else None)
     by_length true = on connection (Transfer (dlci_for sapi) message) w.switch refl
@@ -40,7 +40,7 @@ does w number action = by_action action where
 quiet_takes : (w : Actors) (event : Event) (number : ℕ) → OfTaken (Took number (taken_of w number)) (event_after w event) → taken SWITCH_LINK w event ≡ [] → taken_of (actors_after w event) number ≡ taken_of w number ++ waiting_in (taken SWITCH_LINK w event) number
 unfolding forwarded
 quiet_takes w event number stays nobody =
-    after-taken (Took number (taken_of w number)) (event_after w event) w stays refl
+    after_taken (Took number (taken_of w number)) (event_after w event) w stays refl
     ∙ sym (append-nil (taken_of w number)) ∙ ap (λ (entries : List OutboxEntry). taken_of w number ++ waiting_in entries number) (sym nobody)
 
 -- no station takes what waits for the switch
@@ -73,11 +73,11 @@ switch_takes w number delivers = by_link (is_up w SWITCH_LINK) where
 pub switch_stays : (w : Actors) (event : Event) (number : ℕ) → DeliversAt w number event → taken_of (actors_after w event) number ≡ taken_of w number ++ waiting_in (taken SWITCH_LINK w event) number
 unfolding event_after FromAir OfTaken
 switch_stays w (BaseTakes station) number delivers =
-    quiet_takes w (BaseTakes station) number (taking-leads (Took number (taken_of w number)) w station (λ first others _ _ mobiles stations. refl)) (no_station w station)
-switch_stays w (BasePush source) number delivers = quiet_takes w (BasePush source) number (push-leads (Took number (taken_of w number)) w source (λ first others. refl) (λ message _. refl)) refl
-switch_stays w Handle number delivers = quiet_takes w Handle number (handle-leads (Took number (taken_of w number)) w (λ item items _. turn-leads (Took number (taken_of w number)) (target_in w item.source item.what) (take item w.controller) (record w { inbox = items }) (λ links. refl))) refl
+    quiet_takes w (BaseTakes station) number (taking_leads (Took number (taken_of w number)) w station (λ first others _ _ mobiles stations. refl)) (no_station w station)
+switch_stays w (BasePush source) number delivers = quiet_takes w (BasePush source) number (push_leads (Took number (taken_of w number)) w source (λ first others. refl) (λ message _. refl)) refl
+switch_stays w Handle number delivers = quiet_takes w Handle number (handle_leads (Took number (taken_of w number)) w (λ item items _. turn_leads (Took number (taken_of w number)) (target_in w item.source item.what) (take item w.controller) (record w { inbox = items }) (λ links. refl))) refl
 switch_stays w SwitchTakes number delivers = switch_takes w number delivers
 switch_stays w (SwitchDoes action) number delivers = quiet_takes w (SwitchDoes action) number (does w number action) refl
-switch_stays w (Tick ms) number delivers = quiet_takes w (Tick ms) number (turn-leads (Took number (taken_of w number)) None (tick ms w.controller) w (λ links. refl)) refl
-switch_stays w (BaseDown source) number delivers = quiet_takes w (BaseDown source) number (broken-leads (Took number (taken_of w number)) w source (λ _ _. refl) (λ _ _. refl)) refl
-switch_stays w event number delivers = quiet_takes w event number (aerial-leads (Took number (taken_of w number)) w event refl (λ mobiles stations. refl)) refl
+switch_stays w (Tick ms) number delivers = quiet_takes w (Tick ms) number (turn_leads (Took number (taken_of w number)) None (tick ms w.controller) w (λ links. refl)) refl
+switch_stays w (BaseDown source) number delivers = quiet_takes w (BaseDown source) number (broken_leads (Took number (taken_of w number)) w source (λ _ _. refl) (λ _ _. refl)) refl
+switch_stays w event number delivers = quiet_takes w event number (aerial_leads (Took number (taken_of w number)) w event refl (λ mobiles stations. refl)) refl

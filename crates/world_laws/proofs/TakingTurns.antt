@@ -8,7 +8,7 @@ use Rattle.world_laws.proofs.Prelude.{TargetRole, after_step, begin_orders, end_
 use Rattle.world_laws.proofs.Prelude.{target_channels, those_that_go, goes_on, ends, had_ended, refused, drops, dismisses, stays, commands}
 use Rattle.world_laws.proofs.Prelude.{completes, goes_back, leaves, Row, IsOpen, AreIn, IsIn, free≢use, is_there, state_else, state_here}
 use Rattle.world_laws.proofs.Prelude.{ChannelState, Free, InUse, Releasing, place_at, place_of, state_in, with_state, Rsl, false≢true}
-use Rattle.world_laws.proofs.Prelude.{channel_release, is_to_station, target_orders, target_releases, goes_to, still_there, channels_after}
+use Rattle.world_laws.proofs.Prelude.{channel_release, is_to_station, target_orders, target_releases, is_for_station, still_there, channels_after}
 use Rattle.world_laws.proofs.Prelude.{Order, Turns, TakesTurns, order_by, order_in}
 use Rattle.conn_messages.specs.Out.{out_of}
 use Rattle.conn_rules.specs.declared.input.Input.TheVariants as inputs
@@ -218,7 +218,7 @@ all_kept [] = refl
 all_kept (x ∷ xs) = ap (λ (ys : List Message). x ∷ ys) (all_kept xs)
 
 end_turns : (m : ℕ) (channels : States) (input : Input) (end : RoleEnd) (roles : Roles) → IsUsing m channels roles → AreInTurn m channels (those_that_go input (end_messages end roles))
-end_turns m channels (inputs.StationDown station) end roles u = kept_end m channels (λ message. not (goes_to station message)) end roles u
+end_turns m channels (inputs.StationDown station) end roles u = kept_end m channels (λ message. not (is_for_station station message)) end roles u
 end_turns m channels _ end roles u = subst (AreInTurn m channels) (all_kept (end_messages end roles)) (kept_end m channels (λ x. true) end roles u)
 
 -- ---- the orders of a row

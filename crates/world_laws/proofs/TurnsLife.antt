@@ -2,7 +2,7 @@
 use Rattle.world_laws.proofs.Prelude.{◌≡◌, ◌≢◌, ℕ, ◌≤◌, ◌<◌, ◌^◌, ◌==◌, ◌&&◌, nat_le, Bool, true, false, if◌then◌else◌, List, [], ◌∷◌}
 use Rattle.world_laws.proofs.Prelude.{Option, Some, None, option_map, refl, sym, ap, ◌∙◌, subst, inl, inr, arith, AllByRecursion}
 use Rattle.world_laws.proofs.Prelude.{cases_Bool, leb-true, Channel, Place, access_activation, Input, Connection, Roles, roles_of}
-use Rattle.world_laws.proofs.Prelude.{target_channels, IsCarried, Stands, Row, IsApart, IsOpen, OfRow, undone, connection_of, Owns}
+use Rattle.world_laws.proofs.Prelude.{target_channels, IsCarried, IsValid, Row, IsApart, IsOpen, OfRow, undone, connection_of, Owns}
 use Rattle.world_laws.proofs.Prelude.{IsOffered, offered_free, changes_of, owns_entry, free≢release, is_there, state_else, state_here}
 use Rattle.world_laws.proofs.Prelude.{IsSoundAll, offer_list, request_sound, RefersBy, IsHere, Ready, here_of, ChannelState, Free, InUse}
 use Rattle.world_laws.proofs.Prelude.{Releasing, Word, Nothing, Ping, Asks, OnChannel, OnConnection, Reports, Sdcch, access_channel}
@@ -49,7 +49,7 @@ open_for channels links c offered = (offered.is_free, offered.is_in)
 
 -- what is known of an entry
 pub record IsTold (e : Entry) : Type 0 where
-  pub stands : Stands e.connection
+  pub stands : IsValid e.connection
   pub parts : SoundParts e.connection
   pub few : e.connection.number < 2 ^ 24
 
@@ -119,18 +119,18 @@ module _ (c : Controller) (ready : Ready c) (sound : IsSoundAll c) where
 pub same_places : (place at : Place) → same_place place at ≡ true → place ≡ at
 same_places place at is = places_same place.station place.number at is
 
-pub freed-none : (at place : Place) (input : Input) (state : ChannelState) → ((n : ℕ) → state ≡ Releasing n → same_place place at ≡ false) → freed_by at (OnChannel place input) state ≡ state
-freed-none at place (inputs.ReleaseAck acknowledged) (Releasing n) other = ap (λ (b : Bool). if b then Free else Releasing n) (other n refl)
-freed-none at place _ _ other = refl
+pub freed_none : (at place : Place) (input : Input) (state : ChannelState) → ((n : ℕ) → state ≡ Releasing n → same_place place at ≡ false) → freed_by at (OnChannel place input) state ≡ state
+freed_none at place (inputs.ReleaseAck acknowledged) (Releasing n) other = ap (λ (b : Bool). if b then Free else Releasing n) (other n refl)
+freed_none at place _ _ other = refl
 
-freed-one : (c : Controller) (at place acknowledged : Place) (k : ℕ) → channel_state c place ≡ Releasing k → freed_by at (OnChannel place (inputs.ReleaseAck acknowledged)) (channel_state c at) ≡ channel_state (freed place c) at
-freed-one c at place acknowledged k is = elim (cases_Bool (same_place place at)) [
+freed_one : (c : Controller) (at place acknowledged : Place) (k : ℕ) → channel_state c place ≡ Releasing k → freed_by at (OnChannel place (inputs.ReleaseAck acknowledged)) (channel_state c at) ≡ channel_state (freed place c) at
+freed_one c at place acknowledged k is = elim (cases_Bool (same_place place at)) [
   | inl hit ↦
       let same : place ≡ at = same_places place at hit in
       ap (freed_by at (OnChannel place (inputs.ReleaseAck acknowledged))) (ap (channel_state c) (sym same) ∙ is) ∙ ap (λ (b : Bool). if b then Free else Releasing k) hit
       ∙ sym (ap (state_in (with_state place Free c.channels)) (sym same) ∙ state_here c.channels place Free (is_there c.channels place (λ free. free≢release k (sym free ∙ is))))
   | inr miss ↦
-      freed-none at place (inputs.ReleaseAck acknowledged) (channel_state c at) (λ n releasing. miss)
+      freed_none at place (inputs.ReleaseAck acknowledged) (channel_state c at) (λ n releasing. miss)
       ∙ sym (state_else c.channels place at Free (places_differ place.station place.number at miss))
 ]
 
@@ -152,7 +152,7 @@ data IsFreeing (c : Controller) (place : Place) (input : Input) : Type 0 where
 none_freed : (c : Controller) (place : Place) (input : Input) (state : ChannelState) → channel_state c place ≡ state → ((n : ℕ) → state ≢ Releasing n) → RefusesNone (OnChannel place input) → IsFreeing c place input
 none_freed c place input state is free none =
     frees_none (frees-not (channel_state c place) (entry_at c (channel_state c place)) place input none (λ n releasing. free n (sym is ∙ releasing)))
-    (λ at. freed-none at place input (channel_state c at) (λ n releasing. elim (cases_Bool (same_place place at)) [
+    (λ at. freed_none at place input (channel_state c at) (λ n releasing. elim (cases_Bool (same_place place at)) [
       | inl hit ↦ absurd (free n (sym is ∙ ap (channel_state c) (same_places place at hit) ∙ releasing))
       | inr miss ↦ miss
     ]))
@@ -179,7 +179,7 @@ module _ (c : Controller) (ready : Ready c) (sound : IsSoundAll c) (at : Place) 
   channel_turns place input (frees_it k acknowledged is acks) carried refers =
       subst (λ (i : Input). TurnsFrom at (freed_by at (OnChannel place i) (channel_state c at)) (on_state (channel_state c place) place i c (entry_at c (channel_state c place)))) (sym acks)
       (subst (λ (state : ChannelState). TurnsFrom at (freed_by at (OnChannel place (inputs.ReleaseAck acknowledged)) (channel_state c at)) (on_state state place (inputs.ReleaseAck acknowledged) c (entry_at c state))) (sym is)
-      (subst (λ (before : ChannelState). TurnsFrom at before (concerning_too (inputs.ReleaseAck acknowledged) (freed place c) (entry_of c k))) (sym (freed-one c at place acknowledged k is))
+      (subst (λ (before : ChannelState). TurnsFrom at before (concerning_too (inputs.ReleaseAck acknowledged) (freed place c) (entry_of c k))) (sym (freed_one c at place acknowledged k is))
       (concerns_freed c ready sound at place k (inputs.ReleaseAck acknowledged) k (entry_of c k) is refl tt tt)))
   channel_turns place input (frees_none stay start) carried refers =
       subst (λ (b : Bool). TurnsFrom at (freed_by at (OnChannel place input) (channel_state c at)) (on_freed b place input c (entry_at c (channel_state c place)))) (sym stay)
@@ -207,7 +207,7 @@ module _ (c : Controller) (ready : Ready c) (sound : IsSoundAll c) (at : Place) 
   decision_turns (Move cell) put e m there same =
       let told : IsTold e = told_of c ready sound m e there in
       fitting_turn at (with_entry put c) (turn [] (with_entry put c)) put inputs.Move (handover_offer (with_entry put c) put.connection.serving cell) (row_of put.connection inputs.Move (handover_offer (with_entry put c) put.connection.serving cell)) refl
-      (record { stands = subst Stands (sym same) told.stands; parts = subst SoundParts (sym same) told.parts; few = subst (λ (s : Connection). s.number < 2 ^ 24) (sym same) told.few })
+      (record { stands = subst IsValid (sym same) told.stands; parts = subst SoundParts (sym same) told.parts; few = subst (λ (s : Connection). s.number < 2 ^ 24) (sym same) told.few })
       (offer_list (handover_offer c put.connection.serving cell) (λ d is. offered_sound c cell c.handovers (kind_of put.connection.serving.number) d sound.cells is)) tt tt
       (subst (λ (s : Connection). IsOpen s.state → IsUsing s.number c.channels (roles_of s)) (sym same) (uses_of c ready sound m e there))
       (offers_of c ready sound cell c.handovers (kind_of put.connection.serving.number)) refl

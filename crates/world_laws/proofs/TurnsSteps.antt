@@ -1,7 +1,7 @@
 -- The orders of a step take turns: of a frame, of a link that breaks, of time.
 use Rattle.world_laws.proofs.Prelude.{◌≡◌, ◌≢◌, ℕ, ◌==◌, Bool, true, false, List, [], ◌∷◌, map, Option, Some}
 use Rattle.world_laws.proofs.Prelude.{None, refl, sym, ap, ◌∙◌, subst, inl, inr, AllByRecursion, cases_Bool, Channel, Place, SWITCH_LINK}
-use Rattle.world_laws.proofs.Prelude.{Input, Connection, roles_of, IsCarried, Row, IsOpen, word_by, word_in, AreRising, ComesInOctets}
+use Rattle.world_laws.proofs.Prelude.{Input, Connection, roles_of, IsCarried, Row, IsOpen, word_by, word_in, AreRising, IsOctetStep}
 use Rattle.world_laws.proofs.Prelude.{own_carried, pass_stands, break_shut, timer_shut, Holds, owns_entry, IsSoundAll, life_sound}
 use Rattle.world_laws.proofs.Prelude.{offer_list, request_sound, RefersBy, word_from, life_ready, IsHere, Ready, ChannelState, Step}
 use Rattle.world_laws.proofs.Prelude.{Take, Word, OnChannel, request_offer, Controller, Entry, Turn, channel_state, each, entry_of}
@@ -9,14 +9,14 @@ use Rattle.world_laws.proofs.Prelude.{turn, with_down, aged, all_aged, break_of,
 use Rattle.world_laws.proofs.Prelude.{on_what, row_in, step, timed, Item, What, Parameters, same_place, false≢true, row_of, IsTimer}
 use Rattle.world_laws.proofs.Prelude.{IsLinkBreak, break_carried, timer_carried, told_holds, word_carried, IsSoundCell, word_refers, IsFrom}
 use Rattle.world_laws.proofs.Prelude.{IsDue, all_found, expiry_own, told_tame, timed_tame, aged_ready, all_here, expiry_numbers, still_here}
-use Rattle.world_laws.proofs.Prelude.{told_numbers, life, told, word_of, RefusesNone, OrdersTakeTurns, Spares, TakesTurns, freed_by}
+use Rattle.world_laws.proofs.Prelude.{told_numbers, life, with_own_input, word_of, RefusesNone, OrdersTakeTurns, Spares, TakesTurns, freed_by}
 use Rattle.conn_rules.specs.declared.input.Input.TheVariants as inputs
 use Rattle.controller_model.specs.declared.step.Step.TheVariants.{Tick}
 use Rattle.controller_model.specs.Controller.{is_up}
 use Rattle.controller_model.specs.Life.{take, tick}
 use Rattle.ruled_relay.specs.declared.item.What.TheVariants as whats
 use Rattle.world_laws.proofs.TakingTurns.{turns_append}
-use Rattle.world_laws.proofs.TurnsLife.{IsTold, TurnsFrom, WordTurns, freed-none, row_turn, same_places, told_of, using_of, word_turns}
+use Rattle.world_laws.proofs.TurnsLife.{IsTold, TurnsFrom, WordTurns, freed_none, row_turn, same_places, told_of, using_of, word_turns}
 use Rattle.world_laws.proofs.OrderSteps.{without_same}
 
 AreCells : Controller → Type 0
@@ -33,18 +33,18 @@ each_turns : (links : List Bool) (at : Place) (f : Controller → Entry → Turn
     ((c : Controller) (e : Entry) → (f c e).next.next_number ≡ c.next_number) → ((c : Controller) (e : Entry) → IsHere links c e → IsTold e → Holds links c → AreCells c → Keeps links at c (f c e)) →
     (c : Controller) (xs : List Entry) → AreRising xs → AllByRecursion (IsHere links c) xs → AllByRecursion IsTold xs → Holds links c → AreCells c → TurnsFrom at (channel_state c at) (each f c xs)
 unfolding TurnsFrom
-each_turns links at f order leaves numbers keeps c [] sorted here told holds cells = refl
-each_turns links at f order leaves numbers keeps c (x ∷ xs) sorted here told holds cells =
-    let one = keeps c x here.0 told.0 holds cells in
+each_turns links at f order leaves numbers keeps c [] sorted here with_own_input holds cells = refl
+each_turns links at f order leaves numbers keeps c (x ∷ xs) sorted here with_own_input holds cells =
+    let one = keeps c x here.0 with_own_input.0 holds cells in
     let later = still_here links f c x xs order leaves numbers sorted.0 here.1 in
     turns_append at (channel_state c at) (channel_state (f c x).next at) (channel_state (each f (f c x).next xs).next at) (f c x).outs (each f (f c x).next xs).outs one.turns
-    (each_turns links at f order leaves numbers keeps (f c x).next xs sorted.1 later told.1 one.holds one.cells)
+    (each_turns links at f order leaves numbers keeps (f c x).next xs sorted.1 later with_own_input.1 one.holds one.cells)
 
--- one that is told of a break, or whose timer expires, doesn't stay open
+-- one that is with_own_input of a break, or whose timer expires, doesn't stay open
 Shuts : Input → Type 0
 Shuts input = (s : Connection) (offer : Option Channel) (r : Row) → row_of s input offer ≡ Some r → IsOpen r.next.state → ⊥
 
-told_keeps : (links : List Bool) (at : Place) (input : Input) → IsCarried input → RefersBy input → Shuts input → (c : Controller) (e : Entry) → IsHere links c e → IsTold e → Holds links c → AreCells c → Keeps links at c (told input c e)
+told_keeps : (links : List Bool) (at : Place) (input : Input) → IsCarried input → RefersBy input → Shuts input → (c : Controller) (e : Entry) → IsHere links c e → IsTold e → Holds links c → AreCells c → Keeps links at c (with_own_input input c e)
 unfolding TurnsFrom Shuts AreCells
 told_keeps links at input carried refers shuts c e here known holds cells = record {
   holds = told_holds links c e input shuts here.rising here.there here.stands holds;
@@ -84,7 +84,7 @@ break_turns : (source : ℕ) (at : Place) (c : Controller) → Ready c → IsSou
 unfolding TurnsFrom Shuts AreCells
 break_turns source at c ready sound other =
     let down : Controller = with_down source c in
-    let f : Controller → Entry → Turn = told (break_of source) in
+    let f : Controller → Entry → Turn = with_own_input (break_of source) in
     let tame = told_tame 1 1 true (break_of source) in
     let there = all_found c.entries ready.numbered.rising in
     let last : Turn = each f down c.entries in
@@ -127,13 +127,13 @@ tick_turns ms at c ready sound =
 -- what comes of another station frees nothing here
 other_frees : (at : Place) (source : ℕ) (word : Word) (state : ChannelState) → IsFrom source word → (at.station ≡ source → ⊥) → freed_by at word state ≡ state
 other_frees at source (OnChannel place input) state from other =
-    freed-none at place input state (λ n releasing. elim (cases_Bool (same_place place at)) [
+    freed_none at place input state (λ n releasing. elim (cases_Bool (same_place place at)) [
       | inl hit ↦ absurd (other (sym (ap (λ (p : Place). p.station) (same_places place at hit)) ∙ from.0))
       | inr miss ↦ miss
     ])
 other_frees at source _ state from other = refl
 
-take_turns : (up : Bool) (item : Item) (what : What) (at : Place) (c : Controller) → is_up c item.source ≡ up → is_up c at.station ≡ true → Ready c → IsSoundAll c → ComesInOctets (Take (record { source = item.source; what = what })) → RefusesNone (word_by item.source what) → (what ≡ whats.Down → at.station ≢ item.source)
+take_turns : (up : Bool) (item : Item) (what : What) (at : Place) (c : Controller) → is_up c item.source ≡ up → is_up c at.station ≡ true → Ready c → IsSoundAll c → IsOctetStep (Take (record { source = item.source; what = what })) → RefusesNone (word_by item.source what) → (what ≡ whats.Down → at.station ≢ item.source)
     → TurnsFrom at (freed_by at (word_by item.source what) (channel_state c at)) (on_what up item.source what c)
 unfolding TurnsFrom WordTurns
 take_turns true item (whats.Frame frame) at c link up ready sound octets none spares =
@@ -143,7 +143,7 @@ take_turns false item (whats.Frame frame) at c link up ready sound octets none s
     sym (other_frees at item.source (word_of item.source frame) (channel_state c at) (word_from item.source frame) (λ same. false≢true (sym link ∙ ap (is_up c) (sym same) ∙ up)))
 take_turns false item whats.Down at c link up ready sound octets none spares = refl
 
-pub step_turns : (s : Step) (at : Place) (c : Controller) → is_up c at.station ≡ true → Ready c → IsSoundAll c → ComesInOctets s → RefusesNone (word_in s) → Spares at s → TurnsFrom at (freed_by at (word_in s) (channel_state c at)) (step c s)
+pub step_turns : (s : Step) (at : Place) (c : Controller) → is_up c at.station ≡ true → Ready c → IsSoundAll c → IsOctetStep s → RefusesNone (word_in s) → Spares at s → TurnsFrom at (freed_by at (word_in s) (channel_state c at)) (step c s)
 unfolding take
 step_turns (Take item) at c up ready sound octets none spares = take_turns (is_up c item.source) item item.what at c refl up ready sound octets none spares
 step_turns (Tick ms) at c up ready sound octets none spares = tick_turns ms at c ready sound

@@ -1,5 +1,6 @@
 -- What rows begin with: the world of the usual settings, and channels of its first cell.
 use Rattle.world_laws.proofs.Prelude.{ℕ, [], ◌∷◌, Assignment, Channel, usual_settings, Target, Actors, new_actors, List}
+use Rattle.octets.proofs.Hex.{hex}
 
 unfoldable pub begin : Actors
 begin = new_actors usual_settings
@@ -8,7 +9,7 @@ abbrev pub channel : ℕ → ℕ → Channel
 channel station number = record {
   station = station;
   number = number;
-  cell = 0x00 ∷ 0x00 ∷ 0xf1 ∷ 0x10 ∷ 0x00 ∷ 0x01 ∷ 0x00 ∷ 0x01 ∷ [];
+  cell = hex "00 00 f1 10 00 01 00 01";
   description = record { arfcn = 20; ncc = 1; bcc = 1 };
   reference = record { 0 = 0 };
 }
@@ -19,11 +20,11 @@ to_0a = record { change = Assignment; channel = channel 1 0x0a }
 
 -- a PAGING RESPONSE is of radio resource management too
 abbrev pub paging_response : List ℕ
-paging_response = 0x06 ∷ 0x27 ∷ 0x00 ∷ []
+paging_response = hex "06 27 00"
 
 abbrev pub service_request : List ℕ
-service_request = 0x05 ∷ 0x24 ∷ 0x71 ∷ []
+service_request = hex "05 24 71"
 
 -- what a mobile sent: its initial message and one more
 abbrev pub opening_sent : List (List ℕ)
-opening_sent = (0x05 ∷ 0x24 ∷ []) ∷ (0x03 ∷ 0x05 ∷ []) ∷ []
+opening_sent = (hex "05 24") ∷ (hex "03 05") ∷ []

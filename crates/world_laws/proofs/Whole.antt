@@ -2,7 +2,7 @@
 use Rattle.world_laws.proofs.Prelude.{◌≡◌, ℕ, ◌==◌, Bool, true, false, if◌then◌else◌, List, [], ◌∷◌, ◌++◌, Option, Some, None, Ok, Err}
 use Rattle.world_laws.proofs.Prelude.{refl, AllByRecursion, flat_map, result_ok, Place, sapi_of, Sapi}
 use Rattle.world_laws.proofs.Prelude.{Zero, RSL_STREAM, RelayItem, What, RslFault, Rsl, IsL3, rsl_reading, Parameters, Event}
-use Rattle.world_laws.proofs.Prelude.{rsl_in, Actors, base_of, new_actors, end-of, good-all, good-new, IsSound, Result, IsFull, rsl_full}
+use Rattle.world_laws.proofs.Prelude.{rsl_in, Actors, base_of, new_actors, end_of, good_all, good_new, IsSound, Result, IsFull, rsl_full}
 use Rattle.world_laws.proofs.Prelude.{messages_in, released, of_main, of_establishment, brings, brings_if, brings_by, brings_in, made_of}
 use Rattle.world_laws.proofs.Prelude.{MessagesAreWhole, AreLayer3}
 use Rattle.world_laws.specs.LineUp.Places.{Item}
@@ -86,4 +86,4 @@ messages_are_whole_new settings events at =
     let w : Actors = world settings events in
     let made : List Rsl = (base_of w at.station).messages in
     append_whole (flat_map (brings_in at) w.inbox) (made_of at.number made) (inbox_whole at w.inbox)
-    (all_whole (brings at.number) IsSound (λ v sound. brings_whole at.number v (sound_full v sound)) made (end-of w at.station (good-all (new_actors settings) events (good-new settings))).made)
+    (all_whole (brings at.number) IsSound (λ v sound. brings_whole at.number v (sound_full v sound)) made (end_of w at.station (good_all (new_actors settings) events (good_new settings))).made)

@@ -1,8 +1,11 @@
 -- The acknowledgements of a channel that are on their way up.
-use Rattle.std.specs.Prelude.{◌≡◌, ◌≢◌, ℕ, ◌≤◌, ◌==◌, Bool, true, false, if◌then◌else◌, List, [], ◌∷◌, ◌++◌, length, option_to_list}
+use Rattle.std.specs.Prelude.{◌≡◌, ◌≢◌, ℕ, ◌≤◌, ◌==◌, Bool, true, false, if◌then◌else◌, List, []}
+use Rattle.std.specs.Prelude.{◌∷◌, ◌++◌, length, option_to_list}
 use Rattle.std.specs.List.{flat_map, AllByRecursion}
-use Rattle.world_laws.specs.Prelude.{Place, SWITCH_LINK, Item, Rsl, Parameters, Event, actors_after_all, rsl_in, Actors, base_of, is_up}
+use Rattle.world_laws.specs.Prelude.{Place, SWITCH_LINK, Item, Rsl, Parameters, Event, rsl_in}
+use Rattle.world_laws.specs.Prelude.{Actors, base_of, is_up}
 use Rattle.world_laws.specs.Prelude.{new_actors, outbox_of}
+use Rattle.world_laws.specs.Runs.{world}
 use Rattle.link_model.specs.Base.{is_active}
 use Rattle.ruled_relay.specs.declared.item.What.{What}
 use Rattle.ruled_relay.specs.declared.item.What.TheVariants as whats
@@ -15,7 +18,8 @@ use Rattle.world_laws.specs.Staying.{EndsLast}
 
 -- what is read of an item, where it is of this station
 abbrev pub read_by : ℕ → ℕ → What → List Rsl
-read_by station source (whats.Frame frame) = if source == station then option_to_list (rsl_in frame) else []
+read_by station source (whats.Frame frame) =
+    if source == station then option_to_list (rsl_in frame) else []
 read_by station source whats.Down = []
 
 abbrev pub read_of : ℕ → Item → List Rsl
@@ -55,7 +59,8 @@ pub record AcksTell (w : Actors) (at : Place) : Type 0 where
 
 -- whatever happened before
 abbrev pub AllAcksTell : Parameters → List Event → Type 0
-AllAcksTell settings events = (at : Place) → at.station ≢ SWITCH_LINK → AcksTell (actors_after_all (new_actors settings) events) at
+AllAcksTell settings events =
+    (at : Place) → at.station ≢ SWITCH_LINK → AcksTell (world settings events) at
 
 -- ---- which they are
 
@@ -63,8 +68,10 @@ AllAcksTell settings events = (at : Place) → at.station ≢ SWITCH_LINK → Ac
 -- those that it took, those on their way up, and those due for what stands in the outbox.
 abbrev pub AcksFlow : Parameters → List Event → Type 0
 AcksFlow settings events =
-    (at : Place) → 1 ≤ at.station → at.station ≤ length settings.cells → is_up (actors_after_all (new_actors settings) events) at.station ≡ true
+    (at : Place) → 1 ≤ at.station → at.station ≤ length settings.cells
+    → is_up (world settings events) at.station ≡ true
     → due at.number false (all_put at.station (new_actors settings) events) ≡
     acknowledgements_taken at (all_popped (new_actors settings) events)
-    ++ (acknowledgements_up (actors_after_all (new_actors settings) events) at
-    ++ due at.number (is_active (base_of (actors_after_all (new_actors settings) events) at.station).active at.number) (outbox_of (actors_after_all (new_actors settings) events) at.station))
+    ++ (acknowledgements_up (world settings events) at
+    ++ due at.number (is_active (base_of (world settings events) at.station).active at.number)
+    (outbox_of (world settings events) at.station))

@@ -1,7 +1,8 @@
 -- The acknowledgements of a channel that came and are on their way, whether the link of its station
 -- is up or not.
 use Rattle.std.specs.Prelude.{◌≤◌, false, List, ◌++◌, length}
-use Rattle.world_laws.specs.Prelude.{Place, Parameters, Event, actors_after_all, new_actors}
+use Rattle.world_laws.specs.Prelude.{Place, Parameters, Event, new_actors}
+use Rattle.world_laws.specs.Runs.{world}
 use Rattle.octets.specs.Lists.{IsPrefix}
 use Rattle.world_model.specs.Pipe.{due}
 use Rattle.world_model.specs.Queues.{all_popped, all_put}
@@ -12,4 +13,4 @@ use Rattle.world_laws.specs.Acknowledged.{acknowledgements_taken, acknowledgemen
 abbrev pub AcksBegin : Parameters → List Event → Type 0
 AcksBegin settings events =
     (at : Place) → 1 ≤ at.station → at.station ≤ length settings.cells
-    → IsPrefix (acknowledgements_taken at (all_popped (new_actors settings) events) ++ acknowledgements_up (actors_after_all (new_actors settings) events) at) (due at.number false (all_put at.station (new_actors settings) events))
+    → IsPrefix (acknowledgements_taken at (all_popped (new_actors settings) events) ++ acknowledgements_up (world settings events) at) (due at.number false (all_put at.station (new_actors settings) events))

@@ -7,7 +7,8 @@ use Rattle.world_laws.specs.LineUp.Places.{Item as Brought}
 use Rattle.world_laws.specs.LineUp.Places.Item.{brought, released}
 use Rattle.ruled_relay.specs.declared.item.What.{What}
 use Rattle.ruled_relay.specs.declared.item.What.TheVariants as whats
-use Rattle.rsl_codec.specs.declared.rsl.Rsl.TheVariants.{EstablishIndication, DataIndication, RfChannelReleaseAck}
+use Rattle.rsl_codec.specs.declared.rsl.Rsl.TheVariants.{EstablishIndication, DataIndication}
+use Rattle.rsl_codec.specs.declared.rsl.Rsl.TheVariants.{RfChannelReleaseAck}
 
 -- a layer 3 message of SAPI 0
 abbrev pub of_main : Option Sapi → List ℕ → List Brought
@@ -21,8 +22,10 @@ of_establishment sapi (Some message) = of_main sapi message
 -- what a station's message brings of a channel: a layer 3 message of its mobile, or the end of its
 -- tenure
 abbrev pub brings : ℕ → Rsl → List Brought
-brings channel (EstablishIndication e) = if e.channel == channel then of_establishment (sapi_of e.link) e.l3 else []
-brings channel (DataIndication d) = if d.channel == channel then of_main (sapi_of d.link) d.l3 else []
+brings channel (EstablishIndication e) =
+    if e.channel == channel then of_establishment (sapi_of e.link) e.l3 else []
+brings channel (DataIndication d) =
+    if d.channel == channel then of_main (sapi_of d.link) d.l3 else []
 brings channel (RfChannelReleaseAck number) = if number == channel then released ∷ [] else []
 brings channel _ = []
 
@@ -32,7 +35,8 @@ brings_if channel (Some message) = brings channel message
 
 -- of an item of the inbox
 abbrev pub brings_by : Place → ℕ → What → List Brought
-brings_by at source (whats.Frame frame) = if source == at.station then brings_if at.number (rsl_in frame) else []
+brings_by at source (whats.Frame frame) =
+    if source == at.station then brings_if at.number (rsl_in frame) else []
 brings_by at source whats.Down = []
 
 abbrev pub brings_in : Place → Item → List Brought
@@ -44,4 +48,5 @@ made_of channel messages = flat_map (brings channel) messages
 
 -- what stands in the inbox comes first
 abbrev pub coming_up : Actors → Place → List Brought
-coming_up w at = flat_map (brings_in at) w.inbox ++ made_of at.number (base_of w at.station).messages
+coming_up w at =
+    flat_map (brings_in at) w.inbox ++ made_of at.number (base_of w at.station).messages

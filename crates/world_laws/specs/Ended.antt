@@ -2,8 +2,10 @@
 -- there.
 use Rattle.std.specs.Prelude.{◌≡◌, ℕ, ◌≤◌, List, [], Some}
 use Rattle.std.specs.List.{AllByRecursion}
-use Rattle.world_laws.specs.Prelude.{SWITCH_LINK, Connection, Parameters, Event, SwitchTakes, actors_after, actors_after_all, Actors}
-use Rattle.world_laws.specs.Prelude.{Mobile, mobile_of, modulus_in, new_actors, outbox_of}
+use Rattle.world_laws.specs.Prelude.{SWITCH_LINK, Connection, Parameters, Event, SwitchTakes}
+use Rattle.world_laws.specs.Prelude.{actors_after, Actors}
+use Rattle.world_laws.specs.Prelude.{Mobile, mobile_of, modulus_in, outbox_of}
+use Rattle.world_laws.specs.Runs.{world}
 use Rattle.world_laws.specs.LineUp.Places.{flow}
 use Rattle.world_laws.specs.LineUp.Order.{Ended, IsInOrder}
 use Rattle.world_model.specs.Queues.{put}
@@ -32,16 +34,20 @@ DeliversAt w number _ = Unit {0}
 
 -- the controller puts no more of it for the switch
 abbrev pub PutsNoMore : Actors → ℕ → Event → Type 0
-PutsNoMore w number event = AllByRecursion (λ entry. carried_for number entry.out ≡ []) (put SWITCH_LINK w event)
+PutsNoMore w number event =
+    AllByRecursion (λ entry. carried_for number entry.out ≡ []) (put SWITCH_LINK w event)
 
 -- whatever happened before
 abbrev pub EndedStayInOrder : Parameters → List Event → Event → Type 0
 EndedStayInOrder settings events event =
-    (mobile number : ℕ) → DeliversAt (actors_after_all (new_actors settings) events) number event → PutsNoMore (actors_after_all (new_actors settings) events) number event
-    → HasEnded (modulus_in settings) (actors_after_all (new_actors settings) events) mobile number
-    → HasEnded (modulus_in settings) (actors_after (actors_after_all (new_actors settings) events) event) mobile number
+    (mobile number : ℕ) → DeliversAt (world settings events) number event
+    → PutsNoMore (world settings events) number event
+    → HasEnded (modulus_in settings) (world settings events) mobile number
+    → HasEnded (modulus_in settings) (actors_after (world settings events) event) mobile number
 
 -- ---- what the switch accepted
 
 abbrev pub EndedAreInOrder : ℕ → Actors → ℕ → ℕ → Type 0
-EndedAreInOrder m w mobile number = 2 ≤ m → (ended : HasEnded m w mobile number) → IsInOrder m ended.one.end.sent (taken_of w number) (flow (waiting_of w number))
+EndedAreInOrder m w mobile number =
+    2 ≤ m → (ended : HasEnded m w mobile number)
+    → IsInOrder m ended.one.end.sent (taken_of w number) (flow (waiting_of w number))

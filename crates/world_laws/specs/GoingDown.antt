@@ -2,7 +2,8 @@
 -- messages for the air.
 use Rattle.std.specs.Prelude.{ℕ, ◌==◌, if◌then◌else◌, List, [], ◌∷◌, ◌++◌, Option, Some, None}
 use Rattle.std.specs.List.{flat_map}
-use Rattle.world_laws.specs.Prelude.{Place, Rsl, AirMessage, OutboxEntry, Tenure, rsl_in, Actors, spot_at, outbox_of}
+use Rattle.world_laws.specs.Prelude.{Place, Rsl, AirMessage, OutboxEntry, Tenure, rsl_in, Actors}
+use Rattle.world_laws.specs.Prelude.{spot_at, outbox_of}
 use Rattle.rsl_codec.specs.declared.rsl.Rsl.TheVariants.{DataRequest}
 
 -- a message that leads to a tenure
@@ -14,7 +15,8 @@ abbrev pub leading_from_air : AirMessage → List AirMessage
 leading_from_air a = leading a.message a.target
 
 abbrev pub leading_by : ℕ → Option Tenure → Option Rsl → List AirMessage
-leading_by channel target (Some (DataRequest d)) = if d.channel == channel then leading d.l3 target else []
+leading_by channel target (Some (DataRequest d)) =
+    if d.channel == channel then leading d.l3 target else []
 leading_by channel target _ = []
 
 abbrev pub leading_from_outbox : ℕ → OutboxEntry → List AirMessage
@@ -22,4 +24,6 @@ leading_from_outbox channel entry = leading_by channel entry.target (rsl_in entr
 
 -- those for the air come first
 abbrev pub going_down : Actors → Place → List AirMessage
-going_down w at = flat_map leading_from_air (spot_at w at).air ++ flat_map (leading_from_outbox at.number) (outbox_of w at.station)
+going_down w at =
+    flat_map leading_from_air (spot_at w at).air
+    ++ flat_map (leading_from_outbox at.number) (outbox_of w at.station)

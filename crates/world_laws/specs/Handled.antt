@@ -2,8 +2,11 @@
 -- before.
 use Rattle.std.specs.Prelude.{◌≡◌, ℕ, true, List, [], ◌∷◌, Option}
 use Rattle.std.specs.List.{AllByRecursion}
-use Rattle.world_laws.specs.Prelude.{Channel, SWITCH_LINK, Input, State, Live, Connection, Row, target_in, undone, place_of, RelayItem}
-use Rattle.world_laws.specs.Prelude.{Parameters, Event, Handle, actors_after, actors_after_all, Actors, is_up, modulus_in, new_actors}
+use Rattle.world_laws.specs.Prelude.{Channel, SWITCH_LINK, Input, State, Live, Connection, Row}
+use Rattle.world_laws.specs.Prelude.{target_in, undone, place_of, RelayItem}
+use Rattle.world_laws.specs.Prelude.{Parameters, Event, Handle, actors_after, Actors, is_up}
+use Rattle.world_laws.specs.Prelude.{modulus_in}
+use Rattle.world_laws.specs.Runs.{world}
 use Rattle.conn_rules.specs.declared.state.Stage.TheVariants.{Preparing}
 use Rattle.world_laws.specs.LineUp.Places.{messages_in}
 use Rattle.world_laws.specs.Acknowledged.{acknowledgements_up, NoneReleases, ReleasesLast}
@@ -24,17 +27,22 @@ pub record IsReadyFor (w : Actors) (s : Connection) (input : Input) : Type 0 whe
   pub switch_up : is_up w SWITCH_LINK ≡ true
   -- of the acknowledgements on their way an RF CHANNEL RELEASE ACK is the last of an old channel,
   -- and there is none of another
-  pub old_end : AllByRecursion (λ c. ReleasesLast (acknowledgements_up w (place_of c))) (undone s.draining)
-  pub others_go_on : AllByRecursion (λ c. NoneReleases (acknowledgements_up w (place_of c))) (s.serving ∷ target_in s.state)
+  pub old_end : AllByRecursion (λ c. ReleasesLast (acknowledgements_up w (place_of c)))
+      (undone s.draining)
+  pub others_go_on : AllByRecursion (λ c. NoneReleases (acknowledgements_up w (place_of c)))
+      (s.serving ∷ target_in s.state)
   -- nothing came of a target before the COMMAND, or of one from which the mobile came back
-  pub silent : IsBesideTarget input → AllByRecursion (λ c. messages_in (coming_up w (place_of c)) ≡ []) (target_in s.state)
+  pub silent : IsBesideTarget input
+      → AllByRecursion (λ c. messages_in (coming_up w (place_of c)) ≡ []) (target_in s.state)
   -- and no COMMAND is on its way there
   pub uncommanded : AllByRecursion (λ c. going_down w (place_of c) ≡ []) (awaited_in s.state)
 
 -- the first item of the inbox is the frame
 abbrev pub FramesKeepLineUps : Parameters → List Event → Type 0
 FramesKeepLineUps settings events =
-    (mobile : ℕ) (s : Connection) (item : RelayItem) (items : List RelayItem) (input : Input) (offer : Option Channel) (r : Row) → (actors_after_all (new_actors settings) events).inbox ≡ item ∷ items
-    → IsFrameFor (actors_after_all (new_actors settings) events) item s input offer r → IsReadyFor (actors_after_all (new_actors settings) events) s input → IsPutAsRead s r
-    → AreLinedUp (modulus_in settings) (actors_after_all (new_actors settings) events) mobile s
-    → AreLinedUp (modulus_in settings) (actors_after (actors_after_all (new_actors settings) events) Handle) mobile r.next
+    (mobile : ℕ) (s : Connection) (item : RelayItem) (items : List RelayItem) (input : Input)
+    (offer : Option Channel) (r : Row) → (world settings events).inbox ≡ item ∷ items
+    → IsFrameFor (world settings events) item s input offer r
+    → IsReadyFor (world settings events) s input → IsPutAsRead s r
+    → AreLinedUp (modulus_in settings) (world settings events) mobile s
+    → AreLinedUp (modulus_in settings) (actors_after (world settings events) Handle) mobile r.next

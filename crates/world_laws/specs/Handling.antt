@@ -1,1 +1,1 @@
-pub mod Faring
+pub mod OpenOrEnded

@@ -8,4 +8,6 @@ use Rattle.world_laws.specs.Staying.{AreLinedUp}
 -- The switch accepted the first messages that its mobile's upper layers sent, once and in order,
 -- and judged no gap.
 abbrev pub LineUpsAreInOrder : ℕ → Actors → ℕ → Connection → Type 0
-LineUpsAreInOrder m w mobile s = 2 ≤ m → (lined : AreLinedUp m w mobile s) → IsInOrder m lined.one.end.sent (taken_of w s.number) (coming (line_up w lined.one s))
+LineUpsAreInOrder m w mobile s =
+    2 ≤ m → (lined : AreLinedUp m w mobile s)
+    → IsInOrder m lined.one.end.sent (taken_of w s.number) (coming (line_up w lined.one s))

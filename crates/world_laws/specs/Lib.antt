@@ -24,7 +24,7 @@ pub mod Refusals
 pub mod TakingTurns
 pub mod Owned
 pub mod Remaining
-pub mod Lives
+pub mod AccountedFor
 pub mod Channels
 pub mod Owners
 pub mod Targets

@@ -1,8 +1,11 @@
 -- The line-up of a connection in the world: what its mobile sent, where it stands on its way to the
 -- switch.
-use Rattle.std.specs.Prelude.{ℕ, ◌+◌, ◌==◌, ◌&&◌, not, Bool, true, false, if◌then◌else◌, List, [], ◌∷◌, length, map, find, Option, Some, None}
-use Rattle.world_laws.specs.Prelude.{Channel, Place, SWITCH_LINK, Drain, State, Live, WaitEstablish, Target, Connection, place_of}
-use Rattle.world_laws.specs.Prelude.{forwarded, DataLinkState, SwitchConnection, AirMessage, Asking, On, Actors, Mobile, is_station_up}
+use Rattle.std.specs.Prelude.{ℕ, ◌+◌, ◌==◌, ◌&&◌, not, Bool, true, false, if◌then◌else◌, List, []}
+use Rattle.std.specs.Prelude.{◌∷◌, length, map, find, Option, Some, None}
+use Rattle.world_laws.specs.Prelude.{Channel, Place, SWITCH_LINK, Drain, State, Live, WaitEstablish}
+use Rattle.world_laws.specs.Prelude.{Target, Connection, place_of}
+use Rattle.world_laws.specs.Prelude.{forwarded, DataLinkState, SwitchConnection, AirMessage, Asking}
+use Rattle.world_laws.specs.Prelude.{On, Actors, Mobile, is_station_up}
 use Rattle.world_laws.specs.Prelude.{outbox_of}
 use Rattle.conn_rules.specs.declared.state.Stage.TheVariants.{Changing}
 use Rattle.conn_rules.specs.Connection.{is_at}
@@ -41,15 +44,19 @@ is_ended (brought message ∷ items) = is_ended items
 -- an old channel may lack something where its link broke before its RF CHANNEL RELEASE ACK was on
 -- its way
 abbrev pub draining_tenure : Bool → List Item → List (List ℕ) → Tenure
-draining_tenure up items hold = record { hold = hold; items = items; is_lost = not up && not (is_ended items); is_done = false }
+draining_tenure up items hold =
+    record { hold = hold; items = items; is_lost = not up && not (is_ended items); is_done = false }
 
 abbrev pub old_tenure : (Place → List Item) → (ℕ → Bool) → Drain → List (List ℕ) → Tenure
-old_tenure coming up d hold = if d.is_done then ended hold else draining_tenure (up d.channel.station) (coming (place_of d.channel)) hold
+old_tenure coming up d hold =
+    if d.is_done then ended hold else draining_tenure (up d.channel.station)
+    (coming (place_of d.channel)) hold
 
 abbrev pub old_tenures : (Place → List Item) → (ℕ → Bool) → List Drain → List Held → List Tenure
 old_tenures coming up [] holds = []
 old_tenures coming up (d ∷ ds) [] = old_tenure coming up d [] ∷ old_tenures coming up ds []
-old_tenures coming up (d ∷ ds) (held ∷ others) = old_tenure coming up d held.zero ∷ old_tenures coming up ds others
+old_tenures coming up (d ∷ ds) (held ∷ others) =
+    old_tenure coming up d held.zero ∷ old_tenures coming up ds others
 
 -- the tenure behind those of old channels
 abbrev pub serving_hold : List Drain → List Held → List (List ℕ)
@@ -58,14 +65,20 @@ serving_hold [] (held ∷ others) = held.zero
 serving_hold (d ∷ ds) (held ∷ others) = serving_hold ds others
 
 abbrev pub serving_tenure : (Place → List Item) → (ℕ → Bool) → Channel → List (List ℕ) → Tenure
-serving_tenure coming up c hold = record { hold = hold; items = coming (place_of c); is_lost = not (up c.station); is_done = false }
+serving_tenure coming up c hold =
+    record {
+      hold = hold;
+      items = coming (place_of c);
+      is_lost = not (up c.station);
+      is_done = false;
+    }
 
--- the mobile came to the target, or is gone
-abbrev pub came : Seat → Bool
-came on_serving = false
-came on_target = true
-came moving = false
-came gone = true
+-- the mobile has_arrived to the target, or is gone
+abbrev pub has_arrived : Seat → Bool
+has_arrived on_serving = false
+has_arrived on_target = true
+has_arrived moving = false
+has_arrived gone = true
 
 -- the target, to which the mobile is commanded
 abbrev pub commanded_target : State → Option Target
@@ -75,13 +88,21 @@ commanded_target _ = None
 abbrev pub target_tenure : (Place → List Item) → (ℕ → Bool) → Seat → Option Target → Tenure
 target_tenure coming up seat None = fresh
 target_tenure coming up seat (Some target) =
-    record { hold = []; items = coming (place_of target.channel); is_lost = not (up target.channel.station) && came seat; is_done = false }
+    record {
+      hold =
+          [];
+      items = coming (place_of target.channel);
+      is_lost = not (up target.channel.station)
+          && has_arrived seat;
+      is_done = false;
+    }
 
 -- ---- the switch
 
 -- the messages of a connection that wait for it
 abbrev pub waiting_of : Actors → ℕ → List (List ℕ)
-waiting_of w number = map (λ f. f.message) (forwarded (map (λ entry. entry.out) (outbox_of w SWITCH_LINK)) number)
+waiting_of w number =
+    map (λ f. f.message) (forwarded (map (λ entry. entry.out) (outbox_of w SWITCH_LINK)) number)
 
 abbrev pub is_of_peer : ℕ → SwitchConnection → Bool
 is_of_peer number c = c.peer == number
@@ -114,9 +135,11 @@ is_confirmed (Live reference stage) = true
 is_confirmed _ = false
 
 abbrev pub is_intact : Seat → List Tenure → Tenure → Tenure → Bool
-is_intact seat old serving target = not (is_gone seat) && not (some_lost old) && not serving.is_lost && not target.is_lost
+is_intact seat old serving target =
+    not (is_gone seat) && not (some_lost old) && not serving.is_lost && not target.is_lost
 
-abbrev pub assembled : List (List ℕ) → DataLinkState → Seat → State → ℕ → List Tenure → Tenure → Tenure → List (List ℕ) → List (List ℕ) → LineUp
+abbrev pub assembled : List (List ℕ) → DataLinkState → Seat → State → ℕ → List Tenure → Tenure
+    → Tenure → List (List ℕ) → List (List ℕ) → LineUp
 assembled sent link seat state commands old serving target out taken = record {
   sent = sent;
   link = link;
@@ -135,8 +158,10 @@ assembled sent link seat state commands old serving target out taken = record {
 
 -- by what is on its way up from each channel and which links are up; by the commands on their way
 -- down, and by what waits for the switch and what it took
-abbrev pub lined : (Place → List Item) → (ℕ → Bool) → List AirMessage → List (List ℕ) → List (List ℕ) → Mobile → Connection → LineUp
-lined coming up commands out taken p s = assembled p.end.sent p.end.zero (seat_from s.serving p.seat) s.state
+abbrev pub lined : (Place → List Item) → (ℕ → Bool) → List AirMessage → List (List ℕ)
+    → List (List ℕ) → Mobile → Connection → LineUp
+lined coming up commands out taken p s =
+    assembled p.end.sent p.end.zero (seat_from s.serving p.seat) s.state
     (length commands + remembered p.seat)
     (old_tenures coming up s.draining s.up.tenures)
     (serving_tenure coming up s.serving (serving_hold s.draining s.up.tenures))
@@ -146,4 +171,6 @@ lined coming up commands out taken p s = assembled p.end.sent p.end.zero (seat_f
 
 -- of a mobile and its connection
 abbrev pub line_up : Actors → Mobile → Connection → LineUp
-line_up w p s = lined (coming_up w) (is_station_up w) (going_down w (place_of s.serving)) (waiting_of w s.number) (taken_of w s.number) p s
+line_up w p s =
+    lined (coming_up w) (is_station_up w) (going_down w (place_of s.serving))
+    (waiting_of w s.number) (taken_of w s.number) p s

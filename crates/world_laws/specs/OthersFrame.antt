@@ -1,8 +1,10 @@
 -- A frame that concerns another connection.
 use Rattle.std.specs.Prelude.{◌≡◌, ◌≢◌, ℕ, ◌≤◌, List, Some}
 use Rattle.std.specs.List.{AllByRecursion}
-use Rattle.world_laws.specs.Prelude.{Connection, IsOpen, connection_of, ComesInOctets, take, RelayItem, AreAllowed, Parameters, Event}
-use Rattle.world_laws.specs.Prelude.{actors_after_all, all_steps, Actors, new_actors}
+use Rattle.world_laws.specs.Prelude.{Connection, IsOpen, connection_of, IsOctetStep, take}
+use Rattle.world_laws.specs.Prelude.{RelayItem, AreAllowed, Parameters, Event}
+use Rattle.world_laws.specs.Prelude.{all_steps, Actors, new_actors}
+use Rattle.world_laws.specs.Runs.{world}
 use Rattle.controller_model.specs.Ownership.{concerned}
 use Rattle.controller_model.specs.Reading.{word_of}
 use Rattle.world_model.specs.Frame.{Frame}
@@ -12,8 +14,8 @@ use Rattle.world_model.specs.Relay.{target_in}
 use Rattle.world_laws.specs.Staying.{IsForOthers}
 
 -- all that the controller took was octets
-abbrev pub CameInOctets : Parameters → List Event → Type 0
-CameInOctets settings events = AllByRecursion ComesInOctets (all_steps (new_actors settings) events)
+abbrev pub TookOctets : Parameters → List Event → Type 0
+TookOctets settings events = AllByRecursion IsOctetStep (all_steps (new_actors settings) events)
 
 -- the controller has this connection, which is open
 pub record IsHad (w : Actors) (s : Connection) : Type 0 where
@@ -34,6 +36,8 @@ pub record ConcernsAnother (w : Actors) (item : RelayItem) (number : ℕ) : Type
 -- whatever happened before, what the controller puts by it isn't the connection's
 abbrev pub FramesAreForOthers : Parameters → List Event → Type 0
 FramesAreForOthers settings events =
-    (s : Connection) (item : RelayItem) → AreAllowed settings → CameInOctets settings events → IsHad (actors_after_all (new_actors settings) events) s
-    → ConcernsAnother (actors_after_all (new_actors settings) events) item s.number
-    → AllByRecursion (IsForOthers (target_in (actors_after_all (new_actors settings) events) item.source item.what) s) (take item (actors_after_all (new_actors settings) events).controller).outs
+    (s : Connection) (item : RelayItem) → AreAllowed settings → TookOctets settings events
+    → IsHad (world settings events) s
+    → ConcernsAnother (world settings events) item s.number
+    → AllByRecursion (IsForOthers (target_in (world settings events) item.source item.what) s)
+    (take item (world settings events).controller).outs

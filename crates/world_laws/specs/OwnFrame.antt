@@ -1,6 +1,7 @@
 -- A frame that says an input to a connection.
 use Rattle.std.specs.Prelude.{◌≡◌, ℕ, true, if◌then◌else◌, List, Option, Some}
-use Rattle.world_laws.specs.Prelude.{Channel, Place, Input, State, WaitConfirm, Live, Connection, IsCarried, Row, IsOpen, row_of, Word}
+use Rattle.world_laws.specs.Prelude.{Channel, Place, Input, State, WaitConfirm, Live, Connection}
+use Rattle.world_laws.specs.Prelude.{IsCarried, Row, IsOpen, row_of, Word}
 use Rattle.world_laws.specs.Prelude.{OnChannel, OnConnection, channel_state, RelayItem, Actors}
 use Rattle.controller_model.specs.Channels.{request_offer}
 use Rattle.controller_model.specs.Controller.{Controller, Entry, entry_of, freed, is_up}
@@ -18,15 +19,22 @@ IsRequested _ = ⊥
 
 -- the controller when the row is looked for: where the input frees the channel, without it
 abbrev pub freed_for : Controller → Place → Input → Controller
-freed_for c at input = if frees (channel_state c at) (entry_at c (channel_state c at)) input then freed at c else c
+freed_for c at input =
+    if frees (channel_state c at) (entry_at c (channel_state c at)) input then freed at c else c
 
 -- what a word says is for the connection that has the channel, or the reference
-pub data IsSaidTo (c : Controller) (word : Word) (s : Connection) : Input → Option Channel → Type 0 where
-  on_channel : (at : Place) (input : Input) (e : Entry) → word ≡ OnChannel at input → entry_at c (channel_state c at) ≡ Some e → e.connection ≡ s → IsSaidTo c word s input (request_offer (freed_for c at input) s input)
-  on_connection : (number : ℕ) (input : Input) (e : Entry) → word ≡ OnConnection number input → entry_of c number ≡ Some e → e.connection ≡ s → IsSaidTo c word s input (request_offer c s input)
+pub data IsSaidTo (c : Controller) (word : Word)
+    (s : Connection) : Input → Option Channel → Type 0 where
+  on_channel : (at : Place) (input : Input) (e : Entry) → word ≡ OnChannel at input
+      → entry_at c (channel_state c at) ≡ Some e → e.connection ≡ s
+      → IsSaidTo c word s input (request_offer (freed_for c at input) s input)
+  on_connection : (number : ℕ) (input : Input) (e : Entry) → word ≡ OnConnection number input
+      → entry_of c number ≡ Some e → e.connection ≡ s
+      → IsSaidTo c word s input (request_offer c s input)
 
 -- a frame of a link that is up, whose word is for the connection
-pub record IsFrameFor (w : Actors) (item : RelayItem) (s : Connection) (input : Input) (offer : Option Channel) (r : Row) : Type 0 where
+pub record IsFrameFor (w : Actors) (item : RelayItem) (s : Connection) (input : Input)
+    (offer : Option Channel) (r : Row) : Type 0 where
   pub frame : Frame
   pub is : item.what ≡ whats.Frame frame
   pub up : is_up w.controller item.source ≡ true
@@ -38,4 +46,5 @@ pub record IsFrameFor (w : Actors) (item : RelayItem) (s : Connection) (input : 
 
 -- the controller handles it for the connection, and the frame brings what the input says
 abbrev pub FrameIsHandled : Actors → RelayItem → Connection → Input → Option Channel → Row → Type 0
-FrameIsHandled w item s input offer r = IsFrameFor w item s input offer r → (text : List ℕ) × HandlesFor w item s input offer r text
+FrameIsHandled w item s input offer r =
+    IsFrameFor w item s input offer r → (text : List ℕ) × HandlesFor w item s input offer r text

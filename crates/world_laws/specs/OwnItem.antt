@@ -1,9 +1,12 @@
 -- What the first item of the inbox says to a connection: an input, and what it brings of its
 -- channel.
-use Rattle.std.specs.Prelude.{◌≡◌, ℕ, ◌≤◌, Bool, true, false, if◌then◌else◌, List, [], ◌∷◌, ◌++◌, Option, Some}
+use Rattle.std.specs.Prelude.{◌≡◌, ℕ, ◌≤◌, Bool, true, false, if◌then◌else◌, List, [], ◌∷◌, ◌++◌}
+use Rattle.std.specs.Prelude.{Option, Some}
 use Rattle.std.specs.List.{AllByRecursion}
-use Rattle.world_laws.specs.Prelude.{Channel, Place, Input, Connection, IsCarried, Stands, Row, AreApart, IsOpen, relayed, target_in}
-use Rattle.world_laws.specs.Prelude.{undone, used_channels, row_of, place_of, Zero, is_control, DataLinkState, same_place}
+use Rattle.world_laws.specs.Prelude.{Channel, Place, Input, Connection, IsCarried, IsValid, Row}
+use Rattle.world_laws.specs.Prelude.{AreApart, IsOpen, relayed, target_in}
+use Rattle.world_laws.specs.Prelude.{undone, used_channels, row_of, place_of, Zero, is_control}
+use Rattle.world_laws.specs.Prelude.{DataLinkState, same_place}
 use Rattle.conn_rules.specs.declared.input.Input.TheVariants as inputs
 use Rattle.conn_rules.specs.Roles.{RoleStep, roles_of, step_by}
 use Rattle.conn_rules.specs.Roles.RoleStep.{commands as role_commands, completes as role_completes}
@@ -19,10 +22,14 @@ use Rattle.world_laws.specs.ToCome.{AreLayer3, texts_of}
 
 -- what an input brings of a channel; COMPLETE and FAILURE are this text
 abbrev pub said_by : Input → List ℕ → Place → List Item
-said_by (inputs.Dtap at Zero message) text place = if same_place place at then brought message ∷ [] else []
-said_by (inputs.EstablishIndication at Zero (Some initial)) text place = if same_place place at then brought initial ∷ [] else []
-said_by (inputs.Complete at change cause) text place = if same_place place at then brought text ∷ [] else []
-said_by (inputs.Failure at change cause) text place = if same_place place at then brought text ∷ [] else []
+said_by (inputs.Dtap at Zero message) text place =
+    if same_place place at then brought message ∷ [] else []
+said_by (inputs.EstablishIndication at Zero (Some initial)) text place =
+    if same_place place at then brought initial ∷ [] else []
+said_by (inputs.Complete at change cause) text place =
+    if same_place place at then brought text ∷ [] else []
+said_by (inputs.Failure at change cause) text place =
+    if same_place place at then brought text ∷ [] else []
 said_by (inputs.ReleaseAck at) text place = if same_place place at then released ∷ [] else []
 said_by _ text place = []
 
@@ -41,15 +48,18 @@ IsBesideTarget (inputs.Failure at change cause) = Unit {0}
 IsBesideTarget _ = ⊥
 
 -- What is on its way up of a connection's channels, before an input is taken and after it.
-pub record Finds (input : Input) (text : List ℕ) (before after : Place → List Item) (s : Connection) : Type 0 where
+pub record Finds (input : Input) (text : List ℕ) (before after : Place → List Item)
+    (s : Connection) : Type 0 where
   pub read : IsRead input text
   -- what it brings came first
   pub first : (at : Place) → before at ≡ said_by input text at ++ after at
   -- an RF CHANNEL RELEASE ACK is the last of an old channel, and comes of no other
   pub old_end : AllByRecursion (λ c. EndsLast (before (place_of c))) (undone s.draining)
-  pub others_go_on : AllByRecursion (λ c. is_ended (before (place_of c)) ≡ false) (s.serving ∷ target_in s.state)
+  pub others_go_on : AllByRecursion (λ c. is_ended (before (place_of c))
+      ≡ false) (s.serving ∷ target_in s.state)
   -- nothing came of a target before the COMMAND, or of one from which the mobile came back
-  pub silent : IsBesideTarget input → AllByRecursion (λ c. messages_in (before (place_of c)) ≡ []) (target_in s.state)
+  pub silent : IsBesideTarget input
+      → AllByRecursion (λ c. messages_in (before (place_of c)) ≡ []) (target_in s.state)
   pub whole : AllByRecursion (λ c. AreLayer3 (texts_of (before (place_of c)))) (used_channels s)
 
 -- ---- the row that fits the input
@@ -66,11 +76,12 @@ seat_after role_completes seat = after_complete seat
 seat_after _ seat = seat
 
 -- The row that fits it is done, doesn't put CR, and the connection stays open.
-pub record TakesInput (s : Connection) (input : Input) (offer : Option Channel) (r : Row) (text : List ℕ) (before after : Place → List Item) (commands commands2 : ℕ) : Type 0 where
+pub record TakesInput (s : Connection) (input : Input) (offer : Option Channel) (r : Row)
+    (text : List ℕ) (before after : Place → List Item) (commands commands2 : ℕ) : Type 0 where
   pub fits : row_of s input offer ≡ Some r
   pub stays_open : IsOpen r.next.state
   pub awaits : StillAwaits s.state r.next.state
-  pub stands : Stands s
+  pub stands : IsValid s
   pub carried : IsCarried input
   pub apart : AreApart (used_channels s)
   pub finds : Finds input text before after s
@@ -80,7 +91,11 @@ pub record TakesInput (s : Connection) (input : Input) (offer : Option Channel) 
 -- what it relays joins what waits for the switch
 abbrev pub InputKeepsLineUp : ℕ → Connection → Input → Option Channel → Row → Type 0
 InputKeepsLineUp m s input offer r =
-    (text : List ℕ) (before after : Place → List Item) (up : ℕ → Bool) (commands commands2 : ℕ) (seat : Seat) (sent : List (List ℕ)) (link : DataLinkState) (out taken : List (List ℕ))
+    (text : List ℕ) (before after : Place → List Item) (up : ℕ
+    → Bool) (commands commands2 : ℕ) (seat : Seat) (sent : List
+    (List ℕ)) (link : DataLinkState) (out taken : List (List ℕ))
     → TakesInput s input offer r text before after commands commands2
     → Alive m (over before up s sent link seat commands out taken)
-    → Alive m (over after up r.next sent link (seat_after (step_by input (roles_of s)) seat) commands2 (out ++ flow (relayed Zero r.outs)) taken)
+    → Alive m (over after up r.next sent link
+    (seat_after (step_by input (roles_of s)) seat) commands2 (out
+    ++ flow (relayed Zero r.outs)) taken)

@@ -1,56 +1,70 @@
 -- A row of the table keeps its connection's line-up.
 use Rattle.std.specs.Prelude.{◌≡◌, ℕ, ◌+◌, Bool, List, [], ◌∷◌, ◌++◌, Option, Some}
-use Rattle.world_laws.specs.Prelude.{Channel, Place, Input, WaitConfirm, Connection, IsCarried, Stands, Row, AreApart, IsOpen, relayed}
-use Rattle.world_laws.specs.Prelude.{used_channels, row_of, Zero, place_of, to_be_taken, GoesOn, DataLinkState}
+use Rattle.world_laws.specs.Prelude.{Channel, Place, Input, WaitConfirm, Connection, IsCarried}
+use Rattle.world_laws.specs.Prelude.{IsValid, Row, AreApart, IsOpen, relayed}
+use Rattle.world_laws.specs.Prelude.{used_channels, row_of, Zero, place_of, to_be_taken, RunsToEnd}
+use Rattle.world_laws.specs.Prelude.{DataLinkState}
 use Rattle.conn_rules.specs.Streams.{Ends, Future, from_input}
 use Rattle.hold_queue.specs.ChainState.{empty_tenure}
 use Rattle.world_laws.specs.LineUp.Alive.{Alive}
-use Rattle.world_laws.specs.LineUp.Places.{Item, Seat, LineUp, flow, messages_in, controls_of, controls_in}
+use Rattle.world_laws.specs.LineUp.Places.{Item, Seat, LineUp, flow, messages_in, controls_of}
+use Rattle.world_laws.specs.LineUp.Places.{controls_in}
 use Rattle.world_laws.specs.LineUp.Places.Seat.{on_serving}
-use Rattle.world_laws.specs.LineUps.{old_tenures, serving_hold, serving_tenure, commanded_target, target_tenure, assembled}
+use Rattle.world_laws.specs.LineUps.{old_tenures, serving_hold, serving_tenure, commanded_target}
+use Rattle.world_laws.specs.LineUps.{target_tenure, assembled}
 use Rattle.world_laws.specs.OwnStep.{OwnStep, StillAwaits}
-use Rattle.world_laws.specs.ToCome.{AreLayer3, StandsFor}
+use Rattle.world_laws.specs.ToCome.{AreLayer3, IsFutureOf}
 
 -- a mobile's messages on their way over a connection's channels, by what is on its way up from each
-abbrev pub over : (Place → List Item) → (ℕ → Bool) → Connection → List (List ℕ) → DataLinkState → Seat → ℕ → List (List ℕ) → List (List ℕ) → LineUp
-over coming up s sent link seat commands out taken = assembled sent link seat s.state commands (old_tenures coming up s.draining s.up.tenures)
-    (serving_tenure coming up s.serving (serving_hold s.draining s.up.tenures)) (target_tenure coming up seat (commanded_target s.state)) out taken
+abbrev pub over : (Place → List Item) → (ℕ → Bool) → Connection → List (List ℕ) → DataLinkState
+    → Seat → ℕ → List (List ℕ) → List (List ℕ) → LineUp
+over coming up s sent link seat commands out taken =
+    assembled sent link seat s.state commands (old_tenures coming up s.draining s.up.tenures)
+    (serving_tenure coming up s.serving (serving_hold s.draining s.up.tenures))
+    (target_tenure coming up seat (commanded_target s.state)) out taken
 
 -- The row that fits an input, by which the connection stays open: what is on its way up was one
 -- message more, the input's; and the row changes the roles of channels by a step that what is on
 -- its way allows. It isn't the row that puts CR, of which more is asked below.
-pub record DoesRow (s : Connection) (input : Input) (offer : Option Channel) (r : Row) (before after : Place → List Item) (up : ℕ → Bool) (commands commands2 : ℕ) (seat seat2 : Seat) : Type 0 where
+pub record DoesRow (s : Connection) (input : Input) (offer : Option Channel) (r : Row)
+    (before after : Place → List Item) (up : ℕ → Bool) (commands commands2 : ℕ) (seat seat2 : Seat) : Type 0 where
   pub fits : row_of s input offer ≡ Some r
   pub stays_open : IsOpen r.next.state
   pub awaits : StillAwaits s.state r.next.state
-  pub stands : Stands s
+  pub stands : IsValid s
   pub carried : IsCarried input
   pub apart : AreApart (used_channels s)
   pub future : Future
   pub ends : Ends future s.state input
-  pub was : StandsFor (from_input Zero input future) before up s
-  pub now : StandsFor future after up r.next
+  pub was : IsFutureOf (from_input Zero input future) before up s
+  pub now : IsFutureOf future after up r.next
   pub whole : AreLayer3 (relayed Zero r.outs)
   pub step : OwnStep before after up s r.next commands commands2 seat seat2
 
 -- what it relays joins what waits for the switch
 abbrev pub RowKeepsLineUp : ℕ → Connection → Input → Option Channel → Row → Type 0
 RowKeepsLineUp m s input offer r =
-    (before after : Place → List Item) (up : ℕ → Bool) (commands commands2 : ℕ) (seat seat2 : Seat) (sent : List (List ℕ)) (link : DataLinkState) (out taken : List (List ℕ))
+    (before after : Place → List Item) (up : ℕ
+    → Bool) (commands commands2 : ℕ) (seat seat2 : Seat) (sent : List
+    (List ℕ)) (link : DataLinkState) (out taken : List (List ℕ))
     → DoesRow s input offer r before after up commands commands2 seat seat2
     → Alive m (over before up s sent link seat commands out taken)
-    → Alive m (over after up r.next sent link seat2 commands2 (out ++ flow (relayed Zero r.outs)) taken)
+    → Alive m (over after up r.next sent link seat2 commands2 (out
+    ++ flow (relayed Zero r.outs)) taken)
 
 -- The row that puts CR with the initial message: nothing is held, and the mobile's link goes on
 -- behind that message and what is on its way up behind it, where no COMPLETE or FAILURE is.
-pub record Opens (m : ℕ) (sent : List (List ℕ)) (link : DataLinkState) (initial : List ℕ) (coming : Place → List Item) (s : Connection) : Type 0 where
+pub record Opens (m : ℕ) (sent : List (List ℕ)) (link : DataLinkState) (initial : List ℕ)
+    (coming : Place → List Item) (s : Connection) : Type 0 where
   pub awaits : s.state ≡ WaitConfirm
   pub none_drains : s.draining ≡ []
   pub none_held : s.up.tenures ≡ empty_tenure ∷ []
-  pub goes_on : GoesOn m sent (flow (initial ∷ messages_in (coming (place_of s.serving)))) link
+  pub goes_on : RunsToEnd m sent (flow (initial ∷ messages_in (coming (place_of s.serving)))) link
   pub no_control : controls_in (coming (place_of s.serving)) + controls_of (to_be_taken link) ≡ 0
 
 -- the initial message waits for the switch
 abbrev pub OpeningLinesUp : ℕ → Type 0
 OpeningLinesUp m =
-    (sent : List (List ℕ)) (link : DataLinkState) (initial : List ℕ) (coming : Place → List Item) (up : ℕ → Bool) (s : Connection) → Opens m sent link initial coming s → Alive m (over coming up s sent link on_serving 0 (flow (initial ∷ [])) [])
+    (sent : List (List ℕ)) (link : DataLinkState) (initial : List ℕ) (coming : Place
+    → List Item) (up : ℕ → Bool) (s : Connection) → Opens m sent link initial coming s
+    → Alive m (over coming up s sent link on_serving 0 (flow (initial ∷ [])) [])

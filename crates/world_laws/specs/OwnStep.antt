@@ -1,5 +1,6 @@
 -- What a row does to the line-up of its connection, by the roles of its channels.
-use Rattle.std.specs.Prelude.{◌≡◌, ℕ, ◌+◌, ◌≤◌, ◌&&◌, ◌||◌, not, Bool, true, false, if◌then◌else◌, List, [], ◌∷◌, Option, Some, None}
+use Rattle.std.specs.Prelude.{◌≡◌, ℕ, ◌+◌, ◌≤◌, ◌&&◌, ◌||◌, not, Bool, true, false, if◌then◌else◌}
+use Rattle.std.specs.Prelude.{List, [], ◌∷◌, Option, Some, None}
 use Rattle.world_laws.specs.Prelude.{Place, Drain, State, Target, Connection, place_of}
 use Rattle.world_laws.specs.LineUp.ChangeStep.{after_complete}
 use Rattle.world_laws.specs.LineUp.Places.{Item, Seat, messages_in, controls_in, texts_in}
@@ -12,7 +13,9 @@ StillAwaits state next = is_opening state ≡ true → is_opening next ≡ true
 
 -- whether something may be missing of an old channel
 abbrev pub lacks : (Place → List Item) → (ℕ → Bool) → Drain → Bool
-lacks coming up d = if d.is_done then false else (not (up d.channel.station) && not (is_ended (coming (place_of d.channel))))
+lacks coming up d =
+    if d.is_done then false else (not (up d.channel.station)
+    && not (is_ended (coming (place_of d.channel))))
 
 abbrev pub some_lacks : (Place → List Item) → (ℕ → Bool) → List Drain → Bool
 some_lacks coming up [] = false
@@ -21,25 +24,46 @@ some_lacks coming up (d ∷ ds) = lacks coming up d || some_lacks coming up ds
 -- ---- what a row does
 
 -- Channels of which something was missing are there after it.
-abbrev pub Covers : (Place → List Item) → (Place → List Item) → (ℕ → Bool) → Connection → Connection → Type 0
-Covers before after up s next = some_lacks after up next.draining ≡ false → some_lacks before up s.draining ≡ false
+abbrev pub Covers : (Place → List Item) → (Place → List Item) → (ℕ → Bool) → Connection → Connection
+    → Type 0
+Covers before after up s next =
+    some_lacks after up next.draining ≡ false → some_lacks before up s.draining ≡ false
 
 -- what is on its way of the target
 abbrev pub target_items : (Place → List Item) → Option Target → List Item
 target_items coming None = []
 target_items coming (Some t) = coming (place_of t.channel)
 
-pub data OwnStep (before after : Place → List Item) (up : ℕ → Bool) (s next : Connection) (commands commands2 : ℕ) : Seat → Seat → Type 0 where
+pub data OwnStep (before after : Place → List Item) (up : ℕ → Bool) (s next : Connection)
+    (commands commands2 : ℕ) : Seat → Seat → Type 0 where
   -- the channels have the roles that they had, or old ones leave
-  stays : {seat : Seat} → next.serving ≡ s.serving → commanded_target next.state ≡ commanded_target s.state → controls_in (after (place_of s.serving)) ≤ controls_in (before (place_of s.serving))
-      → texts_in (target_items after (commanded_target s.state)) ≤ texts_in (target_items before (commanded_target s.state)) → controls_in (target_items after (commanded_target s.state)) ≤ controls_in (target_items before (commanded_target s.state))
-      → commands2 ≤ commands → Covers before after up s next → OwnStep before after up s next commands commands2 seat seat
+  stays : {seat : Seat} → next.serving ≡ s.serving
+      → commanded_target next.state ≡ commanded_target s.state
+      → controls_in (after (place_of s.serving)) ≤ controls_in (before (place_of s.serving))
+      → texts_in (target_items after (commanded_target s.state))
+      ≤ texts_in (target_items before (commanded_target s.state))
+      → controls_in (target_items after (commanded_target s.state))
+      ≤ controls_in (target_items before (commanded_target s.state))
+      → commands2 ≤ commands → Covers before after up s next
+      → OwnStep before after up s next commands commands2 seat seat
   -- the COMMAND is put; nothing is on its way of the target
-  tells : {seat : Seat} → next.serving ≡ s.serving → commanded_target s.state ≡ None → (t : Target) → commanded_target next.state ≡ Some t → controls_in (after (place_of s.serving)) ≤ controls_in (before (place_of s.serving)) → messages_in (after (place_of t.channel)) ≡ []
-      → commands2 ≤ 1 → Covers before after up s next → OwnStep before after up s next commands commands2 seat seat
+  tells : {seat : Seat} → next.serving ≡ s.serving → commanded_target s.state ≡ None → (t : Target)
+      → commanded_target next.state ≡ Some t
+      → controls_in (after (place_of s.serving)) ≤ controls_in (before (place_of s.serving))
+      → messages_in (after (place_of t.channel)) ≡ []
+      → commands2 ≤ 1 → Covers before after up s next
+      → OwnStep before after up s next commands commands2 seat seat
   -- COMPLETE came: the target serves
-  completes : {seat : Seat} → (t : Target) → commanded_target s.state ≡ Some t → commanded_target next.state ≡ None → next.serving ≡ t.channel → controls_in (after (place_of t.channel)) + 1 ≤ controls_in (before (place_of t.channel)) → commands2 ≤ commands
-      → (some_lacks after up next.draining ≡ false → (some_lacks before up s.draining ≡ false) × (not (up s.serving.station) ≡ false)) → OwnStep before after up s next commands commands2 seat (after_complete seat)
+  completes : {seat : Seat} → (t : Target) → commanded_target s.state ≡ Some t
+      → commanded_target next.state ≡ None → next.serving ≡ t.channel
+      → controls_in (after (place_of t.channel)) + 1 ≤ controls_in (before (place_of t.channel))
+      → commands2 ≤ commands
+      → (some_lacks after up next.draining ≡ false
+      → (some_lacks before up s.draining ≡ false) × (not (up s.serving.station) ≡ false))
+      → OwnStep before after up s next commands commands2 seat (after_complete seat)
   -- FAILURE came: the target is given up
-  goes_back : {seat : Seat} → (t : Target) → commanded_target s.state ≡ Some t → commanded_target next.state ≡ None → next.serving ≡ s.serving → controls_in (after (place_of s.serving)) + 1 ≤ controls_in (before (place_of s.serving)) → commands2 ≤ commands
+  goes_back : {seat : Seat} → (t : Target) → commanded_target s.state ≡ Some t
+      → commanded_target next.state ≡ None → next.serving ≡ s.serving
+      → controls_in (after (place_of s.serving)) + 1 ≤ controls_in (before (place_of s.serving))
+      → commands2 ≤ commands
       → Covers before after up s next → OwnStep before after up s next commands commands2 seat seat

@@ -1,10 +1,12 @@
 -- What a row by a frame puts is read as it was put.
 use Rattle.std.specs.Prelude.{◌≡◌, ℕ, List, ◌∷◌, Option}
-use Rattle.world_laws.specs.Prelude.{Channel, Input, Connection, Row, RelayItem, AreAllowed, Parameters, Event, Handle, actors_after}
-use Rattle.world_laws.specs.Prelude.{actors_after_all, modulus_in, new_actors}
+use Rattle.world_laws.specs.Prelude.{Channel, Input, Connection, Row, RelayItem, AreAllowed}
+use Rattle.world_laws.specs.Prelude.{Parameters, Event, Handle, actors_after}
+use Rattle.world_laws.specs.Prelude.{modulus_in}
+use Rattle.world_laws.specs.Runs.{world}
 use Rattle.controller_model.specs.LifeLaws.Sending.{IsOfOctets}
 use Rattle.world_laws.specs.Handled.{IsReadyFor}
-use Rattle.world_laws.specs.OthersFrame.{CameInOctets}
+use Rattle.world_laws.specs.OthersFrame.{TookOctets}
 use Rattle.world_laws.specs.OwnFrame.{IsFrameFor}
 use Rattle.world_laws.specs.OwnHandle.{IsPutAsRead}
 use Rattle.world_laws.specs.Staying.{AreLinedUp}
@@ -12,14 +14,21 @@ use Rattle.world_laws.specs.Staying.{AreLinedUp}
 -- whatever happened before, with settings that are allowed, where what came was octets
 abbrev pub FramesArePutAsRead : Parameters → List Event → Type 0
 FramesArePutAsRead settings events =
-    (s : Connection) (item : RelayItem) (items : List RelayItem) (input : Input) (offer : Option Channel) (r : Row) → AreAllowed settings → CameInOctets settings events → IsOfOctets item.what
-    → (actors_after_all (new_actors settings) events).inbox ≡ item ∷ items → IsFrameFor (actors_after_all (new_actors settings) events) item s input offer r → IsPutAsRead s r
+    (s : Connection) (item : RelayItem) (items : List RelayItem) (input : Input)
+    (offer : Option Channel) (r : Row) → AreAllowed settings → TookOctets settings events
+    → IsOfOctets item.what
+    → (world settings events).inbox ≡ item ∷ items
+    → IsFrameFor (world settings events) item s input offer r → IsPutAsRead s r
 
 -- so a connection stays lined up when the controller handles a frame that says an input to it,
 -- while it stays open
 abbrev pub AllowedFramesKeepLineUps : Parameters → List Event → Type 0
 AllowedFramesKeepLineUps settings events =
-    (mobile : ℕ) (s : Connection) (item : RelayItem) (items : List RelayItem) (input : Input) (offer : Option Channel) (r : Row) → AreAllowed settings → CameInOctets settings events → IsOfOctets item.what
-    → (actors_after_all (new_actors settings) events).inbox ≡ item ∷ items → IsFrameFor (actors_after_all (new_actors settings) events) item s input offer r → IsReadyFor (actors_after_all (new_actors settings) events) s input
-    → AreLinedUp (modulus_in settings) (actors_after_all (new_actors settings) events) mobile s
-    → AreLinedUp (modulus_in settings) (actors_after (actors_after_all (new_actors settings) events) Handle) mobile r.next
+    (mobile : ℕ) (s : Connection) (item : RelayItem) (items : List RelayItem) (input : Input)
+    (offer : Option Channel) (r : Row) → AreAllowed settings → TookOctets settings events
+    → IsOfOctets item.what
+    → (world settings events).inbox ≡ item ∷ items
+    → IsFrameFor (world settings events) item s input offer r
+    → IsReadyFor (world settings events) s input
+    → AreLinedUp (modulus_in settings) (world settings events) mobile s
+    → AreLinedUp (modulus_in settings) (actors_after (world settings events) Handle) mobile r.next

@@ -13,7 +13,8 @@ use Rattle.world_model.specs.OwnerLines.{is_in_use}
 abbrev pub due_for : Place → Bool → List Out → List Rsl
 due_for at active [] = []
 due_for at active (out ∷ outs) =
-    if out.to == at.station then acknowledgement at.number active (rsl_in out.frame) ++ due_for at (is_active_then at.number active (rsl_in out.frame)) outs
+    if out.to == at.station then acknowledgement at.number active (rsl_in out.frame)
+    ++ due_for at (is_active_then at.number active (rsl_in out.frame)) outs
     else due_for at active outs
 
 -- an RF CHANNEL RELEASE ACK is due at the end of a channel that is releasing, and of no other
@@ -28,7 +29,10 @@ IsDueIn _ messages = NoneReleases messages
 
 -- It stays so when orders take turns. Once it has taken all its orders, a channel in use is active.
 abbrev pub OrdersKeepDue : Place → Type 0
-OrdersKeepDue at = (before after : ChannelState) (messages : List Rsl) (outs : List Out) → TakesTurns at before outs after → IsDueIn before messages → IsDueIn after (messages ++ due_for at (is_in_use before) outs)
+OrdersKeepDue at =
+    (before after : ChannelState) (messages : List Rsl) (outs : List Out)
+    → TakesTurns at before outs after → IsDueIn before messages
+    → IsDueIn after (messages ++ due_for at (is_in_use before) outs)
 
 -- and when the controller takes the first: an RF CHANNEL RELEASE ACK comes of a channel that is
 -- releasing alone, and frees it
@@ -37,7 +41,9 @@ after_ack true (Releasing n) = Free
 after_ack releases state = state
 
 abbrev pub TakingKeepsDue : Type 0
-TakingKeepsDue = (state : ChannelState) (m : Rsl) (messages : List Rsl) → IsDueIn state (m ∷ messages) → IsDueIn (after_ack (is_release_ack m) state) messages
+TakingKeepsDue =
+    (state : ChannelState) (m : Rsl) (messages : List Rsl) → IsDueIn state (m ∷ messages)
+    → IsDueIn (after_ack (is_release_ack m) state) messages
 
 -- so it tells what is on its way of those that are due first
 pub record DueTells (n : ℕ) (up rest : List Rsl) : Type 0 where

@@ -1,8 +1,10 @@
 -- What comes on SAPI 3 is never of the flow.
 use Rattle.std.specs.Prelude.{◌≡◌, ℕ, ◌≤◌, false, List}
 use Rattle.std.specs.List.{AllByRecursion}
-use Rattle.world_laws.specs.Prelude.{Input, IsThere, connection_of, word_by, word_in, Word, OnChannel, OnConnection, is_flow_message}
-use Rattle.world_laws.specs.Prelude.{AreAllowed, Parameters, Event, actors_after_all, all_steps, new_actors}
+use Rattle.world_laws.specs.Prelude.{Input, IsThere, connection_of, word_by, word_in, Word}
+use Rattle.world_laws.specs.Prelude.{OnChannel, OnConnection, is_flow_message}
+use Rattle.world_laws.specs.Prelude.{AreAllowed, Parameters, Event, all_steps, new_actors}
+use Rattle.world_laws.specs.Runs.{world}
 use Rattle.conn_rules.specs.declared.input.Input.TheVariants as inputs
 use Rattle.controller_model.specs.Views.{held_up}
 use Rattle.dtap_codec.specs.declared.sapi.Sapi.TheVariants.{Three}
@@ -20,8 +22,11 @@ SaysBesideFlow (OnConnection number input) = BringsBesideFlow input
 SaysBesideFlow _ = Unit {0}
 
 -- no message that came on SAPI 3, waits in the inbox or is held is of the flow
-pub record FlowComesOnSapiZero (settings : Parameters) (events : List Event) : Type 0 where
-  pub came : AllByRecursion (λ step. SaysBesideFlow (word_in step)) (all_steps (new_actors settings) events)
-  pub waits : AllByRecursion (λ item. SaysBesideFlow (word_by item.source item.what)) (actors_after_all (new_actors settings) events).inbox
-  pub held : AreAllowed settings → (number : ℕ) → 1 ≤ number → IsThere (connection_of (actors_after_all (new_actors settings) events).controller number)
-      → AllByRecursion IsBesideFlow (held_up (actors_after_all (new_actors settings) events).controller number Three)
+pub record FlowIsOnSapiZero (settings : Parameters) (events : List Event) : Type 0 where
+  pub came : AllByRecursion (λ step. SaysBesideFlow (word_in step))
+      (all_steps (new_actors settings) events)
+  pub waits : AllByRecursion (λ item. SaysBesideFlow (word_by item.source item.what))
+      (world settings events).inbox
+  pub held : AreAllowed settings → (number : ℕ) → 1 ≤ number
+      → IsThere (connection_of (world settings events).controller number)
+      → AllByRecursion IsBesideFlow (held_up (world settings events).controller number Three)

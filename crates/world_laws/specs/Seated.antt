@@ -1,10 +1,13 @@
 -- Where the mobile of a connection is, and who else is on the connection's channels.
-use Rattle.std.specs.Prelude.{◌≡◌, ◌≢◌, ℕ, true, false, List, [], ◌∷◌, Option, Some, None, Result, Ok}
+use Rattle.std.specs.Prelude.{◌≡◌, ◌≢◌, ℕ, true, false, List, [], ◌∷◌, Option, Some, None, Result}
+use Rattle.std.specs.Prelude.{Ok}
 use Rattle.std.specs.List.{AllByRecursion}
 use Rattle.conn_messages.specs.declared.channel.Change.{Change}
 use Rattle.conn_messages.specs.declared.channel.Change.TheVariants.{Assignment, Handover}
-use Rattle.world_laws.specs.Prelude.{Channel, Place, SWITCH_LINK, Target, Connection, AreApart, used_channels, place_of, RrMessage, RrFault}
-use Rattle.world_laws.specs.Prelude.{rr_reading, AirMessage, On, Tenure, Actors, Mobile, mobile_of, tenure_at, is_active_at}
+use Rattle.world_laws.specs.Prelude.{Channel, Place, SWITCH_LINK, Target, Connection, AreApart}
+use Rattle.world_laws.specs.Prelude.{used_channels, place_of, RrMessage, RrFault}
+use Rattle.world_laws.specs.Prelude.{rr_reading, AirMessage, On, Tenure, Actors, Mobile, mobile_of}
+use Rattle.world_laws.specs.Prelude.{tenure_at, is_active_at}
 use Rattle.conn_rules.specs.Connection.{is_at}
 use Rattle.dtap_codec.specs.declared.rr.RrMessage.TheVariants.{AssignmentCommand, HandoverCommand}
 use Rattle.world_laws.specs.LineUp.Alive.{Alive}
@@ -19,20 +22,25 @@ use Rattle.world_laws.specs.LineUps.{commanded_target, line_up}
 
 -- the command to a target, in its present tenure
 abbrev pub command_to : Actors → Target → Command
-command_to w target = record { change = target.change; target = tenure_at w (place_of target.channel) }
+command_to w target =
+    record { change = target.change; target = tenure_at w (place_of target.channel) }
 
 -- no command, or that of the change under way
 pub data Remembers (w : Actors) : Option Target → Option Command → Type 0 where
   nothing : {target : Option Target} → Remembers w target None
-  told : {target : Target} {command : Command} → command ≡ command_to w target → Remembers w (Some target) (Some command)
+  told : {target : Target} {command : Command} → command ≡ command_to w target
+      → Remembers w (Some target) (Some command)
 
 -- It is on the serving channel; or it was commanded, and came to the target or is between both; or
 -- it is gone. All in the present tenures.
 pub data Sits (w : Actors) (serving : Channel) : Option Target → Seat → Type 0 where
-  stays : {target : Option Target} {tenure : Tenure} {command : Option Command} → tenure ≡ tenure_at w (place_of serving) → Remembers w target command →
+  stays : {target : Option Target} {tenure : Tenure} {command : Option Command}
+      → tenure ≡ tenure_at w (place_of serving) → Remembers w target command →
       Sits w serving target (On tenure command)
-  came : {target : Target} {tenure : Tenure} → tenure ≡ tenure_at w (place_of target.channel) → Sits w serving (Some target) (On tenure None)
-  between : {target : Target} {from : Tenure} {command : Command} → from ≡ tenure_at w (place_of serving) → command ≡ command_to w target →
+  came : {target : Target} {tenure : Tenure} → tenure ≡ tenure_at w (place_of target.channel)
+      → Sits w serving (Some target) (On tenure None)
+  between : {target : Target} {from : Tenure} {command : Command}
+      → from ≡ tenure_at w (place_of serving) → command ≡ command_to w target →
       Sits w serving (Some target) (Moving from command)
   gone : {target : Option Target} → Sits w serving target Gone
 
@@ -45,7 +53,8 @@ change_in _ = None
 
 -- it leads to the target of the change under way
 pub data Leads (w : Actors) (a : AirMessage) : Option Target → Type 0 where
-  leads : {target : Target} → change_in (rr_reading a.message) ≡ Some target.change → a.target ≡ Some (tenure_at w (place_of target.channel)) → Leads w a (Some target)
+  leads : {target : Target} → change_in (rr_reading a.message) ≡ Some target.change
+      → a.target ≡ Some (tenure_at w (place_of target.channel)) → Leads w a (Some target)
 
 -- none on the target
 abbrev pub NoneOn : Actors → Option Target → Type 0
@@ -61,7 +70,8 @@ IsElsewhere channels at = AllByRecursion (λ c. is_at at c ≡ false) channels
 -- no other mobile is on a channel that the connection uses, in its present tenure
 abbrev pub IsAlone : Actors → ℕ → Connection → Type 0
 IsAlone w mobile s =
-    (other : ℕ) (q : Mobile) (tenure : Tenure) (command : Option Command) → other ≢ mobile → mobile_of w other ≡ Some q → q.seat ≡ On tenure command
+    (other : ℕ) (q : Mobile) (tenure : Tenure) (command : Option Command) → other ≢ mobile
+    → mobile_of w other ≡ Some q → q.seat ≡ On tenure command
     → is_reached w tenure ≡ true → IsElsewhere (used_channels s) tenure.at
 
 abbrev pub commanded_channels : Option Target → List Channel
@@ -71,14 +81,18 @@ commanded_channels (Some target) = target.channel ∷ []
 -- of its serving channel, and the target to which its mobile was commanded, that of this station is
 -- active
 abbrev pub AreActiveAt : ℕ → Actors → Connection → Type 0
-AreActiveAt station w s = AllByRecursion (λ c. c.station ≡ station → is_active_at w (place_of c) ≡ true) (s.serving ∷ commanded_channels (commanded_target s.state))
+AreActiveAt station w s =
+    AllByRecursion (λ c. c.station ≡ station
+    → is_active_at w (place_of c) ≡ true) (s.serving
+    ∷ commanded_channels (commanded_target s.state))
 
 -- ---- a connection and its mobile, lined up
 
 pub record LinedUp (m : ℕ) (w : Actors) (p : Mobile) (s : Connection) : Type 0 where
   pub alive : Alive m (line_up w p s)
   pub sits : Sits w s.serving (commanded_target s.state) p.seat
-  pub led : AllByRecursion (λ a. Leads w a (commanded_target s.state)) (going_down w (place_of s.serving))
+  pub led : AllByRecursion (λ a. Leads w a (commanded_target s.state))
+      (going_down w (place_of s.serving))
   pub none_on_target : NoneOn w (commanded_target s.state)
   pub apart : AreApart (used_channels s)
   -- stations are numbered from 1

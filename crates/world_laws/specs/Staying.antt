@@ -1,9 +1,13 @@
 -- A connection stays lined up at an event.
-use Rattle.std.specs.Prelude.{◌≡◌, ◌≢◌, ℕ, Bool, true, false, List, [], ◌∷◌, ◌++◌, map, Option, Some, None}
+use Rattle.std.specs.Prelude.{◌≡◌, ◌≢◌, ℕ, Bool, true, false, List, [], ◌∷◌, ◌++◌, map, Option}
+use Rattle.std.specs.Prelude.{Some, None}
 use Rattle.std.specs.List.{AllByRecursion}
-use Rattle.world_laws.specs.Prelude.{Out, SWITCH_LINK, Connection, undone, used_channels, take, place_of, forwarded, RelayItem, Parameters}
-use Rattle.world_laws.specs.Prelude.{Event, BaseTakes, Handle, SwitchTakes, Tick, OutboxEntry, sccp_in, actors_after, actors_after_all}
-use Rattle.world_laws.specs.Prelude.{Actors, Mobile, mobile_of, modulus_in, new_actors, outbox_of, Tenure}
+use Rattle.world_laws.specs.Prelude.{Out, SWITCH_LINK, Connection, undone, used_channels, take}
+use Rattle.world_laws.specs.Prelude.{place_of, forwarded, RelayItem, Parameters}
+use Rattle.world_laws.specs.Prelude.{Event, BaseTakes, Handle, SwitchTakes, Tick, OutboxEntry}
+use Rattle.world_laws.specs.Prelude.{sccp_in, actors_after}
+use Rattle.world_laws.specs.Prelude.{Actors, Mobile, mobile_of, modulus_in, outbox_of, Tenure}
+use Rattle.world_laws.specs.Runs.{world}
 use Rattle.controller_model.specs.Life.{tick}
 use Rattle.world_laws.specs.LineUp.Places.{Item}
 use Rattle.world_laws.specs.LineUp.Places.Item.{brought, released}
@@ -35,16 +39,18 @@ is_beside_relay _ = true
 -- whatever happened before
 abbrev pub MobilesKeepLineUps : Parameters → List Event → Event → Type 0
 MobilesKeepLineUps settings events event =
-    (mobile : ℕ) (s : Connection) → is_beside_relay event ≡ true → IsAlone (actors_after_all (new_actors settings) events) mobile s
-    → AreLinedUp (modulus_in settings) (actors_after_all (new_actors settings) events) mobile s
-    → AreLinedUp (modulus_in settings) (actors_after (actors_after_all (new_actors settings) events) event) mobile s
+    (mobile : ℕ) (s : Connection) → is_beside_relay event ≡ true
+    → IsAlone (world settings events) mobile s
+    → AreLinedUp (modulus_in settings) (world settings events) mobile s
+    → AreLinedUp (modulus_in settings) (actors_after (world settings events) event) mobile s
 
 -- whatever happened before, where its channels of the station are active
 abbrev pub StationsKeepLineUps : Parameters → List Event → ℕ → Type 0
 StationsKeepLineUps settings events station =
-    (mobile : ℕ) (s : Connection) → AreActiveAt station (actors_after_all (new_actors settings) events) s
-    → AreLinedUp (modulus_in settings) (actors_after_all (new_actors settings) events) mobile s
-    → AreLinedUp (modulus_in settings) (actors_after (actors_after_all (new_actors settings) events) (BaseTakes station)) mobile s
+    (mobile : ℕ) (s : Connection) → AreActiveAt station (world settings events) s
+    → AreLinedUp (modulus_in settings) (world settings events) mobile s
+    → AreLinedUp (modulus_in settings)
+    (actors_after (world settings events) (BaseTakes station)) mobile s
 
 -- ---- the switch takes
 
@@ -56,14 +62,17 @@ carried_for number out = map (λ f. f.message) (forwarded (out ∷ []) number)
 -- is the last that the switch took of it.
 abbrev pub DeliversFirst : Actors → ℕ → List OutboxEntry → Type 0
 DeliversFirst w number [] = Unit {0}
-DeliversFirst w number (first ∷ others) = taken_of (switch_took (sccp_in first.out.frame) w) number ≡ taken_of w number ++ carried_for number first.out
+DeliversFirst w number (first ∷ others) =
+    taken_of (switch_took (sccp_in first.out.frame) w) number
+    ≡ taken_of w number ++ carried_for number first.out
 
 -- whatever happened before, where the first entry is taken as it was put
 abbrev pub SwitchKeepsLineUps : Parameters → List Event → Type 0
 SwitchKeepsLineUps settings events =
-    (mobile : ℕ) (s : Connection) → DeliversFirst (actors_after_all (new_actors settings) events) s.number (outbox_of (actors_after_all (new_actors settings) events) SWITCH_LINK)
-    → AreLinedUp (modulus_in settings) (actors_after_all (new_actors settings) events) mobile s
-    → AreLinedUp (modulus_in settings) (actors_after (actors_after_all (new_actors settings) events) SwitchTakes) mobile s
+    (mobile : ℕ) (s : Connection) → DeliversFirst (world settings events) s.number
+    (outbox_of (world settings events) SWITCH_LINK)
+    → AreLinedUp (modulus_in settings) (world settings events) mobile s
+    → AreLinedUp (modulus_in settings) (actors_after (world settings events) SwitchTakes) mobile s
 
 -- ---- the link of a station breaks
 
@@ -80,9 +89,10 @@ EndLast w s = AllByRecursion (λ c. EndsLast (coming_up w (place_of c))) (undone
 -- whatever happened before, where nothing comes behind the RF CHANNEL RELEASE ACKs
 abbrev pub StationBreaksKeepLineUps : Parameters → List Event → ℕ → Type 0
 StationBreaksKeepLineUps settings events station =
-    (mobile : ℕ) (s : Connection) → station ≢ SWITCH_LINK → EndLast (actors_after_all (new_actors settings) events) s
-    → AreLinedUp (modulus_in settings) (actors_after_all (new_actors settings) events) mobile s
-    → AreLinedUp (modulus_in settings) (actors_after (actors_after_all (new_actors settings) events) (BaseDown station)) mobile s
+    (mobile : ℕ) (s : Connection) → station ≢ SWITCH_LINK → EndLast (world settings events) s
+    → AreLinedUp (modulus_in settings) (world settings events) mobile s
+    → AreLinedUp (modulus_in settings)
+    (actors_after (world settings events) (BaseDown station)) mobile s
 
 -- ---- the controller does what doesn't concern the connection
 
@@ -90,7 +100,9 @@ StationBreaksKeepLineUps settings events station =
 -- on its channels.
 pub record IsForOthers (target : Option Tenure) (s : Connection) (out : Out) : Type 0 where
   pub carries : carried_for s.number out ≡ []
-  pub leads : AllByRecursion (λ c. out.to ≡ c.station → leading_from_outbox c.number (entry_of target out) ≡ []) (s.serving ∷ commanded_channels (commanded_target s.state))
+  pub leads : AllByRecursion (λ c. out.to ≡ c.station
+      → leading_from_outbox c.number (entry_of target out)
+      ≡ []) (s.serving ∷ commanded_channels (commanded_target s.state))
 
 -- nor is what came: it brings nothing on its channels
 abbrev pub BringsNothing : Connection → RelayItem → Type 0
@@ -99,17 +111,20 @@ BringsNothing s item = AllByRecursion (λ c. brings_in (place_of c) item ≡ [])
 -- the controller handles the first item of the inbox, whatever happened before
 abbrev pub IsOthers : Actors → Connection → List RelayItem → Type 0
 IsOthers w s [] = Unit {0}
-IsOthers w s (item ∷ items) = BringsNothing s item × AllByRecursion (IsForOthers (target_in w item.source item.what) s) (take item w.controller).outs
+IsOthers w s (item ∷ items) =
+    BringsNothing s item × AllByRecursion (IsForOthers (target_in w item.source item.what) s)
+    (take item w.controller).outs
 
 abbrev pub RelayLeavesOthers : Parameters → List Event → Type 0
 RelayLeavesOthers settings events =
-    (mobile : ℕ) (s : Connection) → IsOthers (actors_after_all (new_actors settings) events) s (actors_after_all (new_actors settings) events).inbox
-    → AreLinedUp (modulus_in settings) (actors_after_all (new_actors settings) events) mobile s
-    → AreLinedUp (modulus_in settings) (actors_after (actors_after_all (new_actors settings) events) Handle) mobile s
+    (mobile : ℕ) (s : Connection) → IsOthers (world settings events) s (world settings events).inbox
+    → AreLinedUp (modulus_in settings) (world settings events) mobile s
+    → AreLinedUp (modulus_in settings) (actors_after (world settings events) Handle) mobile s
 
 -- time passes for it
 abbrev pub TimeLeavesOthers : Parameters → List Event → ℕ → Type 0
 TimeLeavesOthers settings events ms =
-    (mobile : ℕ) (s : Connection) → AllByRecursion (IsForOthers None s) (tick ms (actors_after_all (new_actors settings) events).controller).outs
-    → AreLinedUp (modulus_in settings) (actors_after_all (new_actors settings) events) mobile s
-    → AreLinedUp (modulus_in settings) (actors_after (actors_after_all (new_actors settings) events) (Tick ms)) mobile s
+    (mobile : ℕ) (s : Connection) → AllByRecursion (IsForOthers None s)
+    (tick ms (world settings events).controller).outs
+    → AreLinedUp (modulus_in settings) (world settings events) mobile s
+    → AreLinedUp (modulus_in settings) (actors_after (world settings events) (Tick ms)) mobile s

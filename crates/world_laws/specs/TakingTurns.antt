@@ -1,7 +1,9 @@
 -- What the controller orders of a channel, activations and releases, takes turns.
-use Rattle.std.specs.Prelude.{◌≡◌, ◌≢◌, ℕ, ◌==◌, true, if◌then◌else◌, List, [], ◌∷◌, Option, Some, None}
+use Rattle.std.specs.Prelude.{◌≡◌, ◌≢◌, ℕ, ◌==◌, true, if◌then◌else◌, List, [], ◌∷◌, Option, Some}
+use Rattle.std.specs.Prelude.{None}
 use Rattle.std.specs.List.{AllByRecursion}
-use Rattle.world_laws.specs.Prelude.{Place, Out, word_in, ComesInOctets, Free, Word, OnChannel, channel_state, Rsl, AreAllowed, Parameters}
+use Rattle.world_laws.specs.Prelude.{Place, Out, word_in, IsOctetStep, Free, Word, OnChannel}
+use Rattle.world_laws.specs.Prelude.{channel_state, Rsl, AreAllowed, Parameters}
 use Rattle.world_laws.specs.Prelude.{rsl_in, same_place}
 use Rattle.conn_rules.specs.declared.input.Input.TheVariants as inputs
 use Rattle.controller_model.specs.declared.channel_state.ChannelState.{ChannelState}
@@ -19,8 +21,10 @@ pub data Order : Type 0 where
   releases : Order
 
 abbrev pub order_by : ℕ → Option Rsl → Option Order
-order_by channel (Some (ChannelActivation a)) = if a.channel == channel then Some activates else None
-order_by channel (Some (RfChannelRelease number)) = if number == channel then Some releases else None
+order_by channel (Some (ChannelActivation a)) =
+    if a.channel == channel then Some activates else None
+order_by channel (Some (RfChannelRelease number)) =
+    if number == channel then Some releases else None
 order_by channel _ = None
 
 -- what an output orders of a channel
@@ -36,11 +40,14 @@ Turns (Some releases) before after = (n : ℕ) × (before ≡ InUse n) × (after
 -- from this state on to that one
 abbrev pub TakesTurns : Place → ChannelState → List Out → ChannelState → Type 0
 TakesTurns at before [] after = after ≡ before
-TakesTurns at before (out ∷ outs) after = (between : ChannelState) × Turns (order_in at out) before between × TakesTurns at between outs after
+TakesTurns at before (out ∷ outs) after =
+    (between : ChannelState) × Turns (order_in at out) before between
+    × TakesTurns at between outs after
 
 -- an RF CHANNEL RELEASE ACK frees its channel first, where it is releasing
 abbrev pub freed_by : Place → Word → ChannelState → ChannelState
-freed_by at (OnChannel place (inputs.ReleaseAck acknowledged)) (Releasing n) = if same_place place at then Free else Releasing n
+freed_by at (OnChannel place (inputs.ReleaseAck acknowledged)) (Releasing n) =
+    if same_place place at then Free else Releasing n
 freed_by at word state = state
 
 -- it isn't that the link of the station breaks
@@ -52,5 +59,7 @@ Spares at (Tick ms) = Unit {0}
 -- settings that are allowed, where what came was octets and stations refuse nothing.
 abbrev pub OrdersTakeTurns : Parameters → List Step → Step → Type 0
 OrdersTakeTurns p steps s =
-    (at : Place) → AreAllowed p → AllByRecursion ComesInOctets steps → ComesInOctets s → RefusesNone (word_in s) → is_up (life p steps).next at.station ≡ true → Spares at s
-    → TakesTurns at (freed_by at (word_in s) (channel_state (life p steps).next at)) (step (life p steps).next s).outs (channel_state (step (life p steps).next s).next at)
+    (at : Place) → AreAllowed p → AllByRecursion IsOctetStep steps → IsOctetStep s
+    → RefusesNone (word_in s) → is_up (life p steps).next at.station ≡ true → Spares at s
+    → TakesTurns at (freed_by at (word_in s) (channel_state (life p steps).next at))
+    (step (life p steps).next s).outs (channel_state (step (life p steps).next s).next at)

@@ -1,5 +1,6 @@
 -- What may still come of a connection's messages, by what is on its way up from its channels.
-use Rattle.std.specs.Prelude.{◌≡◌, ℕ, ◌&&◌, not, Bool, true, false, List, [], ◌∷◌, ◌++◌, Option, Some, None}
+use Rattle.std.specs.Prelude.{◌≡◌, ℕ, ◌&&◌, not, Bool, true, false, List, [], ◌∷◌, ◌++◌, Option}
+use Rattle.std.specs.Prelude.{Some, None}
 use Rattle.std.specs.List.{AllByRecursion}
 use Rattle.bssmap_codec.specs.Layer3.{IsLayer3}
 use Rattle.world_laws.specs.Prelude.{Channel, Place, Drain, Target, Connection, undone, place_of}
@@ -25,16 +26,23 @@ texts_of items = without_control (messages_in items)
 
 -- on an old channel
 abbrev pub AsOld : Future → (Place → List Item) → (ℕ → Bool) → Channel → Type 0
-AsOld future coming up c = (future (place_of c) ≡ texts_of (coming (place_of c)) ++ mark (not (up c.station) && not (is_ended (coming (place_of c))))) × AreLayer3 (texts_of (coming (place_of c)))
+AsOld future coming up c =
+    (future (place_of c) ≡ texts_of (coming (place_of c))
+    ++ mark (not (up c.station) && not (is_ended (coming (place_of c)))))
+    × AreLayer3 (texts_of (coming (place_of c)))
 
 -- on the serving channel
 abbrev pub AsServing : Future → (Place → List Item) → (ℕ → Bool) → Channel → Type 0
-AsServing future coming up c = (future (place_of c) ≡ texts_of (coming (place_of c)) ++ mark (not (up c.station))) × AreLayer3 (texts_of (coming (place_of c)))
+AsServing future coming up c =
+    (future (place_of c) ≡ texts_of (coming (place_of c)) ++ mark (not (up c.station)))
+    × AreLayer3 (texts_of (coming (place_of c)))
 
 -- on the target, behind which nothing comes
 abbrev pub AsTarget : Future → (Place → List Item) → Option Target → Type 0
 AsTarget future coming None = Unit {0}
-AsTarget future coming (Some t) = (b : Bool) × (future (place_of t.channel) ≡ texts_of (coming (place_of t.channel)) ++ mark b) × AreLayer3 (texts_of (coming (place_of t.channel)))
+AsTarget future coming (Some t) =
+    (b : Bool) × (future (place_of t.channel) ≡ texts_of (coming (place_of t.channel)) ++ mark b)
+    × AreLayer3 (texts_of (coming (place_of t.channel)))
 
 -- what is held is whole messages, in a tenure for each old channel and the serving one
 abbrev pub AreHeld : List Drain → List Held → Type 0
@@ -42,7 +50,8 @@ AreHeld draining [] = ⊥
 AreHeld [] (t ∷ ts) = AreLayer3 t.zero
 AreHeld (d ∷ ds) (t ∷ ts) = AreLayer3 t.zero × AreHeld ds ts
 
-pub record StandsFor (future : Future) (coming : Place → List Item) (up : ℕ → Bool) (s : Connection) : Type 0 where
+pub record IsFutureOf (future : Future) (coming : Place → List Item) (up : ℕ → Bool)
+    (s : Connection) : Type 0 where
   pub old : AllByRecursion (AsOld future coming up) (undone s.draining)
   pub serving : AsServing future coming up s.serving
   pub target : AsTarget future coming (commanded_target s.state)

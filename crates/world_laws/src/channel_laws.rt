@@ -1,7 +1,9 @@
 //! Laws: each contract states what holds of the definitions that it names. Their bodies are empty.
 
-ghost use Rattle.world_laws.specs.Channels.Begun.{BegunIsTaken, EstablishedAreActive, ServedAreActive};
-ghost use Rattle.world_laws.specs.Channels.Roles.{AcknowledgementsAgree, FreeAreSilent, OldChannelsEnd};
+ghost use Rattle.world_laws.specs.Channels.Begun.{BegunIsTaken, EstablishedAreActive};
+ghost use Rattle.world_laws.specs.Channels.Begun.{ServedAreActive};
+ghost use Rattle.world_laws.specs.Channels.Roles.{AcknowledgementsAgree, FreeAreSilent};
+ghost use Rattle.world_laws.specs.Channels.Roles.{OldChannelsEnd};
 ghost use Rattle.world_laws.specs.Runs.{OfRuns};
 
 /// Law: whatever events happened, the acknowledgements on their way agree with the roles of the

@@ -1,6 +1,6 @@
 //! Laws: each contract states what holds of the definitions that it names. Their bodies are empty.
 
-ghost use Rattle.world_laws.specs.Handling.Faring.{LiveConnectionsFareOn};
+ghost use Rattle.world_laws.specs.Handling.OpenOrEnded.{LiveConnectionsFareOn};
 ghost use Rattle.world_laws.specs.Runs.{AtEvents};
 
 /// Law: whatever events happened, a connection that lives fares on when the controller handles the

@@ -19,8 +19,10 @@ ghost use Rattle.world_laws.specs.OwnItem.{InputKeepsLineUp};
 ghost use Rattle.world_laws.specs.OthersFrame.{FramesAreForOthers};
 ghost use Rattle.world_laws.specs.Owned.{MobilesSitOnTheirs, OneSendsEach, TenuresAreOwned};
 ghost use Rattle.world_laws.specs.OwnRow.{OpeningLinesUp, RowKeepsLineUp};
-ghost use Rattle.world_laws.specs.Staying.{MobilesKeepLineUps, RelayLeavesOthers, StationBreaksKeepLineUps, StationsKeepLineUps, SwitchKeepsLineUps, TimeLeavesOthers};
-ghost use Rattle.world_laws.specs.SapiThree.{FlowComesOnSapiZero};
+ghost use Rattle.world_laws.specs.Staying.{MobilesKeepLineUps, RelayLeavesOthers};
+ghost use Rattle.world_laws.specs.Staying.{StationBreaksKeepLineUps, StationsKeepLineUps};
+ghost use Rattle.world_laws.specs.Staying.{SwitchKeepsLineUps, TimeLeavesOthers};
+ghost use Rattle.world_laws.specs.SapiThree.{FlowIsOnSapiZero};
 ghost use Rattle.world_laws.specs.PutAsRead.{FramesArePutAsRead};
 ghost use Rattle.world_laws.specs.PutAsRead.{AllowedFramesKeepLineUps};
 ghost use Rattle.world_laws.specs.AcksBegin.{AcksBegin};
@@ -86,7 +88,8 @@ pub fn handle_keeps_line_ups()
 /// connection that asked the switch for its connection, the controller puts what the row that fits
 /// puts, and nothing else; and of the connection's channels the frame brings what the input says.
 pub fn frames_are_handled()
-    ensures { (w : Actors) (item : ItemValue) (s : Connection) (input : Input) (offer : Option Channel) (r : Row) → FrameIsHandled w item s input offer r }
+    ensures { (w : Actors) (item : ItemValue) (s : Connection) (input : Input)
+        (offer : Option Channel) (r : Row) → FrameIsHandled w item s input offer r }
 {}
 
 /// Law: so a connection stays lined up when the controller handles a frame that says an input to
@@ -103,7 +106,8 @@ pub fn frames_keep_line_ups()
 /// lined up: what it relays joins what waits for the switch, and its channels change their roles.
 /// What is on its way up is said as lists; the step is one that what is on its way allows.
 pub fn rows_keep_line_ups()
-    ensures { (m : ℕ) (s : Connection) (input : Input) (offer : Option Channel) (r : Row) → RowKeepsLineUp m s input offer r }
+    ensures { (m : ℕ) (s : Connection) (input : Input) (offer : Option Channel) (r : Row)
+        → RowKeepsLineUp m s input offer r }
 {}
 
 /// Law: the row that fits an input keeps its connection lined up, where what the input brings came
@@ -113,7 +117,8 @@ pub fn rows_keep_line_ups()
 /// told from the step that the input brings to the roles of channels: so COMPLETE, FAILURE,
 /// releases and DTAP are all of it.
 pub fn inputs_keep_line_ups()
-    ensures { (m : ℕ) (s : Connection) (input : Input) (offer : Option Channel) (r : Row) → InputKeepsLineUp m s input offer r }
+    ensures { (m : ℕ) (s : Connection) (input : Input) (offer : Option Channel) (r : Row)
+        → InputKeepsLineUp m s input offer r }
 {}
 
 /// Law: whatever events happened, each connection of the controller stands.
@@ -154,14 +159,15 @@ pub fn line_ups_are_in_order()
 pub fn ended_connections_stay_in_order()
     ensures ends { (m : ℕ) (w : Actors) (mobile : ℕ) (s : Connection) → LineUpsMayEnd m w mobile s }
     ensures stays { AtEvents EndedStayInOrder }
-    ensures accepted { (m : ℕ) (w : Actors) (mobile : ℕ) (number : ℕ) → EndedAreInOrder m w mobile number }
+    ensures accepted { (m : ℕ) (w : Actors) (mobile : ℕ) (number : ℕ)
+        → EndedAreInOrder m w mobile number }
 {}
 
 /// Law: whatever events happened, no message of the flow came to the controller on SAPI 3, none
 /// waits in the inbox there, and none is held there of a connection that is open. So SAPI 0 alone
 /// carries the flow.
 pub fn flow_comes_on_sapi_zero()
-    ensures { OfRuns FlowComesOnSapiZero }
+    ensures { OfRuns FlowIsOnSapiZero }
 {}
 
 /// Law: what the row that fits puts by a frame is read as it was put, whatever events happened,
@@ -199,7 +205,8 @@ pub fn stations_refuse_nothing()
 /// frees the channel first, where it is releasing. So it is with settings that are allowed, where
 /// what came was octets and stations refuse nothing.
 pub fn orders_take_turns()
-    ensures { (settings : Parameters) (steps : List ControllerStep) (step : ControllerStep) → OrdersTakeTurns settings steps step }
+    ensures { (settings : Parameters) (steps : List ControllerStep) (step : ControllerStep)
+        → OrdersTakeTurns settings steps step }
 {}
 
 /// Law: whatever events happen, each tenure of a channel is one mobile's: that of the connection

@@ -5,7 +5,8 @@ ghost use Rattle.world_laws.specs.Order.Beginning.{ConnectionsBegin, Connections
 ghost use Rattle.world_laws.specs.Order.LineUps.{AllNumbersStand, AllPlacesRise};
 ghost use Rattle.world_laws.specs.Order.OctetEvents.{ComeInOctets, PutsFairly, StationsGiveOctets};
 ghost use Rattle.world_laws.specs.Order.Order.{AllRunsAreInOrder, CutNumbersStay};
-ghost use Rattle.world_laws.specs.Order.QuietDown.{ChannelsBeginQuiet, ChannelsStayQuiet, QuietLetsNoneGo};
+ghost use Rattle.world_laws.specs.Order.QuietDown.{ChannelsBeginQuiet, ChannelsStayQuiet};
+ghost use Rattle.world_laws.specs.Order.QuietDown.{QuietLetsNoneGo};
 ghost use Rattle.world_laws.specs.Order.Standing.{SwitchIsOfModulus};
 ghost use Rattle.world_laws.specs.Order.Targets.{TargetsAreFresh};
 ghost use Rattle.world_laws.specs.Order.Unanswered.{UnansweredMobilesAsk};

@@ -5,7 +5,9 @@ ghost use Rattle.settings.specs.Parameters.{Parameters};
 ghost use Rattle.world_model.specs.declared.event.Event.{Event as WorldEvent};
 ghost use Rattle.world_laws.specs.Owners.Alone.{ChannelsAreMobiles, ConnectionsAreAlone};
 ghost use Rattle.world_laws.specs.Owners.LinkEnds.{LinksEndOnce, LinksOfChannelsAreUp};
-ghost use Rattle.world_laws.specs.Owners.OneEach.{ConnectionsAnswerMobiles, ConnectionsAreOneEach, NoneIsAnsweredAgain, NoneWasAnswered, RequestsComeOnce};
+ghost use Rattle.world_laws.specs.Owners.OneEach.{ConnectionsAnswerMobiles, ConnectionsAreOneEach};
+ghost use Rattle.world_laws.specs.Owners.OneEach.{NoneIsAnsweredAgain, NoneWasAnswered};
+ghost use Rattle.world_laws.specs.Owners.OneEach.{RequestsComeOnce};
 ghost use Rattle.world_laws.specs.Runs.{OfRuns};
 
 /// Law: whatever events happened, the channels that an open connection uses are its mobile's: while
@@ -25,8 +27,10 @@ pub fn connections_are_one_each()
     ensures answers { OfRuns ConnectionsAnswerMobiles }
     ensures one_each { OfRuns ConnectionsAreOneEach }
     ensures once { OfRuns RequestsComeOnce }
-    ensures before { (settings : Parameters) (before after : List WorldEvent) → NoneWasAnswered settings before after }
-    ensures again { (settings : Parameters) (before after : List WorldEvent) → NoneIsAnsweredAgain settings before after }
+    ensures before { (settings : Parameters) (before after : List WorldEvent)
+        → NoneWasAnswered settings before after }
+    ensures again { (settings : Parameters) (before after : List WorldEvent)
+        → NoneIsAnsweredAgain settings before after }
 {}
 
 /// Law: whatever events happened, the controller has the links up of the switch and of the stations

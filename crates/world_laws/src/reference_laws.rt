@@ -1,7 +1,9 @@
 //! Laws: each contract states what holds of the definitions that it names. Their bodies are empty.
 
 ghost use Rattle.world_laws.specs.References.Over.{OverPutsNoMore};
-ghost use Rattle.world_laws.specs.References.Taken.{DroppedAreUnheard, NamesAlwaysAgree, PeersDiffer, SwitchDeliversOrRefuses, UnaskedAreUnheardOf, UnheardStayUnheard};
+ghost use Rattle.world_laws.specs.References.Taken.{DroppedAreUnknown, NamesAlwaysAgree};
+ghost use Rattle.world_laws.specs.References.Taken.{PeersDiffer, SwitchDeliversOrRefuses};
+ghost use Rattle.world_laws.specs.References.Taken.{UnaskedAreUnknown, UnknownStayUnknown};
 ghost use Rattle.world_laws.specs.Runs.{AtEvents, OfRuns};
 
 /// Law: whatever events happened, with settings that are allowed and where what came was octets,
@@ -28,13 +30,13 @@ pub fn switch_delivers_or_refuses()
 
 /// Law: a connection that the switch never hears of stays so, whatever happens.
 pub fn unheard_stay_unheard()
-    ensures { AtEvents UnheardStayUnheard }
+    ensures { AtEvents UnknownStayUnknown }
 {}
 
 /// Law: of a connection that isn't there yet, or hasn't asked the switch, the switch has heard
 /// nothing, and nothing waits for it.
 pub fn unasked_are_unheard_of()
-    ensures { OfRuns UnaskedAreUnheardOf }
+    ensures { OfRuns UnaskedAreUnknown }
 {}
 
 /// Law: a connection that was there, and is closed or gone, puts no more of its mobile's messages
@@ -46,5 +48,5 @@ pub fn over_puts_no_more()
 /// Law: a connection that hasn't asked the switch, and is closed or gone after an event, is one
 /// that the switch never hears of.
 pub fn dropped_are_unheard()
-    ensures { AtEvents DroppedAreUnheard }
+    ensures { AtEvents DroppedAreUnknown }
 {}

@@ -8,8 +8,8 @@ use Rattle.world_model.proofs.Prelude.{filter, or-false, get_or-set_same, is_act
 use Rattle.world_model.proofs.Prelude.{Tenure, acknowledgements, acknowledgement, is_active_then, activated_unless, activated, mobile_on}
 use Rattle.world_model.proofs.Prelude.{accepts, link_answer, answered, released, took, Actors, Station, no_station, base_of, with_base}
 use Rattle.world_model.proofs.Prelude.{spot_at, with_spot, is_active_at, tenure_at, station_of}
-use Rattle.world_model.proofs.Honesty.{base-with_spot}
-use Rattle.world_model.proofs.Leads.{OfTaken, Seats, unless_last-leads, assigned-leads}
+use Rattle.world_model.proofs.Honesty.{base_with_spot}
+use Rattle.world_model.proofs.Leads.{OfTaken, Seats, unless_last_leads, assigned-leads}
 
 -- in a list that goes on
 pub acks_tell : (k : ℕ) (base : BaseState) (message : Rsl) → is_bound_of k message ≡ false → acknowledgements k (after_tell base message).messages ≡ acknowledgements k base.messages
@@ -98,14 +98,14 @@ activated_answers n k u a there = by_activity (is_active (base_of u n).active a.
   by_activity true busy = activation_busy k a.channel (base_of u n) (Some (ChannelActivation a)) a refl refl busy
   by_activity false idle =
       subst (λ (b : BaseState). Answers k (base_of u n) b (Some (ChannelActivation a)))
-      (sym (base-with_spot (place_at n a.channel) _ (with_base n (after_activate (base_of u n) a.channel) u) n ∙ base-own u n (after_activate (base_of u n) a.channel) there))
+      (sym (base_with_spot (place_at n a.channel) _ (with_base n (after_activate (base_of u n) a.channel) u) n ∙ base-own u n (after_activate (base_of u n) a.channel) there))
       (activation_done k (base_of u n) a idle)
 
 released_answers : (n k number : ℕ) (u : Actors) → n - 1 < length u.stations → AnswersAt n k u (Some (RfChannelRelease number)) (released (place_at n number) u)
 unfolding AnswersAt
 released_answers n k number u there =
     subst (λ (b : BaseState). Answers k (base_of u n) b (Some (RfChannelRelease number)))
-    (sym (base-with_spot (place_at n number) _ (with_base n (after_release (base_of u n) number) u) n ∙ base-own u n (after_release (base_of u n) number) there))
+    (sym (base_with_spot (place_at n number) _ (with_base n (after_release (base_of u n) number) u) n ∙ base-own u n (after_release (base_of u n) number) there))
     (release_done k number (base_of u n))
 
 answer-free : (k : ℕ) (answer : Bool) (channel : ℕ) → is_bound_of k (link_answer answer channel) ≡ false
@@ -118,7 +118,7 @@ answered_answers n k channel answer u o none still there =
     let middle : Actors = with_spot (place_at n channel) (record (spot_at u (place_at n channel)) { sapi_three_up = answer }) u in
     let is : base_of (answered answer (place_at n channel) u) n ≡ after_tell (base_of u n) (link_answer answer channel) =
     base-own middle n (after_tell (base_of middle n) (link_answer answer channel)) (subst (λ (l : ℕ). n - 1 < l) (sym (length-set u.stations (n - 1) _)) there)
-    ∙ ap (λ (b : BaseState). after_tell b (link_answer answer channel)) (base-with_spot (place_at n channel) _ u n) in
+    ∙ ap (λ (b : BaseState). after_tell b (link_answer answer channel)) (base_with_spot (place_at n channel) _ u n) in
     subst (λ (b : BaseState). Answers k (base_of u n) b o) (sym is)
     (answers_nothing k (base_of u n) (after_tell (base_of u n) (link_answer answer channel)) o none still (acks_tell k (base_of u n) (link_answer answer channel) (answer-free k answer channel)) refl)
 
@@ -126,14 +126,14 @@ pub took_answers : (n k : ℕ) (target : Option Tenure) (o : Option Rsl) (u : Ac
 unfolding OfTaken Seats
 took_answers n k target None u there = nothing_at n k u None u refl refl refl
 took_answers n k target (Some (ChannelActivation a)) u there =
-    unless_last-leads (AnswersAt n k u (Some (ChannelActivation a))) ((spot_at u (place_at n a.channel)).tenure == MAX_TENURE) (activated (place_at n a.channel) u) (activated_answers n k u a there)
+    unless_last_leads (AnswersAt n k u (Some (ChannelActivation a))) ((spot_at u (place_at n a.channel)).tenure == MAX_TENURE) (activated (place_at n a.channel) u) (activated_answers n k u a there)
 took_answers n k target (Some (ImmediateAssignCommand i)) u there =
     assigned-leads (AnswersAt n k u (Some (ImmediateAssignCommand i))) n u (rr_reading i.information)
     (nothing_at n k u (Some (ImmediateAssignCommand i)) u refl refl refl)
     (λ p number channel _ _. nothing_at n k u (Some (ImmediateAssignCommand i)) _ refl refl refl)
 took_answers n k target (Some (DataRequest d)) u there = by_activity (is_active_at u (place_at n d.channel)) where
   by_activity : (b : Bool) → AnswersAt n k u (Some (DataRequest d)) (if b then with_spot (place_at n d.channel) (record (spot_at u (place_at n d.channel)) { air = (spot_at u (place_at n d.channel)).air ++ record { message = d.l3; target = target } ∷ [] }) u else u)
-  by_activity true = nothing_at n k u (Some (DataRequest d)) _ refl refl (base-with_spot (place_at n d.channel) _ u n)
+  by_activity true = nothing_at n k u (Some (DataRequest d)) _ refl refl (base_with_spot (place_at n d.channel) _ u n)
   by_activity false = nothing_at n k u (Some (DataRequest d)) u refl refl refl
 took_answers n k target (Some (EstablishRequest l)) u there =
     answered_answers n k l.channel (is_active_at u (place_at n l.channel) && accepts (mobile_on u (tenure_at u (place_at n l.channel)))) u (Some (EstablishRequest l)) refl refl there

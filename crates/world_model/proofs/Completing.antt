@@ -12,11 +12,11 @@ use Rattle.std.specs.Prelude.{option_to_list}
 use Rattle.mobile_end.specs.declared.mobile_end.Place.{Place}
 use Rattle.mobile_end.specs.declared.mobile_end.Place.TheVariants as places
 use Rattle.mobile_end.specs.Calls.{begins, frame_lent, may_arrive, taken_by_call, unless_connected, unless_refused}
-use Rattle.world_model.specs.Calls.{Begins, CompleteComesFirst, EachBegins, calls_at, calls_to_arrive, calls_to_return, comes_at, comes_with, comings, complete_of, failure_of, frame_of, seat_of, taken_at, taken_by_channel}
+use Rattle.world_model.specs.Calls.{Begins, CompleteIsFirst, EachBegins, calls_at, calls_to_arrive, calls_to_return, arrives_at, arrives_with, comings, complete_of, failure_of, frame_of, seat_of, taken_at, taken_by_channel}
 use Rattle.world_model.specs.Mobiles.{complete, failure}
-use Rattle.world_model.proofs.Leads.{and-left, and-right}
-use Rattle.world_model.proofs.Mobility.{Stands, Takes, control-complete, control-failure, end_of, may-come, stands_new, takes_at}
-use Rattle.world_model.proofs.Repeating.{IsBetween, arriving, end-between, frame-same, place_between, returning}
+use Rattle.world_model.proofs.Leads.{and_left, and_right}
+use Rattle.world_model.proofs.Mobility.{Stands, Takes, control_complete, control_failure, end_of, may_come, stands_new, takes_at}
+use Rattle.world_model.proofs.Repeating.{IsBetween, arriving, end_between, frame_same, place_between, returning}
 
 -- nothing was taken yet, and the message is in the air; or it was taken first
 data IsLed (control : List ℕ) : List (List ℕ) → MobileState → Type 0 where
@@ -49,8 +49,8 @@ air-connects New e next same = same
 air-connects Connected e next same = refl
 
 -- a message in the air is the one that is lent
-lent-given : (link : DataLinkState) (control : List ℕ) → link.air ≡ Given control → lent_message link ≡ Some control
-lent-given link control is = ap (λ (air : Air). offered_message (after_load_from link.waiting air).air) is ∙ by link.waiting where
+lent_given : (link : DataLinkState) (control : List ℕ) → link.air ≡ Given control → lent_message link ≡ Some control
+lent_given link control is = ap (λ (air : Air). offered_message (after_load_from link.waiting air).air) is ∙ by link.waiting where
   by : (waiting : List (List ℕ)) → offered_message (after_load_from waiting (Given control)).air ≡ Some control
   by [] = refl
   by (first ∷ others) = refl
@@ -63,7 +63,7 @@ goes_frame control e Connected places.Moving is at air =
     (ap (λ (s : Stage). (after_frame_at s e.place e Zero).zero.air) is ∙ ap (λ (p : Place). (after_frame_at Connected p e Zero).zero.air) at ∙ air)
 goes_frame control e Connected places.OnChannel is at air =
     goes (ap (λ (s : Stage). frame_lent (frame_answer_at s e.place (lent_message e.zero))) is ∙ ap (λ (p : Place). frame_lent (frame_answer_at Connected p (lent_message e.zero))) at
-    ∙ ap (λ (o : Option (List ℕ)). option_to_list o) (lent-given e.zero control air))
+    ∙ ap (λ (o : Option (List ℕ)). option_to_list o) (lent_given e.zero control air))
 
 air-framed-three : (stage : Stage) (place : Place) (e : MobileState) → (after_frame_at stage place e Three).zero.air ≡ e.zero.air
 air-framed-three Connected places.Moving e = refl
@@ -120,7 +120,7 @@ turns_silent e call false not none = turns_none e None
 turns_frame : (m number : ℕ) (w : Actors) (n : ℕ) (done b : Bool) → (n == number) && done ≡ b → Turns (end_of m (mobile_of w number)) (if b then frames Zero ∷ [] else []) false None (if b then frame_of (mobile_of w n) else [])
 turns_frame m number w n done true does =
     turns_one (end_of m (mobile_of w number)) (frames Zero) None (frame_of (mobile_of w n)) refl
-    (frame-same m (mobile_of w number) ∙ ap (λ (k : ℕ). frame_of (mobile_of w k)) (sym (eqb-true n number (and-left (n == number) done does))))
+    (frame_same m (mobile_of w number) ∙ ap (λ (k : ℕ). frame_of (mobile_of w k)) (sym (eqb-true n number (and_left (n == number) done does))))
 turns_frame m number w n done false not = turns_none (end_of m (mobile_of w number)) None
 
 -- it comes to a channel with this text
@@ -132,7 +132,7 @@ turns_come m number w n call text calls told called said control does stands sam
     let e : MobileState = end_of m (mobile_of w number) in
     let xs : List ℕ = text at.command.change in
     let seat : seat_of (mobile_of w n) ≡ Moving at.from at.command = ap (λ (o : Option Mobile). seat_of o) at.found ∙ at.seat in
-    let may : may_arrive e xs ≡ true = ap (λ (x : MobileState). may_arrive x xs) (end-between m number w n same at) ∙ may-come at.p.end at.from at.command xs (place_between n stands same at ∙ ap place_in at.seat) (control at.command.change) in
+    let may : may_arrive e xs ≡ true = ap (λ (x : MobileState). may_arrive x xs) (end_between m number w n same at) ∙ may_come at.p.end at.from at.command xs (place_between n stands same at ∙ ap place_in at.seat) (control at.command.change) in
     let air : (after_call e (call xs)).zero.air ≡ Given xs = ap (λ (x : MobileState). x.zero.air) (does e xs) ∙ air-come e (after_arrival e xs) (may_arrive e xs) may in
     subst (λ (cs : List Call). Turns e cs true (told (seat_of (mobile_of w n))) []) (sym (ap calls seat ∙ called at.from at.command))
     (subst (λ (o : Option (List ℕ)). Turns e (call xs ∷ []) true o []) (sym (ap told seat ∙ said at.from at.command)) (comes xs air))
@@ -140,18 +140,18 @@ turns_come m number w n call text calls told called said control does stands sam
 turns_arrive : (m number : ℕ) (w : Actors) (n : ℕ) (b : Bool) → (n == number) && is_some (event_after w (Arrive n)) ≡ b → Stands m number w
     → Turns (end_of m (mobile_of w number)) (if b then calls_to_arrive (seat_of (mobile_of w n)) else []) b (complete_of (seat_of (mobile_of w n))) []
 turns_arrive m number w n true done stands =
-    turns_come m number w n (λ xs. arrives xs) complete calls_to_arrive complete_of (λ from command. refl) (λ from command. refl) control-complete (λ e xs. refl) stands
-    (eqb-true n number (and-left (n == number) (is_some (event_after w (Arrive n))) done)) (arriving w n (and-right (n == number) (is_some (event_after w (Arrive n))) done))
+    turns_come m number w n (λ xs. arrives xs) complete calls_to_arrive complete_of (λ from command. refl) (λ from command. refl) control_complete (λ e xs. refl) stands
+    (eqb-true n number (and_left (n == number) (is_some (event_after w (Arrive n))) done)) (arriving w n (and_right (n == number) (is_some (event_after w (Arrive n))) done))
 turns_arrive m number w n false not stands = turns_none (end_of m (mobile_of w number)) (complete_of (seat_of (mobile_of w n)))
 
 turns_return : (m number : ℕ) (w : Actors) (n : ℕ) (b : Bool) → (n == number) && is_some (event_after w (Return n)) ≡ b → Stands m number w
     → Turns (end_of m (mobile_of w number)) (if b then calls_to_return (seat_of (mobile_of w n)) else []) b (failure_of (seat_of (mobile_of w n))) []
 turns_return m number w n true done stands =
-    turns_come m number w n (λ xs. gives_up xs) failure calls_to_return failure_of (λ from command. refl) (λ from command. refl) control-failure (λ e xs. refl) stands
-    (eqb-true n number (and-left (n == number) (is_some (event_after w (Return n))) done)) (returning w n (and-right (n == number) (is_some (event_after w (Return n))) done))
+    turns_come m number w n (λ xs. gives_up xs) failure calls_to_return failure_of (λ from command. refl) (λ from command. refl) control_failure (λ e xs. refl) stands
+    (eqb-true n number (and_left (n == number) (is_some (event_after w (Return n))) done)) (returning w n (and_right (n == number) (is_some (event_after w (Return n))) done))
 turns_return m number w n false not stands = turns_none (end_of m (mobile_of w number)) (failure_of (seat_of (mobile_of w n)))
 
-turns_at : (m number : ℕ) (w : Actors) (event : Event) → Stands m number w → Turns (end_of m (mobile_of w number)) (calls_at w event number) (comes_at w event number) (comes_with w event) (taken_at w event number)
+turns_at : (m number : ℕ) (w : Actors) (event : Event) → Stands m number w → Turns (end_of m (mobile_of w number)) (calls_at w event number) (arrives_at w event number) (arrives_with w event) (taken_at w event number)
 turns_at m number w (Connect n station initial accepts) stands = turns_silent (end_of m (mobile_of w number)) (connects (Some initial)) ((n == number) && is_some (event_after w (Connect n station initial accepts))) refl refl
 turns_at m number w (Upper n sapi message) stands = turns_silent (end_of m (mobile_of w number)) (sends sapi message) ((n == number) && is_some (event_after w (Upper n sapi message))) refl refl
 turns_at m number w (AirUp n Zero) stands = turns_frame m number w n (is_some (event_after w (AirUp n Zero))) ((n == number) && is_some (event_after w (AirUp n Zero))) refl
@@ -183,7 +183,7 @@ firsts : (m number : ℕ) (w : Actors) (o : Option (List ℕ)) (so_far : List (L
     → EachBegins (comings w number o events) (taken_by_channel w number so_far events)
 firsts m number w o so_far [] stands led = (begins_led o so_far (end_of m (mobile_of w number)) led, tt)
 firsts m number w o so_far (event ∷ events) stands led =
-    by (comes_at w event number) (comes_with w event) (taken_at w event number) (turns_at m number w event stands) (λ p xs now. firsts m number v p xs events takes.stands now) where
+    by (arrives_at w event number) (arrives_with w event) (taken_at w event number) (turns_at m number w event stands) (λ p xs now. firsts m number v p xs events takes.stands now) where
       e : MobileState
       e = end_of m (mobile_of w number)
 
@@ -200,5 +200,5 @@ firsts m number w o so_far (event ∷ events) stands led =
       by true (Some _) more (comes control air) on = (begins_led o so_far e led, on (Some control) [] (given (ap (λ (x : MobileState). x.zero.air) takes.ends ∙ air)))
       by false c more (goes_on follows) on = on o (so_far ++ more) (led_on o so_far more e (after_calls e (calls_at w event number)) (end_of m (mobile_of v number)) takes.ends follows led)
 
-pub complete_comes_first_new : (settings : Parameters) (events : List Event) → CompleteComesFirst settings events
+pub complete_comes_first_new : (settings : Parameters) (events : List Event) → CompleteIsFirst settings events
 complete_comes_first_new settings events number = firsts (modulus_in settings) number (new_actors settings) None [] events (stands_new settings number) tt

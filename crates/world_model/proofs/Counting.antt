@@ -5,8 +5,8 @@ use Rattle.world_model.proofs.Footprints.{event-keeps}
 abbrev Same : Actors → Actors → Type 0
 Same w v = length v.stations ≡ length w.stations
 
-pub same-stations : (w : Actors) (event : Event) → length (actors_after w event).stations ≡ length w.stations
-same-stations w event = event-keeps (Same w) w event (record {
+pub same_stations : (w : Actors) (event : Event) → length (actors_after w event).stations ≡ length w.stations
+same_stations w event = event-keeps (Same w) w event (record {
   puts = λ u number p q _ _ _ same. same;
   joins = λ number initial accepts _ same. same;
   tells = λ u n message _ _ same. length-set u.stations _ _ ∙ same;

@@ -10,10 +10,10 @@ use Rattle.rsl_codec.specs.declared.radio_link.Data.{Data}
 use Rattle.rsl_codec.specs.declared.radio_link.Link.{Link as LinkOf}
 use Rattle.std.specs.Prelude.{◌%◌}
 use Rattle.world_model.specs.Life.{event_after}
-use Rattle.world_model.specs.Mobiles.{told, may_send, sent_by, channel_required, connected, is_new, frame_in, framed, signalling_brought, short_message_brought, brought, hearing, handover_detection, complete, failure, measurement_result, reported_at, reported}
-use Rattle.world_model.proofs.Honesty.{reached-up, up-right}
-use Rattle.world_model.proofs.Leads.{OfTaken, FromAir, Seats, only_if-leads, by_mobile-leads, connect-leads, air_up-leads, air_ack-leads, air_down-leads, air_down_lost-leads, move-leads, touch-leads, arrive-leads, return-leads, base_takes-leads, switch_takes-leads, switch_took-leads, push-leads, does-leads, broken-leads, handle-leads, turn-leads, assigned-leads, unless_last-leads, after-taken, and-left, and-right}
-use Rattle.world_model.proofs.Ticketing.{reached-station, spot-with_base}
+use Rattle.world_model.specs.Mobiles.{with_message_made, may_send, sent_by, channel_required, connected, is_new, frame_in, framed, signalling_brought, short_message_brought, brought, hearing, handover_detection, complete, failure, measurement_result, reported_at, reported}
+use Rattle.world_model.proofs.Honesty.{reached_up, up_right}
+use Rattle.world_model.proofs.Leads.{OfTaken, FromAir, Seats, only_if-leads, by_mobile-leads, connect_leads, air_up_leads, air_ack_leads, air_down_leads, air_down_lost_leads, move_leads, touch_leads, arrive_leads, return_leads, base_takes_leads, switch_takes_leads, switch_took-leads, push_leads, does_leads, broken_leads, handle_leads, turn_leads, assigned-leads, unless_last_leads, after_taken, and_left, and_right}
+use Rattle.world_model.proofs.Ticketing.{reached_station, spot_with_base}
 use Rattle.world_model.proofs.Leads.{is_aerial}
 use Rattle.world_model.proofs.Prelude.{Change, Assignment, Handover, Ok, Result, RrMessage, RrFault, AssignmentCommand, HandoverCommand}
 use Rattle.world_model.proofs.Prelude.{is_dtap, REPORT_LENGTH, after_leave, SwitchState, Event, Upper, Connect, AirUp, AirAck, AirDown}
@@ -111,9 +111,9 @@ pub data Becomes (w : Actors) (number : ℕ) : Event → Mobile → Mobile → T
       → Becomes w number (BaseTakes station) p (record p { seat = On (tenure_at w (place_at station channel)) None })
 
 -- it keeps its number
-pub became-number : {w : Actors} {number : ℕ} {event : Event} {p q : Mobile} → Becomes w number event p q → q.number ≡ p.number
-became-number (hears p tenure command first others seat reached stood) = hearing-number p first
-became-number _ = refl
+pub became_number : {w : Actors} {number : ℕ} {event : Event} {p q : Mobile} → Becomes w number event p q → q.number ≡ p.number
+became_number (hears p tenure command first others seat reached stood) = hearing-number p first
+became_number _ = refl
 
 -- what a station makes, but acknowledgements
 pub data Tells (w : Actors) : Event → ℕ → Rsl → Type 0 where
@@ -178,7 +178,7 @@ pub record OnAir (P : Actors → Type 0) (w : Actors) (event : Event) : Type 0 w
   pub joins : (number : ℕ) (initial : List ℕ) (accepts : Bool) → Joins w event number initial accepts
       → P w → P (joined_by_mobile number initial accepts w)
   -- a station makes a message
-  pub tells : (u : Actors) (n : ℕ) (message : Rsl) → is_station_up w n ≡ true → Tells w event n message → P u → P (told n message u)
+  pub tells : (u : Actors) (n : ℕ) (message : Rsl) → is_station_up w n ≡ true → Tells w event n message → P u → P (with_message_made n message u)
   -- a channel changes
   pub spots : (u : Actors) (at : Place) (spot : Spot) → at.station ≢ 0 → Respots w u event at spot → P u → P (with_spot at spot u)
   -- a station takes an entry, and a tenure begins or ends
@@ -199,19 +199,19 @@ twice_set [] k f g = refl
 twice_set (s ∷ ss) zero f g = refl
 twice_set (s ∷ ss) (suc k) f g = ap (λ (xs : List Station). s ∷ xs) (twice_set ss k f g)
 
-told-twice : (n : ℕ) (one other : Rsl) (u : Actors) → told n other (told n one u) ≡ with_base n (after_tell (after_tell (base_of u n) one) other) u
+told-twice : (n : ℕ) (one other : Rsl) (u : Actors) → with_message_made n other (with_message_made n one u) ≡ with_base n (after_tell (after_tell (base_of u n) one) other) u
 told-twice n one other u =
     ap (λ (stations : List Station). record u { stations = stations })
     (twice_set u.stations (n - 1) (λ s. record s { base = after_tell s.base one }) (λ s. record s { base = after_tell s.base other }))
 
 -- on a channel that a mobile reaches
 reached_tell : (P : Actors → Type 0) (w : Actors) {event : Event} (tenure : Tenure) (message : Rsl) → OnAir P w event → is_reached w tenure ≡ true
-    → Tells w event tenure.at.station message → P w → P (told tenure.at.station message w)
-reached_tell P w tenure message air reached how h = air.tells w tenure.at.station message (reached-up w tenure reached).0 how h
+    → Tells w event tenure.at.station message → P w → P (with_message_made tenure.at.station message w)
+reached_tell P w tenure message air reached how h = air.tells w tenure.at.station message (reached_up w tenure reached).0 how h
 
 reached_spot : (P : Actors → Type 0) (w : Actors) {event : Event} (tenure : Tenure) (spot : Spot) → OnAir P w event → is_reached w tenure ≡ true
     → Respots w w event tenure.at spot → P w → P (with_spot tenure.at spot w)
-reached_spot P w tenure spot air reached how h = air.spots w tenure.at spot (reached-station w tenure reached) how h
+reached_spot P w tenure spot air reached how h = air.spots w tenure.at spot (reached_station w tenure reached) how h
 
 brought_keeps : (P : Actors → Type 0) (w : Actors) (number : ℕ) (sapi : Sapi) (p : Mobile) (tenure : Tenure) (frame : List ℕ)
     → OnAir P w (AirUp number sapi) → Lends w number sapi p tenure frame → P w → P (brought w p tenure.at sapi frame)
@@ -223,17 +223,17 @@ brought_keeps P w number Zero p tenure frame air lent h =
 brought_keeps P w number Three p tenure frame air lent h =
     let v : Actors = with_base tenure.at.station (short_message_brought (base_of w tenure.at.station) tenure.at.number (spot_at w tenure.at).sapi_three_up frame) w in
     air.puts (with_spot tenure.at (with_short true (spot_at w tenure.at)) v) number p _ lent.found refl (lends p tenure frame lent)
-    (subst (λ (spot : Spot). P (with_spot tenure.at (with_short true spot) v)) (spot-with_base tenure.at.station _ w tenure.at)
-    (air.spots v tenure.at _ (reached-station w tenure lent.reached) (short_up number tenure lent.reached) (by (spot_at w tenure.at).sapi_three_up))) where
+    (subst (λ (spot : Spot). P (with_spot tenure.at (with_short true spot) v)) (spot_with_base tenure.at.station _ w tenure.at)
+    (air.spots v tenure.at _ (reached_station w tenure lent.reached) (short_up number tenure lent.reached) (by (spot_at w tenure.at).sapi_three_up))) where
       up : is_station_up w tenure.at.station ≡ true
-      up = (reached-up w tenure lent.reached).0
+      up = (reached_up w tenure lent.reached).0
 
       by : (b : Bool) → P (with_base tenure.at.station (short_message_brought (base_of w tenure.at.station) tenure.at.number b frame) w)
       by true = air.tells w tenure.at.station _ up (brings number Three p tenure frame lent) h
       by false =
           let link : Rsl = establish_indication tenure.at.number Three None in
           subst P (told-twice tenure.at.station link (data_indication tenure.at.number Three frame) w)
-          (air.tells (told tenure.at.station link w) tenure.at.station _ up (brings number Three p tenure frame lent)
+          (air.tells (with_message_made tenure.at.station link w) tenure.at.station _ up (brings number Three p tenure frame lent)
           (air.tells w tenure.at.station link up (links number p tenure frame lent) h))
 
 took_keeps : (P : Actors → Type 0) (w : Actors) (station : ℕ) (first : OutboxEntry) (others : List OutboxEntry) (o : Option Rsl)
@@ -241,7 +241,7 @@ took_keeps : (P : Actors → Type 0) (w : Actors) (station : ℕ) (first : Outbo
     → P (with_outbox station others w) → OfTaken P (took station first.target o (with_outbox station others w))
 unfolding OfTaken Seats
 took_keeps P w station first others (Some (ChannelActivation a)) air up stood is h =
-    unless_last-leads P ((spot_at u at).tenure == MAX_TENURE) (activated at u) (by (refusal_of_activate (base_of u station) a.channel) refl) where
+    unless_last_leads P ((spot_at u at).tenure == MAX_TENURE) (activated at u) (by (refusal_of_activate (base_of u station) a.channel) refl) where
       u : Actors
       u = with_outbox station others w
 
@@ -268,7 +268,7 @@ took_keeps P w station first others (Some (DataRequest d)) air up stood is h = b
   message = record { message = d.l3; target = first.target }
 
   by : (b : Bool) → is_active_at u at ≡ b → P (if b then with_spot at (joined_air message (spot_at u at)) u else u)
-  by true active = air.spots u at _ (up-right station w up).0 (airs station d taken active) h
+  by true active = air.spots u at _ (up_right station w up).0 (airs station d taken active) h
   by false active = h
 took_keeps P w station first others (Some (EstablishRequest l)) air up stood is h = by (is_active_at u at && accepts (mobile_on u (tenure_at u at))) where
   u : Actors
@@ -281,7 +281,7 @@ took_keeps P w station first others (Some (EstablishRequest l)) air up stood is 
   taken = record { event_is = refl; first = first; others = others; up = up; stood = stood; is = is }
 
   by : (answer : Bool) → P (answered answer at u)
-  by answer = air.tells _ station _ up (answers station l answer taken) (air.spots u at _ (up-right station w up).0 (asks_up station l answer taken) h)
+  by answer = air.tells _ station _ up (answers station l answer taken) (air.spots u at _ (up_right station w up).0 (asks_up station l answer taken) h)
 took_keeps P w station first others (Some (RfChannelRelease channel)) air up stood is h =
     air.releases (with_outbox station others w) station channel (record { event_is = refl; first = first; others = others; up = up; stood = stood; is = is }) h
 took_keeps P w station first others _ air up stood is h = h
@@ -297,47 +297,47 @@ air_leads P w (Upper number sapi message) is air h =
     by_mobile-leads P w number (sent_by w sapi message) (λ p found.
     only_if-leads P (may_send p.seat && is_none (refusal_of_send p.end sapi message)) _ (λ may. air.puts w number p _ found refl (queues sapi message p may) h))
 air_leads P w (Connect number station initial accepts) is air h =
-    connect-leads P w number station initial accepts (λ may.
-    let both = and-left (is_new w number && is_station_up w station) (is_none (refusal_of_connect (Some initial))) may in
-    air.tells _ station _ (and-right (is_new w number) (is_station_up w station) both) (requires number station initial accepts)
+    connect_leads P w number station initial accepts (λ may.
+    let both = and_left (is_new w number && is_station_up w station) (is_none (refusal_of_connect (Some initial))) may in
+    air.tells _ station _ (and_right (is_new w number) (is_station_up w station) both) (requires number station initial accepts)
     (air.joins number initial accepts (connects number station initial accepts may) h))
 air_leads P w (AirUp number sapi) is air h =
-    air_up-leads P w number sapi (λ p tenure command frame found seat lent reached.
+    air_up_leads P w number sapi (λ p tenure command frame found seat lent reached.
     brought_keeps P w number sapi p tenure frame air (record { found = found; command = command; seat = seat; lent = lent; reached = reached }) h)
-air_leads P w (AirAck number sapi) is air h = air_ack-leads P w number sapi (λ p found. air.puts w number p _ found refl (is_acked sapi p) h)
+air_leads P w (AirAck number sapi) is air h = air_ack_leads P w number sapi (λ p found. air.puts w number p _ found refl (is_acked sapi p) h)
 air_leads P w (AirDown number) is air h =
-    air_down-leads P w number (λ p tenure command found seat reached first others stood.
+    air_down_leads P w number (λ p tenure command found seat reached first others stood.
     air.puts _ number p _ found refl (hears p tenure command first others seat reached stood)
     (reached_spot P w tenure _ air reached (goes_down tenure first others reached stood) h))
 air_leads P w (AirDownLost number) is air h =
-    air_down_lost-leads P w number (λ p tenure command found seat reached first others stood.
+    air_down_lost_leads P w number (λ p tenure command found seat reached first others stood.
     air.puts _ number p _ found refl (misses p) (reached_spot P w tenure _ air reached (goes_down tenure first others reached stood) h))
 air_leads P w (Move number) is air h =
-    move-leads P w number (λ p tenure command found seat reached.
+    move_leads P w number (λ p tenure command found seat reached.
     air.puts _ number p _ found refl (leaves p tenure command seat reached) (reached_spot P w tenure _ air reached (is_left number tenure reached) h))
 air_leads P w (Touch number) is air h =
-    touch-leads P w number (λ command reached. reached_tell P w command.target _ air reached (detects number command.target reached) h)
+    touch_leads P w number (λ command reached. reached_tell P w command.target _ air reached (detects number command.target reached) h)
 air_leads P w (Arrive number) is air h =
-    arrive-leads P w number (λ p from command found seat reached.
+    arrive_leads P w number (λ p from command found seat reached.
     air.puts _ number p _ found refl (arrives p from command seat reached) (reached_tell P w command.target _ air reached (establishes command.target reached) h))
 air_leads P w (Return number) is air h =
-    return-leads P w number (λ p from command found seat reached.
+    return_leads P w number (λ p from command found seat reached.
     air.puts _ number p _ found refl (returns p from command seat reached) (reached_tell P w from _ air reached (establishes from reached) h))
 air_leads P w (BaseTakes station) is air h =
-    base_takes-leads P w station (λ first others up stood. took_keeps P w station first others (rsl_in first.out.frame) air up stood refl (air.pops station others up h))
+    base_takes_leads P w station (λ first others up stood. took_keeps P w station first others (rsl_in first.out.frame) air up stood refl (air.pops station others up h))
 air_leads P w (Report number report) is air h =
     by_mobile-leads P w number (λ p. reported w report p.seat) (λ p found. by p.seat) where
       by : (seat : Seat) → OfTaken P (reported w report seat)
       by (On tenure command) = only_if-leads P (is_reached w tenure && (length report == REPORT_LENGTH)) (reported_at w tenure.at report) (λ both.
-          let reached = and-left (is_reached w tenure) (length report == REPORT_LENGTH) both in
-          let long = and-right (is_reached w tenure) (length report == REPORT_LENGTH) both in
-          air.tells _ tenure.at.station _ (reached-up w tenure reached).0 (reports number report tenure reached long)
+          let reached = and_left (is_reached w tenure) (length report == REPORT_LENGTH) both in
+          let long = and_right (is_reached w tenure) (length report == REPORT_LENGTH) both in
+          air.tells _ tenure.at.station _ (reached_up w tenure reached).0 (reports number report tenure reached long)
           (reached_spot P w tenure _ air reached (counts number report tenure reached) h))
       by _ = tt
 air_leads P w _ is air h = absurd cc
 
-pub air-after : (P : Actors → Type 0) (w : Actors) (event : Event) → is_on_air event ≡ true → OnAir P w event → P w → P (actors_after w event)
-air-after P w event is air h = after-taken P (event_after w event) w (air_leads P w event is air h) h
+pub air_after : (P : Actors → Type 0) (w : Actors) (event : Event) → is_on_air event ≡ true → OnAir P w event → P w → P (actors_after w event)
+air_after P w event is air h = after_taken P (event_after w event) w (air_leads P w event is air h) h
 
 -- ---- where mobiles and stations stay, but for what a source made
 
@@ -352,25 +352,25 @@ pub record InQueues (P : Actors → Type 0) (w : Actors) : Type 0 where
 pub queues_lead : (P : Actors → Type 0) (w : Actors) (event : Event) → is_on_air event ≡ false → InQueues P w → P w → OfTaken P (event_after w event)
 unfolding event_after OfTaken
 queues_lead P w (BasePush source) is lists h =
-    push-leads P w source (λ first others. lists.rest w _ _ _ _ _ h)
+    push_leads P w source (λ first others. lists.rest w _ _ _ _ _ h)
     (λ message first. lists.rest (with_base source (after_next (base_of w source)) w) _ _ _ _ _ (lists.next source message first h))
-queues_lead P w Handle is lists h = handle-leads P w (λ item items _.
-    turn-leads P (target_in w item.source item.what) (take item w.controller) (record w { inbox = items }) (λ links. lists.rest w _ _ _ _ _ h))
-queues_lead P w SwitchTakes is lists h = switch_takes-leads P w (λ first others _ _.
+queues_lead P w Handle is lists h = handle_leads P w (λ item items _.
+    turn_leads P (target_in w item.source item.what) (take item w.controller) (record w { inbox = items }) (λ links. lists.rest w _ _ _ _ _ h))
+queues_lead P w SwitchTakes is lists h = switch_takes_leads P w (λ first others _ _.
     switch_took-leads P (with_outbox SWITCH_LINK others w) (sccp_in first.out.frame) (lists.rest w _ _ _ _ _ h) (λ next made. lists.rest w _ _ _ _ _ h))
-queues_lead P w (SwitchDoes action) is lists h = does-leads P w action (λ next made. lists.rest w _ _ _ _ _ h)
-queues_lead P w (Tick ms) is lists h = turn-leads P None (tick ms w.controller) w (λ links. lists.rest w _ _ _ _ _ h)
+queues_lead P w (SwitchDoes action) is lists h = does_leads P w action (λ next made. lists.rest w _ _ _ _ _ h)
+queues_lead P w (Tick ms) is lists h = turn_leads P None (tick ms w.controller) w (λ links. lists.rest w _ _ _ _ _ h)
 queues_lead P w (BaseDown source) is lists h =
-    broken-leads P w source (λ _ _. lists.rest w _ _ _ _ _ h)
+    broken_leads P w source (λ _ _. lists.rest w _ _ _ _ _ h)
     (λ up other. lists.rest (with_base source (after_take_down (base_of w source)) w) _ _ _ _ _ (lists.down source up other h))
 queues_lead P w _ is lists h = absurd cc
 
 pub queues_after : (P : Actors → Type 0) (w : Actors) (event : Event) → is_on_air event ≡ false → InQueues P w → P w → P (actors_after w event)
-queues_after P w event is lists h = after-taken P (event_after w event) w (queues_lead P w event is lists h) h
+queues_after P w event is lists h = after_taken P (event_after w event) w (queues_lead P w event is lists h) h
 
 -- what the changes of both kinds keep, each event keeps
 pub event-keeps : (P : Actors → Type 0) (w : Actors) (event : Event) → OnAir P w event → InQueues P w → P w → P (actors_after w event)
 event-keeps P w event air lists h = by (is_on_air event) refl where
   by : (b : Bool) → is_on_air event ≡ b → P (actors_after w event)
-  by true is = air-after P w event is air h
+  by true is = air_after P w event is air h
   by false is = queues_after P w event is lists h

@@ -4,32 +4,32 @@ use Rattle.world_model.proofs.Prelude.{refl, sym, ap, ◌∙◌, inl, inr, cases
 use Rattle.std.proofs.lemmas.Option.{none-some}
 
 -- one that is found has the number
-pub found-number : (number : ℕ) (xs : List Mobile) (p : Mobile) → find (has_number number) xs ≡ Some p → p.number ≡ number
-found-number number [] p found = absurd cc
-found-number number (x ∷ xs) p found =
+pub number_found : (number : ℕ) (xs : List Mobile) (p : Mobile) → find (has_number number) xs ≡ Some p → p.number ≡ number
+number_found number [] p found = absurd cc
+number_found number (x ∷ xs) p found =
     elim (cases_Bool (has_number number x)) [
       | inl hit ↦ ap (λ (q : Mobile). q.number) (sym (some_same (sym (ap (λ (b : Bool). cond b (Some x) (find (has_number number) xs)) hit) ∙ found))) ∙ eqb-true x.number number hit
-      | inr miss ↦ found-number number xs p (sym (ap (λ (b : Bool). cond b (Some x) (find (has_number number) xs)) miss) ∙ found)
+      | inr miss ↦ number_found number xs p (sym (ap (λ (b : Bool). cond b (Some x) (find (has_number number) xs)) miss) ∙ found)
     ] where
       some_same : {a b : Mobile} → Some a ≡ Some b → a ≡ b
       some_same {a} is = ap (λ (o : Option Mobile). unwrap_or o a) is
 
 -- one that is put back is found
-pub back-found : (q : Mobile) (xs : List Mobile) (p : Mobile) → find (has_number q.number) xs ≡ Some p → find (has_number q.number) (put_back q xs) ≡ Some q
-back-found q [] p found = absurd cc
-back-found q (x ∷ xs) p found =
+pub back_found : (q : Mobile) (xs : List Mobile) (p : Mobile) → find (has_number q.number) xs ≡ Some p → find (has_number q.number) (put_back q xs) ≡ Some q
+back_found q [] p found = absurd cc
+back_found q (x ∷ xs) p found =
     elim (cases_Bool (has_number q.number x)) [
       | inl hit ↦ ap (λ (b : Bool). find (has_number q.number) (cond b (q ∷ xs) (x ∷ put_back q xs))) hit ∙ ap (λ (b : Bool). cond b (Some q) (find (has_number q.number) xs)) (eq-eqb q.number q.number refl)
       | inr miss ↦
           ap (λ (b : Bool). find (has_number q.number) (cond b (q ∷ xs) (x ∷ put_back q xs))) miss
           ∙ ap (λ (b : Bool). cond b (Some x) (find (has_number q.number) (put_back q xs))) miss
-          ∙ back-found q xs p (sym (ap (λ (b : Bool). cond b (Some x) (find (has_number q.number) xs)) miss) ∙ found)
+          ∙ back_found q xs p (sym (ap (λ (b : Bool). cond b (Some x) (find (has_number q.number) xs)) miss) ∙ found)
     ]
 
 -- and all others stay
-pub back-other : (q : Mobile) (xs : List Mobile) (number : ℕ) → q.number ≢ number → find (has_number number) (put_back q xs) ≡ find (has_number number) xs
-back-other q [] number differs = refl
-back-other q (x ∷ xs) number differs =
+pub back_other : (q : Mobile) (xs : List Mobile) (number : ℕ) → q.number ≢ number → find (has_number number) (put_back q xs) ≡ find (has_number number) xs
+back_other q [] number differs = refl
+back_other q (x ∷ xs) number differs =
     elim (cases_Bool (has_number q.number x)) [
       | inl hit ↦
           ap (λ (b : Bool). find (has_number number) (cond b (q ∷ xs) (x ∷ put_back q xs))) hit
@@ -37,7 +37,7 @@ back-other q (x ∷ xs) number differs =
           ∙ sym (ap (λ (b : Bool). cond b (Some x) (find (has_number number) xs)) (ne_eqb x.number number (λ is. differs (sym (eqb-true x.number q.number hit) ∙ is))))
       | inr miss ↦
           ap (λ (b : Bool). find (has_number number) (cond b (q ∷ xs) (x ∷ put_back q xs))) miss
-          ∙ ap (λ (o : Option Mobile). if has_number number x then Some x else o) (back-other q xs number differs)
+          ∙ ap (λ (o : Option Mobile). if has_number number x then Some x else o) (back_other q xs number differs)
     ]
 
 -- a new one stands behind all others
@@ -56,9 +56,9 @@ new_other q [] number differs = ap (λ (b : Bool). cond b (Some q) None) (ne_eqb
 new_other q (x ∷ xs) number differs = ap (λ (o : Option Mobile). if has_number number x then Some x else o) (new_other q xs number differs)
 
 -- one is found before those that stand behind
-pub found-front : (number : ℕ) (p : Mobile) (xs ys : List Mobile) → find (has_number number) xs ≡ Some p → find (has_number number) (xs ++ ys) ≡ Some p
-found-front number p [] ys found = absurd cc
-found-front number p (x ∷ xs) ys found = by (has_number number x) (found-front number p xs ys) found where
+pub found_front : (number : ℕ) (p : Mobile) (xs ys : List Mobile) → find (has_number number) xs ≡ Some p → find (has_number number) (xs ++ ys) ≡ Some p
+found_front number p [] ys found = absurd cc
+found_front number p (x ∷ xs) ys found = by (has_number number x) (found_front number p xs ys) found where
   by : (b : Bool) → (find (has_number number) xs ≡ Some p → find (has_number number) (xs ++ ys) ≡ Some p) → cond b (Some x) (find (has_number number) xs) ≡ Some p → cond b (Some x) (find (has_number number) (xs ++ ys)) ≡ Some p
   by true others here = here
   by false others there = others there

@@ -18,11 +18,11 @@ use Rattle.link_model.specs.BaseCalls.{BaseCall, state_unless, after_call, after
 use Rattle.link_model.specs.BaseCalls.BaseCall.{activates, establishes, brings_up, releases, tells, gives_next}
 use Rattle.link_model.specs.Tenures.Tenures.{over, begins, brings, ends, apart}
 use Rattle.world_model.specs.World.{with_link}
-use Rattle.world_model.specs.Mobiles.{is_new, complete, failure, after_upper, after_connecting, after_air_up, after_air_ack, after_air_down, after_air_down_lost, after_move, after_touch, after_arriving, after_return, after_report, told, channel_required, signalling_brought, short_message_brought, brought, handover_detection, seated}
+use Rattle.world_model.specs.Mobiles.{is_new, complete, failure, after_upper, after_connecting, after_air_up, after_air_ack, after_air_down, after_air_down_lost, after_move, after_touch, after_arriving, after_return, after_report, with_message_made, channel_required, signalling_brought, short_message_brought, brought, handover_detection, seated}
 use Rattle.ruled_relay.specs.declared.item.What.TheVariants as whats
 use Rattle.world_model.specs.Life.{event_after}
-use Rattle.world_model.proofs.Outboxes.{changed_link, down-after}
-use Rattle.world_model.proofs.Leads.{OfTaken, FromAir, and-left, and-right, upper-leads, connect-leads, air_up-leads, air_ack-leads, air_down-leads, air_down_lost-leads, move-leads, touch-leads, arrive-leads, return-leads, report-leads, base_takes-leads, took-leads, handle-leads, turn-leads, switch_takes-leads, switch_took-leads, does-leads, after-taken}
+use Rattle.world_model.proofs.Outboxes.{changed_link, down_after}
+use Rattle.world_model.proofs.Leads.{OfTaken, FromAir, and_left, and_right, upper_leads, connect_leads, air_up_leads, air_ack_leads, air_down_leads, air_down_lost_leads, move_leads, touch_leads, arrive_leads, return_leads, report-leads, base_takes_leads, took-leads, handle_leads, turn_leads, switch_takes_leads, switch_took-leads, does_leads, after_taken}
 
 -- ---- lists
 
@@ -48,8 +48,8 @@ less_one n m n_is m_is differs same = differs (omega arith)
 
 -- ---- ends of stations
 
-pub base-with_spot : (at : Place) (spot : Spot) (w : Actors) (n : ℕ) → base_of (with_spot at spot w) n ≡ base_of w n
-base-with_spot at spot w n = set-same-base w.stations (at.station - 1) (n - 1) _ refl
+pub base_with_spot : (at : Place) (spot : Spot) (w : Actors) (n : ℕ) → base_of (with_spot at spot w) n ≡ base_of w n
+base_with_spot at spot w n = set-same-base w.stations (at.station - 1) (n - 1) _ refl
 
 pub base-elsewhere : (w : Actors) (n m : ℕ) (base : BaseState) → n ≢ 0 → m ≢ 0 → n ≢ m → base_of (with_base m base w) n ≡ base_of w n
 base-elsewhere w n m base n_is m_is differs = ap (λ (s : Station). s.base) (set-elsewhere w.stations (m - 1) (n - 1) _ (less_one n m n_is m_is differs))
@@ -71,8 +71,8 @@ pub data Acts (n : ℕ) (w v : Actors) : Type 0 where
 abbrev pub SameEnds : Actors → Actors → Type 0
 SameEnds w u = (k : ℕ) → base_of u k ≡ base_of w k
 
-pub up-right : (station : ℕ) (w : Actors) → is_station_up w station ≡ true → (station ≢ 0) × (is_up w station ≡ true)
-up-right station w up = by_number (station == SWITCH_LINK) refl where
+pub up_right : (station : ℕ) (w : Actors) → is_station_up w station ≡ true → (station ≢ 0) × (is_up w station ≡ true)
+up_right station w up = by_number (station == SWITCH_LINK) refl where
   by_number : (b : Bool) → station == SWITCH_LINK ≡ b → (station ≢ 0) × (is_up w station ≡ true)
   by_number true is = absurd (impossible (sym (ap (λ (b : Bool). not b && is_up w station) is) ∙ up)) where
     impossible : false ≡ true → ⊥
@@ -84,11 +84,11 @@ calling : (n m : ℕ) (w u : Actors) (calls : List BaseCall) (base : BaseState) 
 calling n m w u calls base n_is up same is none =
     elim (cases_Bool (nat_eq n m)) [
       | inl here ↦ subst (λ (k : ℕ). Acts k w (with_base m base u)) (sym (eqb-true n m here)) at_m
-      | inr other ↦ rests (base-elsewhere u n m base n_is (up-right m w up).0 (eqb-false n m other) ∙ same n)
+      | inr other ↦ rests (base-elsewhere u n m base n_is (up_right m w up).0 (eqb-false n m other) ∙ same n)
     ] where
       at_m : Acts m w (with_base m base u)
       at_m = elim (base-there u m base) [
-        | inl there ↦ acts calls (up-right m w up).1 (there ∙ is) none
+        | inl there ↦ acts calls (up_right m w up).1 (there ∙ is) none
         | inr nowhere ↦ rests (nowhere.0 ∙ sym nowhere.1 ∙ same m)
       ]
 
@@ -96,24 +96,24 @@ acts_at : {n : ℕ} {w u v : Actors} → base_of v n ≡ base_of u n → Acts n 
 acts_at same (rests is) = rests (same ∙ is)
 acts_at same (acts calls up is none) = acts calls up (same ∙ is) none
 
-active-unless : (base : BaseState) (channel : ℕ) → is_active base.active channel ≡ true → refusal_unless_active base channel ≡ None
-active-unless base channel is = ap (λ (b : Bool). cond b None (Some NotActive)) is
+active_unless : (base : BaseState) (channel : ℕ) → is_active base.active channel ≡ true → refusal_unless_active base channel ≡ None
+active_unless base channel is = ap (λ (b : Bool). cond b None (Some NotActive)) is
 
 establishing : (base : BaseState) (channel : ℕ) (sapi : Sapi) (message : Option (List ℕ)) → is_active base.active channel ≡ true → after_establish base channel sapi message ≡ after_call base (establishes channel sapi message)
-establishing base channel sapi message is = sym (ap (λ (o : Option LinkFault). state_unless o base (after_establish base channel sapi message)) (active-unless base channel is))
+establishing base channel sapi message is = sym (ap (λ (o : Option LinkFault). state_unless o base (after_establish base channel sapi message)) (active_unless base channel is))
 
 bringing : (base : BaseState) (channel : ℕ) (sapi : Sapi) (message : List ℕ) → is_active base.active channel ≡ true → after_up base channel sapi message ≡ after_call base (brings_up channel sapi message)
-bringing base channel sapi message is = sym (ap (λ (o : Option LinkFault). state_unless o base (after_up base channel sapi message)) (active-unless base channel is))
+bringing base channel sapi message is = sym (ap (λ (o : Option LinkFault). state_unless o base (after_up base channel sapi message)) (active_unless base channel is))
 
 activating : (base : BaseState) (channel : ℕ) → refusal_of_activate base channel ≡ None → after_activate base channel ≡ after_call base (activates channel)
 activating base channel is = sym (ap (λ (o : Option LinkFault). state_unless o base (after_activate base channel)) is)
 
 -- ---- reached channels are active, of a station that is up
 
-pub reached-up : (w : Actors) (tenure : Tenure) → is_reached w tenure ≡ true → (is_station_up w tenure.at.station ≡ true) × (is_active_at w tenure.at ≡ true)
-reached-up w tenure is =
-    let front = and-left (is_station_up w tenure.at.station && is_active_at w tenure.at) ((spot_at w tenure.at).tenure == tenure.number) is in
-    (and-left (is_station_up w tenure.at.station) (is_active_at w tenure.at) front, and-right (is_station_up w tenure.at.station) (is_active_at w tenure.at) front)
+pub reached_up : (w : Actors) (tenure : Tenure) → is_reached w tenure ≡ true → (is_station_up w tenure.at.station ≡ true) × (is_active_at w tenure.at ≡ true)
+reached_up w tenure is =
+    let front = and_left (is_station_up w tenure.at.station && is_active_at w tenure.at) ((spot_at w tenure.at).tenure == tenure.number) is in
+    (and_left (is_station_up w tenure.at.station) (is_active_at w tenure.at) front, and_right (is_station_up w tenure.at.station) (is_active_at w tenure.at) front)
 
 -- ---- each event but a push and a break
 
@@ -123,32 +123,32 @@ brought_acts n w p tenure Zero frame n_is reached = acts_at refl (by_opening p.o
   base = base_of w tenure.at.station
 
   by_opening : (b : Bool) → Acts n w (with_base tenure.at.station (signalling_brought base tenure.at.number b frame) w)
-  by_opening true = calling n tenure.at.station w w (establishes tenure.at.number Zero (Some frame) ∷ []) _ n_is (reached-up w tenure reached).0 (λ k. refl) (establishing base tenure.at.number Zero (Some frame) (reached-up w tenure reached).1) refl
-  by_opening false = calling n tenure.at.station w w (brings_up tenure.at.number Zero frame ∷ []) _ n_is (reached-up w tenure reached).0 (λ k. refl) (bringing base tenure.at.number Zero frame (reached-up w tenure reached).1) refl
-brought_acts n w p tenure Three frame n_is reached = acts_at (base-with_spot tenure.at _ (with_base tenure.at.station (short_message_brought base tenure.at.number (spot_at w tenure.at).sapi_three_up frame) w) n) (by_link (spot_at w tenure.at).sapi_three_up) where
+  by_opening true = calling n tenure.at.station w w (establishes tenure.at.number Zero (Some frame) ∷ []) _ n_is (reached_up w tenure reached).0 (λ k. refl) (establishing base tenure.at.number Zero (Some frame) (reached_up w tenure reached).1) refl
+  by_opening false = calling n tenure.at.station w w (brings_up tenure.at.number Zero frame ∷ []) _ n_is (reached_up w tenure reached).0 (λ k. refl) (bringing base tenure.at.number Zero frame (reached_up w tenure reached).1) refl
+brought_acts n w p tenure Three frame n_is reached = acts_at (base_with_spot tenure.at _ (with_base tenure.at.station (short_message_brought base tenure.at.number (spot_at w tenure.at).sapi_three_up frame) w) n) (by_link (spot_at w tenure.at).sapi_three_up) where
   base : BaseState
   base = base_of w tenure.at.station
 
   is_on : is_active base.active tenure.at.number ≡ true
-  is_on = (reached-up w tenure reached).1
+  is_on = (reached_up w tenure reached).1
 
   by_link : (b : Bool) → Acts n w (with_base tenure.at.station (short_message_brought base tenure.at.number b frame) w)
-  by_link true = calling n tenure.at.station w w (brings_up tenure.at.number Three frame ∷ []) _ n_is (reached-up w tenure reached).0 (λ k. refl) (bringing base tenure.at.number Three frame is_on) refl
-  by_link false = calling n tenure.at.station w w (establishes tenure.at.number Three None ∷ brings_up tenure.at.number Three frame ∷ []) _ n_is (reached-up w tenure reached).0 (λ k. refl)
+  by_link true = calling n tenure.at.station w w (brings_up tenure.at.number Three frame ∷ []) _ n_is (reached_up w tenure reached).0 (λ k. refl) (bringing base tenure.at.number Three frame is_on) refl
+  by_link false = calling n tenure.at.station w w (establishes tenure.at.number Three None ∷ brings_up tenure.at.number Three frame ∷ []) _ n_is (reached_up w tenure reached).0 (λ k. refl)
       (bringing (after_establish base tenure.at.number Three None) tenure.at.number Three frame is_on ∙ ap (λ (b : BaseState). after_call b (brings_up tenure.at.number Three frame)) (establishing base tenure.at.number Three None is_on)) refl
 
-told_acts : (n m : ℕ) (message : Rsl) (w u : Actors) → n ≢ 0 → is_station_up w m ≡ true → SameEnds w u → is_told message ≡ true → Acts n w (told m message u)
+told_acts : (n m : ℕ) (message : Rsl) (w u : Actors) → n ≢ 0 → is_station_up w m ≡ true → SameEnds w u → is_told message ≡ true → Acts n w (with_message_made m message u)
 told_acts n m message w u n_is up same is =
     calling n m w u (tells message ∷ []) (after_tell (base_of u m) message) n_is up same
     (ap (λ (b : BaseState). after_tell b message) (same m) ∙ sym (ap (λ (b : Bool). if b then after_tell (base_of w m) message else base_of w m) is)) refl
 
 seated_acts : (n : ℕ) (w : Actors) (p : Mobile) (tenure : Tenure) (control : List ℕ) → n ≢ 0 → is_reached w tenure ≡ true → Acts n w (seated w p tenure control)
 seated_acts n w p tenure control n_is reached =
-    acts_at refl (calling n tenure.at.station w w (establishes tenure.at.number Zero None ∷ []) _ n_is (reached-up w tenure reached).0 (λ k. refl) (establishing (base_of w tenure.at.station) tenure.at.number Zero None (reached-up w tenure reached).1) refl)
+    acts_at refl (calling n tenure.at.station w w (establishes tenure.at.number Zero None ∷ []) _ n_is (reached_up w tenure reached).0 (λ k. refl) (establishing (base_of w tenure.at.station) tenure.at.number Zero None (reached_up w tenure reached).1) refl)
 
 answered_acts : (n station channel : ℕ) (answer : Bool) (w u : Actors) → n ≢ 0 → is_station_up w station ≡ true → SameEnds w u → Acts n w (answered answer (place_at station channel) u)
 answered_acts n station channel answer w u n_is up same =
-    told_acts n station (link_answer answer channel) w _ n_is up (λ k. base-with_spot (place_at station channel) _ u k ∙ same k) (by_answer answer) where
+    told_acts n station (link_answer answer channel) w _ n_is up (λ k. base_with_spot (place_at station channel) _ u k ∙ same k) (by_answer answer) where
       by_answer : (b : Bool) → is_told (link_answer b channel) ≡ true
       by_answer true = refl
       by_answer false = refl
@@ -156,12 +156,12 @@ answered_acts n station channel answer w u n_is up same =
 took_acts : (n station : ℕ) (target : Option Tenure) (o : Option Rsl) (w u : Actors) → n ≢ 0 → is_station_up w station ≡ true → SameEnds w u → OfTaken (Acts n w) (took station target o u)
 took_acts n station target o w u n_is up same = took-leads (Acts n w) station target o u (record {
   nothing = rests (same n);
-  activates = λ channel free. acts_at (base-with_spot (place_at station channel) _ (with_base station (after_activate (base_of u station) channel) u) n)
+  activates = λ channel free. acts_at (base_with_spot (place_at station channel) _ (with_base station (after_activate (base_of u station) channel) u) n)
       (calling n station w u (activates channel ∷ []) _ n_is up same (activating (base_of u station) channel free ∙ ap (λ (b : BaseState). after_call b (activates channel)) (same station)) refl);
   seats = λ p number channel _ _. rests (same n);
-  airs = λ channel message _. rests (base-with_spot (place_at station channel) _ u n ∙ same n);
+  airs = λ channel message _. rests (base_with_spot (place_at station channel) _ u n ∙ same n);
   answers = λ answer channel. answered_acts n station channel answer w u n_is up same;
-  releases = λ channel. acts_at (base-with_spot (place_at station channel) _ (with_base station (after_release (base_of u station) channel) u) n)
+  releases = λ channel. acts_at (base_with_spot (place_at station channel) _ (with_base station (after_release (base_of u station) channel) u) n)
       (calling n station w u (releases channel ∷ []) _ n_is up same (ap (λ (b : BaseState). after_release b channel) (same station)) refl);
 })
 
@@ -184,7 +184,7 @@ plain_step (next message first is nows) = gives message first is nows
 plain_step (ends_now down left nothing) = breaks down left nothing
 
 acting : (n : ℕ) (w : Actors) (event : Event) (o : Option Actors) → given n w event ≡ [] → OfTaken (Acts n w) o → Step n w event (unwrap_or o w)
-acting n w event o nothing leads = acts_then (after-taken (Acts n w) o w leads (rests refl)) nothing
+acting n w event o nothing leads = acts_then (after_taken (Acts n w) o w leads (rests refl)) nothing
 
 -- a push
 pub pushing : (n source : ℕ) (w : Actors) → n ≢ 0 → Plain n w (BasePush source) (unwrap_or (after_base_push w source) w)
@@ -256,34 +256,34 @@ breaking n source w n_is = by_link (is_up w source) refl where
 
 pub step : (n : ℕ) (w : Actors) (event : Event) → n ≢ 0 → Step n w event (actors_after w event)
 unfolding event_after FromAir OfTaken
-step n w (Upper number sapi message) n_is = acting n w (Upper number sapi message) (after_upper w number sapi message) refl (upper-leads (Acts n w) w number sapi message (λ p _. rests refl))
+step n w (Upper number sapi message) n_is = acting n w (Upper number sapi message) (after_upper w number sapi message) refl (upper_leads (Acts n w) w number sapi message (λ p _. rests refl))
 step n w (Connect number station initial accepts) n_is =
     acting n w (Connect number station initial accepts) (after_connecting w number station initial accepts) refl
-    (connect-leads (Acts n w) w number station initial accepts (λ may. told_acts n station (channel_required number) w _ n_is (and-right (is_new w number) (is_station_up w station) (and-left (is_new w number && is_station_up w station) (is_none (refusal_of_connect (Some initial))) may)) (λ k. refl) refl))
+    (connect_leads (Acts n w) w number station initial accepts (λ may. told_acts n station (channel_required number) w _ n_is (and_right (is_new w number) (is_station_up w station) (and_left (is_new w number && is_station_up w station) (is_none (refusal_of_connect (Some initial))) may)) (λ k. refl) refl))
 step n w (AirUp number sapi) n_is =
-    acting n w (AirUp number sapi) (after_air_up w number sapi) refl (air_up-leads (Acts n w) w number sapi (λ p tenure command frame _ _ _ reached. brought_acts n w p tenure sapi frame n_is reached))
-step n w (AirAck number sapi) n_is = acting n w (AirAck number sapi) (after_air_ack w number sapi) refl (air_ack-leads (Acts n w) w number sapi (λ p _. rests refl))
-step n w (AirDown number) n_is = acting n w (AirDown number) (after_air_down w number) refl (air_down-leads (Acts n w) w number (λ p tenure command _ _ _ first others _. rests (base-with_spot tenure.at _ w n)))
-step n w (AirDownLost number) n_is = acting n w (AirDownLost number) (after_air_down_lost w number) refl (air_down_lost-leads (Acts n w) w number (λ p tenure command _ _ _ first others _. rests (base-with_spot tenure.at _ w n)))
-step n w (Move number) n_is = acting n w (Move number) (after_move w number) refl (move-leads (Acts n w) w number (λ p tenure command _ _ _. rests (base-with_spot tenure.at _ w n)))
+    acting n w (AirUp number sapi) (after_air_up w number sapi) refl (air_up_leads (Acts n w) w number sapi (λ p tenure command frame _ _ _ reached. brought_acts n w p tenure sapi frame n_is reached))
+step n w (AirAck number sapi) n_is = acting n w (AirAck number sapi) (after_air_ack w number sapi) refl (air_ack_leads (Acts n w) w number sapi (λ p _. rests refl))
+step n w (AirDown number) n_is = acting n w (AirDown number) (after_air_down w number) refl (air_down_leads (Acts n w) w number (λ p tenure command _ _ _ first others _. rests (base_with_spot tenure.at _ w n)))
+step n w (AirDownLost number) n_is = acting n w (AirDownLost number) (after_air_down_lost w number) refl (air_down_lost_leads (Acts n w) w number (λ p tenure command _ _ _ first others _. rests (base_with_spot tenure.at _ w n)))
+step n w (Move number) n_is = acting n w (Move number) (after_move w number) refl (move_leads (Acts n w) w number (λ p tenure command _ _ _. rests (base_with_spot tenure.at _ w n)))
 step n w (Touch number) n_is =
-    acting n w (Touch number) (after_touch w number) refl (touch-leads (Acts n w) w number (λ command reached. told_acts n command.target.at.station (handover_detection command.target.at.number) w w n_is (reached-up w command.target reached).0 (λ k. refl) refl))
+    acting n w (Touch number) (after_touch w number) refl (touch_leads (Acts n w) w number (λ command reached. told_acts n command.target.at.station (handover_detection command.target.at.number) w w n_is (reached_up w command.target reached).0 (λ k. refl) refl))
 step n w (Arrive number) n_is =
-    acting n w (Arrive number) (after_arriving w number) refl (arrive-leads (Acts n w) w number (λ p from command _ _ reached. seated_acts n w p command.target (complete command.change) n_is reached))
+    acting n w (Arrive number) (after_arriving w number) refl (arrive_leads (Acts n w) w number (λ p from command _ _ reached. seated_acts n w p command.target (complete command.change) n_is reached))
 step n w (Return number) n_is =
-    acting n w (Return number) (after_return w number) refl (return-leads (Acts n w) w number (λ p from command _ _ reached. seated_acts n w p from (failure command.change) n_is reached))
+    acting n w (Return number) (after_return w number) refl (return_leads (Acts n w) w number (λ p from command _ _ reached. seated_acts n w p from (failure command.change) n_is reached))
 step n w (BaseTakes station) n_is =
-    acting n w (BaseTakes station) (after_base_takes w station) refl (base_takes-leads (Acts n w) w station (λ first others up _. took_acts n station first.target (rsl_in first.out.frame) w (with_outbox station others w) n_is up (λ k. refl)))
+    acting n w (BaseTakes station) (after_base_takes w station) refl (base_takes_leads (Acts n w) w station (λ first others up _. took_acts n station first.target (rsl_in first.out.frame) w (with_outbox station others w) n_is up (λ k. refl)))
 step n w (BasePush source) n_is = plain_step (pushing n source w n_is)
 step n w Handle n_is =
-    acting n w Handle (after_handle w) refl (handle-leads (Acts n w) w (λ item items _. turn-leads (Acts n w) (target_in w item.source item.what) (take item w.controller) (record w { inbox = items }) (λ links. rests refl)))
+    acting n w Handle (after_handle w) refl (handle_leads (Acts n w) w (λ item items _. turn_leads (Acts n w) (target_in w item.source item.what) (take item w.controller) (record w { inbox = items }) (λ links. rests refl)))
 step n w SwitchTakes n_is =
-    acting n w SwitchTakes (after_switch_takes w) refl (switch_takes-leads (Acts n w) w (λ first others _ _. switch_took-leads (Acts n w) (with_outbox SWITCH_LINK others w) (sccp_in first.out.frame) (rests refl) (λ next made. rests refl)))
-step n w (SwitchDoes action) n_is = acting n w (SwitchDoes action) (after_switch_does w action) refl (does-leads (Acts n w) w action (λ next made. rests refl))
-step n w (Tick ms) n_is = acting n w (Tick ms) (after_tick w ms) refl (turn-leads (Acts n w) None (tick ms w.controller) w (λ links. rests refl))
+    acting n w SwitchTakes (after_switch_takes w) refl (switch_takes_leads (Acts n w) w (λ first others _ _. switch_took-leads (Acts n w) (with_outbox SWITCH_LINK others w) (sccp_in first.out.frame) (rests refl) (λ next made. rests refl)))
+step n w (SwitchDoes action) n_is = acting n w (SwitchDoes action) (after_switch_does w action) refl (does_leads (Acts n w) w action (λ next made. rests refl))
+step n w (Tick ms) n_is = acting n w (Tick ms) (after_tick w ms) refl (turn_leads (Acts n w) None (tick ms w.controller) w (λ links. rests refl))
 step n w (BaseDown source) n_is = plain_step (breaking n source w n_is)
 step n w (Report number report) n_is =
-    acting n w (Report number report) (after_report w number report) refl (report-leads (Acts n w) w number report (λ tenure reached. told_acts n tenure.at.station _ w _ n_is (reached-up w tenure reached).0 (λ k. base-with_spot tenure.at _ w k) refl))
+    acting n w (Report number report) (after_report w number report) refl (report-leads (Acts n w) w number report (λ tenure reached. told_acts n tenure.at.station _ w _ n_is (reached_up w tenure reached).0 (λ k. base_with_spot tenure.at _ w k) refl))
 
 -- ---- all events
 
@@ -352,17 +352,17 @@ kept_by n so_far w event v (gives message first is_next gave_now) stays (rested 
 kept_by n so_far w event v (breaks down_now nothing_now nothing) stays (rested down nothing_left tenures) =
     rested down_now nothing_now (λ channel. tenures_of (with_nothing so_far (given n w event) nothing) (tenures channel))
 
-pub kept-all : (n : ℕ) (so_far : List Rsl) (w : Actors) (events : List Event) → n ≢ 0 → Kept n so_far w → Kept n (so_far ++ all_given n w events) (actors_after_all w events)
-kept-all n so_far w [] n_is kept = subst (λ (ms : List Rsl). Kept n ms w) (sym (append-nil so_far)) kept
-kept-all n so_far w (event ∷ events) n_is kept =
+pub kept_all : (n : ℕ) (so_far : List Rsl) (w : Actors) (events : List Event) → n ≢ 0 → Kept n so_far w → Kept n (so_far ++ all_given n w events) (actors_after_all w events)
+kept_all n so_far w [] n_is kept = subst (λ (ms : List Rsl). Kept n ms w) (sym (append-nil so_far)) kept
+kept_all n so_far w (event ∷ events) n_is kept =
     subst (λ (ms : List Rsl). Kept n ms (actors_after_all (actors_after w event) events)) (append_assoc so_far (given n w event) (all_given n (actors_after w event) events))
-    (kept-all n (so_far ++ given n w event) (actors_after w event) events n_is (kept_by n so_far w event (actors_after w event) (step n w event n_is) (down-after n w event) kept))
+    (kept_all n (so_far ++ given n w event) (actors_after w event) events n_is (kept_by n so_far w event (actors_after w event) (step n w event n_is) (down_after n w event) kept))
 
-pub tenures-kept : (n channel : ℕ) (so_far : List Rsl) (w : Actors) → Kept n so_far w → (end : Bool) × Tenures channel false (so_far ++ (base_of w n).messages) end
-tenures-kept n channel so_far w (works station calls is gave) =
+pub tenures_kept : (n channel : ℕ) (so_far : List Rsl) (w : Actors) → Kept n so_far w → (end : Bool) × Tenures channel false (so_far ++ (base_of w n).messages) end
+tenures_kept n channel so_far w (works station calls is gave) =
     tenures_of (ap (λ (ms : List Rsl). ms ++ (base_of w n).messages) gave ∙ ap (λ (b : BaseState). messages_given (new_base station) calls ++ b.messages) is)
     (is_active (after_calls (new_base station) calls).active channel, Tenures-given channel station calls)
-tenures-kept n channel so_far w (rested down nothing_left tenures) = tenures_of (with_nothing so_far (base_of w n).messages nothing_left) (tenures channel)
+tenures_kept n channel so_far w (rested down nothing_left tenures) = tenures_of (with_nothing so_far (base_of w n).messages nothing_left) (tenures channel)
 
 -- a new station has a new end
 pub new_ends : (cells : List CellParameters) (from k : ℕ) → (station : ℕ) × ((get_or (stations_from from cells) k no_station).base ≡ new_base station)
@@ -373,4 +373,4 @@ new_ends (cell ∷ cells) from (suc k) = new_ends cells (from + 1) k
 pub AreHonest-new : (settings : Parameters) (events : List Event) → AreHonest (new_actors settings) events
 AreHonest-new settings events n n_is channel =
     let end = new_ends settings.cells 1 (n - 1) in
-    tenures-kept n channel (all_given n (new_actors settings) events) (actors_after_all (new_actors settings) events) (kept-all n [] (new_actors settings) events n_is (works end.0 [] end.1 refl))
+    tenures_kept n channel (all_given n (new_actors settings) events) (actors_after_all (new_actors settings) events) (kept_all n [] (new_actors settings) events n_is (works end.0 [] end.1 refl))

@@ -10,8 +10,8 @@ use Rattle.world_model.proofs.Prelude.{after_switch_does, Actors, is_up, broken_
 use Rattle.ruled_relay.specs.declared.item.What.TheVariants as whats
 use Rattle.world_model.specs.Life.{event_after}
 use Rattle.world_model.specs.World.{with_link}
-use Rattle.world_model.proofs.Leads.{OfTaken, FromAir, switch_takes-leads, switch_took-leads, does-leads, after-taken}
-use Rattle.world_model.proofs.Leads.{aerial-leads, taking-leads}
+use Rattle.world_model.proofs.Leads.{OfTaken, FromAir, switch_takes_leads, switch_took-leads, does_leads, after_taken}
+use Rattle.world_model.proofs.Leads.{aerial_leads, taking_leads}
 
 -- the inbox is as it was
 abbrev Stays : Actors → Actors → Type 0
@@ -30,7 +30,7 @@ abbrev pub Goes : Actors → Event → Type 0
 Goes w event = w.inbox ++ pushed w event ≡ popped w event ++ (actors_after w event).inbox
 
 quietly : (w : Actors) (o : Option Actors) → OfTaken (Stays w) o → w.inbox ++ [] ≡ (unwrap_or o w).inbox
-quietly w o taken = append-nil w.inbox ∙ sym (after-taken (Stays w) o w taken refl)
+quietly w o taken = append-nil w.inbox ∙ sym (after_taken (Stays w) o w taken refl)
 
 pushed_by_switch_goes : (w : Actors) (made : List Sccp) → w.inbox ++ map switch_item (first_of made) ≡ (unwrap_or (pushed_by_switch made w) w).inbox
 pushed_by_switch_goes w [] = append-nil w.inbox
@@ -66,17 +66,17 @@ handle_goes w [] is = sym is
 handle_goes w (item ∷ items) is =
     ap (λ (others : List Item). item ∷ others) (sym (turn_stays (target_in w item.source item.what) (take item w.controller) (record w { inbox = items })))
 
-pub inbox-goes : (w : Actors) (event : Event) → Goes w event
+pub inbox_goes : (w : Actors) (event : Event) → Goes w event
 unfolding event_after FromAir
-inbox-goes w (BaseTakes station) = quietly w (after_base_takes w station) (taking-leads (Stays w) w station (λ first others _ _ mobiles stations. refl))
-inbox-goes w (BasePush source) = push_goes w source
-inbox-goes w Handle = append-nil w.inbox ∙ handle_goes w w.inbox refl
-inbox-goes w SwitchTakes =
-    quietly w (after_switch_takes w) (switch_takes-leads (Stays w) w (λ first others _ _. switch_took-leads (Stays w) (with_outbox SWITCH_LINK others w) (sccp_in first.out.frame) refl (λ next made. refl)))
-inbox-goes w (SwitchDoes action) = quietly w (after_switch_does w action) (does-leads (Stays w) w action (λ next made. refl))
-inbox-goes w (Tick ms) = append-nil w.inbox ∙ sym (turn_stays None (tick ms w.controller) w)
-inbox-goes w (BaseDown source) = break_goes w source
-inbox-goes w event = quietly w (event_after w event) (aerial-leads (Stays w) w event refl (λ mobiles stations. refl))
+inbox_goes w (BaseTakes station) = quietly w (after_base_takes w station) (taking_leads (Stays w) w station (λ first others _ _ mobiles stations. refl))
+inbox_goes w (BasePush source) = push_goes w source
+inbox_goes w Handle = append-nil w.inbox ∙ handle_goes w w.inbox refl
+inbox_goes w SwitchTakes =
+    quietly w (after_switch_takes w) (switch_takes_leads (Stays w) w (λ first others _ _. switch_took-leads (Stays w) (with_outbox SWITCH_LINK others w) (sccp_in first.out.frame) refl (λ next made. refl)))
+inbox_goes w (SwitchDoes action) = quietly w (after_switch_does w action) (does_leads (Stays w) w action (λ next made. refl))
+inbox_goes w (Tick ms) = append-nil w.inbox ∙ sym (turn_stays None (tick ms w.controller) w)
+inbox_goes w (BaseDown source) = break_goes w source
+inbox_goes w event = quietly w (event_after w event) (aerial_leads (Stays w) w event refl (λ mobiles stations. refl))
 
 -- ---- all events
 
@@ -84,7 +84,7 @@ pub inbox-all : (w : Actors) (events : List Event) → w.inbox ++ all_pushed w e
 inbox-all w [] = append-nil w.inbox
 inbox-all w (event ∷ events) =
     sym (append_assoc w.inbox (pushed w event) (all_pushed (actors_after w event) events))
-    ∙ ap (λ (items : List Item). items ++ all_pushed (actors_after w event) events) (inbox-goes w event)
+    ∙ ap (λ (items : List Item). items ++ all_pushed (actors_after w event) events) (inbox_goes w event)
     ∙ append_assoc (popped w event) (actors_after w event).inbox (all_pushed (actors_after w event) events)
     ∙ ap (λ (items : List Item). popped w event ++ items) (inbox-all (actors_after w event) events)
     ∙ sym (append_assoc (popped w event) (all_popped (actors_after w event) events) (actors_after_all (actors_after w event) events).inbox)

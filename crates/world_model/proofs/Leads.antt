@@ -22,7 +22,7 @@ use Rattle.bssmap_codec.specs.declared.bssap.Bssap.{Bssap}
 use Rattle.bssmap_codec.specs.declared.bssap.Bssap.TheVariants.{Transfer}
 use Rattle.msc_end.specs.Switch.{after, after_clear, assignment_request, clear_command, connection_of, data_forms_on, dlci_for, replies}
 use Rattle.world_model.specs.declared.event.SwitchAction.{SwitchAction}
-use Rattle.world_model.specs.Mobiles.{only_if, by_mobile, told, may_send, sent_by, after_upper, channel_required, connected, is_new, after_connecting, frame_in, brought, brought_up, after_air_up, acknowledged, after_air_ack, hearing, unheard, taken_from_air, brought_down, after_air_down, after_air_down_lost, left, moved, after_move, is_to_handover, handover_detection, touched, after_touch, complete, failure, seated, arrived, after_arriving, returned, after_return, reported_at, reported, after_report}
+use Rattle.world_model.specs.Mobiles.{only_if, by_mobile, with_message_made, may_send, sent_by, after_upper, channel_required, connected, is_new, after_connecting, frame_in, brought, brought_up, after_air_up, acknowledged, after_air_ack, hearing, ignored, taken_from_air, brought_down, after_air_down, after_air_down_lost, left, moved, after_move, is_to_handover, handover_detection, touched, after_touch, complete, failure, seated, arrived, after_arriving, returned, after_return, reported_at, reported, after_report}
 use Rattle.world_model.specs.World.{with_link, link_of}
 use Rattle.world_model.specs.Life.{event_after}
 
@@ -48,13 +48,13 @@ found_leads P (Some p) act h = h p refl
 pub by_mobile-leads : (P : Actors → Type 0) (w : Actors) (number : ℕ) (act : Mobile → Option Actors) → ((p : Mobile) → mobile_of w number ≡ Some p → OfTaken P (act p)) → OfTaken P (by_mobile w number act)
 by_mobile-leads P w number act h = found_leads P (mobile_of w number) act h
 
-pub upper-leads : (P : Actors → Type 0) (w : Actors) (number : ℕ) (sapi : Sapi) (message : List ℕ) → ((p : Mobile) → mobile_of w number ≡ Some p → P (with_mobile (record p { end = after_queue p.end sapi message }) w)) → OfTaken P (after_upper w number sapi message)
-upper-leads P w number sapi message h =
+pub upper_leads : (P : Actors → Type 0) (w : Actors) (number : ℕ) (sapi : Sapi) (message : List ℕ) → ((p : Mobile) → mobile_of w number ≡ Some p → P (with_mobile (record p { end = after_queue p.end sapi message }) w)) → OfTaken P (after_upper w number sapi message)
+upper_leads P w number sapi message h =
     by_mobile-leads P w number (sent_by w sapi message) (λ p is. only_if-leads P (may_send p.seat && is_none (refusal_of_send p.end sapi message)) (with_mobile (record p { end = after_queue p.end sapi message }) w) (λ _. h p is))
 
-pub connect-leads : (P : Actors → Type 0) (w : Actors) (number station : ℕ) (initial : List ℕ) (accepts : Bool) → (is_new w number && is_station_up w station && is_none (refusal_of_connect (Some initial)) ≡ true → P (told station (channel_required number) (record w { mobiles = w.mobiles ++ connected w.modulus number initial accepts ∷ [] }))) → OfTaken P (after_connecting w number station initial accepts)
-connect-leads P w number station initial accepts h =
-    only_if-leads P (is_new w number && is_station_up w station && is_none (refusal_of_connect (Some initial))) (told station (channel_required number) (record w { mobiles = w.mobiles ++ connected w.modulus number initial accepts ∷ [] })) h
+pub connect_leads : (P : Actors → Type 0) (w : Actors) (number station : ℕ) (initial : List ℕ) (accepts : Bool) → (is_new w number && is_station_up w station && is_none (refusal_of_connect (Some initial)) ≡ true → P (with_message_made station (channel_required number) (record w { mobiles = w.mobiles ++ connected w.modulus number initial accepts ∷ [] }))) → OfTaken P (after_connecting w number station initial accepts)
+connect_leads P w number station initial accepts h =
+    only_if-leads P (is_new w number && is_station_up w station && is_none (refusal_of_connect (Some initial))) (with_message_made station (channel_required number) (record w { mobiles = w.mobiles ++ connected w.modulus number initial accepts ∷ [] })) h
 
 framed_leads : (P : Actors → Type 0) (w : Actors) (sapi : Sapi) (p : Mobile) (tenure : Tenure) (o : Option (List ℕ)) → ((frame : List ℕ) → o ≡ Some frame → is_reached w tenure ≡ true → P (brought w p tenure.at sapi frame)) → OfTaken P (option_and_then (λ frame. only_if (is_reached w tenure) (brought w p tenure.at sapi frame)) o)
 unfolding OfTaken
@@ -66,8 +66,8 @@ unfolding OfTaken
 brought_up_leads P w sapi p (On tenure command) h = framed_leads P w sapi p tenure (frame_in (frame_answer p.end sapi)) (λ frame is up. h tenure command frame refl is up)
 brought_up_leads P w sapi p _ h = tt
 
-pub air_up-leads : (P : Actors → Type 0) (w : Actors) (number : ℕ) (sapi : Sapi) → ((p : Mobile) (tenure : Tenure) (command : Option Command) (frame : List ℕ) → mobile_of w number ≡ Some p → p.seat ≡ On tenure command → frame_in (frame_answer p.end sapi) ≡ Some frame → is_reached w tenure ≡ true → P (brought w p tenure.at sapi frame)) → OfTaken P (after_air_up w number sapi)
-air_up-leads P w number sapi h =
+pub air_up_leads : (P : Actors → Type 0) (w : Actors) (number : ℕ) (sapi : Sapi) → ((p : Mobile) (tenure : Tenure) (command : Option Command) (frame : List ℕ) → mobile_of w number ≡ Some p → p.seat ≡ On tenure command → frame_in (frame_answer p.end sapi) ≡ Some frame → is_reached w tenure ≡ true → P (brought w p tenure.at sapi frame)) → OfTaken P (after_air_up w number sapi)
+air_up_leads P w number sapi h =
     by_mobile-leads P w number (λ p. brought_up w sapi p p.seat) (λ p is. brought_up_leads P w sapi p p.seat (λ tenure command frame. h p tenure command frame is))
 
 acknowledged_leads : (P : Actors → Type 0) (w : Actors) (sapi : Sapi) (p : Mobile) (seat : Seat) → P (with_mobile (record p { end = after_acked p.end sapi }) w) → OfTaken P (acknowledged w sapi p seat)
@@ -75,8 +75,8 @@ unfolding OfTaken
 acknowledged_leads P w sapi p (On tenure command) h = only_if-leads P (is_reached w tenure && is_acknowledged p.end sapi) (with_mobile (record p { end = after_acked p.end sapi }) w) (λ _. h)
 acknowledged_leads P w sapi p _ h = tt
 
-pub air_ack-leads : (P : Actors → Type 0) (w : Actors) (number : ℕ) (sapi : Sapi) → ((p : Mobile) → mobile_of w number ≡ Some p → P (with_mobile (record p { end = after_acked p.end sapi }) w)) → OfTaken P (after_air_ack w number sapi)
-air_ack-leads P w number sapi h = by_mobile-leads P w number (λ p. acknowledged w sapi p p.seat) (λ p is. acknowledged_leads P w sapi p p.seat (h p is))
+pub air_ack_leads : (P : Actors → Type 0) (w : Actors) (number : ℕ) (sapi : Sapi) → ((p : Mobile) → mobile_of w number ≡ Some p → P (with_mobile (record p { end = after_acked p.end sapi }) w)) → OfTaken P (after_air_ack w number sapi)
+air_ack_leads P w number sapi h = by_mobile-leads P w number (λ p. acknowledged w sapi p p.seat) (λ p is. acknowledged_leads P w sapi p p.seat (h p is))
 
 -- what the mobile makes of the first message of the list, at this place
 unfoldable pub FromAir : (Actors → Type 0) → Actors → (Mobile → AirMessage → Mobile) → Mobile → Tenure → Type 0
@@ -99,57 +99,57 @@ brought_down_leads P w hears p (On tenure command) h =
     air_where P (is_reached w tenure) (taken_from_air w hears p tenure.at (spot_at w tenure.at).air) (λ up. taken_from_air_leads P w hears p tenure (spot_at w tenure.at).air refl (h tenure command refl up))
 brought_down_leads P w hears p _ h = tt
 
-pub air_down-leads : (P : Actors → Type 0) (w : Actors) (number : ℕ) → ((p : Mobile) (tenure : Tenure) (command : Option Command) → mobile_of w number ≡ Some p → p.seat ≡ On tenure command → is_reached w tenure ≡ true → FromAir P w hearing p tenure) → OfTaken P (after_air_down w number)
-air_down-leads P w number h = by_mobile-leads P w number (λ p. brought_down w hearing p p.seat) (λ p is. brought_down_leads P w hearing p p.seat (λ tenure command. h p tenure command is))
+pub air_down_leads : (P : Actors → Type 0) (w : Actors) (number : ℕ) → ((p : Mobile) (tenure : Tenure) (command : Option Command) → mobile_of w number ≡ Some p → p.seat ≡ On tenure command → is_reached w tenure ≡ true → FromAir P w hearing p tenure) → OfTaken P (after_air_down w number)
+air_down_leads P w number h = by_mobile-leads P w number (λ p. brought_down w hearing p p.seat) (λ p is. brought_down_leads P w hearing p p.seat (λ tenure command. h p tenure command is))
 
-pub air_down_lost-leads : (P : Actors → Type 0) (w : Actors) (number : ℕ) → ((p : Mobile) (tenure : Tenure) (command : Option Command) → mobile_of w number ≡ Some p → p.seat ≡ On tenure command → is_reached w tenure ≡ true → FromAir P w unheard p tenure) → OfTaken P (after_air_down_lost w number)
-air_down_lost-leads P w number h = by_mobile-leads P w number (λ p. brought_down w unheard p p.seat) (λ p is. brought_down_leads P w unheard p p.seat (λ tenure command. h p tenure command is))
+pub air_down_lost_leads : (P : Actors → Type 0) (w : Actors) (number : ℕ) → ((p : Mobile) (tenure : Tenure) (command : Option Command) → mobile_of w number ≡ Some p → p.seat ≡ On tenure command → is_reached w tenure ≡ true → FromAir P w ignored p tenure) → OfTaken P (after_air_down_lost w number)
+air_down_lost_leads P w number h = by_mobile-leads P w number (λ p. brought_down w ignored p p.seat) (λ p is. brought_down_leads P w ignored p p.seat (λ tenure command. h p tenure command is))
 
 moved_leads : (P : Actors → Type 0) (w : Actors) (p : Mobile) (seat : Seat) → ((tenure : Tenure) (command : Command) → seat ≡ On tenure (Some command) → is_reached w tenure ≡ true → P (left w p tenure command)) → OfTaken P (moved w p seat)
 unfolding OfTaken
 moved_leads P w p (On tenure (Some command)) h = only_if-leads P (is_reached w tenure) (left w p tenure command) (h tenure command refl)
 moved_leads P w p _ h = tt
 
-pub move-leads : (P : Actors → Type 0) (w : Actors) (number : ℕ) → ((p : Mobile) (tenure : Tenure) (command : Command) → mobile_of w number ≡ Some p → p.seat ≡ On tenure (Some command) → is_reached w tenure ≡ true → P (left w p tenure command)) → OfTaken P (after_move w number)
-move-leads P w number h = by_mobile-leads P w number (λ p. moved w p p.seat) (λ p is. moved_leads P w p p.seat (λ tenure command. h p tenure command is))
+pub move_leads : (P : Actors → Type 0) (w : Actors) (number : ℕ) → ((p : Mobile) (tenure : Tenure) (command : Command) → mobile_of w number ≡ Some p → p.seat ≡ On tenure (Some command) → is_reached w tenure ≡ true → P (left w p tenure command)) → OfTaken P (after_move w number)
+move_leads P w number h = by_mobile-leads P w number (λ p. moved w p p.seat) (λ p is. moved_leads P w p p.seat (λ tenure command. h p tenure command is))
 
-pub and-right : (a b : Bool) → a && b ≡ true → b ≡ true
-and-right true b is = is
-and-right false b is = absurd cc
+pub and_right : (a b : Bool) → a && b ≡ true → b ≡ true
+and_right true b is = is
+and_right false b is = absurd cc
 
-pub and-left : (a b : Bool) → a && b ≡ true → a ≡ true
-and-left true b is = refl
-and-left false b is = absurd cc
+pub and_left : (a b : Bool) → a && b ≡ true → a ≡ true
+and_left true b is = refl
+and_left false b is = absurd cc
 
-touched_leads : (P : Actors → Type 0) (w : Actors) (seat : Seat) → ((from : Tenure) (command : Command) → seat ≡ Moving from command → is_reached w command.target ≡ true → P (told command.target.at.station (handover_detection command.target.at.number) w)) → OfTaken P (touched w seat)
+touched_leads : (P : Actors → Type 0) (w : Actors) (seat : Seat) → ((from : Tenure) (command : Command) → seat ≡ Moving from command → is_reached w command.target ≡ true → P (with_message_made command.target.at.station (handover_detection command.target.at.number) w)) → OfTaken P (touched w seat)
 unfolding OfTaken
 touched_leads P w (Moving from command) h =
-    only_if-leads P (is_to_handover command.change && is_reached w command.target) (told command.target.at.station (handover_detection command.target.at.number) w) (λ both. h from command refl (and-right (is_to_handover command.change) (is_reached w command.target) both))
+    only_if-leads P (is_to_handover command.change && is_reached w command.target) (with_message_made command.target.at.station (handover_detection command.target.at.number) w) (λ both. h from command refl (and_right (is_to_handover command.change) (is_reached w command.target) both))
 touched_leads P w _ h = tt
 
-pub touch-leads : (P : Actors → Type 0) (w : Actors) (number : ℕ) → ((command : Command) → is_reached w command.target ≡ true → P (told command.target.at.station (handover_detection command.target.at.number) w)) → OfTaken P (after_touch w number)
-touch-leads P w number h = by_mobile-leads P w number (λ p. touched w p.seat) (λ p is. touched_leads P w p.seat (λ from command is_seat. h command))
+pub touch_leads : (P : Actors → Type 0) (w : Actors) (number : ℕ) → ((command : Command) → is_reached w command.target ≡ true → P (with_message_made command.target.at.station (handover_detection command.target.at.number) w)) → OfTaken P (after_touch w number)
+touch_leads P w number h = by_mobile-leads P w number (λ p. touched w p.seat) (λ p is. touched_leads P w p.seat (λ from command is_seat. h command))
 
 arrived_leads : (P : Actors → Type 0) (w : Actors) (p : Mobile) (seat : Seat) → ((from : Tenure) (command : Command) → seat ≡ Moving from command → is_reached w command.target ≡ true → P (seated w p command.target (complete command.change))) → OfTaken P (arrived w p seat)
 unfolding OfTaken
 arrived_leads P w p (Moving from command) h = only_if-leads P (is_reached w command.target) (seated w p command.target (complete command.change)) (h from command refl)
 arrived_leads P w p _ h = tt
 
-pub arrive-leads : (P : Actors → Type 0) (w : Actors) (number : ℕ) → ((p : Mobile) (from : Tenure) (command : Command) → mobile_of w number ≡ Some p → p.seat ≡ Moving from command → is_reached w command.target ≡ true → P (seated w p command.target (complete command.change))) → OfTaken P (after_arriving w number)
-arrive-leads P w number h = by_mobile-leads P w number (λ p. arrived w p p.seat) (λ p is. arrived_leads P w p p.seat (λ from command. h p from command is))
+pub arrive_leads : (P : Actors → Type 0) (w : Actors) (number : ℕ) → ((p : Mobile) (from : Tenure) (command : Command) → mobile_of w number ≡ Some p → p.seat ≡ Moving from command → is_reached w command.target ≡ true → P (seated w p command.target (complete command.change))) → OfTaken P (after_arriving w number)
+arrive_leads P w number h = by_mobile-leads P w number (λ p. arrived w p p.seat) (λ p is. arrived_leads P w p p.seat (λ from command. h p from command is))
 
 returned_leads : (P : Actors → Type 0) (w : Actors) (p : Mobile) (seat : Seat) → ((from : Tenure) (command : Command) → seat ≡ Moving from command → is_reached w from ≡ true → P (seated w p from (failure command.change))) → OfTaken P (returned w p seat)
 unfolding OfTaken
 returned_leads P w p (Moving from command) h = only_if-leads P (is_reached w from) (seated w p from (failure command.change)) (h from command refl)
 returned_leads P w p _ h = tt
 
-pub return-leads : (P : Actors → Type 0) (w : Actors) (number : ℕ) → ((p : Mobile) (from : Tenure) (command : Command) → mobile_of w number ≡ Some p → p.seat ≡ Moving from command → is_reached w from ≡ true → P (seated w p from (failure command.change))) → OfTaken P (after_return w number)
-return-leads P w number h = by_mobile-leads P w number (λ p. returned w p p.seat) (λ p is. returned_leads P w p p.seat (λ from command. h p from command is))
+pub return_leads : (P : Actors → Type 0) (w : Actors) (number : ℕ) → ((p : Mobile) (from : Tenure) (command : Command) → mobile_of w number ≡ Some p → p.seat ≡ Moving from command → is_reached w from ≡ true → P (seated w p from (failure command.change))) → OfTaken P (after_return w number)
+return_leads P w number h = by_mobile-leads P w number (λ p. returned w p p.seat) (λ p is. returned_leads P w p p.seat (λ from command. h p from command is))
 
 reported_leads : (P : Actors → Type 0) (w : Actors) (report : List ℕ) (seat : Seat) → ((tenure : Tenure) → is_reached w tenure ≡ true → P (reported_at w tenure.at report)) → OfTaken P (reported w report seat)
 unfolding OfTaken
 reported_leads P w report (On tenure command) h =
-    only_if-leads P (is_reached w tenure && (length report == REPORT_LENGTH)) (reported_at w tenure.at report) (λ both. h tenure (and-left (is_reached w tenure) (length report == REPORT_LENGTH) both))
+    only_if-leads P (is_reached w tenure && (length report == REPORT_LENGTH)) (reported_at w tenure.at report) (λ both. h tenure (and_left (is_reached w tenure) (length report == REPORT_LENGTH) both))
 reported_leads P w report _ h = tt
 
 pub report-leads : (P : Actors → Type 0) (w : Actors) (number : ℕ) (report : List ℕ) → ((tenure : Tenure) → is_reached w tenure ≡ true → P (reported_at w tenure.at report)) → OfTaken P (after_report w number report)
@@ -162,28 +162,28 @@ unfolding OfTaken
 took_first_leads P w station [] is h = tt
 took_first_leads P w station (first ∷ others) is h = h first others is
 
-pub base_takes-leads : (P : Actors → Type 0) (w : Actors) (station : ℕ) → ((first : OutboxEntry) (others : List OutboxEntry) → is_station_up w station ≡ true → outbox_of w station ≡ first ∷ others → OfTaken P (took station first.target (rsl_in first.out.frame) (with_outbox station others w))) → OfTaken P (after_base_takes w station)
-base_takes-leads P w station h =
+pub base_takes_leads : (P : Actors → Type 0) (w : Actors) (station : ℕ) → ((first : OutboxEntry) (others : List OutboxEntry) → is_station_up w station ≡ true → outbox_of w station ≡ first ∷ others → OfTaken P (took station first.target (rsl_in first.out.frame) (with_outbox station others w))) → OfTaken P (after_base_takes w station)
+base_takes_leads P w station h =
     air_where P (is_station_up w station) (took_first station (outbox_of w station) w) (λ up. took_first_leads P w station (outbox_of w station) refl (λ first others. h first others up))
 
-pub handle-leads : (P : Actors → Type 0) (w : Actors) → ((item : Item) (items : List Item) → w.inbox ≡ item ∷ items → P (with_turn (target_in w item.source item.what) (take item w.controller) (record w { inbox = items }))) → OfTaken P (after_handle w)
+pub handle_leads : (P : Actors → Type 0) (w : Actors) → ((item : Item) (items : List Item) → w.inbox ≡ item ∷ items → P (with_turn (target_in w item.source item.what) (take item w.controller) (record w { inbox = items }))) → OfTaken P (after_handle w)
 unfolding OfTaken
-handle-leads P w h = by_items w.inbox refl where
+handle_leads P w h = by_items w.inbox refl where
   by_items : (items : List Item) → w.inbox ≡ items → OfTaken P (handled items w)
   by_items [] is = tt
   by_items (item ∷ items) is = h item items is
 
 -- of the switch's link or of a station's
-pub broken-leads : (P : Actors → Type 0) (w : Actors) (source : ℕ) → (is_up w source ≡ true → source ≡ SWITCH_LINK → P (with_item (record { source = source; what = whats.Down }) (record (with_link source broken_link w) { switch_made = [] }))) → (is_up w source ≡ true → source ≢ SWITCH_LINK → P (with_item (record { source = source; what = whats.Down }) (with_base source (after_take_down (base_of (with_link source broken_link w) source)) (with_link source broken_link w)))) → OfTaken P (after_break w source)
+pub broken_leads : (P : Actors → Type 0) (w : Actors) (source : ℕ) → (is_up w source ≡ true → source ≡ SWITCH_LINK → P (with_item (record { source = source; what = whats.Down }) (record (with_link source broken_link w) { switch_made = [] }))) → (is_up w source ≡ true → source ≢ SWITCH_LINK → P (with_item (record { source = source; what = whats.Down }) (with_base source (after_take_down (base_of (with_link source broken_link w) source)) (with_link source broken_link w)))) → OfTaken P (after_break w source)
 unfolding OfTaken
-broken-leads P w source of_switch of_station = air_where P (is_up w source) (Some (broken source w)) (λ up. by_source up (nat_eq source SWITCH_LINK) refl) where
+broken_leads P w source of_switch of_station = air_where P (is_up w source) (Some (broken source w)) (λ up. by_source up (nat_eq source SWITCH_LINK) refl) where
   by_source : is_up w source ≡ true → (b : Bool) → nat_eq source SWITCH_LINK ≡ b → P (with_item (record { source = source; what = whats.Down }) (if b then record (with_link source broken_link w) { switch_made = [] } else with_base source (after_take_down (base_of (with_link source broken_link w) source)) (with_link source broken_link w)))
   by_source up true is = of_switch up (eqb-true source SWITCH_LINK is)
   by_source up false is = of_station up (eqb-false source SWITCH_LINK is)
 
-pub switch_takes-leads : (P : Actors → Type 0) (w : Actors) → ((first : OutboxEntry) (others : List OutboxEntry) → is_up w SWITCH_LINK ≡ true → outbox_of w SWITCH_LINK ≡ first ∷ others → P (switch_took (sccp_in first.out.frame) (with_outbox SWITCH_LINK others w))) → OfTaken P (after_switch_takes w)
+pub switch_takes_leads : (P : Actors → Type 0) (w : Actors) → ((first : OutboxEntry) (others : List OutboxEntry) → is_up w SWITCH_LINK ≡ true → outbox_of w SWITCH_LINK ≡ first ∷ others → P (switch_took (sccp_in first.out.frame) (with_outbox SWITCH_LINK others w))) → OfTaken P (after_switch_takes w)
 unfolding OfTaken
-switch_takes-leads P w h = air_where P (is_up w SWITCH_LINK) (switch_took_first (outbox_of w SWITCH_LINK) w) (λ up. by_entries up (outbox_of w SWITCH_LINK) refl) where
+switch_takes_leads P w h = air_where P (is_up w SWITCH_LINK) (switch_took_first (outbox_of w SWITCH_LINK) w) (λ up. by_entries up (outbox_of w SWITCH_LINK) refl) where
   by_entries : is_up w SWITCH_LINK ≡ true → (entries : List OutboxEntry) → outbox_of w SWITCH_LINK ≡ entries → OfTaken P (switch_took_first entries w)
   by_entries up [] is = tt
   by_entries up (first ∷ others) is = h first others up is
@@ -200,8 +200,8 @@ unfolding OfTaken
 station_push_leads P w station None is h = tt
 station_push_leads P w station (Some message) is h = h message is
 
-pub push-leads : (P : Actors → Type 0) (w : Actors) (source : ℕ) → ((first : Sccp) (others : List Sccp) → P (with_item (switch_item first) (record w { switch_made = others }))) → ((message : Rsl) → first_message (base_of w source) ≡ Some message → P (with_item (station_item source message) (with_base source (after_next (base_of w source)) w))) → OfTaken P (after_base_push w source)
-push-leads P w source of_switch of_station = by_source (source == SWITCH_LINK) where
+pub push_leads : (P : Actors → Type 0) (w : Actors) (source : ℕ) → ((first : Sccp) (others : List Sccp) → P (with_item (switch_item first) (record w { switch_made = others }))) → ((message : Rsl) → first_message (base_of w source) ≡ Some message → P (with_item (station_item source message) (with_base source (after_next (base_of w source)) w))) → OfTaken P (after_base_push w source)
+push_leads P w source of_switch of_station = by_source (source == SWITCH_LINK) where
   by_source : (b : Bool) → OfTaken P (if b then pushed_by_switch w.switch_made w else pushed_by_station source (first_message (base_of w source)) w)
   by_source true = switch_push_leads P w w.switch_made of_switch
   by_source false = station_push_leads P w source (first_message (base_of w source)) refl of_station
@@ -211,10 +211,10 @@ sent_on_leads P w connection message next h = air_where P (may_send_on w connect
   taken : OfTaken P (Some (record w { switch = next; switch_made = w.switch_made ++ data_forms_on (connection_of w.switch.connections connection) message }))
   taken = some_leads P _ (h (w.switch_made ++ data_forms_on (connection_of w.switch.connections connection) message))
 
-pub does-leads : (P : Actors → Type 0) (w : Actors) (action : SwitchAction) → ((next : SwitchState) (made : List Sccp) → P (record w { switch = next; switch_made = made })) → OfTaken P (after_switch_does w action)
-does-leads P w (Assign connection) h = sent_on_leads P w connection assignment_request w.switch (h w.switch)
-does-leads P w (Clear connection) h = sent_on_leads P w connection clear_command (after_clear w.switch connection) (h (after_clear w.switch connection))
-does-leads P w (Dtap connection sapi message) h =
+pub does_leads : (P : Actors → Type 0) (w : Actors) (action : SwitchAction) → ((next : SwitchState) (made : List Sccp) → P (record w { switch = next; switch_made = made })) → OfTaken P (after_switch_does w action)
+does_leads P w (Assign connection) h = sent_on_leads P w connection assignment_request w.switch (h w.switch)
+does_leads P w (Clear connection) h = sent_on_leads P w connection clear_command (after_clear w.switch connection) (h (after_clear w.switch connection))
+does_leads P w (Dtap connection sapi message) h =
     air_where P (is_layer_3 message) (sent_on w connection (Transfer (dlci_for sapi) message) w.switch) (λ _. sent_on_leads P w connection (Transfer (dlci_for sapi) message) w.switch (h w.switch))
 
 pub switch_took-leads : (P : Actors → Type 0) (w : Actors) (o : Option Sccp) → P w → ((next : SwitchState) (made : List Sccp) → P (record w { switch = next; switch_made = made })) → P (switch_took o w)
@@ -236,10 +236,10 @@ activated_leads : (P : Actors → Type 0) (station channel : ℕ) (target : Opti
 activated_leads P station channel target w None is h = h.activates channel is
 activated_leads P station channel target w (Some fault) is h = h.nothing
 
-pub unless_last-leads : (P : Actors → Type 0) (b : Bool) (w : Actors) → P w → OfTaken P (if b then None else Some w)
+pub unless_last_leads : (P : Actors → Type 0) (b : Bool) (w : Actors) → P w → OfTaken P (if b then None else Some w)
 unfolding OfTaken
-unless_last-leads P true w h = tt
-unless_last-leads P false w h = h
+unless_last_leads P true w h = tt
+unless_last_leads P false w h = h
 
 -- the mobile that a station seats
 unfoldable pub Seats : (Actors → Type 0) → ℕ → Actors → Type 0
@@ -270,7 +270,7 @@ aired_leads P station channel message target w false is h = h.nothing
 pub took-leads : (P : Actors → Type 0) (station : ℕ) (target : Option Tenure) (o : Option Rsl) (w : Actors) → Taking P station target w → OfTaken P (took station target o w)
 unfolding OfTaken Seats
 took-leads P station target (Some (ChannelActivation a)) w h =
-    unless_last-leads P ((spot_at w (place_at station a.channel)).tenure == MAX_TENURE) (activated (place_at station a.channel) w) (activated_leads P station a.channel target w (refusal_of_activate (base_of w station) a.channel) refl h)
+    unless_last_leads P ((spot_at w (place_at station a.channel)).tenure == MAX_TENURE) (activated (place_at station a.channel) w) (activated_leads P station a.channel target w (refusal_of_activate (base_of w station) a.channel) refl h)
 took-leads P station target (Some (ImmediateAssignCommand i)) w h = assigned-leads P station w (rr_reading i.information) h.nothing h.seats
 took-leads P station target (Some (DataRequest d)) w h = aired_leads P station d.channel d.l3 target w (is_active_at w (place_at station d.channel)) refl h
 took-leads P station target (Some (EstablishRequest l)) w h = h.answers (is_active_at w (place_at station l.channel) && accepts (mobile_on w (tenure_at w (place_at station l.channel)))) l.channel
@@ -279,10 +279,10 @@ took-leads P station target _ w h = h.nothing
 
 -- ---- the actors after an event, taken or not
 
-pub after-taken : (P : Actors → Type 0) (o : Option Actors) (w : Actors) → OfTaken P o → P w → P (unwrap_or o w)
+pub after_taken : (P : Actors → Type 0) (o : Option Actors) (w : Actors) → OfTaken P o → P w → P (unwrap_or o w)
 unfolding OfTaken
-after-taken P None w taken stays = stays
-after-taken P (Some v) w taken stays = taken
+after_taken P None w taken stays = stays
+after_taken P (Some v) w taken stays = taken
 
 -- ---- the controller's turn changes the controller and the links alone
 
@@ -299,8 +299,8 @@ all_joined_links target (out ∷ outs) w =
     let all = all_joined_links target outs (joined_by target w out) in
     (all.0, all.1 ∙ ap (λ (v : Actors). record v { links = all.0 }) one.1)
 
-pub turn-leads : (P : Actors → Type 0) (target : Option Tenure) (t : Turn) (w : Actors) → ((links : List Link) → P (record w { controller = t.next; links = links })) → P (with_turn target t w)
-turn-leads P target t w h =
+pub turn_leads : (P : Actors → Type 0) (target : Option Tenure) (t : Turn) (w : Actors) → ((links : List Link) → P (record w { controller = t.next; links = links })) → P (with_turn target t w)
+turn_leads P target t w h =
     let all = all_joined_links target t.outs (record w { controller = t.next }) in
     subst P (sym all.1) (h all.0)
 
@@ -317,27 +317,27 @@ is_aerial (Tick ms) = false
 is_aerial (BaseDown source) = false
 is_aerial event = true
 
-pub aerial-leads : (P : Actors → Type 0) (w : Actors) (event : Event) → is_aerial event ≡ true → ((mobiles : List Mobile) (stations : List Station) → P (record w { mobiles = mobiles; stations = stations })) → OfTaken P (event_after w event)
+pub aerial_leads : (P : Actors → Type 0) (w : Actors) (event : Event) → is_aerial event ≡ true → ((mobiles : List Mobile) (stations : List Station) → P (record w { mobiles = mobiles; stations = stations })) → OfTaken P (event_after w event)
 unfolding event_after FromAir
-aerial-leads P w (Upper number sapi message) is h = upper-leads P w number sapi message (λ p _. h _ _)
-aerial-leads P w (Connect number station initial accepts) is h = connect-leads P w number station initial accepts (λ _. h _ _)
-aerial-leads P w (AirUp number sapi) is h = air_up-leads P w number sapi (λ p tenure command frame _ _ _ _. by sapi p tenure frame) where
+aerial_leads P w (Upper number sapi message) is h = upper_leads P w number sapi message (λ p _. h _ _)
+aerial_leads P w (Connect number station initial accepts) is h = connect_leads P w number station initial accepts (λ _. h _ _)
+aerial_leads P w (AirUp number sapi) is h = air_up_leads P w number sapi (λ p tenure command frame _ _ _ _. by sapi p tenure frame) where
   by : (sapi : Sapi) (p : Mobile) (tenure : Tenure) (frame : List ℕ) → P (brought w p tenure.at sapi frame)
   by Zero p tenure frame = h _ _
   by Three p tenure frame = h _ _
-aerial-leads P w (AirAck number sapi) is h = air_ack-leads P w number sapi (λ p _. h _ _)
-aerial-leads P w (AirDown number) is h = air_down-leads P w number (λ p tenure command _ _ _ first others _. h _ _)
-aerial-leads P w (AirDownLost number) is h = air_down_lost-leads P w number (λ p tenure command _ _ _ first others _. h _ _)
-aerial-leads P w (Move number) is h = move-leads P w number (λ p tenure command _ _ _. h _ _)
-aerial-leads P w (Touch number) is h = touch-leads P w number (λ command _. h _ _)
-aerial-leads P w (Arrive number) is h = arrive-leads P w number (λ p from command _ _ _. h _ _)
-aerial-leads P w (Return number) is h = return-leads P w number (λ p from command _ _ _. h _ _)
-aerial-leads P w (Report number report) is h = report-leads P w number report (λ tenure _. h _ _)
-aerial-leads P w _ is h = absurd cc
+aerial_leads P w (AirAck number sapi) is h = air_ack_leads P w number sapi (λ p _. h _ _)
+aerial_leads P w (AirDown number) is h = air_down_leads P w number (λ p tenure command _ _ _ first others _. h _ _)
+aerial_leads P w (AirDownLost number) is h = air_down_lost_leads P w number (λ p tenure command _ _ _ first others _. h _ _)
+aerial_leads P w (Move number) is h = move_leads P w number (λ p tenure command _ _ _. h _ _)
+aerial_leads P w (Touch number) is h = touch_leads P w number (λ command _. h _ _)
+aerial_leads P w (Arrive number) is h = arrive_leads P w number (λ p from command _ _ _. h _ _)
+aerial_leads P w (Return number) is h = return_leads P w number (λ p from command _ _ _. h _ _)
+aerial_leads P w (Report number report) is h = report-leads P w number report (λ tenure _. h _ _)
+aerial_leads P w _ is h = absurd cc
 
 -- and of a station that takes an entry, only its outbox changes beside
-pub taking-leads : (P : Actors → Type 0) (w : Actors) (station : ℕ) → ((first : OutboxEntry) (others : List OutboxEntry) → is_station_up w station ≡ true → outbox_of w station ≡ first ∷ others → (mobiles : List Mobile) (stations : List Station) → P (record (with_outbox station others w) { mobiles = mobiles; stations = stations })) → OfTaken P (after_base_takes w station)
-taking-leads P w station h = base_takes-leads P w station (λ first others up stood.
+pub taking_leads : (P : Actors → Type 0) (w : Actors) (station : ℕ) → ((first : OutboxEntry) (others : List OutboxEntry) → is_station_up w station ≡ true → outbox_of w station ≡ first ∷ others → (mobiles : List Mobile) (stations : List Station) → P (record (with_outbox station others w) { mobiles = mobiles; stations = stations })) → OfTaken P (after_base_takes w station)
+taking_leads P w station h = base_takes_leads P w station (λ first others up stood.
     let all : (mobiles : List Mobile) (stations : List Station) → P (record (with_outbox station others w) { mobiles = mobiles; stations = stations }) = h first others up stood in
     took-leads P station first.target (rsl_in first.out.frame) (with_outbox station others w) (record {
       nothing = all w.mobiles w.stations;

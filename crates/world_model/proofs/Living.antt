@@ -4,13 +4,13 @@ use Rattle.world_model.proofs.Prelude.{Out, SWITCH_LINK, Controller, Turn, take,
 use Rattle.world_model.proofs.Prelude.{step, Event, BaseTakes, BasePush, Handle, SwitchTakes, SwitchDoes, Tick, BaseDown, Tenure}
 use Rattle.world_model.proofs.Prelude.{actors_after, actors_after_all, with_turn, entry_of, target_in, handled, after_base_push}
 use Rattle.world_model.proofs.Prelude.{after_break, after_base_takes, outputs, outputs_at, first_taken, step_at, all_steps, all_outputs}
-use Rattle.world_model.proofs.Prelude.{LivesByTable, RunsByTable, sccp_in, after_switch_takes, after_switch_does, Actors, new_actors}
+use Rattle.world_model.proofs.Prelude.{FollowsTable, RunsByTable, sccp_in, after_switch_takes, after_switch_does, Actors, new_actors}
 use Rattle.world_model.proofs.Prelude.{with_outbox}
 use Rattle.std.proofs.Common.{append-nil}
 use Rattle.controller_model.specs.Life.{life}
 use Rattle.world_model.specs.Life.{event_after}
-use Rattle.world_model.proofs.Leads.{OfTaken, FromAir, turn-leads, switch_takes-leads, switch_took-leads, push-leads, does-leads, broken-leads, after-taken}
-use Rattle.world_model.proofs.Leads.{aerial-leads, taking-leads}
+use Rattle.world_model.proofs.Leads.{OfTaken, FromAir, turn_leads, switch_takes_leads, switch_took-leads, push_leads, does_leads, broken_leads, after_taken}
+use Rattle.world_model.proofs.Leads.{aerial_leads, taking_leads}
 
 -- the controller is as it was
 abbrev Stays : Actors → Actors → Type 0
@@ -24,26 +24,26 @@ Moves : Actors → Event → Type 0
 Moves w event = (actors_after w event).controller ≡ after_steps w.controller (step_at w event)
 
 still : (w : Actors) (o : Option Actors) → OfTaken (Stays w) o → (unwrap_or o w).controller ≡ w.controller
-still w o leads = after-taken (Stays w) o w leads refl
+still w o leads = after_taken (Stays w) o w leads refl
 
-turn-moves : (target : Option Tenure) (t : Turn) (w : Actors) → (with_turn target t w).controller ≡ t.next
-turn-moves target t w = turn-leads (λ v. v.controller ≡ t.next) target t w (λ links. refl)
+turn_moves : (target : Option Tenure) (t : Turn) (w : Actors) → (with_turn target t w).controller ≡ t.next
+turn_moves target t w = turn_leads (λ v. v.controller ≡ t.next) target t w (λ links. refl)
 
 handle_moves : (w : Actors) (items : List Item) → (unwrap_or (handled items w) w).controller ≡ after_steps w.controller (first_taken items)
 handle_moves w [] = refl
-handle_moves w (item ∷ items) = turn-moves (target_in w item.source item.what) (take item w.controller) (record w { inbox = items })
+handle_moves w (item ∷ items) = turn_moves (target_in w item.source item.what) (take item w.controller) (record w { inbox = items })
 
 moves : (w : Actors) (event : Event) → Moves w event
 unfolding event_after FromAir Moves
-moves w (BaseTakes station) = still w (after_base_takes w station) (taking-leads (Stays w) w station (λ first others _ _ mobiles stations. refl))
-moves w (BasePush source) = still w (after_base_push w source) (push-leads (Stays w) w source (λ first others. refl) (λ message _. refl))
+moves w (BaseTakes station) = still w (after_base_takes w station) (taking_leads (Stays w) w station (λ first others _ _ mobiles stations. refl))
+moves w (BasePush source) = still w (after_base_push w source) (push_leads (Stays w) w source (λ first others. refl) (λ message _. refl))
 moves w Handle = handle_moves w w.inbox
 moves w SwitchTakes =
-    still w (after_switch_takes w) (switch_takes-leads (Stays w) w (λ first others _ _. switch_took-leads (Stays w) (with_outbox SWITCH_LINK others w) (sccp_in first.out.frame) refl (λ next made. refl)))
-moves w (SwitchDoes action) = still w (after_switch_does w action) (does-leads (Stays w) w action (λ next made. refl))
-moves w (Tick ms) = turn-moves None (tick ms w.controller) w
-moves w (BaseDown source) = still w (after_break w source) (broken-leads (Stays w) w source (λ _ _. refl) (λ _ _. refl))
-moves w event = still w (event_after w event) (aerial-leads (Stays w) w event refl (λ mobiles stations. refl))
+    still w (after_switch_takes w) (switch_takes_leads (Stays w) w (λ first others _ _. switch_took-leads (Stays w) (with_outbox SWITCH_LINK others w) (sccp_in first.out.frame) refl (λ next made. refl)))
+moves w (SwitchDoes action) = still w (after_switch_does w action) (does_leads (Stays w) w action (λ next made. refl))
+moves w (Tick ms) = turn_moves None (tick ms w.controller) w
+moves w (BaseDown source) = still w (after_break w source) (broken_leads (Stays w) w source (λ _ _. refl) (λ _ _. refl))
+moves w event = still w (event_after w event) (aerial_leads (Stays w) w event refl (λ mobiles stations. refl))
 
 after_steps-append : (c : Controller) (xs ys : List Step) → after_steps c (xs ++ ys) ≡ after_steps (after_steps c xs) ys
 after_steps-append c [] ys = refl
@@ -57,25 +57,25 @@ moves_all w (event ∷ events) =
     ∙ ap (λ (c : Controller). after_steps c (all_steps (actors_after w event) events)) (moves w event)
     ∙ sym (after_steps-append w.controller (step_at w event) (all_steps (actors_after w event) events))
 
-pub LivesByTable-new : (settings : Parameters) (events : List Event) → LivesByTable settings events
+pub LivesByTable-new : (settings : Parameters) (events : List Event) → FollowsTable settings events
 unfolding life
 LivesByTable-new settings events = moves_all (new_actors settings) events
 
 -- ---- what it put
 
-outs_of-entries : (target : Option Tenure) (outs : List Out) → map (λ entry. entry.out) (map (entry_of target) outs) ≡ outs
-outs_of-entries None [] = refl
-outs_of-entries None (out ∷ outs) = ap (λ (xs : List Out). out ∷ xs) (outs_of-entries None outs)
-outs_of-entries (Some target) [] = refl
-outs_of-entries (Some target) (out ∷ outs) = ap (λ (xs : List Out). out ∷ xs) (outs_of-entries (Some target) outs)
+outs_of_entries : (target : Option Tenure) (outs : List Out) → map (λ entry. entry.out) (map (entry_of target) outs) ≡ outs
+outs_of_entries None [] = refl
+outs_of_entries None (out ∷ outs) = ap (λ (xs : List Out). out ∷ xs) (outs_of_entries None outs)
+outs_of_entries (Some target) [] = refl
+outs_of_entries (Some target) (out ∷ outs) = ap (λ (xs : List Out). out ∷ xs) (outs_of_entries (Some target) outs)
 
 items-put : (w : Actors) (items : List Item) → map (λ entry. entry.out) (outputs_at w items) ≡ (each step w.controller (first_taken items)).outs
 items-put w [] = refl
-items-put w (item ∷ items) = outs_of-entries (target_in w item.source item.what) (take item w.controller).outs ∙ sym (append-nil (take item w.controller).outs)
+items-put w (item ∷ items) = outs_of_entries (target_in w item.source item.what) (take item w.controller).outs ∙ sym (append-nil (take item w.controller).outs)
 
 puts : (w : Actors) (event : Event) → map (λ entry. entry.out) (outputs w event) ≡ (each step w.controller (step_at w event)).outs
 puts w Handle = items-put w w.inbox
-puts w (Tick ms) = outs_of-entries None (tick ms w.controller).outs ∙ sym (append-nil (tick ms w.controller).outs)
+puts w (Tick ms) = outs_of_entries None (tick ms w.controller).outs ∙ sym (append-nil (tick ms w.controller).outs)
 puts w _ = refl
 
 outs-append : (c : Controller) (xs ys : List Step) → (each step c (xs ++ ys)).outs ≡ (each step c xs).outs ++ (each step (after_steps c xs) ys).outs

@@ -19,31 +19,31 @@ use Rattle.mobile_end.specs.Calls.{unless_refused, may_arrive}
 use Rattle.world_model.specs.Calls.{all_calls, calls_at, calls_to_arrive, calls_to_return, seat_of}
 use Rattle.world_model.specs.Life.{event_after}
 use Rattle.world_model.specs.Mobiles.{may_send, sent_by, is_new, connected, framed, brought, remembering, controlled, hearing, complete, failure, seated}
-use Rattle.world_model.proofs.Found.{back-found, back-other, found-number, new_found, new_other}
-use Rattle.world_model.proofs.Leads.{OfTaken, FromAir, and-left, and-right, only_if-leads, by_mobile-leads, connect-leads, air_up-leads, air_ack-leads, air_down-leads, air_down_lost-leads, move-leads, touch-leads, arrive-leads, return-leads, report-leads, base_takes-leads, took-leads, handle-leads, turn-leads, switch_takes-leads, switch_took-leads, push-leads, does-leads, broken-leads}
+use Rattle.world_model.proofs.Found.{back_found, back_other, number_found, new_found, new_other}
+use Rattle.world_model.proofs.Leads.{OfTaken, FromAir, and_left, and_right, only_if-leads, by_mobile-leads, connect_leads, air_up_leads, air_ack_leads, air_down_leads, air_down_lost_leads, move_leads, touch_leads, arrive_leads, return_leads, report-leads, base_takes_leads, took-leads, handle_leads, turn_leads, switch_takes_leads, switch_took-leads, push_leads, does_leads, broken_leads}
 
 -- ---- lists
 
-pub back-all : (P : Mobile → Type 0) (p : Mobile) (xs : List Mobile) → P p → AllByRecursion P xs → AllByRecursion P (put_back p xs)
-back-all P p [] h all = all
-back-all P p (x ∷ xs) h all = by_number (has_number p.number x) (back-all P p xs h all.1) where
+pub back_all : (P : Mobile → Type 0) (p : Mobile) (xs : List Mobile) → P p → AllByRecursion P xs → AllByRecursion P (put_back p xs)
+back_all P p [] h all = all
+back_all P p (x ∷ xs) h all = by_number (has_number p.number x) (back_all P p xs h all.1) where
   by_number : (b : Bool) → AllByRecursion P (put_back p xs) → AllByRecursion P (if b then p ∷ xs else x ∷ put_back p xs)
   by_number true others = (h, all.1)
   by_number false others = (all.0, others)
 
-pub behind-all : (P : Mobile → Type 0) (p : Mobile) (xs : List Mobile) → P p → AllByRecursion P xs → AllByRecursion P (xs ++ p ∷ [])
-behind-all P p [] h all = (h, tt)
-behind-all P p (x ∷ xs) h all = (all.0, behind-all P p xs h all.1)
+pub behind_all : (P : Mobile → Type 0) (p : Mobile) (xs : List Mobile) → P p → AllByRecursion P xs → AllByRecursion P (xs ++ p ∷ [])
+behind_all P p [] h all = (h, tt)
+behind_all P p (x ∷ xs) h all = (all.0, behind_all P p xs h all.1)
 
 some_same : {p q : Mobile} → Some p ≡ Some q → p ≡ q
 some_same {p} is = ap (λ (o : Option Mobile). unwrap_or o p) is
 
-pub found-all : (P : Mobile → Type 0) (number : ℕ) (xs : List Mobile) (p : Mobile) → AllByRecursion P xs → find (has_number number) xs ≡ Some p → P p
-found-all P number [] p all found = absurd cc
-found-all P number (x ∷ xs) p all found =
+pub found_all : (P : Mobile → Type 0) (number : ℕ) (xs : List Mobile) (p : Mobile) → AllByRecursion P xs → find (has_number number) xs ≡ Some p → P p
+found_all P number [] p all found = absurd cc
+found_all P number (x ∷ xs) p all found =
     elim (cases_Bool (has_number number x)) [
       | inl hit ↦ subst P (some_same (sym (ap (λ (b : Bool). cond b (Some x) (find (has_number number) xs)) hit) ∙ found)) all.0
-      | inr miss ↦ found-all P number xs p all.1 (sym (ap (λ (b : Bool). cond b (Some x) (find (has_number number) xs)) miss) ∙ found)
+      | inr miss ↦ found_all P number xs p all.1 (sym (ap (λ (b : Bool). cond b (Some x) (find (has_number number) xs)) miss) ∙ found)
     ]
 
 -- ---- ends
@@ -101,14 +101,14 @@ takes_one : {m number : ℕ} {w u : Actors} (n : ℕ) (p q : Mobile) (calls : Li
     → (p.end.place ≡ place_in p.seat → Becomes p calls q) → Takes m number w (if n == number then calls else []) (with_mobile q u)
 takes_one {m} {number} {w} {u} n p q calls stands found same numbers same_number becomes = by (nat_eq n number) refl where
   own_number : q.number ≡ n
-  own_number = same_number ∙ found-number n w.mobiles p found
+  own_number = same_number ∙ number_found n w.mobiles p found
 
   by : (b : Bool) → nat_eq n number ≡ b → Takes m number w (if b then calls else []) (with_mobile q u)
   by true hit =
       let k_is : n ≡ number = eqb-true n number hit in
       let here : mobile_of (with_mobile q u) number ≡ Some q =
       ap (λ (k : ℕ). find (has_number k) (put_back q u.mobiles)) (sym (own_number ∙ k_is))
-      ∙ back-found q u.mobiles p (ap (λ (ms : List Mobile). find (has_number q.number) ms) same ∙ ap (λ (k : ℕ). find (has_number k) w.mobiles) own_number ∙ found) in
+      ∙ back_found q u.mobiles p (ap (λ (ms : List Mobile). find (has_number q.number) ms) same ∙ ap (λ (k : ℕ). find (has_number k) w.mobiles) own_number ∙ found) in
       let there : mobile_of w number ≡ Some p = ap (mobile_of w) (sym k_is) ∙ found in
       let new : Becomes p calls q = becomes (subst Fits there stands.fits) in
       record {
@@ -117,7 +117,7 @@ takes_one {m} {number} {w} {u} n p q calls stands found same numbers same_number
       }
   by false miss =
       let here : mobile_of (with_mobile q u) number ≡ mobile_of w number =
-      back-other q u.mobiles number (λ is. eqb-false n number miss (sym own_number ∙ is)) ∙ ap (λ (ms : List Mobile). find (has_number number) ms) same in
+      back_other q u.mobiles number (λ is. eqb-false n number miss (sym own_number ∙ is)) ∙ ap (λ (ms : List Mobile). find (has_number number) ms) same in
       record {
         ends = ap (end_of m) here;
         stands = record { fits = subst Fits (sym here) stands.fits; modulus = numbers ∙ stands.modulus };
@@ -202,22 +202,22 @@ hears p tenure command a seat = by_kind (is_dtap a.message) where
   by_kind true = record { number = refl; end = refl; place = refl }
   by_kind false = controls p tenure command a.target (rr_reading a.message) seat
 
-pub control-complete : (change : Change) → is_control (complete change) ≡ true
-control-complete Assignment = refl
-control-complete Handover = refl
+pub control_complete : (change : Change) → is_control (complete change) ≡ true
+control_complete Assignment = refl
+control_complete Handover = refl
 
-pub control-failure : (change : Change) → is_control (failure change) ≡ true
-control-failure Assignment = refl
-control-failure Handover = refl
+pub control_failure : (change : Change) → is_control (failure change) ≡ true
+control_failure Assignment = refl
+control_failure Handover = refl
 
 -- a mobile between two channels may come to one
-pub may-come : (e : MobileState) (from : Tenure) (command : Command) (control : List ℕ) → e.place ≡ place_in (Moving from command) → is_control control ≡ true → may_arrive e control ≡ true
-may-come e from command control place is = ap (λ (at : Place). not (is_on_channel at) && is_control control) place ∙ is
+pub may_come : (e : MobileState) (from : Tenure) (command : Command) (control : List ℕ) → e.place ≡ place_in (Moving from command) → is_control control ≡ true → may_arrive e control ≡ true
+may_come e from command control place is = ap (λ (at : Place). not (is_on_channel at) && is_control control) place ∙ is
 
 comes_becomes : (p : Mobile) (from tenure : Tenure) (command : Command) (control : List ℕ) → p.seat ≡ Moving from command → is_control control ≡ true → p.end.place ≡ place_in p.seat
     → after_arrival p.end control ≡ (if may_arrive p.end control then after_arrival p.end control else p.end)
 comes_becomes p from tenure command control seat is place =
-    sym (ap (λ (b : Bool). if b then after_arrival p.end control else p.end) (may-come p.end from command control (place ∙ ap place_in seat) is))
+    sym (ap (λ (b : Bool). if b then after_arrival p.end control else p.end) (may_come p.end from command control (place ∙ ap place_in seat) is))
 
 -- ---- each event
 
@@ -251,7 +251,7 @@ took_takes {m} {number} w u station target o stands same numbers = took-leads (T
 
 -- no mobile of this number is there yet
 none_there : (w : Actors) (n : ℕ) → is_new w n ≡ true → mobile_of w n ≡ None
-none_there w n new = by (mobile_of w n) (and-right (nat_lt 0 n) (is_none (mobile_of w n)) new) where
+none_there w n new = by (mobile_of w n) (and_right (nat_lt 0 n) (is_none (mobile_of w n)) new) where
   by : (o : Option Mobile) → is_none o ≡ true → o ≡ None
   by None is = refl
   by (Some p) is = absurd cc
@@ -264,39 +264,39 @@ unfolding event_after FromAir OfTaken
 takes_step m number w (Upper n sapi message) stands = by_mobile-leads (Takes m number w (called w (Upper n sapi message) number)) w n (sent_by w sapi message) (λ p found.
     only_if-leads (Takes m number w (called w (Upper n sapi message) number)) (may_send p.seat && is_none (refusal_of_send p.end sapi message)) (with_mobile (record p { end = after_queue p.end sapi message }) w)
     (λ may. takes_one n p (record p { end = after_queue p.end sapi message }) (sends sapi message ∷ []) stands found refl refl refl
-    (sends_becomes p sapi message (and-right (may_send p.seat) (is_none (refusal_of_send p.end sapi message)) may))))
-takes_step m number w (Connect n station initial accepts) stands = connect-leads (Takes m number w (called w (Connect n station initial accepts) number)) w n station initial accepts (λ may.
-    let of : is_none (refusal_of_connect (Some initial)) ≡ true = and-right (is_new w n && is_station_up w station) (is_none (refusal_of_connect (Some initial))) may in
-    let new : is_new w n ≡ true = and-left (is_new w n) (is_station_up w station) (and-left (is_new w n && is_station_up w station) (is_none (refusal_of_connect (Some initial))) may) in
+    (sends_becomes p sapi message (and_right (may_send p.seat) (is_none (refusal_of_send p.end sapi message)) may))))
+takes_step m number w (Connect n station initial accepts) stands = connect_leads (Takes m number w (called w (Connect n station initial accepts) number)) w n station initial accepts (λ may.
+    let of : is_none (refusal_of_connect (Some initial)) ≡ true = and_right (is_new w n && is_station_up w station) (is_none (refusal_of_connect (Some initial))) may in
+    let new : is_new w n ≡ true = and_left (is_new w n) (is_station_up w station) (and_left (is_new w n && is_station_up w station) (is_none (refusal_of_connect (Some initial))) may) in
     takes_new (connected w.modulus n initial accepts) (connects (Some initial) ∷ []) stands (none_there w n new) refl refl
     (ap (λ (k : ℕ). after_connect (new_mobile k) (Some initial)) stands.modulus ∙ connects_end m initial of) (place-queue (new_mobile w.modulus) Zero initial))
-takes_step m number w (AirUp n sapi) stands = air_up-leads (Takes m number w (called w (AirUp n sapi) number)) w n sapi (λ p tenure command frame found _ _ _. brought_takes w n p tenure sapi frame stands found)
-takes_step m number w (AirAck n sapi) stands = air_ack-leads (Takes m number w (called w (AirAck n sapi) number)) w n sapi (λ p found.
+takes_step m number w (AirUp n sapi) stands = air_up_leads (Takes m number w (called w (AirUp n sapi) number)) w n sapi (λ p tenure command frame found _ _ _. brought_takes w n p tenure sapi frame stands found)
+takes_step m number w (AirAck n sapi) stands = air_ack_leads (Takes m number w (called w (AirAck n sapi) number)) w n sapi (λ p found.
     takes_one n p (record p { end = after_acked p.end sapi }) (acknowledges sapi ∷ []) stands found refl refl refl (λ place. record { ends = refl; place = place-acked p.end sapi ∙ place }))
-takes_step m number w (AirDown n) stands = air_down-leads (Takes m number w []) w n (λ p tenure command found seat _ first others _. takes_kept n p (hearing p first) stands found refl refl (hears p tenure command first seat))
-takes_step m number w (AirDownLost n) stands = air_down_lost-leads (Takes m number w []) w n (λ p tenure command found _ _ first others _. takes_kept n p p stands found refl refl (record { number = refl; end = refl; place = refl }))
-takes_step m number w (Move n) stands = move-leads (Takes m number w (called w (Move n) number)) w n (λ p tenure command found _ _.
+takes_step m number w (AirDown n) stands = air_down_leads (Takes m number w []) w n (λ p tenure command found seat _ first others _. takes_kept n p (hearing p first) stands found refl refl (hears p tenure command first seat))
+takes_step m number w (AirDownLost n) stands = air_down_lost_leads (Takes m number w []) w n (λ p tenure command found _ _ first others _. takes_kept n p p stands found refl refl (record { number = refl; end = refl; place = refl }))
+takes_step m number w (Move n) stands = move_leads (Takes m number w (called w (Move n) number)) w n (λ p tenure command found _ _.
     takes_one n p (record p { end = after_leave p.end; seat = Moving tenure command; opens = false }) (leaves ∷ []) stands found refl refl refl (λ place. record { ends = refl; place = refl }))
-takes_step m number w (Touch n) stands = touch-leads (Takes m number w []) w n (λ command _. takes_none stands refl refl)
-takes_step m number w (Arrive n) stands = arrive-leads (Takes m number w (called w (Arrive n) number)) w n (λ p from command found seat _.
+takes_step m number w (Touch n) stands = touch_leads (Takes m number w []) w n (λ command _. takes_none stands refl refl)
+takes_step m number w (Arrive n) stands = arrive_leads (Takes m number w (called w (Arrive n) number)) w n (λ p from command found seat _.
     let calls : calls_to_arrive (seat_of (mobile_of w n)) ≡ arrives (complete command.change) ∷ [] = ap (λ (o : Option Mobile). calls_to_arrive (seat_of o)) found ∙ ap calls_to_arrive seat in
     subst (λ (cs : List Call). Takes m number w (if n == number then cs else []) (seated w p command.target (complete command.change))) (sym calls)
     (takes_one n p (record p { end = after_arrival p.end (complete command.change); seat = On command.target None }) (arrives (complete command.change) ∷ []) stands found refl refl refl
-    (λ place. record { ends = comes_becomes p from command.target command (complete command.change) seat (control-complete command.change) place; place = refl })))
-takes_step m number w (Return n) stands = return-leads (Takes m number w (called w (Return n) number)) w n (λ p from command found seat _.
+    (λ place. record { ends = comes_becomes p from command.target command (complete command.change) seat (control_complete command.change) place; place = refl })))
+takes_step m number w (Return n) stands = return_leads (Takes m number w (called w (Return n) number)) w n (λ p from command found seat _.
     let calls : calls_to_return (seat_of (mobile_of w n)) ≡ gives_up (failure command.change) ∷ [] = ap (λ (o : Option Mobile). calls_to_return (seat_of o)) found ∙ ap calls_to_return seat in
     subst (λ (cs : List Call). Takes m number w (if n == number then cs else []) (seated w p from (failure command.change))) (sym calls)
     (takes_one n p (record p { end = after_arrival p.end (failure command.change); seat = On from None }) (gives_up (failure command.change) ∷ []) stands found refl refl refl
-    (λ place. record { ends = comes_becomes p from from command (failure command.change) seat (control-failure command.change) place; place = refl })))
-takes_step m number w (BaseTakes station) stands = base_takes-leads (Takes m number w []) w station (λ first others _ _. took_takes w (with_outbox station others w) station first.target (rsl_in first.out.frame) stands refl refl)
-takes_step m number w (BasePush source) stands = push-leads (Takes m number w []) w source (λ first others. takes_none stands refl refl) (λ message _. takes_none stands refl refl)
+    (λ place. record { ends = comes_becomes p from from command (failure command.change) seat (control_failure command.change) place; place = refl })))
+takes_step m number w (BaseTakes station) stands = base_takes_leads (Takes m number w []) w station (λ first others _ _. took_takes w (with_outbox station others w) station first.target (rsl_in first.out.frame) stands refl refl)
+takes_step m number w (BasePush source) stands = push_leads (Takes m number w []) w source (λ first others. takes_none stands refl refl) (λ message _. takes_none stands refl refl)
 takes_step m number w Handle stands =
-    handle-leads (Takes m number w []) w (λ item items _. turn-leads (Takes m number w []) (target_in w item.source item.what) (take item w.controller) (record w { inbox = items }) (λ links. takes_none stands refl refl))
+    handle_leads (Takes m number w []) w (λ item items _. turn_leads (Takes m number w []) (target_in w item.source item.what) (take item w.controller) (record w { inbox = items }) (λ links. takes_none stands refl refl))
 takes_step m number w SwitchTakes stands =
-    switch_takes-leads (Takes m number w []) w (λ first others _ _. switch_took-leads (Takes m number w []) (with_outbox SWITCH_LINK others w) (sccp_in first.out.frame) (takes_none stands refl refl) (λ next made. takes_none stands refl refl))
-takes_step m number w (SwitchDoes action) stands = does-leads (Takes m number w []) w action (λ next made. takes_none stands refl refl)
-takes_step m number w (Tick ms) stands = turn-leads (Takes m number w []) None (tick ms w.controller) w (λ links. takes_none stands refl refl)
-takes_step m number w (BaseDown source) stands = broken-leads (Takes m number w []) w source (λ _ _. takes_none stands refl refl) (λ _ _. takes_none stands refl refl)
+    switch_takes_leads (Takes m number w []) w (λ first others _ _. switch_took-leads (Takes m number w []) (with_outbox SWITCH_LINK others w) (sccp_in first.out.frame) (takes_none stands refl refl) (λ next made. takes_none stands refl refl))
+takes_step m number w (SwitchDoes action) stands = does_leads (Takes m number w []) w action (λ next made. takes_none stands refl refl)
+takes_step m number w (Tick ms) stands = turn_leads (Takes m number w []) None (tick ms w.controller) w (λ links. takes_none stands refl refl)
+takes_step m number w (BaseDown source) stands = broken_leads (Takes m number w []) w source (λ _ _. takes_none stands refl refl) (λ _ _. takes_none stands refl refl)
 takes_step m number w (Report n report) stands = report-leads (Takes m number w []) w n report (λ tenure _. takes_none stands refl refl)
 
 -- ---- whether it is taken or not

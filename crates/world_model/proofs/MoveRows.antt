@@ -3,6 +3,7 @@ use Rattle.world_model.proofs.Prelude.{◌≡◌, true, false, [], ◌∷◌, ma
 use Rattle.world_model.proofs.Prelude.{Connect, AirUp, AirAck, AirDown, AirDownLost, Move, Touch, Arrive, Return, BaseTakes, BasePush}
 use Rattle.world_model.proofs.Prelude.{Handle, SwitchTakes, SwitchDoes, BaseDown, Report, Assign, Clear, On, Moving, World, new_world}
 use Rattle.world_model.proofs.Prelude.{Mobile}
+use Rattle.octets.proofs.Hex.{hex}
 use Rattle.world_model.proofs.Worlds.{on_literals, after_all, made_bodies, seat_of, takes}
 use Rattle.world_model.proofs.Rows.{opened, opened_eager}
 
@@ -14,7 +15,7 @@ remembers_the_target : seat_of commanded 1 ≡ Some (On (record { at = place_at 
 unfolding on_literals
 remembers_the_target = refl
 
-moves_when_told : map (takes commanded) (Move 1 ∷ Touch 1 ∷ Arrive 1 ∷ Return 1 ∷ Upper 1 Zero (0x03 ∷ 0x05 ∷ []) ∷ []) ≡ true ∷ false ∷ false ∷ false ∷ true ∷ []
+moves_when_told : map (takes commanded) (Move 1 ∷ Touch 1 ∷ Arrive 1 ∷ Return 1 ∷ Upper 1 Zero (hex "03 05") ∷ []) ≡ true ∷ false ∷ false ∷ false ∷ true ∷ []
 unfolding on_literals
 moves_when_told = refl
 
@@ -33,18 +34,18 @@ is_moving : seat_of moving 1 ≡ Some (Moving (record { at = place_at 1 0x41; nu
 unfolding on_literals
 is_moving = refl
 
-between_two_channels : map (takes moving) (Move 1 ∷ Touch 1 ∷ Arrive 1 ∷ Return 1 ∷ Upper 1 Zero (0x03 ∷ 0x05 ∷ []) ∷ AirUp 1 Zero ∷ AirAck 1 Zero ∷ AirDown 1 ∷ AirDownLost 1 ∷ Report 1 (0x14 ∷ 0x14 ∷ 0x00 ∷ 0x57 ∷ 0x02 ∷ 0x40 ∷ 0x00 ∷ 0x00 ∷ 0x00 ∷ 0x00 ∷ 0x00 ∷ 0x00 ∷ 0x00 ∷ 0x00 ∷ 0x00 ∷ 0x00 ∷ []) ∷ []) ≡ false ∷ false ∷ true ∷ true ∷ true ∷ false ∷ false ∷ false ∷ false ∷ false ∷ []
+between_two_channels : map (takes moving) (Move 1 ∷ Touch 1 ∷ Arrive 1 ∷ Return 1 ∷ Upper 1 Zero (hex "03 05") ∷ AirUp 1 Zero ∷ AirAck 1 Zero ∷ AirDown 1 ∷ AirDownLost 1 ∷ Report 1 (hex "14 14 00 57 02 40 00 00 00 00 00 00 00 00 00 00") ∷ []) ≡ false ∷ false ∷ true ∷ true ∷ true ∷ false ∷ false ∷ false ∷ false ∷ false ∷ []
 unfolding on_literals
 between_two_channels = refl
 
 abbrev pub arrived : World
-arrived = after_all moving (Upper 1 Zero (0x03 ∷ 0x05 ∷ []) ∷ Arrive 1 ∷ AirUp 1 Zero ∷ AirAck 1 Zero ∷ AirUp 1 Zero ∷ [])
+arrived = after_all moving (Upper 1 Zero (hex "03 05") ∷ Arrive 1 ∷ AirUp 1 Zero ∷ AirAck 1 Zero ∷ AirUp 1 Zero ∷ [])
 
 is_on_target : seat_of arrived 1 ≡ Some (On (record { at = place_at 1 0x0a; number = 1 }) None)
 unfolding on_literals
 is_on_target = refl
 
-complete_comes_first : made_bodies arrived 1 ≡ (0x02 ∷ 0x06 ∷ 0x01 ∷ 0x0a ∷ 0x02 ∷ 0x00 ∷ []) ∷ (0x03 ∷ 0x02 ∷ 0x01 ∷ 0x0a ∷ 0x02 ∷ 0x00 ∷ 0x0b ∷ 0x00 ∷ 0x03 ∷ 0x06 ∷ 0x29 ∷ 0x00 ∷ []) ∷ (0x03 ∷ 0x02 ∷ 0x01 ∷ 0x0a ∷ 0x02 ∷ 0x00 ∷ 0x0b ∷ 0x00 ∷ 0x02 ∷ 0x03 ∷ 0x45 ∷ []) ∷ []
+complete_comes_first : made_bodies arrived 1 ≡ (hex "02 06 01 0a 02 00") ∷ (hex "03 02 01 0a 02 00 0b 00 03 06 29 00") ∷ (hex "03 02 01 0a 02 00 0b 00 02 03 45") ∷ []
 unfolding on_literals
 complete_comes_first = refl
 
@@ -59,7 +60,7 @@ is_back : seat_of back 1 ≡ Some (On (record { at = place_at 1 0x41; number = 1
 unfolding on_literals
 is_back = refl
 
-failure_comes_first : made_bodies back 1 ≡ (0x02 ∷ 0x06 ∷ 0x01 ∷ 0x41 ∷ 0x02 ∷ 0x00 ∷ []) ∷ (0x03 ∷ 0x02 ∷ 0x01 ∷ 0x41 ∷ 0x02 ∷ 0x00 ∷ 0x0b ∷ 0x00 ∷ 0x03 ∷ 0x06 ∷ 0x2f ∷ 0x03 ∷ []) ∷ []
+failure_comes_first : made_bodies back 1 ≡ (hex "02 06 01 41 02 00") ∷ (hex "03 02 01 41 02 00 0b 00 03 06 2f 03") ∷ []
 unfolding on_literals
 failure_comes_first = refl
 
@@ -69,21 +70,21 @@ command_was_used_up = refl
 
 -- a handover: the mobile is heard, and then arrives
 abbrev pub handed : World
-handed = after_all opened_eager (Report 1 (0x14 ∷ 0x14 ∷ 0x00 ∷ 0x57 ∷ 0x02 ∷ 0x40 ∷ 0x00 ∷ 0x00 ∷ 0x00 ∷ 0x00 ∷ 0x00 ∷ 0x00 ∷ 0x00 ∷ 0x00 ∷ 0x00 ∷ 0x00 ∷ []) ∷ BasePush 1 ∷ Handle ∷ BaseTakes 2 ∷ BasePush 2 ∷ Handle ∷ BaseTakes 1 ∷ AirDown 1 ∷ Move 1 ∷ [])
+handed = after_all opened_eager (Report 1 (hex "14 14 00 57 02 40 00 00 00 00 00 00 00 00 00 00") ∷ BasePush 1 ∷ Handle ∷ BaseTakes 2 ∷ BasePush 2 ∷ Handle ∷ BaseTakes 1 ∷ AirDown 1 ∷ Move 1 ∷ [])
 
 is_heard_and_arrives : map (takes handed) (Touch 1 ∷ Arrive 1 ∷ Return 1 ∷ []) ≡ true ∷ true ∷ true ∷ []
 unfolding on_literals
 is_heard_and_arrives = refl
 
-is_heard : made_bodies (after_all handed (Touch 1 ∷ [])) 2 ≡ (0x08 ∷ 0x27 ∷ 0x01 ∷ 0x41 ∷ []) ∷ []
+is_heard : made_bodies (after_all handed (Touch 1 ∷ [])) 2 ≡ (hex "08 27 01 41") ∷ []
 unfolding on_literals
 is_heard = refl
 
-completes_handover : made_bodies (after_all handed (Arrive 1 ∷ AirUp 1 Zero ∷ [])) 2 ≡ (0x02 ∷ 0x06 ∷ 0x01 ∷ 0x41 ∷ 0x02 ∷ 0x00 ∷ []) ∷ (0x03 ∷ 0x02 ∷ 0x01 ∷ 0x41 ∷ 0x02 ∷ 0x00 ∷ 0x0b ∷ 0x00 ∷ 0x03 ∷ 0x06 ∷ 0x2c ∷ 0x00 ∷ []) ∷ []
+completes_handover : made_bodies (after_all handed (Arrive 1 ∷ AirUp 1 Zero ∷ [])) 2 ≡ (hex "02 06 01 41 02 00") ∷ (hex "03 02 01 41 02 00 0b 00 03 06 2c 00") ∷ []
 unfolding on_literals
 completes_handover = refl
 
-fails_handover : made_bodies (after_all handed (Return 1 ∷ AirUp 1 Zero ∷ [])) 1 ≡ (0x02 ∷ 0x06 ∷ 0x01 ∷ 0x41 ∷ 0x02 ∷ 0x00 ∷ []) ∷ (0x03 ∷ 0x02 ∷ 0x01 ∷ 0x41 ∷ 0x02 ∷ 0x00 ∷ 0x0b ∷ 0x00 ∷ 0x03 ∷ 0x06 ∷ 0x28 ∷ 0x03 ∷ []) ∷ []
+fails_handover : made_bodies (after_all handed (Return 1 ∷ AirUp 1 Zero ∷ [])) 1 ≡ (hex "02 06 01 41 02 00") ∷ (hex "03 02 01 41 02 00 0b 00 03 06 28 03") ∷ []
 unfolding on_literals
 fails_handover = refl
 
@@ -97,7 +98,7 @@ old_station_broke = refl
 
 -- its channels are released, and the target is given to another
 abbrev pub both_released : World
-both_released = after_all handed (SwitchDoes (Clear 1) ∷ BasePush 0 ∷ Handle ∷ BaseTakes 2 ∷ BasePush 2 ∷ Handle ∷ Connect 2 2 (0x05 ∷ 0x24 ∷ 0x71 ∷ []) true ∷ BasePush 2 ∷ Handle ∷ [])
+both_released = after_all handed (SwitchDoes (Clear 1) ∷ BasePush 0 ∷ Handle ∷ BaseTakes 2 ∷ BasePush 2 ∷ Handle ∷ Connect 2 2 (hex "05 24 71") true ∷ BasePush 2 ∷ Handle ∷ [])
 
 target_released : map (takes both_released) (Touch 1 ∷ Arrive 1 ∷ Return 1 ∷ []) ≡ false ∷ false ∷ true ∷ []
 unfolding on_literals
@@ -116,15 +117,15 @@ unfolding on_literals
 old_channel_released = refl
 
 -- an initial message that was not acknowledged comes again as data; a PAGING RESPONSE does not
-initial_message_comes_again : made_bodies (after_all (new_world usual_settings) (Connect 1 1 (0x05 ∷ 0x24 ∷ 0x71 ∷ []) true ∷ BasePush 1 ∷ Handle ∷ BaseTakes 1 ∷ BasePush 1 ∷ Handle ∷ BaseTakes 1 ∷ AirUp 1 Zero ∷ BasePush 1 ∷ Handle ∷ SwitchTakes ∷ BasePush 0 ∷ Handle ∷ SwitchDoes (Assign 1) ∷ BasePush 0 ∷ Handle ∷ BaseTakes 1 ∷ BasePush 1 ∷ Handle ∷ BaseTakes 1 ∷ AirDown 1 ∷ Move 1 ∷ Arrive 1 ∷ AirUp 1 Zero ∷ AirAck 1 Zero ∷ AirUp 1 Zero ∷ [])) 1 ≡ (0x02 ∷ 0x06 ∷ 0x01 ∷ 0x0a ∷ 0x02 ∷ 0x00 ∷ []) ∷ (0x03 ∷ 0x02 ∷ 0x01 ∷ 0x0a ∷ 0x02 ∷ 0x00 ∷ 0x0b ∷ 0x00 ∷ 0x03 ∷ 0x06 ∷ 0x29 ∷ 0x00 ∷ []) ∷ (0x03 ∷ 0x02 ∷ 0x01 ∷ 0x0a ∷ 0x02 ∷ 0x00 ∷ 0x0b ∷ 0x00 ∷ 0x03 ∷ 0x05 ∷ 0x24 ∷ 0x71 ∷ []) ∷ []
+initial_message_comes_again : made_bodies (after_all (new_world usual_settings) (Connect 1 1 (hex "05 24 71") true ∷ BasePush 1 ∷ Handle ∷ BaseTakes 1 ∷ BasePush 1 ∷ Handle ∷ BaseTakes 1 ∷ AirUp 1 Zero ∷ BasePush 1 ∷ Handle ∷ SwitchTakes ∷ BasePush 0 ∷ Handle ∷ SwitchDoes (Assign 1) ∷ BasePush 0 ∷ Handle ∷ BaseTakes 1 ∷ BasePush 1 ∷ Handle ∷ BaseTakes 1 ∷ AirDown 1 ∷ Move 1 ∷ Arrive 1 ∷ AirUp 1 Zero ∷ AirAck 1 Zero ∷ AirUp 1 Zero ∷ [])) 1 ≡ (hex "02 06 01 0a 02 00") ∷ (hex "03 02 01 0a 02 00 0b 00 03 06 29 00") ∷ (hex "03 02 01 0a 02 00 0b 00 03 05 24 71") ∷ []
 unfolding on_literals
 initial_message_comes_again = refl
 
-paging_response_is_dropped : map (takes (after_all (new_world usual_settings) (Connect 1 1 (0x06 ∷ 0x27 ∷ 0x71 ∷ []) true ∷ BasePush 1 ∷ Handle ∷ BaseTakes 1 ∷ BasePush 1 ∷ Handle ∷ BaseTakes 1 ∷ AirUp 1 Zero ∷ BasePush 1 ∷ Handle ∷ SwitchTakes ∷ BasePush 0 ∷ Handle ∷ SwitchDoes (Assign 1) ∷ BasePush 0 ∷ Handle ∷ BaseTakes 1 ∷ BasePush 1 ∷ Handle ∷ BaseTakes 1 ∷ AirDown 1 ∷ Move 1 ∷ Arrive 1 ∷ AirUp 1 Zero ∷ AirAck 1 Zero ∷ []))) (AirUp 1 Zero ∷ []) ≡ false ∷ []
+paging_response_is_dropped : map (takes (after_all (new_world usual_settings) (Connect 1 1 (hex "06 27 71") true ∷ BasePush 1 ∷ Handle ∷ BaseTakes 1 ∷ BasePush 1 ∷ Handle ∷ BaseTakes 1 ∷ AirUp 1 Zero ∷ BasePush 1 ∷ Handle ∷ SwitchTakes ∷ BasePush 0 ∷ Handle ∷ SwitchDoes (Assign 1) ∷ BasePush 0 ∷ Handle ∷ BaseTakes 1 ∷ BasePush 1 ∷ Handle ∷ BaseTakes 1 ∷ AirDown 1 ∷ Move 1 ∷ Arrive 1 ∷ AirUp 1 Zero ∷ AirAck 1 Zero ∷ []))) (AirUp 1 Zero ∷ []) ≡ false ∷ []
 unfolding on_literals
 paging_response_is_dropped = refl
 
 -- once it moved, no message is the initial one
-after_a_move_nothing_is_initial : made_bodies (after_all (record commanded { actors = record (commanded).actors { mobiles = map (λ (p : Mobile). record p { opens = true }) (commanded).actors.mobiles } }) (Move 1 ∷ Arrive 1 ∷ AirUp 1 Zero ∷ [])) 1 ≡ (0x02 ∷ 0x06 ∷ 0x01 ∷ 0x0a ∷ 0x02 ∷ 0x00 ∷ []) ∷ (0x03 ∷ 0x02 ∷ 0x01 ∷ 0x0a ∷ 0x02 ∷ 0x00 ∷ 0x0b ∷ 0x00 ∷ 0x03 ∷ 0x06 ∷ 0x29 ∷ 0x00 ∷ []) ∷ []
+after_a_move_nothing_is_initial : made_bodies (after_all (record commanded { actors = record (commanded).actors { mobiles = map (λ (p : Mobile). record p { opens = true }) (commanded).actors.mobiles } }) (Move 1 ∷ Arrive 1 ∷ AirUp 1 Zero ∷ [])) 1 ≡ (hex "02 06 01 0a 02 00") ∷ (hex "03 02 01 0a 02 00 0b 00 03 06 29 00") ∷ []
 unfolding on_literals
 after_a_move_nothing_is_initial = refl

@@ -12,9 +12,9 @@ use Rattle.world_model.proofs.Prelude.{outbox_of, with_outbox, base_of, with_bas
 use Rattle.world_model.specs.Life.{event_after}
 use Rattle.world_model.proofs.Inboxes.{inbox-all, sources_all}
 use Rattle.world_model.specs.World.{link_of, with_link}
-use Rattle.world_model.proofs.Leads.{OfTaken, FromAir, switch_takes-leads, switch_took-leads, push-leads, does-leads, after-taken, and-right}
-use Rattle.world_model.proofs.Leads.{aerial-leads, taking-leads}
-use Rattle.world_model.proofs.OwnerPuts.{entry-out}
+use Rattle.world_model.proofs.Leads.{OfTaken, FromAir, switch_takes_leads, switch_took-leads, push_leads, does_leads, after_taken, and_right}
+use Rattle.world_model.proofs.Leads.{aerial_leads, taking_leads}
+use Rattle.world_model.proofs.OwnerPuts.{entry_out}
 
 -- ---- links in a list
 
@@ -54,7 +54,7 @@ quiet link w event v none nobody same =
     ∙ ap (λ (entries : List OutboxEntry). entries ++ outbox_of v link) (sym nobody))
 
 quietly : (link : ℕ) (w : Actors) (event : Event) (o : Option Actors) → outputs w event ≡ [] → taken link w event ≡ [] → OfTaken (Stays w) o → Step link w event (unwrap_or o w)
-quietly link w event o none nobody leads = quiet link w event (unwrap_or o w) none nobody (after-taken (Stays w) o w leads refl)
+quietly link w event o none nobody leads = quiet link w event (unwrap_or o w) none nobody (after_taken (Stays w) o w leads refl)
 
 -- ---- outputs
 
@@ -65,7 +65,7 @@ record Joins (link : ℕ) (target : Option Tenure) (w : Actors) (out : Out) (v :
 
 one_to_link : (link : ℕ) (target : Option Tenure) (out : Out) (b : Bool) → nat_eq out.to link ≡ b → to_link link (entry_of target out ∷ []) ≡ (if b then entry_of target out ∷ [] else [])
 one_to_link link target out b is =
-    ap (λ (o : Out). cond (nat_eq o.to link) (entry_of target out ∷ []) []) (entry-out target out) ∙ ap (λ (t : Bool). cond t (entry_of target out ∷ []) []) is
+    ap (λ (o : Out). cond (nat_eq o.to link) (entry_of target out ∷ []) []) (entry_out target out) ∙ ap (λ (t : Bool). cond t (entry_of target out ∷ []) []) is
 
 none_joins : (link : ℕ) (w : Actors) (b : Bool) → outbox_of w link ≡ outbox_of w link ++ (if b then [] else [])
 none_joins link w true = sym (append-nil (outbox_of w link))
@@ -191,11 +191,11 @@ takes_step link other w event None none takes h = quiet link w event w none (tak
 takes_step link other w event (Some v) none takes h = popped_step link other w event v none takes h
 
 base_takes_popped : (w : Actors) (station : ℕ) → OfTaken (Popped station w) (after_base_takes w station)
-base_takes_popped w station = taking-leads (Popped station w) w station (λ first others up stood mobiles stations.
-    record { first = first; others = others; up = and-right (not (station == SWITCH_LINK)) (is_up w station) up; stood = stood; links = refl })
+base_takes_popped w station = taking_leads (Popped station w) w station (λ first others up stood mobiles stations.
+    record { first = first; others = others; up = and_right (not (station == SWITCH_LINK)) (is_up w station) up; stood = stood; links = refl })
 
 switch_takes_popped : (w : Actors) → OfTaken (Popped SWITCH_LINK w) (after_switch_takes w)
-switch_takes_popped w = switch_takes-leads (Popped SWITCH_LINK w) w (λ first others up stood.
+switch_takes_popped w = switch_takes_leads (Popped SWITCH_LINK w) w (λ first others up stood.
     switch_took-leads (Popped SWITCH_LINK w) (with_outbox SWITCH_LINK others w) (sccp_in first.out.frame)
     (record { first = first; others = others; up = up; stood = stood; links = refl })
     (λ next made. record { first = first; others = others; up = up; stood = stood; links = refl }))
@@ -236,13 +236,13 @@ break_step link source w = by_link (is_up w source) refl where
 pub step : (link : ℕ) (w : Actors) (event : Event) → Step link w event (actors_after w event)
 unfolding event_after FromAir
 step link w (BaseTakes station) = takes_step link station w (BaseTakes station) (after_base_takes w station) refl refl (base_takes_popped w station)
-step link w (BasePush source) = quietly link w (BasePush source) (after_base_push w source) refl refl (push-leads (Stays w) w source (λ first others. refl) (λ message _. refl))
+step link w (BasePush source) = quietly link w (BasePush source) (after_base_push w source) refl refl (push_leads (Stays w) w source (λ first others. refl) (λ message _. refl))
 step link w Handle = handle_step link w w.inbox refl
 step link w SwitchTakes = takes_step link SWITCH_LINK w SwitchTakes (after_switch_takes w) refl refl (switch_takes_popped w)
-step link w (SwitchDoes action) = quietly link w (SwitchDoes action) (after_switch_does w action) refl refl (does-leads (Stays w) w action (λ next made. refl))
+step link w (SwitchDoes action) = quietly link w (SwitchDoes action) (after_switch_does w action) refl refl (does_leads (Stays w) w action (λ next made. refl))
 step link w (Tick ms) = turn_goes link w (Tick ms) None (tick ms w.controller) w refl refl refl
 step link w (BaseDown source) = break_step link source w
-step link w event = quietly link w event (event_after w event) refl refl (aerial-leads (Stays w) w event refl (λ mobiles stations. refl))
+step link w event = quietly link w event (event_after w event) refl refl (aerial_leads (Stays w) w event refl (λ mobiles stations. refl))
 
 -- ---- a link that is down stays so, and nothing is put there
 
@@ -266,21 +266,21 @@ down_stays : (link : ℕ) (w : Actors) (events : List Event) → IsDown link w �
 down_stays link w [] down = down
 down_stays link w (event ∷ events) down = down_stays link (actors_after w event) events (down_by (step link w event) down)
 
-pub down-after : (link : ℕ) (w : Actors) (event : Event) → is_up w link ≡ false → is_up (actors_after w event) link ≡ false
-down-after link w event down = down_by (step link w event) down
+pub down_after : (link : ℕ) (w : Actors) (event : Event) → is_up w link ≡ false → is_up (actors_after w event) link ≡ false
+down_after link w event down = down_by (step link w event) down
 
 front_empty : {X : Type 0} (xs ys : List X) → xs ++ ys ≡ [] → xs ≡ []
 front_empty [] ys is = refl
 front_empty (x ∷ xs) ys is = absurd cc
 
 -- nothing is taken of a link that is down and has nothing, and it has nothing then
-pub Both-empty : {X : Type 0} (xs ys : List X) → [] ≡ xs ++ ys → (xs ≡ []) × (ys ≡ [])
-Both-empty [] ys is = (refl, sym is)
-Both-empty (x ∷ xs) ys is = absurd cc
+pub both_empty : {X : Type 0} (xs ys : List X) → [] ≡ xs ++ ys → (xs ≡ []) × (ys ≡ [])
+both_empty [] ys is = (refl, sym is)
+both_empty (x ∷ xs) ys is = absurd cc
 
 empty_by : {link : ℕ} {w v : Actors} {event : Event} → Step link w event v → IsDown link w → outbox_of w link ≡ [] → (taken link w event ≡ []) × (outbox_of v link ≡ [])
 empty_by {link} {w} {v} {event} (goes same all) down none =
-    Both-empty (taken link w event) (outbox_of v link) (sym (sym all ∙ ap (λ (entries : List OutboxEntry). entries ++ put link w event) none ∙ down_puts link w event down))
+    both_empty (taken link w event) (outbox_of v link) (sym (sym all ∙ ap (λ (entries : List OutboxEntry). entries ++ put link w event) none ∙ down_puts link w event down))
 empty_by (breaks broken nothing nobody) down none = (nobody, ap (λ (l : Link). l.outbox) broken)
 
 pub down_empty : (link : ℕ) (w : Actors) (event : Event) → is_up w link ≡ false → outbox_of w link ≡ [] → (taken link w event ≡ []) × (outbox_of (actors_after w event) link ≡ [])
@@ -291,8 +291,8 @@ emptied_by : {link : ℕ} {w v : Actors} {event : Event} → Step link w event v
 emptied_by {link} {w} {v} {event} (goes same all) none down = (empty_by {link = link} {w = w} {v = v} {event = event} (goes same all) (sym same ∙ down) (none (sym same ∙ down))).1
 emptied_by (breaks broken nothing nobody) none down = ap (λ (l : Link). l.outbox) broken
 
-pub down-outbox : (link : ℕ) (w : Actors) (event : Event) → (is_up w link ≡ false → outbox_of w link ≡ []) → is_up (actors_after w event) link ≡ false → outbox_of (actors_after w event) link ≡ []
-down-outbox link w event none down = emptied_by (step link w event) none down
+pub down_outbox : (link : ℕ) (w : Actors) (event : Event) → (is_up w link ≡ false → outbox_of w link ≡ []) → is_up (actors_after w event) link ≡ false → outbox_of (actors_after w event) link ≡ []
+down_outbox link w event none down = emptied_by (step link w event) none down
 
 -- ---- all events
 

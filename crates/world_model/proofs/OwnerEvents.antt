@@ -7,12 +7,12 @@ use Rattle.world_model.proofs.Prelude.{is_up, outbox_of, spot_at}
 use Rattle.std.proofs.lemmas.Grind.{flat_map-append}
 use Rattle.world_model.specs.OwnerLines.{Agrees, acknowledged_in, said, tenure_all, to_come}
 use Rattle.world_model.proofs.Heard.{Good}
-use Rattle.world_model.proofs.Inboxes.{inbox-goes}
+use Rattle.world_model.proofs.Inboxes.{inbox_goes}
 use Rattle.world_model.proofs.Outboxes.{step as outbox-step, Step as OutboxStep}
 use Rattle.world_model.proofs.Outboxes.Step.{goes, breaks}
 use Rattle.world_model.proofs.OwnerKeeping.{agrees_lost, agrees_takes, said-pushed}
-use Rattle.world_model.proofs.OwnerTenures.{beside-step, is_beside}
-use Rattle.world_model.proofs.Piping.{acks-append, due-append, step as pipe-step, Step as PipeStep}
+use Rattle.world_model.proofs.OwnerTenures.{beside_step, is_beside}
+use Rattle.world_model.proofs.Piping.{acks_append, due-append, step as pipe-step, Step as PipeStep}
 use Rattle.world_model.proofs.Piping.Step.{flows, stops}
 
 -- ---- an event at which the controller does nothing
@@ -29,8 +29,8 @@ pub record IsThere (at : Place) (w : Actors) : Type 0 where
   pub among : at.station - 1 < length w.stations
   pub none : is_up w at.station ≡ false → outbox_of w at.station ≡ []
 
-pub nothing-put : (link : ℕ) (w : Actors) (event : Event) → outputs w event ≡ [] → put link w event ≡ []
-nothing-put link w event none = by (is_up w link) where
+pub nothing_put : (link : ℕ) (w : Actors) (event : Event) → outputs w event ≡ [] → put link w event ≡ []
+nothing_put link w event none = by (is_up w link) where
   by : (b : Bool) → (if b then to_link link (outputs w event) else []) ≡ []
   by true = ap (to_link link) none
   by false = refl
@@ -38,9 +38,9 @@ nothing-put link w event none = by (is_up w link) where
 -- what stands in the inbox then
 pub came : (at : Place) (w : Actors) (event : Event) → at.station ≢ SWITCH_LINK → popped w event ≡ [] → Good w → acknowledged_in at (actors_after w event).inbox ≡ acknowledged_in at w.inbox ++ acknowledgements at.number (given at.station w event)
 came at w event at_is pops good =
-    ap (acknowledged_in at) (sym (inbox-goes w event ∙ ap (λ (items : List Item). items ++ (actors_after w event).inbox) pops))
+    ap (acknowledged_in at) (sym (inbox_goes w event ∙ ap (λ (items : List Item). items ++ (actors_after w event).inbox) pops))
     ∙ ap (acknowledgements at.number) (flat_map-append (said at.station) w.inbox (pushed w event))
-    ∙ acks-append at.number (flat_map (said at.station) w.inbox) (flat_map (said at.station) (pushed w event))
+    ∙ acks_append at.number (flat_map (said at.station) w.inbox) (flat_map (said at.station) (pushed w event))
     ∙ ap (λ (ms : List Rsl). acknowledged_in at w.inbox ++ acknowledgements at.number ms) (said-pushed at.station w event at_is good)
 
 pub rests_keep : (owner : Tenure → ℕ) (at : Place) (w : Actors) (event : Event) → IsThere at w → Good w → Rests at w event → Agrees owner w at → Agrees owner (actors_after w event) at
@@ -74,7 +74,7 @@ rests_keep owner at w event there good rests agrees = by (outbox-step n w event)
   grouped rest =
       append_assoc before gave (acknowledgements k (base_of v n).messages ++ rest)
       ∙ ap (λ (xs : List Rsl). before ++ xs) (sym (append_assoc gave (acknowledgements k (base_of v n).messages) rest)
-      ∙ ap (λ (xs : List Rsl). xs ++ rest) (sym (acks-append k (given n w event) (base_of v n).messages)))
+      ∙ ap (λ (xs : List Rsl). xs ++ rest) (sym (acks_append k (given n w event) (base_of v n).messages)))
 
   by : OutboxStep n w event v → PipeStep n k w event v → Agrees owner v at
   by (goes up all) (flows acks active) = agrees_takes owner at w v (taken n w event) (record {
@@ -93,7 +93,7 @@ rests_keep owner at w event there good rests agrees = by (outbox-step n w event)
     up = up;
   }) agrees where
     outbox : outbox_of w n ≡ taken n w event ++ outbox_of v n
-    outbox = sym (append-nil (outbox_of w n)) ∙ ap (λ (entries : List OutboxEntry). outbox_of w n ++ entries) (sym (nothing-put n w event rests.outputs)) ∙ all
+    outbox = sym (append-nil (outbox_of w n)) ∙ ap (λ (entries : List OutboxEntry). outbox_of w n ++ entries) (sym (nothing_put n w event rests.outputs)) ∙ all
   by (breaks broken nothing nobody) (flows acks active) = agrees_lost owner at w v (record {
     outbox = ap (λ (l : Link). l.outbox) broken;
     down = ap (λ (l : Link). l.up) broken;
@@ -141,9 +141,9 @@ none_taken n w (BaseTakes station) n_is is = absurd cc
 none_taken n w SwitchTakes n_is is = ap (λ (b : Bool). if b then (if is_some (event_after w SwitchTakes) then first_of (outbox_of w n) else []) else []) (ne_eqb SWITCH_LINK n (λ same. n_is (sym same)))
 none_taken n w _ n_is is = refl
 
-pub beside-rests : (at : Place) (w : Actors) (event : Event) → is_beside event ≡ true → IsThere at w → Rests at w event
-beside-rests at w event is there =
-    let b = beside-step w event is in
+pub beside_rests : (at : Place) (w : Actors) (event : Event) → is_beside event ≡ true → IsThere at w → Rests at w event
+beside_rests at w event is there =
+    let b = beside_step w event is in
     record {
       outputs = no_outputs w event is;
       pops = no_pops w event is;
@@ -153,4 +153,4 @@ beside-rests at w event is there =
 
 -- Each of them keeps the agreement of each channel.
 pub beside_keeps : (owner : Tenure → ℕ) (at : Place) (w : Actors) (event : Event) → is_beside event ≡ true → IsThere at w → Good w → Agrees owner w at → Agrees owner (actors_after w event) at
-beside_keeps owner at w event is there good agrees = rests_keep owner at w event there good (beside-rests at w event is there) agrees
+beside_keeps owner at w event is there good agrees = rests_keep owner at w event there good (beside_rests at w event is there) agrees

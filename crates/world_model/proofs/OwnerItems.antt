@@ -7,9 +7,9 @@ use Rattle.world_model.proofs.Prelude.{BasePush, BaseDown, actors_after, actors_
 use Rattle.world_model.proofs.Prelude.{switch_item, rsl_in, Actors, base_of, is_up, new_actors}
 use Rattle.ruled_relay.specs.declared.item.What.TheVariants as whats
 use Rattle.world_model.specs.Reading.{frame_of}
-use Rattle.world_model.proofs.Heard.{Good, end-of, good-new, good-step}
-use Rattle.world_model.proofs.Inboxes.{inbox-goes}
-use Rattle.world_model.proofs.Soundness.{IsSound, is_nack, sound-read}
+use Rattle.world_model.proofs.Heard.{Good, end_of, good_new, good_step}
+use Rattle.world_model.proofs.Inboxes.{inbox_goes}
+use Rattle.world_model.proofs.Soundness.{IsSound, is_nack, sound_read}
 
 abbrev pub IsKnown : What → Type 0
 IsKnown (whats.Frame frame) = (message : Rsl) × (frame ≡ frame_of message) × (rsl_reading (rsl_text message) ≡ Ok message) × (is_nack message ≡ false)
@@ -32,11 +32,11 @@ known_pushed w (BasePush source) good = by_source (nat_eq source SWITCH_LINK) re
 
   of_station : source ≢ SWITCH_LINK → (messages : List Rsl) → AllByRecursion IsSound messages → AllByRecursion IsKnownItem (map (station_item source) (option_to_list (first_of_messages messages)))
   of_station differ [] all = tt
-  of_station differ (first ∷ others) all = (record { station = λ other. (first, refl, sound-read first all.0, all.0.kind); switch = λ same. absurd (differ same) }, tt)
+  of_station differ (first ∷ others) all = (record { station = λ other. (first, refl, sound_read first all.0, all.0.kind); switch = λ same. absurd (differ same) }, tt)
 
   by_source : (b : Bool) → nat_eq source SWITCH_LINK ≡ b → AllByRecursion IsKnownItem (if b then map switch_item (first_of w.switch_made) else map (station_item source) (option_to_list (first_message (base_of w source))))
   by_source true is = of_switch (eqb-true source SWITCH_LINK is) w.switch_made
-  by_source false is = of_station (eqb-false source SWITCH_LINK is) (base_of w source).messages (end-of w source good).made
+  by_source false is = of_station (eqb-false source SWITCH_LINK is) (base_of w source).messages (end_of w source good).made
 known_pushed w (BaseDown source) good = by_link (is_up w source) where
   by_link : (b : Bool) → AllByRecursion IsKnownItem (if b then record { source = source; what = whats.Down } ∷ [] else [])
   by_link true = (record { station = λ other. tt; switch = λ same. tt }, tt)
@@ -50,8 +50,8 @@ behind P (x ∷ xs) ys all = behind P xs ys all.1
 known_all : (w : Actors) (events : List Event) → Good w → AllByRecursion IsKnownItem w.inbox → AllByRecursion IsKnownItem (actors_after_all w events).inbox
 known_all w [] good known = known
 known_all w (event ∷ events) good known =
-    known_all (actors_after w event) events (good-step w event good)
-    (behind IsKnownItem (popped w event) (actors_after w event).inbox (subst (AllByRecursion IsKnownItem) (inbox-goes w event) (AllByRecursion-append IsKnownItem w.inbox (pushed w event) known (known_pushed w event good))))
+    known_all (actors_after w event) events (good_step w event good)
+    (behind IsKnownItem (popped w event) (actors_after w event).inbox (subst (AllByRecursion IsKnownItem) (inbox_goes w event) (AllByRecursion-append IsKnownItem w.inbox (pushed w event) known (known_pushed w event good))))
 
-pub known-inbox : (settings : Parameters) (events : List Event) → AllByRecursion IsKnownItem (actors_after_all (new_actors settings) events).inbox
-known-inbox settings events = known_all (new_actors settings) events (good-new settings) tt
+pub known_inbox : (settings : Parameters) (events : List Event) → AllByRecursion IsKnownItem (actors_after_all (new_actors settings) events).inbox
+known_inbox settings events = known_all (new_actors settings) events (good_new settings) tt

@@ -7,12 +7,12 @@ use Rattle.world_model.proofs.Prelude.{first_message, first_of_messages, Item, R
 use Rattle.world_model.proofs.Prelude.{given, began, begins, active_all, due, first_of, pushed, station_item, switch_item, Actors, base_of}
 use Rattle.world_model.proofs.Prelude.{is_active_at, is_up, outbox_of, spot_at}
 use Rattle.ruled_relay.specs.declared.item.What.TheVariants as whats
-use Rattle.world_model.specs.OwnerLines.{Agrees, AreFitting, Comes, IsOnItsWay, active_behind, asker, said, said_by, tenure_all, tenure_behind, to_come}
-use Rattle.world_model.proofs.Heard.{Good, end-of}
-use Rattle.world_model.proofs.OwnerLines.{fitting_behind, none-due, tenure-append}
-use Rattle.world_model.proofs.Outboxes.{Both-empty}
+use Rattle.world_model.specs.OwnerLines.{Agrees, AreFitting, IsOwed, IsOnItsWay, active_behind, asker, said, said_by, tenure_all, tenure_behind, to_come}
+use Rattle.world_model.proofs.Heard.{Good, end_of}
+use Rattle.world_model.proofs.OwnerLines.{fitting_behind, nothing_is_due, tenure-append}
+use Rattle.world_model.proofs.Outboxes.{both_empty}
 use Rattle.world_model.proofs.Piping.{active-append}
-use Rattle.world_model.proofs.Soundness.{IsSound, sound-read}
+use Rattle.world_model.proofs.Soundness.{IsSound, sound_read}
 
 -- ---- its station took entries; the controller did nothing
 
@@ -50,7 +50,7 @@ agrees_takes owner at w v took takes agrees = record {
       let way = agrees.way heard in
       record {
         lost = way.lost;
-        comes = subst (λ (xs : List Rsl). Comes at.number (channel_state w.controller at) (xs ++ way.lost)) (sym takes.comes) way.comes;
+        comes = subst (λ (xs : List Rsl). IsOwed at.number (channel_state w.controller at) (xs ++ way.lost)) (sym takes.comes) way.comes;
         all = λ up. way.all (sym takes.up ∙ up);
         active = λ up. still_active at w v took takes ∙ way.active (sym takes.up ∙ up);
       });
@@ -69,16 +69,16 @@ pub record Loses (at : Place) (w v : Actors) : Type 0 where
   pub controller : v.controller ≡ w.controller
 
 -- of a channel in use one acknowledgement comes at most
-pub one-at-most : (channel number : ℕ) (state : ChannelState) (all xs ys : List Rsl) → Comes channel state all → state ≡ InUse number → all ≡ xs ++ ys → xs ≢ [] → ys ≡ []
-one-at-most channel number state all [] ys comes used is some = absurd (some refl)
-one-at-most channel number (InUse n) (one ∷ []) (x ∷ xs) ys comes used is some = (Both-empty xs ys (tail_same is)).1 where
+pub one_at_most : (channel number : ℕ) (state : ChannelState) (all xs ys : List Rsl) → IsOwed channel state all → state ≡ InUse number → all ≡ xs ++ ys → xs ≢ [] → ys ≡ []
+one_at_most channel number state all [] ys comes used is some = absurd (some refl)
+one_at_most channel number (InUse n) (one ∷ []) (x ∷ xs) ys comes used is some = (both_empty xs ys (tail_same is)).1 where
   tail_same : {a b : Rsl} {others more : List Rsl} → a ∷ others ≡ b ∷ more → others ≡ more
   tail_same same = cc
-one-at-most channel number (InUse n) (one ∷ two ∷ rest) (x ∷ xs) ys comes used is some = absurd (never comes refl) where
-  never : {l : List Rsl} → Comes channel (InUse n) l → l ≡ one ∷ two ∷ rest → ⊥
+one_at_most channel number (InUse n) (one ∷ two ∷ rest) (x ∷ xs) ys comes used is some = absurd (never comes refl) where
+  never : {l : List Rsl} → IsOwed channel (InUse n) l → l ≡ one ∷ two ∷ rest → ⊥
   never began same = absurd cc
   never begins same = absurd cc
-one-at-most channel number _ _ _ ys comes used is some = absurd cc
+one_at_most channel number _ _ _ ys comes used is some = absurd cc
 
 pub agrees_lost : (owner : Tenure → ℕ) (at : Place) (w v : Actors) → Loses at w v → Agrees owner w at → Agrees owner v at
 agrees_lost owner at w v loses agrees = record {
@@ -87,17 +87,17 @@ agrees_lost owner at w v loses agrees = record {
       let way = agrees.way heard in
       record {
         lost = rest ++ way.lost;
-        comes = subst (Comes at.number (channel_state w.controller at)) (whole way.lost) way.comes;
+        comes = subst (IsOwed at.number (channel_state w.controller at)) (whole way.lost) way.comes;
         all = λ up. absurd (false_true (sym loses.down ∙ up));
         active = λ up. absurd (false_true (sym loses.down ∙ up));
       });
   own = subst (OwnIn owner v at) (sym loses.controller) (λ number mobile heard used asks reaches.
       let way = agrees.way heard in
-      let gone : rest ++ way.lost ≡ [] = one-at-most at.number number (channel_state w.controller at) (to_come w at ++ way.lost) (to_come v at) (rest ++ way.lost) way.comes used (whole way.lost) (reaches loses.down) in
-      let none : due at.number (is_active_at w at) (outbox_of w at.station) ≡ [] = (Both-empty loses.made (due at.number (is_active_at w at) (outbox_of w at.station)) (sym (Both-empty rest way.lost (sym gone)).0)).1 in
+      let gone : rest ++ way.lost ≡ [] = one_at_most at.number number (channel_state w.controller at) (to_come w at ++ way.lost) (to_come v at) (rest ++ way.lost) way.comes used (whole way.lost) (reaches loses.down) in
+      let none : due at.number (is_active_at w at) (outbox_of w at.station) ≡ [] = (both_empty loses.made (due at.number (is_active_at w at) (outbox_of w at.station)) (sym (both_empty rest way.lost (sym gone)).0)).1 in
       ap (λ (n : ℕ). owner (record { at = at; number = n }))
-      (ap (tenure_all at.number (is_active_at v at) (spot_at v at).tenure) loses.outbox ∙ loses.tenure ∙ sym (none-due at.number (is_active_at w at) (spot_at w at).tenure (outbox_of w at.station) none))
-      ∙ agrees.own number mobile heard used asks (λ down silent. reaches loses.down (Both-empty (to_come v at) rest (sym silent ∙ loses.comes)).0));
+      (ap (tenure_all at.number (is_active_at v at) (spot_at v at).tenure) loses.outbox ∙ loses.tenure ∙ sym (nothing_is_due at.number (is_active_at w at) (spot_at w at).tenure (outbox_of w at.station) none))
+      ∙ agrees.own number mobile heard used asks (λ down silent. reaches loses.down (both_empty (to_come v at) rest (sym silent ∙ loses.comes)).0));
 } where
   rest : List Rsl
   rest = loses.made ++ due at.number (is_active_at w at) (outbox_of w at.station)
@@ -116,7 +116,7 @@ read_item n message sound = by (n == n) (eqb_refl n) where
   eqb_refl n = eq-eqb n n refl
 
   by : (b : Bool) → b ≡ true → (if b then said_by (station_item n message).what else []) ≡ message ∷ []
-  by true is = ap (λ (r : _). option_to_list (result_ok r)) (sound-read message sound)
+  by true is = ap (λ (r : _). option_to_list (result_ok r)) (sound_read message sound)
   by false is = absurd cc
 
 other_item : (n : ℕ) (item : Item) → (item.source == n) ≡ false → said n item ≡ []
@@ -141,7 +141,7 @@ said-pushed n w (BasePush source) n_is good = by_source (source == SWITCH_LINK) 
 
   of_station : (b : Bool) → (source == n) ≡ b → flat_map (said n) (map (station_item source) (option_to_list (first_message (base_of w source)))) ≡ given n w (BasePush source)
   of_station true same =
-      subst (λ (k : ℕ). flat_map (said n) (map (station_item k) (option_to_list (first_message (base_of w k)))) ≡ option_to_list (first_message (base_of w n))) (sym (eqb-true source n same)) (own (base_of w n).messages (end-of w n good).made)
+      subst (λ (k : ℕ). flat_map (said n) (map (station_item k) (option_to_list (first_message (base_of w k)))) ≡ option_to_list (first_message (base_of w n))) (sym (eqb-true source n same)) (own (base_of w n).messages (end_of w n good).made)
       ∙ sym (ap (λ (b : Bool). if b then option_to_list (first_message (base_of w n)) else []) same)
   of_station false other = elsewhere other (base_of w source).messages ∙ sym (none_given other)
 

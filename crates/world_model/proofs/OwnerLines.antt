@@ -8,8 +8,8 @@ use Rattle.world_model.proofs.Prelude.{Parameters, free_channels, OutboxEntry, T
 use Rattle.world_model.proofs.Prelude.{is_active_then, rsl_in, AssignsBy, TakesBy, TakesFirstBy, Actors, is_active_at, new_actors}
 use Rattle.world_model.proofs.Prelude.{outbox_of, spot_at}
 use Rattle.std.specs.Prelude.{Result, Ok}
-use Rattle.world_model.specs.OwnerLines.{AllAgree, AreFitting, AssignsIn, Comes, FitsTenure, is_in_use, tenure_all, tenure_then, to_come}
-use Rattle.world_model.proofs.Outboxes.{Both-empty, new_outbox}
+use Rattle.world_model.specs.OwnerLines.{AllAgree, AreFitting, AssignsIn, IsOwed, FitsTenure, is_in_use, tenure_all, tenure_then, to_come}
+use Rattle.world_model.proofs.Outboxes.{both_empty, new_outbox}
 use Rattle.world_model.proofs.Piping.{new_end}
 
 -- ---- in parts
@@ -37,12 +37,12 @@ due_none channel active tenure (Some (ChannelActivation a)) none = by ((a.channe
   by false is = refl
 due_none channel active tenure _ none = refl
 
-pub none-due : (channel : ℕ) (active : Bool) (tenure : ℕ) (entries : List OutboxEntry) → due channel active entries ≡ [] → tenure_all channel active tenure entries ≡ tenure
-none-due channel active tenure [] none = refl
-none-due channel active tenure (x ∷ xs) none =
+pub nothing_is_due : (channel : ℕ) (active : Bool) (tenure : ℕ) (entries : List OutboxEntry) → due channel active entries ≡ [] → tenure_all channel active tenure entries ≡ tenure
+nothing_is_due channel active tenure [] none = refl
+nothing_is_due channel active tenure (x ∷ xs) none =
     let o : Option Rsl = rsl_in x.out.frame in
-    let parts = Both-empty (acknowledgement channel active o) (due channel (is_active_then channel active o) xs) (sym none) in
-    none-due channel (is_active_then channel active o) (tenure_then channel active tenure o) xs parts.1 ∙ due_none channel active tenure o parts.0
+    let parts = both_empty (acknowledgement channel active o) (due channel (is_active_then channel active o) xs) (sym none) in
+    nothing_is_due channel (is_active_then channel active o) (tenure_then channel active tenure o) xs parts.1 ∙ due_none channel active tenure o parts.0
 
 -- ---- what a station takes is by the owner of its tenures
 
@@ -75,8 +75,8 @@ rows_free zero station number = refl
 rows_free (suc count) zero number = all_free CHANNEL_NUMBERS number
 rows_free (suc count) (suc station) number = rows_free count station number
 
-pub new-free : (settings : Parameters) (at : Place) → channel_state (new_actors settings).controller at ≡ Free
-new-free settings at = rows_free (length settings.cells + 1) at.station at.number
+pub new_free : (settings : Parameters) (at : Place) → channel_state (new_actors settings).controller at ≡ Free
+new_free settings at = rows_free (length settings.cells + 1) at.station at.number
 
 free_unused : (number : ℕ) → Free ≡ InUse number → ⊥
 free_unused number is = absurd cc
@@ -87,12 +87,12 @@ AllAgree-new settings owner at least most =
     let empty : outbox_of w at.station ≡ [] = new_outbox (length settings.cells + 1) at.station in
     let start = new_end at.number 1 (at.station - 1) settings.cells in
     let silent : to_come w at ≡ [] = rw (start.0, empty) refl in
-    let free : channel_state w.controller at ≡ Free = new-free settings at in
+    let free : channel_state w.controller at ≡ Free = new_free settings at in
     record {
       line = subst (AreFitting owner at (is_active_at w at) (spot_at w at).tenure) (sym empty) tt;
       way = λ _. record {
         lost = [];
-        comes = subst (λ (state : ChannelState). Comes at.number state (to_come w at ++ [])) (sym free) (subst (λ (xs : List Rsl). Comes at.number Free (xs ++ [])) (sym silent) nothing);
+        comes = subst (λ (state : ChannelState). IsOwed at.number state (to_come w at ++ [])) (sym free) (subst (λ (xs : List Rsl). IsOwed at.number Free (xs ++ [])) (sym silent) nothing);
         all = λ _. refl;
         active = λ _. ap (active_all at.number (is_active_at w at)) empty ∙ start.1 ∙ sym (ap is_in_use free);
       };

@@ -7,7 +7,7 @@ use Rattle.world_model.proofs.Prelude.{Releasing, CHANNEL_NUMBERS, rr_reading, a
 use Rattle.world_model.proofs.Prelude.{ImmediateAssignCommand, ChannelActivation, RfChannelRelease, RfChannelReleaseAck, or-false}
 use Rattle.world_model.proofs.Prelude.{OutboxEntry, Tenure, nothing, began, begins, ends, begins_and_ends, acknowledgement, active_all, due}
 use Rattle.world_model.proofs.Prelude.{is_active_then, to_link, entry_of, rsl_in, LeadsBy}
-use Rattle.world_model.specs.OwnerLines.{AreFitting, AssignsIn, Comes, FitsTenure, is_in_use, tenure_all, tenure_then}
+use Rattle.world_model.specs.OwnerLines.{AreFitting, AssignsIn, IsOwed, FitsTenure, is_in_use, tenure_all, tenure_then}
 
 -- ---- what the outputs of a turn do to a channel
 
@@ -33,10 +33,10 @@ pub data Goes (at : Place) : ChannelState → List Out → ChannelState → Type
   first_passes : {state end : ChannelState} {out : Out} {outs : List Out} → Passes at.number (said_to at out) → Goes at state outs end → Goes at state (out ∷ outs) end
   activates : {number : ℕ} {end : ChannelState} {out : Out} {outs : List Out} (a : Activation) → said_to at out ≡ Some (ChannelActivation a) → a.channel ≡ at.number → at.number < CHANNEL_NUMBERS → Runs at (InUse number) outs end → Goes at Free (out ∷ outs) end
 
-pub runs-kept : {at : Place} {state end : ChannelState} {outs : List Out} (number : ℕ) → Runs at state outs end → end ≡ InUse number → state ≡ InUse number
-runs-kept number over is = is
-runs-kept number (passes by rest) is = runs-kept number rest is
-runs-kept number (releases says rest) is = absurd (other (runs-kept number rest is)) where
+pub runs_kept : {at : Place} {state end : ChannelState} {outs : List Out} (number : ℕ) → Runs at state outs end → end ≡ InUse number → state ≡ InUse number
+runs_kept number over is = is
+runs_kept number (passes by rest) is = runs_kept number rest is
+runs_kept number (releases says rest) is = absurd (other (runs_kept number rest is)) where
   other : {m : ℕ} → Releasing m ≡ InUse number → ⊥
   other same = absurd cc
 
@@ -83,14 +83,14 @@ passing owner at active tenure target _ beside fits = record { asks = refl; stay
 
 pub record Works (owner : Tenure → ℕ) (at : Place) (active : Bool) (tenure : ℕ) (entries : List OutboxEntry) (state end : ChannelState) (last : ℕ) : Type 0 where
   pub fits : AreFitting owner at active tenure entries
-  pub comes : (xs : List Rsl) → Comes at.number state xs → Comes at.number end (xs ++ due at.number active entries)
+  pub comes : (xs : List Rsl) → IsOwed at.number state xs → IsOwed at.number end (xs ++ due at.number active entries)
   pub active_then : active_all at.number active entries ≡ is_in_use end
   pub tenure_then : tenure_all at.number active tenure entries ≡ last
 
 works_over : (owner : Tenure → ℕ) (at : Place) (active : Bool) (tenure : ℕ) (state : ChannelState) → active ≡ is_in_use state → Works owner at active tenure [] state state tenure
 works_over owner at active tenure state is = record {
   fits = tt;
-  comes = λ xs comes. subst (Comes at.number state) (sym (append-nil xs)) comes;
+  comes = λ xs comes. subst (IsOwed at.number state) (sym (append-nil xs)) comes;
   active_then = is;
   tenure_then = refl;
 }
@@ -100,12 +100,12 @@ works_behind owner at active tenure x entries state end last p works =
     let o : Option Rsl = rsl_in x.out.frame in
     record {
       fits = (p.fits, subst (λ (b : Bool). AreFitting owner at b (tenure_then at.number active tenure o) entries) (sym p.stays) (subst (λ (n : ℕ). AreFitting owner at active n entries) (sym p.same) works.fits));
-      comes = λ xs comes. subst (λ (ys : List Rsl). Comes at.number end (xs ++ ys)) (sym (ap (λ (ys : List Rsl). ys ++ due at.number (is_active_then at.number active o) entries) p.asks ∙ ap (λ (b : Bool). due at.number b entries) p.stays)) (works.comes xs comes);
+      comes = λ xs comes. subst (λ (ys : List Rsl). IsOwed at.number end (xs ++ ys)) (sym (ap (λ (ys : List Rsl). ys ++ due at.number (is_active_then at.number active o) entries) p.asks ∙ ap (λ (b : Bool). due at.number b entries) p.stays)) (works.comes xs comes);
       active_then = ap (λ (b : Bool). active_all at.number b entries) p.stays ∙ works.active_then;
       tenure_then = ap (λ (b : Bool). tenure_all at.number b (tenure_then at.number active tenure o) entries) p.stays ∙ ap (λ (n : ℕ). tenure_all at.number active n entries) p.same ∙ works.tenure_then;
     }
 
-released_comes : (k number : ℕ) (state : ChannelState) (xs : List Rsl) → state ≡ InUse number → Comes k state xs → Comes k (Releasing number) (xs ++ RfChannelReleaseAck k ∷ [])
+released_comes : (k number : ℕ) (state : ChannelState) (xs : List Rsl) → state ≡ InUse number → IsOwed k state xs → IsOwed k (Releasing number) (xs ++ RfChannelReleaseAck k ∷ [])
 released_comes k number (InUse m) xs is began = ends
 released_comes k number (InUse m) xs is begins = begins_and_ends
 released_comes k number _ xs is comes = absurd cc
@@ -123,14 +123,14 @@ works_release owner at number tenure x entries end says works =
         subst (λ (b : Bool). AreFitting owner at b (tenure_then at.number true tenure (rsl_in x.out.frame)) entries) (sym off) (subst (λ (n : ℕ). AreFitting owner at false n entries) (sym same) works.fits),
       );
       comes = λ xs comes.
-          subst (Comes at.number end) (append_assoc xs (RfChannelReleaseAck at.number ∷ []) (due at.number false entries)
+          subst (IsOwed at.number end) (append_assoc xs (RfChannelReleaseAck at.number ∷ []) (due at.number false entries)
           ∙ sym (ap (λ (ys : List Rsl). xs ++ (ys ++ due at.number (is_active_then at.number true (rsl_in x.out.frame)) entries)) asks ∙ ap (λ (b : Bool). xs ++ (RfChannelReleaseAck at.number ∷ [] ++ due at.number b entries)) off))
           (works.comes (xs ++ RfChannelReleaseAck at.number ∷ []) (released_comes at.number number (InUse number) xs refl comes));
       active_then = ap (λ (b : Bool). active_all at.number b entries) off ∙ works.active_then;
       tenure_then = ap (λ (b : Bool). tenure_all at.number b (tenure_then at.number true tenure (rsl_in x.out.frame)) entries) off ∙ ap (λ (n : ℕ). tenure_all at.number false n entries) same ∙ works.tenure_then;
     }
 
-began_comes : (k number : ℕ) (xs : List Rsl) → Comes k Free xs → Comes k (InUse number) (xs ++ activation_ack k ∷ [])
+began_comes : (k number : ℕ) (xs : List Rsl) → IsOwed k Free xs → IsOwed k (InUse number) (xs ++ activation_ack k ∷ [])
 began_comes k number xs nothing = begins
 
 -- an activation of a channel that is free
@@ -146,7 +146,7 @@ works_activation owner at number tenure last x a entries end says is few works =
         subst (λ (b : Bool). AreFitting owner at b (tenure_then at.number false tenure (rsl_in x.out.frame)) entries) (sym on) (subst (λ (n : ℕ). AreFitting owner at true n entries) (sym next) works.fits),
       );
       comes = λ xs comes.
-          subst (Comes at.number end) (append_assoc xs (activation_ack at.number ∷ []) (due at.number true entries)
+          subst (IsOwed at.number end) (append_assoc xs (activation_ack at.number ∷ []) (due at.number true entries)
           ∙ sym (ap (λ (ys : List Rsl). xs ++ (ys ++ due at.number (is_active_then at.number false (rsl_in x.out.frame)) entries)) asks ∙ ap (λ (b : Bool). xs ++ (activation_ack at.number ∷ [] ++ due at.number b entries)) on))
           (works.comes (xs ++ activation_ack at.number ∷ []) (began_comes at.number number xs comes));
       active_then = ap (λ (b : Bool). active_all at.number b entries) on ∙ works.active_then;
@@ -158,23 +158,23 @@ works_activation owner at number tenure last x a entries end says is few works =
 abbrev pub entries_to : Place → Option Tenure → List Out → List OutboxEntry
 entries_to at target outs = to_link at.station (map (entry_of target) outs)
 
-pub entry-out : (target : Option Tenure) (out : Out) → (entry_of target out).out ≡ out
-entry-out None out = refl
-entry-out (Some tenure) out = refl
+pub entry_out : (target : Option Tenure) (out : Out) → (entry_of target out).out ≡ out
+entry_out None out = refl
+entry_out (Some tenure) out = refl
 
-entries-own : (at : Place) (target : Option Tenure) (out : Out) (outs : List Out) → (out.to == at.station) ≡ true → entries_to at target (out ∷ outs) ≡ entry_of target out ∷ entries_to at target outs
-entries-own at target out outs is =
-    ap (λ (o : Out). cond (nat_eq o.to at.station) (entry_of target out ∷ entries_to at target outs) (entries_to at target outs)) (entry-out target out)
+entries_own : (at : Place) (target : Option Tenure) (out : Out) (outs : List Out) → (out.to == at.station) ≡ true → entries_to at target (out ∷ outs) ≡ entry_of target out ∷ entries_to at target outs
+entries_own at target out outs is =
+    ap (λ (o : Out). cond (nat_eq o.to at.station) (entry_of target out ∷ entries_to at target outs) (entries_to at target outs)) (entry_out target out)
     ∙ ap (λ (b : Bool). cond b (entry_of target out ∷ entries_to at target outs) (entries_to at target outs)) is
 
-entries-other : (at : Place) (target : Option Tenure) (out : Out) (outs : List Out) → (out.to == at.station) ≡ false → entries_to at target (out ∷ outs) ≡ entries_to at target outs
-entries-other at target out outs is =
-    ap (λ (o : Out). cond (nat_eq o.to at.station) (entry_of target out ∷ entries_to at target outs) (entries_to at target outs)) (entry-out target out)
+entries_other : (at : Place) (target : Option Tenure) (out : Out) (outs : List Out) → (out.to == at.station) ≡ false → entries_to at target (out ∷ outs) ≡ entries_to at target outs
+entries_other at target out outs is =
+    ap (λ (o : Out). cond (nat_eq o.to at.station) (entry_of target out ∷ entries_to at target outs) (entries_to at target outs)) (entry_out target out)
     ∙ ap (λ (b : Bool). cond b (entry_of target out ∷ entries_to at target outs) (entries_to at target outs)) is
 
 -- what is said to the station is the entry's message
 own_says : (at : Place) (target : Option Tenure) (out : Out) → (out.to == at.station) ≡ true → rsl_in (entry_of target out).out.frame ≡ said_to at out
-own_says at target out is = ap (λ (o : Out). rsl_in o.frame) (entry-out target out) ∙ sym (ap (λ (b : Bool). if b then rsl_in out.frame else None) is)
+own_says at target out is = ap (λ (o : Out). rsl_in o.frame) (entry_out target out) ∙ sym (ap (λ (b : Bool). if b then rsl_in out.frame else None) is)
 
 other_says : (at : Place) (out : Out) → (out.to == at.station) ≡ false → said_to at out ≡ None
 other_says at out is = ap (λ (b : Bool). if b then rsl_in out.frame else None) is
@@ -186,10 +186,10 @@ works_passes : (owner : Tenure → ℕ) (at : Place) (target : Option Tenure) (a
 works_passes owner at target active tenure out outs state end last beside fits works =
     elim (cases_Bool (out.to == at.station)) [
       | inl own ↦
-          subst (λ (es : List OutboxEntry). Works owner at active tenure es state end last) (sym (entries-own at target out outs own))
+          subst (λ (es : List OutboxEntry). Works owner at active tenure es state end last) (sym (entries_own at target out outs own))
           (works_behind owner at active tenure (entry_of target out) (entries_to at target outs) state end last
           (subst (Passing owner at active tenure (entry_of target out).target) (sym (own_says at target out own)) (passing owner at active tenure (entry_of target out).target (said_to at out) beside fits)) works)
-      | inr other ↦ subst (λ (es : List OutboxEntry). Works owner at active tenure es state end last) (sym (entries-other at target out outs other)) works
+      | inr other ↦ subst (λ (es : List OutboxEntry). Works owner at active tenure es state end last) (sym (entries_other at target out outs other)) works
     ]
 
 pub runs_work : (owner : Tenure → ℕ) (at : Place) (target : Option Tenure) (tenure : ℕ) {state end : ChannelState} {outs : List Out} → Runs at state outs end → AllByRecursion (FitsOut owner at tenure target) outs → (active : Bool) → active ≡ is_in_use state → Works owner at active tenure (entries_to at target outs) state end tenure
@@ -199,7 +199,7 @@ runs_work owner at target tenure {state} {end} (passes {out} {outs} beside rest)
 runs_work owner at target tenure {end} (releases {number} {out} {outs} says rest) fits active is =
     elim (cases_Bool (out.to == at.station)) [
       | inl own ↦
-          subst (λ (es : List OutboxEntry). Works owner at active tenure es (InUse number) end tenure) (sym (entries-own at target out outs own))
+          subst (λ (es : List OutboxEntry). Works owner at active tenure es (InUse number) end tenure) (sym (entries_own at target out outs own))
           (subst (λ (b : Bool). Works owner at b tenure (entry_of target out ∷ entries_to at target outs) (InUse number) end tenure) (sym is)
           (works_release owner at number tenure (entry_of target out) (entries_to at target outs) end (own_says at target out own ∙ says) (runs_work owner at target tenure rest fits.1 false refl)))
       | inr other ↦ absurd (never_none (sym (other_says at out other) ∙ says))
@@ -215,24 +215,24 @@ pub record Puts (owner : Tenure → ℕ) (at : Place) (active : Bool) (tenure : 
 abbrev pub FitAll : (Tenure → ℕ) → Place → Option Tenure → ℕ → ChannelState → List Out → Type 0
 FitAll owner at target tenure state outs = (number : ℕ) → (number ≡ tenure) ⊎ (state ≡ Free) → AllByRecursion (FitsOut owner at number target) outs
 
-pub goes-put : (owner : Tenure → ℕ) (at : Place) (target : Option Tenure) (tenure : ℕ) {state end : ChannelState} {outs : List Out} → Goes at state outs end → FitAll owner at target tenure state outs → (active : Bool) → active ≡ is_in_use state → Puts owner at active tenure (entries_to at target outs) state end
-goes-put owner at target tenure (runs all) fits active is = record {
+pub goes_put : (owner : Tenure → ℕ) (at : Place) (target : Option Tenure) (tenure : ℕ) {state end : ChannelState} {outs : List Out} → Goes at state outs end → FitAll owner at target tenure state outs → (active : Bool) → active ≡ is_in_use state → Puts owner at active tenure (entries_to at target outs) state end
+goes_put owner at target tenure (runs all) fits active is = record {
   last = tenure;
   works = runs_work owner at target tenure all (fits tenure (inl refl)) active is;
-  counts = inl (refl, λ number same. runs-kept number all same);
+  counts = inl (refl, λ number same. runs_kept number all same);
 }
-goes-put owner at target tenure {state} {end} (first_passes {out} {outs} beside rest) fits active is =
-    let puts = goes-put owner at target tenure rest (λ number which. (fits number which).1) active is in
+goes_put owner at target tenure {state} {end} (first_passes {out} {outs} beside rest) fits active is =
+    let puts = goes_put owner at target tenure rest (λ number which. (fits number which).1) active is in
     record {
       last = puts.last;
       works = works_passes owner at target active tenure out outs state end puts.last beside (fits tenure (inl refl)).0 puts.works;
       counts = puts.counts;
     }
-goes-put owner at target tenure {end} (activates {number} {out} {outs} a says channel few rest) fits active is =
+goes_put owner at target tenure {end} (activates {number} {out} {outs} a says channel few rest) fits active is =
     elim (cases_Bool (out.to == at.station)) [
       | inl own ↦ record {
         last = tenure + 1;
-        works = subst (λ (es : List OutboxEntry). Works owner at active tenure es Free end (tenure + 1)) (sym (entries-own at target out outs own))
+        works = subst (λ (es : List OutboxEntry). Works owner at active tenure es Free end (tenure + 1)) (sym (entries_own at target out outs own))
             (subst (λ (b : Bool). Works owner at b tenure (entry_of target out ∷ entries_to at target outs) Free end (tenure + 1)) (sym is)
             (works_activation owner at number tenure (tenure + 1) (entry_of target out) a (entries_to at target outs) end (own_says at target out own ∙ says) channel few
             (runs_work owner at target (tenure + 1) rest (fits (tenure + 1) (inr refl)).1 true refl)));
@@ -243,17 +243,17 @@ goes-put owner at target tenure {end} (activates {number} {out} {outs} a says ch
 
 -- ---- where the link is down, nothing is put, and what was to come is lost
 
-runs_lost : {at : Place} {state end : ChannelState} {outs : List Out} → Runs at state outs end → (xs lost : List Rsl) → Comes at.number state (xs ++ lost) → (more : List Rsl) × Comes at.number end (xs ++ more)
+runs_lost : {at : Place} {state end : ChannelState} {outs : List Out} → Runs at state outs end → (xs lost : List Rsl) → IsOwed at.number state (xs ++ lost) → (more : List Rsl) × IsOwed at.number end (xs ++ more)
 runs_lost over xs lost comes = (lost, comes)
 runs_lost (passes beside rest) xs lost comes = runs_lost rest xs lost comes
 runs_lost {at} (releases {number} says rest) xs lost comes =
     runs_lost rest xs (lost ++ RfChannelReleaseAck at.number ∷ [])
-    (subst (Comes at.number (Releasing number)) (append_assoc xs lost (RfChannelReleaseAck at.number ∷ [])) (released_comes at.number number (InUse number) (xs ++ lost) refl comes))
+    (subst (IsOwed at.number (Releasing number)) (append_assoc xs lost (RfChannelReleaseAck at.number ∷ [])) (released_comes at.number number (InUse number) (xs ++ lost) refl comes))
 
-pub goes_lost : {at : Place} {state end : ChannelState} {outs : List Out} → Goes at state outs end → (xs lost : List Rsl) → Comes at.number state (xs ++ lost) → ((more : List Rsl) × Comes at.number end (xs ++ more)) × (((number : ℕ) → end ≡ InUse number → state ≡ InUse number) ⊎ (state ≡ Free))
-goes_lost (runs all) xs lost comes = (runs_lost all xs lost comes, inl (λ number is. runs-kept number all is))
+pub goes_lost : {at : Place} {state end : ChannelState} {outs : List Out} → Goes at state outs end → (xs lost : List Rsl) → IsOwed at.number state (xs ++ lost) → ((more : List Rsl) × IsOwed at.number end (xs ++ more)) × (((number : ℕ) → end ≡ InUse number → state ≡ InUse number) ⊎ (state ≡ Free))
+goes_lost (runs all) xs lost comes = (runs_lost all xs lost comes, inl (λ number is. runs_kept number all is))
 goes_lost (first_passes beside rest) xs lost comes = goes_lost rest xs lost comes
 goes_lost {at} (activates {number} a says channel few rest) xs lost comes = (
-  runs_lost rest xs (lost ++ activation_ack at.number ∷ []) (subst (Comes at.number (InUse number)) (append_assoc xs lost (activation_ack at.number ∷ [])) (began_comes at.number number (xs ++ lost) comes)),
+  runs_lost rest xs (lost ++ activation_ack at.number ∷ []) (subst (IsOwed at.number (InUse number)) (append_assoc xs lost (activation_ack at.number ∷ [])) (began_comes at.number number (xs ++ lost) comes)),
   inr refl,
 )

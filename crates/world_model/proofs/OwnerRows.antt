@@ -3,7 +3,8 @@ use Rattle.world_model.proofs.Prelude.{◌⊎◌, inl, inr, ◌≡◌, ℕ, ◌+
 use Rattle.world_model.proofs.Prelude.{Releasing, channel_state, place_at, usual_settings, activation_ack, Rsl, RfChannelReleaseAck}
 use Rattle.world_model.proofs.Prelude.{Connect, BaseTakes, BasePush, BaseDown, Handle, nothing, began, begins, ends, begins_and_ends}
 use Rattle.world_model.proofs.Prelude.{actors_after_all, Actors, new_actors, outbox_of}
-use Rattle.world_model.specs.OwnerLines.{AreFitting, Comes, active_behind, asker, tenure_behind, to_come}
+use Rattle.octets.proofs.Hex.{hex}
+use Rattle.world_model.specs.OwnerLines.{AreFitting, IsOwed, active_behind, asker, tenure_behind, to_come}
 use Rattle.world_model.proofs.Worlds.{on_literals}
 
 begin : Actors
@@ -14,7 +15,7 @@ at = place_at 1 0x41
 
 -- a mobile asks for a channel of the first cell; the controller puts the activation of channel 41
 asked : Actors
-asked = actors_after_all begin (Connect 7 1 (0x05 ∷ 0x24 ∷ 0x71 ∷ []) true ∷ BasePush 1 ∷ Handle ∷ [])
+asked = actors_after_all begin (Connect 7 1 (hex "05 24 71") true ∷ BasePush 1 ∷ Handle ∷ [])
 
 -- the station took it; its acknowledgement stands in the inbox
 begun : Actors
@@ -80,15 +81,15 @@ activates_twice fits = absurd (false_true (fits.0 refl).0) where
 -- ---- what fits a state
 
 -- nothing of a free channel
-free_says_nothing : (xs : List Rsl) → Comes 5 Free xs → xs ≡ []
+free_says_nothing : (xs : List Rsl) → IsOwed 5 Free xs → xs ≡ []
 free_says_nothing xs nothing = refl
 
 -- of one in use its activation at most
-in_use : (n : ℕ) (xs : List Rsl) → Comes 5 (InUse n) xs → (xs ≡ []) ⊎ (xs ≡ activation_ack 5 ∷ [])
+in_use : (n : ℕ) (xs : List Rsl) → IsOwed 5 (InUse n) xs → (xs ≡ []) ⊎ (xs ≡ activation_ack 5 ∷ [])
 in_use n xs began = inl refl
 in_use n xs begins = inr refl
 
 -- of one that is releasing its end
-releasing : (n : ℕ) (xs : List Rsl) → Comes 5 (Releasing n) xs → (xs ≡ RfChannelReleaseAck 5 ∷ []) ⊎ (xs ≡ activation_ack 5 ∷ RfChannelReleaseAck 5 ∷ [])
+releasing : (n : ℕ) (xs : List Rsl) → IsOwed 5 (Releasing n) xs → (xs ≡ RfChannelReleaseAck 5 ∷ []) ⊎ (xs ≡ activation_ack 5 ∷ RfChannelReleaseAck 5 ∷ [])
 releasing n xs ends = inl refl
 releasing n xs begins_and_ends = inr refl

@@ -11,19 +11,19 @@ use Rattle.world_model.proofs.Prelude.{no_station, outbox_of, spot_at}
 use Rattle.ruled_relay.specs.declared.item.What.TheVariants as whats
 use Rattle.world_model.specs.Life.{event_after}
 use Rattle.world_model.specs.OwnerLines.{Agrees, AllAgree, acknowledged_in, said, said_by, tenure_all, tenure_behind, tenure_then}
-use Rattle.world_model.proofs.Counting.{same-stations}
-use Rattle.world_model.proofs.Heard.{Good, good-new, good-step}
-use Rattle.world_model.proofs.Honesty.{up-right}
-use Rattle.world_model.proofs.Leads.{turn-leads}
-use Rattle.world_model.proofs.OwnerEvents.{IsThere, Rests, beside_keeps, beside-rests}
+use Rattle.world_model.proofs.Counting.{same_stations}
+use Rattle.world_model.proofs.Heard.{Good, good_new, good_step}
+use Rattle.world_model.proofs.Honesty.{up_right}
+use Rattle.world_model.proofs.Leads.{turn_leads}
+use Rattle.world_model.proofs.OwnerEvents.{IsThere, Rests, beside_keeps, beside_rests}
 use Rattle.world_model.proofs.OwnerLines.{AllAgree-new, takes_agreed, tenure-append}
 use Rattle.world_model.proofs.OwnerPuts.{entries_to}
-use Rattle.world_model.proofs.OwnerTakes.{takes_keep, takes-rests, takes_spots}
-use Rattle.world_model.proofs.OwnerTenures.{HaveSpots, HaveSpots-new, beside-step, is_beside}
+use Rattle.world_model.proofs.OwnerTakes.{takes_keep, takes_rests, takes_spots}
+use Rattle.world_model.proofs.OwnerTenures.{HaveSpots, HaveSpots-new, beside_step, is_beside}
 use Rattle.world_model.proofs.OwnerTurn.{BeginsBy, IsOne, Serves, Turned, turn_agrees}
-use Rattle.world_model.proofs.Outboxes.{AllJoin, all_join, down-after, down-outbox, new_outbox, step as outbox-step, Step as OutboxStep}
+use Rattle.world_model.proofs.Outboxes.{AllJoin, all_join, down_after, down_outbox, new_outbox, step as outbox-step, Step as OutboxStep}
 use Rattle.world_model.proofs.Outboxes.Step.{goes, breaks}
-use Rattle.world_model.proofs.Piping.{acks-append, length-stations_from, step as pipe-step, Step as PipeStep}
+use Rattle.world_model.proofs.Piping.{acks_append, length-stations_from, step as pipe-step, Step as PipeStep}
 use Rattle.world_model.proofs.Piping.Step.{flows, stops}
 
 -- ---- a turn, in the world
@@ -41,10 +41,10 @@ turned_by w u at target t heard links stations inbox one =
       joins = λ up. ap (λ (b : Bool). if b then entries_to at target t.outs else []) up;
       down = no_entries (is_up w at.station) (entries_to at target t.outs);
       up = all.up ∙ ap (λ (ls : _). (slice_index_or ls at.station broken_link).up) links;
-      base = turn-leads (λ v. base_of v at.station ≡ base_of w at.station) target t u (λ ls. ap (λ (ss : _). (slice_index_or ss (at.station - 1) no_station).base) stations);
-      tenure = turn-leads (λ v. (spot_at v at).tenure ≡ (spot_at w at).tenure) target t u (λ ls. ap (λ (ss : _). (slice_index_or (slice_index_or ss (at.station - 1) no_station).spots at.number new_spot).tenure) stations);
-      controller = turn-leads (λ v. v.controller ≡ t.next) target t u (λ ls. refl);
-      inbox = inbox ∙ ap (λ (items : List Item). heard ++ acknowledged_in at items) (sym (turn-leads (λ v. v.inbox ≡ u.inbox) target t u (λ ls. refl)));
+      base = turn_leads (λ v. base_of v at.station ≡ base_of w at.station) target t u (λ ls. ap (λ (ss : _). (slice_index_or ss (at.station - 1) no_station).base) stations);
+      tenure = turn_leads (λ v. (spot_at v at).tenure ≡ (spot_at w at).tenure) target t u (λ ls. ap (λ (ss : _). (slice_index_or (slice_index_or ss (at.station - 1) no_station).spots at.number new_spot).tenure) stations);
+      controller = turn_leads (λ v. v.controller ≡ t.next) target t u (λ ls. refl);
+      inbox = inbox ∙ ap (λ (items : List Item). heard ++ acknowledged_in at items) (sym (turn_leads (λ v. v.inbox ≡ u.inbox) target t u (λ ls. refl)));
       one = one;
     }
 
@@ -66,10 +66,10 @@ one_heard at item = by (item.source == at.station) item.what where
   by true whats.Down = inl refl
   by false what = inl refl
 
-pub handle-turned : (w : Actors) (at : Place) (item : Item) (items : List Item) → w.inbox ≡ item ∷ items → Turned w (with_turn (target_in w item.source item.what) (take item w.controller) (record w { inbox = items })) at (target_in w item.source item.what) (take item w.controller) (heard_of at item)
-handle-turned w at item items is =
+pub handle_turned : (w : Actors) (at : Place) (item : Item) (items : List Item) → w.inbox ≡ item ∷ items → Turned w (with_turn (target_in w item.source item.what) (take item w.controller) (record w { inbox = items })) at (target_in w item.source item.what) (take item w.controller) (heard_of at item)
+handle_turned w at item items is =
     turned_by w (record w { inbox = items }) at (target_in w item.source item.what) (take item w.controller) (heard_of at item) refl refl
-    (ap (acknowledged_in at) is ∙ acks-append at.number (said at.station item) (flat_map (said at.station) items)) (one_heard at item)
+    (ap (acknowledged_in at) is ∙ acks_append at.number (said at.station item) (flat_map (said at.station) items)) (one_heard at item)
 
 pub tick-turned : (w : Actors) (at : Place) (ms : ℕ) → Turned w (with_turn None (tick ms w.controller) w) at None (tick ms w.controller) []
 tick-turned w at ms = turned_by w w at None (tick ms w.controller) [] refl refl refl (inl refl)
@@ -124,11 +124,11 @@ rests_number at w event there rests up = by (outbox-step at.station w event) (pi
       ∙ sym (tenure-append at.number (is_active_at w at) (spot_at w at).tenure (taken at.station w event) (outbox_of v at.station))
       ∙ ap (tenure_all at.number (is_active_at w at) (spot_at w at).tenure) (sym all ∙ ap (λ (es : List OutboxEntry). outbox_of w at.station ++ es) none_put ∙ append-nil (outbox_of w at.station))
 
-pub beside-number : (at : Place) (w : Actors) (event : Event) → is_beside event ≡ true → IsThere at w → is_up (actors_after w event) at.station ≡ true → (tenure_behind (actors_after w event) at).number ≡ (tenure_behind w at).number
-beside-number at w event is there up = rests_number at w event there (beside-rests at w event is there) up
+pub beside_number : (at : Place) (w : Actors) (event : Event) → is_beside event ≡ true → IsThere at w → is_up (actors_after w event) at.station ≡ true → (tenure_behind (actors_after w event) at).number ≡ (tenure_behind w at).number
+beside_number at w event is there up = rests_number at w event there (beside_rests at w event is there) up
 
-pub takes-number : (owner : Tenure → ℕ) (at : Place) (w : Actors) (station : ℕ) → IsThere at w → HaveSpots w → Agrees owner w at → is_up (actors_after w (BaseTakes station)) at.station ≡ true → (tenure_behind (actors_after w (BaseTakes station)) at).number ≡ (tenure_behind w at).number
-takes-number owner at w station there spots agrees up = rests_number at w (BaseTakes station) there (takes-rests owner at w station there spots agrees) up
+pub takes_number : (owner : Tenure → ℕ) (at : Place) (w : Actors) (station : ℕ) → IsThere at w → HaveSpots w → Agrees owner w at → is_up (actors_after w (BaseTakes station)) at.station ≡ true → (tenure_behind (actors_after w (BaseTakes station)) at).number ≡ (tenure_behind w at).number
+takes_number owner at w station there spots agrees up = rests_number at w (BaseTakes station) there (takes_rests owner at w station there spots agrees) up
 
 -- ---- the ownership of a run, from an event on
 
@@ -171,7 +171,7 @@ follows_on last owner w event events more follows t from to up later =
   where
     still_up : (b : Bool) → is_up w t.at.station ≡ b → is_up w t.at.station ≡ true
     still_up true is = is
-    still_up false down = absurd (false_true (sym (down-after t.at.station w event down) ∙ up))
+    still_up false down = absurd (false_true (sym (down_after t.at.station w event down) ∙ up))
 
 -- ---- the events
 
@@ -205,8 +205,8 @@ pub record Right (settings : Parameters) (owner : Tenure → ℕ) (w : Actors) (
   pub beyond : (link : ℕ) → length settings.cells < link → is_up w link ≡ false
   pub follows : Follows (length settings.cells) owner w events
 
-pub there-of : (settings : Parameters) (owner : Tenure → ℕ) (w : Actors) (events : List Event) (at : Place) → Right settings owner w events → 1 ≤ at.station → at.station ≤ length settings.cells → IsThere at w
-there-of settings owner w events at right least most = record {
+pub there_of : (settings : Parameters) (owner : Tenure → ℕ) (w : Actors) (events : List Event) (at : Place) → Right settings owner w events → 1 ≤ at.station → at.station ≤ length settings.cells → IsThere at w
+there_of settings owner w events at right least most = record {
   station = λ is. absurd (zero_less is);
   among = subst (λ (l : ℕ). at.station - 1 < l) (sym right.stations) (omega (arith, least, most));
   none = right.none at.station;
@@ -219,11 +219,11 @@ right_after : (settings : Parameters) (owner : Tenure → ℕ) (w : Actors) (eve
     → ((at : Place) → 1 ≤ at.station → at.station ≤ length settings.cells → is_up (actors_after w event) at.station ≡ true → (tenure_behind w at).number ≤ (tenure_behind (actors_after w event) at).number) → Right settings owner (actors_after w event) events
 right_after settings owner w event events right agree spots more = record {
   agree = agree;
-  good = good-step w event right.good;
+  good = good_step w event right.good;
   spots = spots;
-  stations = same-stations w event ∙ right.stations;
-  none = λ link down. down-outbox link w event (right.none link) down;
-  beyond = λ link past. down-after link w event (right.beyond link past);
+  stations = same_stations w event ∙ right.stations;
+  none = λ link down. down_outbox link w event (right.none link) down;
+  beyond = λ link past. down_after link w event (right.beyond link past);
   follows = follows_on (length settings.cells) owner w event events more right.follows;
 }
 
@@ -233,16 +233,16 @@ same_less a b is = omega (arith, is)
 beside_right : (settings : Parameters) (owner : Tenure → ℕ) (w : Actors) (event : Event) (events : List Event) → is_beside event ≡ true → Right settings owner w (event ∷ events) → Right settings owner (actors_after w event) events
 beside_right settings owner w event events is right =
     right_after settings owner w event events right
-    (λ at least most. beside_keeps owner at w event is (there-of settings owner w (event ∷ events) at right least most) right.good (right.agree at least most))
-    ((beside-step w event is).spots right.spots)
-    (λ at least most up. same_less (tenure_behind w at).number (tenure_behind (actors_after w event) at).number (beside-number at w event is (there-of settings owner w (event ∷ events) at right least most) up))
+    (λ at least most. beside_keeps owner at w event is (there_of settings owner w (event ∷ events) at right least most) right.good (right.agree at least most))
+    ((beside_step w event is).spots right.spots)
+    (λ at least most up. same_less (tenure_behind w at).number (tenure_behind (actors_after w event) at).number (beside_number at w event is (there_of settings owner w (event ∷ events) at right least most) up))
 
 takes_right : (settings : Parameters) (owner : Tenure → ℕ) (w : Actors) (station : ℕ) (events : List Event) → Right settings owner w (BaseTakes station ∷ events) → Right settings owner (actors_after w (BaseTakes station)) events
 takes_right settings owner w station events right =
     right_after settings owner w (BaseTakes station) events right
-    (λ at least most. takes_keep owner at w station (there-of settings owner w (BaseTakes station ∷ events) at right least most) right.good right.spots (right.agree at least most))
+    (λ at least most. takes_keep owner at w station (there_of settings owner w (BaseTakes station ∷ events) at right least most) right.good right.spots (right.agree at least most))
     (takes_spots w station right.spots)
-    (λ at least most up. same_less (tenure_behind w at).number (tenure_behind (actors_after w (BaseTakes station)) at).number (takes-number owner at w station (there-of settings owner w (BaseTakes station ∷ events) at right least most) right.spots (right.agree at least most) up))
+    (λ at least most up. same_less (tenure_behind w at).number (tenure_behind (actors_after w (BaseTakes station)) at).number (takes_number owner at w station (there_of settings owner w (BaseTakes station ∷ events) at right least most) right.spots (right.agree at least most) up))
 
 -- a turn of the controller
 turn_right : (settings : Parameters) (owner : Tenure → ℕ) (w v : Actors) (event : Event) (events : List Event) (target : Option Tenure) (t : Turn) (heard : Place → List Rsl) → actors_after w event ≡ v → HaveSpots v → ((at : Place) → Turned w v at target t (heard at))
@@ -270,16 +270,16 @@ handle_right settings owner w events serves right = by w.inbox refl where
       let same : actors_after w Handle ≡ v = ap (λ (all : List Item). unwrap_or (handled all w) w) is in
       subst (λ (u : Actors). Right settings owner u events) (sym same)
       (turn_right settings owner w v Handle events (target_in w item.source item.what) (take item w.controller) (λ at. heard_of at item) same
-      (turn-leads HaveSpots (target_in w item.source item.what) (take item w.controller) (record w { inbox = items }) (λ links. right.spots))
-      (λ at. handle-turned w at item items is) (serves item items is) right)
+      (turn_leads HaveSpots (target_in w item.source item.what) (take item w.controller) (record w { inbox = items }) (λ links. right.spots))
+      (λ at. handle_turned w at item items is) (serves item items is) right)
 
 tick_right : (settings : Parameters) (owner : Tenure → ℕ) (w : Actors) (ms : ℕ) (events : List Event) → ServesAt settings owner w (Tick ms) → Right settings owner w (Tick ms ∷ events) → Right settings owner (actors_after w (Tick ms)) events
 unfolding ServesAt event_after
 tick_right settings owner w ms events serves right =
-    turn_right settings owner w (with_turn None (tick ms w.controller) w) (Tick ms) events None (tick ms w.controller) (λ at. []) refl (turn-leads HaveSpots None (tick ms w.controller) w (λ links. right.spots)) (λ at. tick-turned w at ms) serves right
+    turn_right settings owner w (with_turn None (tick ms w.controller) w) (Tick ms) events None (tick ms w.controller) (λ at. []) refl (turn_leads HaveSpots None (tick ms w.controller) w (λ links. right.spots)) (λ at. tick-turned w at ms) serves right
 
-pub right-step : (settings : Parameters) (owner : Tenure → ℕ) (w : Actors) (event : Event) (events : List Event) → ServesAt settings owner w event → Right settings owner w (event ∷ events) → Right settings owner (actors_after w event) events
-right-step settings owner w event events = kinds (λ (e : Event). ServesAt settings owner w e → Right settings owner w (e ∷ events) → Right settings owner (actors_after w e) events)
+pub right_step : (settings : Parameters) (owner : Tenure → ℕ) (w : Actors) (event : Event) (events : List Event) → ServesAt settings owner w event → Right settings owner w (event ∷ events) → Right settings owner (actors_after w event) events
+right_step settings owner w event events = kinds (λ (e : Event). ServesAt settings owner w e → Right settings owner w (e ∷ events) → Right settings owner (actors_after w e) events)
     (λ e is serves right. beside_right settings owner w e events is right)
     (handle_right settings owner w events)
     (λ ms. tick_right settings owner w ms events)
@@ -297,8 +297,8 @@ is_by settings owner w (BaseTakes station) events right = λ up. by up (nat_le s
   past a b is = grind arith
 
   by : is_station_up w station ≡ true → (b : Bool) → nat_le station (length settings.cells) ≡ b → TakesFirstBy owner w station (outbox_of w station)
-  by up true is = takes_agreed settings owner w station (one (up-right station w up).0) (leb-true station (length settings.cells) is) right.agree
-  by up false is = absurd (false_true (sym (right.beyond station (past station (length settings.cells) is)) ∙ (up-right station w up).1))
+  by up true is = takes_agreed settings owner w station (one (up_right station w up).0) (leb-true station (length settings.cells) is) right.agree
+  by up false is = absurd (false_true (sym (right.beyond station (past station (length settings.cells) is)) ∙ (up_right station w up).1))
 is_by settings owner w _ events right = tt
 
 all_by : (settings : Parameters) (owner : Tenure → ℕ) (w : Actors) (events : List Event) → ServesThrough settings owner w events → Right settings owner w events → AllAreBy owner w events
@@ -306,28 +306,28 @@ unfolding ServesThrough
 all_by settings owner w [] serves right = tt
 all_by settings owner w (event ∷ events) serves right = (
   is_by settings owner w event (event ∷ events) right,
-  all_by settings owner (actors_after w event) events serves.1 (right-step settings owner w event events (serves.0 right.agree) right),
+  all_by settings owner (actors_after w event) events serves.1 (right_step settings owner w event events (serves.0 right.agree) right),
 )
 
 -- from the beginning on
-pub new-down : (count link : ℕ) → count ≤ link → (slice_index_or (replicate count new_link) link broken_link).up ≡ false
-new-down zero link less = refl
-new-down (suc count) zero less = absurd (omega (arith, less))
-new-down (suc count) (suc link) less = new-down count link (omega (arith, less))
+pub new_down : (count link : ℕ) → count ≤ link → (slice_index_or (replicate count new_link) link broken_link).up ≡ false
+new_down zero link less = refl
+new_down (suc count) zero less = absurd (omega (arith, less))
+new_down (suc count) (suc link) less = new_down count link (omega (arith, less))
 
-pub right-new : (settings : Parameters) (events : List Event) → Right settings (owner_in (new_actors settings) events) (new_actors settings) events
+pub right_new : (settings : Parameters) (events : List Event) → Right settings (owner_in (new_actors settings) events) (new_actors settings) events
 unfolding Follows
-right-new settings events =
+right_new settings events =
     let w : Actors = new_actors settings in
     record {
       agree = AllAgree-new settings (owner_in w events);
-      good = good-new settings;
+      good = good_new settings;
       spots = HaveSpots-new settings;
       stations = length-stations_from 1 settings.cells;
       none = λ link down. new_outbox (length settings.cells + 1) link;
-      beyond = λ link less. new-down (length settings.cells + 1) link (omega (arith, less));
+      beyond = λ link less. new_down (length settings.cells + 1) link (omega (arith, less));
       follows = λ t least most up later. refl;
     }
 
-pub owned-run : (settings : Parameters) (events : List Event) → ServesThrough settings (owner_in (new_actors settings) events) (new_actors settings) events → AllAreBy (owner_in (new_actors settings) events) (new_actors settings) events
-owned-run settings events serves = all_by settings (owner_in (new_actors settings) events) (new_actors settings) events serves (right-new settings events)
+pub owned_run : (settings : Parameters) (events : List Event) → ServesThrough settings (owner_in (new_actors settings) events) (new_actors settings) events → AllAreBy (owner_in (new_actors settings) events) (new_actors settings) events
+owned_run settings events serves = all_by settings (owner_in (new_actors settings) events) (new_actors settings) events serves (right_new settings events)

@@ -11,11 +11,11 @@ use Rattle.world_model.proofs.Prelude.{tenure_at, with_base, with_outbox, with_s
 use Rattle.world_model.specs.Life.{event_after}
 use Rattle.world_model.specs.OwnerLines.{Agrees, AreFitting, FitsTenure, tenure_all, tenure_then}
 use Rattle.world_model.proofs.Heard.{Good}
-use Rattle.world_model.proofs.Honesty.{up-right}
-use Rattle.world_model.proofs.Leads.{OfTaken, Seats, after-taken, assigned-leads, base_takes-leads, took-leads, unless_last-leads}
+use Rattle.world_model.proofs.Honesty.{up_right}
+use Rattle.world_model.proofs.Leads.{OfTaken, Seats, after_taken, assigned-leads, base_takes_leads, took-leads, unless_last_leads}
 use Rattle.world_model.proofs.OwnerEvents.{IsThere, Rests, rests_keep}
 use Rattle.world_model.proofs.OwnerTenures.{HaveSpots, set_spotted, spotted_at}
-use Rattle.world_model.proofs.Ticketing.{spot_all, spot-with_base}
+use Rattle.world_model.proofs.Ticketing.{spot_all, spot_with_base}
 
 -- ---- stations have all channels still
 
@@ -39,8 +39,8 @@ took_spots station target o u all = took-leads HaveSpots station target o u (rec
 
 pub takes_spots : (w : Actors) (station : ℕ) → HaveSpots w → HaveSpots (actors_after w (BaseTakes station))
 unfolding event_after
-takes_spots w station all = after-taken HaveSpots (after_base_takes w station) w
-    (base_takes-leads HaveSpots w station (λ first others up stood. took_spots station first.target (rsl_in first.out.frame) (with_outbox station others w) all)) all
+takes_spots w station all = after_taken HaveSpots (after_base_takes w station) w
+    (base_takes_leads HaveSpots w station (λ first others up stood. took_spots station first.target (rsl_in first.out.frame) (with_outbox station others w) all)) all
 
 -- ---- the number of a tenure
 
@@ -61,7 +61,7 @@ same_tenure : (n : ℕ) (u : Actors) (p at : Place) (spot : Spot) → p.station 
 same_tenure n u p at spot p_is at_is same = spot_all (IsSameTenure u) u p spot p_is same (λ q q_is. refl) at at_is
 
 based_tenure : (n : ℕ) (base : BaseState) (u : Actors) (at : Place) → (spot_at (with_base n base u) at).tenure ≡ (spot_at u at).tenure
-based_tenure n base u at = ap (λ (s : Spot). s.tenure) (spot-with_base n base u at)
+based_tenure n base u at = ap (λ (s : Spot). s.tenure) (spot_with_base n base u at)
 
 -- a channel of a station that is there, whatever its end
 here_tenure : (u : Actors) (n k : ℕ) (base : BaseState) → n - 1 < length u.stations → HaveSpots u → k < CHANNEL_NUMBERS → (spot_at (with_spot (place_at n k) (new_tenure (spot_at u (place_at n k))) (with_base n base u)) (place_at n k)).tenure ≡ (spot_at u (place_at n k)).tenure + 1
@@ -95,7 +95,7 @@ begun_tenure n k u a n_is there all few idle =
 took_tenure : (n k : ℕ) (target : Option Tenure) (o : Option Rsl) (u : Actors) → n ≢ 0 → n - 1 < length u.stations → HaveSpots u → ((a : Activation) → o ≡ Some (ChannelActivation a) → a.channel ≡ k → k < CHANNEL_NUMBERS) → OfTaken (HasTenure n u (place_at n k) o) (took n target o u)
 unfolding OfTaken Seats HasTenure
 took_tenure n k target (Some (ChannelActivation a)) u n_is there all few =
-    unless_last-leads (HasTenure n u (place_at n k) (Some (ChannelActivation a))) ((spot_at u (place_at n a.channel)).tenure == MAX_TENURE) (activated (place_at n a.channel) u) (by_activity (is_active (base_of u n).active a.channel) refl) where
+    unless_last_leads (HasTenure n u (place_at n k) (Some (ChannelActivation a))) ((spot_at u (place_at n a.channel)).tenure == MAX_TENURE) (activated (place_at n a.channel) u) (by_activity (is_active (base_of u n).active a.channel) refl) where
       by_activity : (b : Bool) → is_active (base_of u n).active a.channel ≡ b → HasTenure n u (place_at n k) (Some (ChannelActivation a)) (activated_unless (if b then Some Busy else None) (place_at n a.channel) u)
       by_activity false idle = begun_tenure n k u a n_is there all (few a refl) idle
       by_activity true busy = elim (cases_Bool (nat_eq a.channel k)) [
@@ -150,7 +150,7 @@ lead_on P Q h (Some v) leads = h v leads
 own_takes : (owner : Tenure → ℕ) (at : Place) (w : Actors) (o : Option Actors) → o ≡ after_base_takes w at.station → IsThere at w → HaveSpots w → Agrees owner w at → (spot_at (unwrap_or o w) at).tenure ≡ tenure_all at.number (is_active_at w at) (spot_at w at).tenure (if is_some o then first_of (outbox_of w at.station) else [])
 unfolding OfTaken HasTenure
 own_takes owner at w o is there all agrees = subst (λ (p : Option Actors). (spot_at (unwrap_or p w) at).tenure ≡ tenure_all at.number (is_active_at w at) (spot_at w at).tenure (if is_some p then first_of (outbox_of w at.station) else [])) (sym is)
-    (of_taken (after_base_takes w at.station) (base_takes-leads OwnTook w at.station (λ first others up stood. lift first others stood))) where
+    (of_taken (after_base_takes w at.station) (base_takes_leads OwnTook w at.station (λ first others up stood. lift first others stood))) where
       OwnTook : Actors → Type 0
       OwnTook v = (spot_at v at).tenure ≡ tenure_all at.number (is_active_at w at) (spot_at w at).tenure (first_of (outbox_of w at.station))
 
@@ -165,9 +165,9 @@ own_takes owner at w o is there all agrees = subst (λ (p : Option Actors). (spo
           (took_tenure at.station at.number first.target (rsl_in first.out.frame) (with_outbox at.station others w) there.station there.among all
           (λ a activates same. ((subst (FitsTenure owner at (is_active_at w at) (spot_at w at).tenure first.target) activates (subst (AreFitting owner at (is_active_at w at) (spot_at w at).tenure) stood agrees.line).0) same).1))
 
-pub kept-controller : (w : Actors) (s : ℕ) → (actors_after w (BaseTakes s)).controller ≡ w.controller
+pub kept_controller : (w : Actors) (s : ℕ) → (actors_after w (BaseTakes s)).controller ≡ w.controller
 unfolding event_after
-kept-controller w s = after-taken Kept (after_base_takes w s) w (base_takes-leads Kept w s (λ first others up stood. kept first others)) refl where
+kept_controller w s = after_taken Kept (after_base_takes w s) w (base_takes_leads Kept w s (λ first others up stood. kept first others)) refl where
   Kept : Actors → Type 0
   Kept v = v.controller ≡ w.controller
 
@@ -189,18 +189,18 @@ taken_tenure owner at w s there all agrees = elim (cases_Bool (nat_eq s at.stati
       own_takes owner at w (after_base_takes w s) (ap (after_base_takes w) same) there all agrees
       ∙ ap (tenure_all at.number (is_active_at w at) (spot_at w at).tenure) (sym (ap (λ (b : Bool). if b then (if is_some (after_base_takes w s) then first_of (outbox_of w at.station) else []) else []) hit))
   | inr miss ↦
-      after-taken (OtherTenure w at) (after_base_takes w s) w (base_takes-leads (OtherTenure w at) w s (λ first others up stood.
-      other_tenure at s w there.station (up-right s w up).0 (λ same. eqb-false s at.station miss (sym same)) first.target (rsl_in first.out.frame) (with_outbox s others w) refl)) refl
+      after_taken (OtherTenure w at) (after_base_takes w s) w (base_takes_leads (OtherTenure w at) w s (λ first others up stood.
+      other_tenure at s w there.station (up_right s w up).0 (λ same. eqb-false s at.station miss (sym same)) first.target (rsl_in first.out.frame) (with_outbox s others w) refl)) refl
       ∙ ap (tenure_all at.number (is_active_at w at) (spot_at w at).tenure) (sym (ap (λ (b : Bool). if b then (if is_some (after_base_takes w s) then first_of (outbox_of w at.station) else []) else []) miss))
 ]
 
-pub takes-rests : (owner : Tenure → ℕ) (at : Place) (w : Actors) (s : ℕ) → IsThere at w → HaveSpots w → Agrees owner w at → Rests at w (BaseTakes s)
-takes-rests owner at w s there all agrees = record {
+pub takes_rests : (owner : Tenure → ℕ) (at : Place) (w : Actors) (s : ℕ) → IsThere at w → HaveSpots w → Agrees owner w at → Rests at w (BaseTakes s)
+takes_rests owner at w s there all agrees = record {
   outputs = refl;
   pops = refl;
-  controller = kept-controller w s;
+  controller = kept_controller w s;
   tenure = taken_tenure owner at w s there all agrees;
 }
 
 pub takes_keep : (owner : Tenure → ℕ) (at : Place) (w : Actors) (s : ℕ) → IsThere at w → Good w → HaveSpots w → Agrees owner w at → Agrees owner (actors_after w (BaseTakes s)) at
-takes_keep owner at w s there good all agrees = rests_keep owner at w (BaseTakes s) there good (takes-rests owner at w s there all agrees) agrees
+takes_keep owner at w s there good all agrees = rests_keep owner at w (BaseTakes s) there good (takes_rests owner at w s there all agrees) agrees

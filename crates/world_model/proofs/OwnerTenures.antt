@@ -8,9 +8,9 @@ use Rattle.world_model.proofs.Prelude.{after_switch_takes, after_switch_does, Ac
 use Rattle.world_model.proofs.Prelude.{no_station, spot_at, station_of, stations_from, with_base, with_mobile, with_outbox, with_spot}
 use Rattle.world_model.proofs.Prelude.{true≢false}
 use Rattle.world_model.specs.Life.{event_after}
-use Rattle.world_model.proofs.Leads.{OfTaken, switch_takes-leads, switch_took-leads, push-leads, does-leads, broken-leads, after-taken}
-use Rattle.world_model.proofs.Ticketing.{spot_all, spot-with_base}
-use Rattle.world_model.proofs.Footprints.{Respots, air-after, is_on_air}
+use Rattle.world_model.proofs.Leads.{OfTaken, switch_takes_leads, switch_took-leads, push_leads, does_leads, broken_leads, after_taken}
+use Rattle.world_model.proofs.Ticketing.{spot_all, spot_with_base}
+use Rattle.world_model.proofs.Footprints.{Respots, air_after, is_on_air}
 use Rattle.world_model.proofs.Footprints.Respots.{short_up}
 
 -- ---- each station has all channels
@@ -44,7 +44,7 @@ beside_itself w = record { tenures = λ at at_is. refl; controller = refl; spots
 -- an end of a station changes
 pub based : {w u : Actors} (n : ℕ) (base : BaseState) → Beside w u → Beside w (with_base n base u)
 based {w} {u} n base b = record {
-  tenures = λ at at_is. ap (λ (s : Spot). s.tenure) (spot-with_base n base u at) ∙ b.tenures at at_is;
+  tenures = λ at at_is. ap (λ (s : Spot). s.tenure) (spot_with_base n base u at) ∙ b.tenures at at_is;
   controller = b.controller;
   spots = λ all. set_spotted u.stations (n - 1) (record (station_of u n) { base = base }) refl (b.spots all);
 }
@@ -62,7 +62,7 @@ pub put : {w u : Actors} (p : Mobile) → Beside w u → Beside w (with_mobile p
 put p b = record { tenures = b.tenures; controller = b.controller; spots = b.spots }
 
 besides : (w : Actors) (o : Option Actors) → OfTaken (Beside w) o → Beside w (unwrap_or o w)
-besides w o leads = after-taken (Beside w) o w leads (beside_itself w)
+besides w o leads = after_taken (Beside w) o w leads (beside_itself w)
 
 -- the controller does nothing, and no station takes an entry
 abbrev pub is_beside : Event → Bool
@@ -77,7 +77,7 @@ respot_tenure (short_up number tenure reached) = refl
 respot_tenure _ = refl
 
 air_beside : (w : Actors) (event : Event) → is_on_air event ≡ true → is_beside event ≡ true → Beside w (actors_after w event)
-air_beside w event on is = air-after (Beside w) w event on (record {
+air_beside w event on is = air_after (Beside w) w event on (record {
   puts = λ u number p q _ _ _ b. put q b;
   joins = λ number initial accepts _ b. record { tenures = b.tenures; controller = b.controller; spots = b.spots };
   tells = λ u n message _ _ b. based n _ b;
@@ -87,26 +87,26 @@ air_beside w event on is = air-after (Beside w) w event on (record {
   releases = λ u s channel taken b. absurd (true≢false (sym is ∙ ap is_beside taken.event_is));
 }) (beside_itself w)
 
-pub beside-step : (w : Actors) (event : Event) → is_beside event ≡ true → Beside w (actors_after w event)
+pub beside_step : (w : Actors) (event : Event) → is_beside event ≡ true → Beside w (actors_after w event)
 unfolding event_after
-beside-step w (BaseTakes station) is = absurd cc
-beside-step w (BasePush source) is =
-    besides w (after_base_push w source) (push-leads (Beside w) w source (λ first others. record { tenures = λ at at_is. refl; controller = refl; spots = λ all. all })
+beside_step w (BaseTakes station) is = absurd cc
+beside_step w (BasePush source) is =
+    besides w (after_base_push w source) (push_leads (Beside w) w source (λ first others. record { tenures = λ at at_is. refl; controller = refl; spots = λ all. all })
     (λ message _. let b = based source _ (beside_itself w) in record { tenures = b.tenures; controller = b.controller; spots = b.spots }))
-beside-step w Handle is = absurd cc
-beside-step w SwitchTakes is =
-    besides w (after_switch_takes w) (switch_takes-leads (Beside w) w (λ first others _ _. switch_took-leads (Beside w) (with_outbox SWITCH_LINK others w) (sccp_in first.out.frame) (record { tenures = λ at at_is. refl; controller = refl; spots = λ all. all })
+beside_step w Handle is = absurd cc
+beside_step w SwitchTakes is =
+    besides w (after_switch_takes w) (switch_takes_leads (Beside w) w (λ first others _ _. switch_took-leads (Beside w) (with_outbox SWITCH_LINK others w) (sccp_in first.out.frame) (record { tenures = λ at at_is. refl; controller = refl; spots = λ all. all })
     (λ nows made. record { tenures = λ at at_is. refl; controller = refl; spots = λ all. all })))
-beside-step w (SwitchDoes action) is = besides w (after_switch_does w action) (does-leads (Beside w) w action (λ nows made. record { tenures = λ at at_is. refl; controller = refl; spots = λ all. all }))
-beside-step w (Tick ms) is = absurd cc
-beside-step w (BaseDown source) is =
-    besides w (after_break w source) (broken-leads (Beside w) w source (λ _ _. record { tenures = λ at at_is. refl; controller = refl; spots = λ all. all })
+beside_step w (SwitchDoes action) is = besides w (after_switch_does w action) (does_leads (Beside w) w action (λ nows made. record { tenures = λ at at_is. refl; controller = refl; spots = λ all. all }))
+beside_step w (Tick ms) is = absurd cc
+beside_step w (BaseDown source) is =
+    besides w (after_break w source) (broken_leads (Beside w) w source (λ _ _. record { tenures = λ at at_is. refl; controller = refl; spots = λ all. all })
     (λ _ _. record {
-      tenures = λ at at_is. ap (λ (s : Spot). s.tenure) (spot-with_base source _ w at);
+      tenures = λ at at_is. ap (λ (s : Spot). s.tenure) (spot_with_base source _ w at);
       controller = refl;
       spots = λ all. set_spotted w.stations (source - 1) _ refl all;
     }))
-beside-step w event is = air_beside w event refl is
+beside_step w event is = air_beside w event refl is
 
 -- ---- at the beginning
 

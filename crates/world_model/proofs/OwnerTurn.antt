@@ -4,10 +4,10 @@ use Rattle.world_model.proofs.Prelude.{subst, append_assoc, append-nil, Place, C
 use Rattle.world_model.proofs.Prelude.{Releasing, BaseState, is_active, activation_ack, Rsl, RfChannelReleaseAck, hears, OutboxEntry}
 use Rattle.world_model.proofs.Prelude.{Tenure, nothing, began, begins, ends, begins_and_ends, acknowledgements, active_all, due, Actors}
 use Rattle.world_model.proofs.Prelude.{base_of, is_active_at, is_up, outbox_of, spot_at}
-use Rattle.world_model.specs.OwnerLines.{Agrees, AreFitting, Comes, IsOnItsWay, acknowledged_in, active_behind, asker, is_in_use, tenure_all, tenure_behind, to_come}
+use Rattle.world_model.specs.OwnerLines.{Agrees, AreFitting, IsOwed, IsOnItsWay, acknowledged_in, active_behind, asker, is_in_use, tenure_all, tenure_behind, to_come}
 use Rattle.world_model.proofs.OwnerLines.{fitting_append, tenure-append}
-use Rattle.world_model.proofs.OwnerPuts.{FitAll, Goes, Puts, entries_to, goes_lost, goes-put}
-use Rattle.world_model.proofs.Outboxes.{Both-empty}
+use Rattle.world_model.proofs.OwnerPuts.{FitAll, Goes, Puts, entries_to, goes_lost, goes_put}
+use Rattle.world_model.proofs.Outboxes.{both_empty}
 use Rattle.world_model.proofs.Piping.{active-append, due-append}
 
 -- ---- an acknowledgement that the controller takes
@@ -29,26 +29,26 @@ pub hear_in_use : (heard : List Rsl) (state : ChannelState) (number : ℕ) → h
 hear_in_use (RfChannelReleaseAck channel ∷ rest) (Releasing m) number is = absurd cc
 hear_in_use _ _ number is = is
 
-comes_one : (k : ℕ) (m : Rsl) (state : ChannelState) (all rest : List Rsl) → Comes k state all → all ≡ m ∷ rest → Comes k (hear (m ∷ []) state) rest
+comes_one : (k : ℕ) (m : Rsl) (state : ChannelState) (all rest : List Rsl) → IsOwed k state all → all ≡ m ∷ rest → IsOwed k (hear (m ∷ []) state) rest
 comes_one k m Free all rest nothing is = absurd cc
 comes_one k m (InUse number) all rest began is = absurd cc
 comes_one k m (InUse number) all rest begins is =
     let first : activation_ack k ≡ m = cc in
     let others : [] ≡ rest = cc in
-    subst (λ (x : Rsl). Comes k (hear (x ∷ []) (InUse number)) rest) first (subst (Comes k (InUse number)) others began)
+    subst (λ (x : Rsl). IsOwed k (hear (x ∷ []) (InUse number)) rest) first (subst (IsOwed k (InUse number)) others began)
 comes_one k m (Releasing number) all rest ends is =
     let first : RfChannelReleaseAck k ≡ m = cc in
     let others : [] ≡ rest = cc in
-    subst (λ (x : Rsl). Comes k (hear (x ∷ []) (Releasing number)) rest) first (subst (Comes k Free) others nothing)
+    subst (λ (x : Rsl). IsOwed k (hear (x ∷ []) (Releasing number)) rest) first (subst (IsOwed k Free) others nothing)
 comes_one k m (Releasing number) all rest begins_and_ends is =
     let first : activation_ack k ≡ m = cc in
     let others : RfChannelReleaseAck k ∷ [] ≡ rest = cc in
-    subst (λ (x : Rsl). Comes k (hear (x ∷ []) (Releasing number)) rest) first (subst (Comes k (Releasing number)) others ends)
+    subst (λ (x : Rsl). IsOwed k (hear (x ∷ []) (Releasing number)) rest) first (subst (IsOwed k (Releasing number)) others ends)
 
-comes_heard : (k : ℕ) (heard : List Rsl) (state : ChannelState) (rest : List Rsl) → IsOne heard → Comes k state (heard ++ rest) → Comes k (hear heard state) rest
-comes_heard k heard state rest (inl none) comes = subst (λ (h : List Rsl). Comes k (hear h state) rest) (sym none) (subst (λ (h : List Rsl). Comes k state (h ++ rest)) none comes)
+comes_heard : (k : ℕ) (heard : List Rsl) (state : ChannelState) (rest : List Rsl) → IsOne heard → IsOwed k state (heard ++ rest) → IsOwed k (hear heard state) rest
+comes_heard k heard state rest (inl none) comes = subst (λ (h : List Rsl). IsOwed k (hear h state) rest) (sym none) (subst (λ (h : List Rsl). IsOwed k state (h ++ rest)) none comes)
 comes_heard k heard state rest (inr (m, one)) comes =
-    subst (λ (h : List Rsl). Comes k (hear h state) rest) (sym one) (comes_one k m state (heard ++ rest) rest comes (ap (λ (h : List Rsl). h ++ rest) one))
+    subst (λ (h : List Rsl). IsOwed k (hear h state) rest) (sym one) (comes_one k m state (heard ++ rest) rest comes (ap (λ (h : List Rsl). h ++ rest) one))
 
 -- ---- a turn, in the world
 
@@ -95,8 +95,8 @@ module _ (owner : Tenure → ℕ) (w v : Actors) (at : Place) (target : Option T
   abbrev state : ChannelState
   state = channel_state w.controller at
 
-  active-same : is_active_at v at ≡ is_active_at w at
-  active-same = ap (λ (b : BaseState). is_active b.active k) turned.base
+  active_same : is_active_at v at ≡ is_active_at w at
+  active_same = ap (λ (b : BaseState). is_active b.active k) turned.base
 
   came : to_come w at ≡ heard ++ rest
   came = ap (λ (xs : List Rsl). xs ++ (acknowledgements k (base_of w n).messages ++ due k (is_active_at w at) (outbox_of w n))) turned.inbox
@@ -110,30 +110,30 @@ module _ (owner : Tenure → ℕ) (w v : Actors) (at : Place) (target : Option T
       ∙ ap (λ (xs : List Rsl). acknowledged_in at v.inbox ++ xs) (sym (append_assoc (acknowledgements k (base_of w n).messages) (due k (is_active_at w at) (outbox_of w n)) (due k (active_behind w at) turned.entries)))
       ∙ sym (append_assoc (acknowledged_in at v.inbox) (acknowledgements k (base_of w n).messages ++ due k (is_active_at w at) (outbox_of w n)) (due k (active_behind w at) turned.entries))
 
-  active-then : active_behind v at ≡ active_all k (active_behind w at) turned.entries
-  active-then = ap (λ (b : Bool). active_all k b (outbox_of v n)) active-same ∙ ap (active_all k (is_active_at w at)) turned.outbox ∙ active-append k (is_active_at w at) (outbox_of w n) turned.entries
+  active_then : active_behind v at ≡ active_all k (active_behind w at) turned.entries
+  active_then = ap (λ (b : Bool). active_all k b (outbox_of v n)) active_same ∙ ap (active_all k (is_active_at w at)) turned.outbox ∙ active-append k (is_active_at w at) (outbox_of w n) turned.entries
 
-  tenure-then : (tenure_behind v at).number ≡ tenure_all k (active_behind w at) (tenure_behind w at).number turned.entries
-  tenure-then =
-      ap (λ (b : Bool). tenure_all k b (spot_at v at).tenure (outbox_of v n)) active-same
+  tenure_then : (tenure_behind v at).number ≡ tenure_all k (active_behind w at) (tenure_behind w at).number turned.entries
+  tenure_then =
+      ap (λ (b : Bool). tenure_all k b (spot_at v at).tenure (outbox_of v n)) active_same
       ∙ ap (λ (m : ℕ). tenure_all k (is_active_at w at) m (outbox_of v n)) turned.tenure
       ∙ ap (tenure_all k (is_active_at w at) (spot_at w at).tenure) turned.outbox
       ∙ tenure-append k (is_active_at w at) (spot_at w at).tenure (outbox_of w n) turned.entries
 
   -- what comes after the acknowledgement was taken
-  heard_comes : (way : IsOnItsWay w at state) → Comes k (hear heard state) (rest ++ way.lost)
-  heard_comes way = comes_heard k heard state (rest ++ way.lost) turned.one (subst (Comes k state) (ap (λ (xs : List Rsl). xs ++ way.lost) came ∙ append_assoc heard rest way.lost) way.comes)
+  heard_comes : (way : IsOnItsWay w at state) → IsOwed k (hear heard state) (rest ++ way.lost)
+  heard_comes way = comes_heard k heard state (rest ++ way.lost) turned.one (subst (IsOwed k state) (ap (λ (xs : List Rsl). xs ++ way.lost) came ∙ append_assoc heard rest way.lost) way.comes)
 
   -- ---- the link is up, and the controller hears it
 
   put_up : hears t.next n ≡ true → is_up w n ≡ true → Puts owner at (active_behind w at) (tenure_behind w at).number (entries_to at target t.outs) (hear heard state) (channel_state t.next at)
   put_up hearing up =
-      goes-put owner at target (tenure_behind w at).number (serves.goes hearing) (serves.fits hearing up) (active_behind w at)
+      goes_put owner at target (tenure_behind w at).number (serves.goes hearing) (serves.fits hearing up) (active_behind w at)
       ((agrees.way (serves.hearing hearing)).active up ∙ sym (hear-use heard state))
 
   line_of : (es : List OutboxEntry) → turned.entries ≡ es → AreFitting owner at (active_behind w at) (tenure_behind w at).number es → AreFitting owner at (is_active_at v at) (spot_at v at).tenure (outbox_of v n)
   line_of es is fits =
-      subst (λ (b : Bool). AreFitting owner at b (spot_at v at).tenure (outbox_of v n)) (sym active-same)
+      subst (λ (b : Bool). AreFitting owner at b (spot_at v at).tenure (outbox_of v n)) (sym active_same)
       (subst (λ (m : ℕ). AreFitting owner at (is_active_at w at) m (outbox_of v n)) (sym turned.tenure)
       (subst (AreFitting owner at (is_active_at w at) (spot_at w at).tenure) (sym (turned.outbox ∙ ap (λ (xs : List OutboxEntry). outbox_of w n ++ xs) is))
       (fitting_append owner at (is_active_at w at) (spot_at w at).tenure (outbox_of w n) es agrees.line fits)))
@@ -147,12 +147,12 @@ module _ (owner : Tenure → ℕ) (w v : Actors) (at : Place) (target : Option T
   way_by hearing true up =
       let way = agrees.way (serves.hearing hearing) in
       let puts = put_up hearing up in
-      let before : Comes k (hear heard state) rest = subst (Comes k (hear heard state)) (ap (λ (xs : List Rsl). rest ++ xs) (way.all up) ∙ append-nil rest) (heard_comes way) in
+      let before : IsOwed k (hear heard state) rest = subst (IsOwed k (hear heard state)) (ap (λ (xs : List Rsl). rest ++ xs) (way.all up) ∙ append-nil rest) (heard_comes way) in
       record {
         lost = [];
-        comes = subst (Comes k (channel_state t.next at)) (sym (append-nil (to_come v at) ∙ comes_then ∙ ap (λ (es : List OutboxEntry). rest ++ due k (active_behind w at) es) (turned.joins up))) (puts.works.comes rest before);
+        comes = subst (IsOwed k (channel_state t.next at)) (sym (append-nil (to_come v at) ∙ comes_then ∙ ap (λ (es : List OutboxEntry). rest ++ due k (active_behind w at) es) (turned.joins up))) (puts.works.comes rest before);
         all = λ _. refl;
-        active = λ _. active-then ∙ ap (active_all k (active_behind w at)) (turned.joins up) ∙ puts.works.active_then;
+        active = λ _. active_then ∙ ap (active_all k (active_behind w at)) (turned.joins up) ∙ puts.works.active_then;
       }
   way_by hearing false down =
       let way = agrees.way (serves.hearing hearing) in
@@ -160,7 +160,7 @@ module _ (owner : Tenure → ℕ) (w v : Actors) (at : Place) (target : Option T
       let same : to_come v at ≡ rest = comes_then ∙ ap (λ (es : List OutboxEntry). rest ++ due k (active_behind w at) es) (turned.down down) ∙ append-nil rest in
       record {
         lost = lost.0;
-        comes = subst (λ (xs : List Rsl). Comes k (channel_state t.next at) (xs ++ lost.0)) (sym same) lost.1;
+        comes = subst (λ (xs : List Rsl). IsOwed k (channel_state t.next at) (xs ++ lost.0)) (sym same) lost.1;
         all = λ up. absurd (false_true (sym down ∙ sym turned.up ∙ up));
         active = λ up. absurd (false_true (sym down ∙ sym turned.up ∙ up));
       }
@@ -173,7 +173,7 @@ module _ (owner : Tenure → ℕ) (w v : Actors) (at : Place) (target : Option T
   own_by : (number mobile : ℕ) → hears t.next n ≡ true → channel_state t.next at ≡ InUse number → asker t.next number ≡ Some mobile → (is_up v n ≡ false → to_come v at ≡ [] → ⊥) → (up : Bool) → is_up w n ≡ up → owner (tenure_behind v at) ≡ mobile
   own_by number mobile hearing used asks reaches true up =
       let puts = put_up hearing up in
-      let last : (tenure_behind v at).number ≡ puts.last = tenure-then ∙ ap (tenure_all k (active_behind w at) (tenure_behind w at).number) (turned.joins up) ∙ puts.works.tenure_then in
+      let last : (tenure_behind v at).number ≡ puts.last = tenure_then ∙ ap (tenure_all k (active_behind w at) (tenure_behind w at).number) (turned.joins up) ∙ puts.works.tenure_then in
       elim puts.counts [
         | inl kept ↦ own_kept number mobile hearing asks (kept.1 number used) (last ∙ kept.0) (λ down silent. absurd (false_true (sym down ∙ up)))
         | inr next ↦ begun number mobile up used asks (last ∙ next.0)
@@ -182,11 +182,11 @@ module _ (owner : Tenure → ℕ) (w v : Actors) (at : Place) (target : Option T
       let way = agrees.way (serves.hearing hearing) in
       let same : to_come v at ≡ rest = comes_then ∙ ap (λ (es : List OutboxEntry). rest ++ due k (active_behind w at) es) (turned.down down) ∙ append-nil rest in
       elim (goes_lost (serves.goes hearing) rest way.lost (heard_comes way)).1 [
-        | inl kept ↦ own_kept number mobile hearing asks (kept number used) (tenure-then ∙ ap (tenure_all k (active_behind w at) (tenure_behind w at).number) (turned.down down))
-            (λ gone silent. reaches (turned.up ∙ gone) (same ∙ (Both-empty heard rest (sym silent ∙ came)).1))
-        | inr free ↦ absurd (reaches (turned.up ∙ down) (same ∙ (Both-empty rest way.lost (sym (none_free (rest ++ way.lost) (hear heard state) free (heard_comes way)))).0))
+        | inl kept ↦ own_kept number mobile hearing asks (kept number used) (tenure_then ∙ ap (tenure_all k (active_behind w at) (tenure_behind w at).number) (turned.down down))
+            (λ gone silent. reaches (turned.up ∙ gone) (same ∙ (both_empty heard rest (sym silent ∙ came)).1))
+        | inr free ↦ absurd (reaches (turned.up ∙ down) (same ∙ (both_empty rest way.lost (sym (none_free (rest ++ way.lost) (hear heard state) free (heard_comes way)))).0))
       ] where
-        none_free : (xs : List Rsl) (now : ChannelState) → now ≡ Free → Comes k now xs → xs ≡ []
+        none_free : (xs : List Rsl) (now : ChannelState) → now ≡ Free → IsOwed k now xs → xs ≡ []
         none_free xs Free is nothing = refl
         none_free xs _ is comes = absurd cc
 

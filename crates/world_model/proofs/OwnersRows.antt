@@ -2,6 +2,7 @@
 use Rattle.world_model.proofs.Prelude.{◌≡◌, true, false, List, [], ◌∷◌, ◌++◌, refl, Place, place_at, usual_settings, Event, Connect}
 use Rattle.world_model.proofs.Prelude.{BaseDown, BaseTakes, BasePush, Handle, actors_after_all, is_begun, owner_in, user_of, Actors}
 use Rattle.world_model.proofs.Prelude.{new_actors}
+use Rattle.octets.proofs.Hex.{hex}
 use Rattle.world_model.proofs.Worlds.{on_literals}
 
 begin : Actors
@@ -12,7 +13,7 @@ at = place_at 1 0x41
 
 -- mobile 7 asks for a channel of the first cell, and its request comes before the controller
 abbrev asking : List Event
-asking = Connect 7 1 (0x05 ∷ 0x24 ∷ 0x71 ∷ []) true ∷ BasePush 1 ∷ []
+asking = Connect 7 1 (hex "05 24 71") true ∷ BasePush 1 ∷ []
 
 asks : Actors
 asks = actors_after_all begin asking
@@ -60,7 +61,7 @@ unfolding on_literals begin at
 second_nobodys = refl
 
 -- two mobiles ask, and each has its own channel
-two_own : (owner_in begin (asking ++ Connect 9 1 (0x05 ∷ 0x24 ∷ 0x72 ∷ []) true ∷ BasePush 1 ∷ Handle ∷ Handle ∷ []) (record { at = at; number = 1 }) ≡ 7)
-    × (owner_in begin (asking ++ Connect 9 1 (0x05 ∷ 0x24 ∷ 0x72 ∷ []) true ∷ BasePush 1 ∷ Handle ∷ Handle ∷ []) (record { at = place_at 1 0x49; number = 1 }) ≡ 9)
+two_own : (owner_in begin (asking ++ Connect 9 1 (hex "05 24 72") true ∷ BasePush 1 ∷ Handle ∷ Handle ∷ []) (record { at = at; number = 1 }) ≡ 7)
+    × (owner_in begin (asking ++ Connect 9 1 (hex "05 24 72") true ∷ BasePush 1 ∷ Handle ∷ Handle ∷ []) (record { at = place_at 1 0x49; number = 1 }) ≡ 9)
 unfolding on_literals begin at
 two_own = (refl, refl)

@@ -11,11 +11,11 @@ use Rattle.world_model.proofs.Prelude.{after_base_takes, sccp_in, after_switch_t
 use Rattle.world_model.proofs.Prelude.{is_up, is_station_up, no_station, base_of, with_base, outbox_of, with_outbox}
 use Rattle.world_model.specs.Life.{event_after}
 use Rattle.world_model.proofs.Acknowledging.{Answers, AnswersAt, acks_tell, took_answers}
-use Rattle.world_model.proofs.Counting.{same-stations}
-use Rattle.world_model.proofs.Honesty.{Plain, base-with_spot, base-elsewhere, base-there, up-right, pushing, breaking}
+use Rattle.world_model.proofs.Counting.{same_stations}
+use Rattle.world_model.proofs.Honesty.{Plain, base_with_spot, base-elsewhere, base-there, up_right, pushing, breaking}
 use Rattle.world_model.proofs.Honesty.Plain.{as_before, next, ends_now}
-use Rattle.world_model.proofs.Leads.{OfTaken, FromAir, base_takes-leads, handle-leads, turn-leads, switch_takes-leads, switch_took-leads, does-leads, after-taken}
-use Rattle.world_model.proofs.Outboxes.{down-after, down_empty, down-outbox, outboxes_all, rest_all, Both-empty, new_outbox}
+use Rattle.world_model.proofs.Leads.{OfTaken, FromAir, base_takes_leads, handle_leads, turn_leads, switch_takes_leads, switch_took-leads, does_leads, after_taken}
+use Rattle.world_model.proofs.Outboxes.{down_after, down_empty, down_outbox, outboxes_all, rest_all, both_empty, new_outbox}
 use Rattle.world_model.proofs.Footprints.{OnAir, Tells, air_leads}
 use Rattle.world_model.proofs.Footprints.Tells.{answers, links}
 
@@ -40,7 +40,7 @@ quiet_end : {n k : ℕ} {w u : Actors} (m : ℕ) (base : BaseState) → n ≢ 0 
 quiet_end {n} {k} {w} {u} m base n_is up active acks quiet =
     elim (cases_Bool (nat_eq n m)) [
       | inl here ↦ subst (λ (j : ℕ). Quiet j k w (with_base m base u)) (sym (eqb-true n m here)) (at_m (subst (λ (j : ℕ). Quiet j k w u) (eqb-true n m here) quiet))
-      | inr other ↦ quiet_at (base-elsewhere u n m base n_is (up-right m w up).0 (eqb-false n m other)) quiet
+      | inr other ↦ quiet_at (base-elsewhere u n m base n_is (up_right m w up).0 (eqb-false n m other)) quiet
     ] where
       at_m : Quiet m k w u → Quiet m k w (with_base m base u)
       at_m before = elim (base-there u m base) [
@@ -61,13 +61,13 @@ keeps_quiet n k w event n_is apart = record {
   puts = λ u number p q _ _ _ quiet. quiet_at refl quiet;
   joins = λ number initial accepts _ quiet. quiet_at refl quiet;
   tells = λ u m message up how quiet. quiet_end m (after_tell (base_of u m) message) n_is up refl (acks_tell k (base_of u m) message (tells_free k how)) quiet;
-  spots = λ u at spot _ _ quiet. quiet_at (base-with_spot at spot u n) quiet;
+  spots = λ u at spot _ _ quiet. quiet_at (base_with_spot at spot u n) quiet;
   pops = λ station others _ quiet. quiet_at refl quiet;
-  activates = λ u s a taken _ quiet. quiet_at (base-with_spot (place_at s a.channel) _ (with_base s _ u) n) (elsewhere u s _ taken.up taken.event_is quiet);
-  releases = λ u s channel taken quiet. quiet_at (base-with_spot (place_at s channel) _ (with_base s _ u) n) (elsewhere u s _ taken.up taken.event_is quiet);
+  activates = λ u s a taken _ quiet. quiet_at (base_with_spot (place_at s a.channel) _ (with_base s _ u) n) (elsewhere u s _ taken.up taken.event_is quiet);
+  releases = λ u s channel taken quiet. quiet_at (base_with_spot (place_at s channel) _ (with_base s _ u) n) (elsewhere u s _ taken.up taken.event_is quiet);
 } where
   elsewhere : (u : Actors) (s : ℕ) (base : BaseState) → is_station_up w s ≡ true → event ≡ BaseTakes s → Quiet n k w u → Quiet n k w (with_base s base u)
-  elsewhere u s base up is quiet = quiet_at (base-elsewhere u n s base n_is (up-right s w up).0 (λ same. apart (is ∙ ap (λ (j : ℕ). BaseTakes j) (sym same)))) quiet
+  elsewhere u s base up is quiet = quiet_at (base-elsewhere u n s base n_is (up_right s w up).0 (λ same. apart (is ∙ ap (λ (j : ℕ). BaseTakes j) (sym same)))) quiet
 
 -- ---- what an event does to the pipe
 
@@ -83,13 +83,13 @@ quiet_flows n k w event v nothing nobody quiet =
     (quiet.active ∙ ap (active_all k (is_active (base_of w n).active k)) (sym nobody))
 
 quietly : (n k : ℕ) (w : Actors) (event : Event) (o : Option Actors) → given n w event ≡ [] → taken n w event ≡ [] → OfTaken (Quiet n k w) o → Step n k w event (unwrap_or o w)
-quietly n k w event o nothing nobody leads = quiet_flows n k w event (unwrap_or o w) nothing nobody (after-taken (Quiet n k w) o w leads (quiet_base refl))
+quietly n k w event o nothing nobody leads = quiet_flows n k w event (unwrap_or o w) nothing nobody (after_taken (Quiet n k w) o w leads (quiet_base refl))
 
 -- ---- pushes and breaks
 
-first-and-behind : (messages : List Rsl) (message : Rsl) → first_of_messages messages ≡ Some message → message ∷ messages_behind_first messages ≡ messages
-first-and-behind [] message is = absurd cc
-first-and-behind (first ∷ others) message is = ap (λ (m : Rsl). m ∷ others) (sym (some_same is)) where
+first_and_behind : (messages : List Rsl) (message : Rsl) → first_of_messages messages ≡ Some message → message ∷ messages_behind_first messages ≡ messages
+first_and_behind [] message is = absurd cc
+first_and_behind (first ∷ others) message is = ap (λ (m : Rsl). m ∷ others) (sym (some_same is)) where
   some_same : {a b : Rsl} → Some a ≡ Some b → a ≡ b
   some_same {a} is = ap (λ (o : Option Rsl). unwrap_or o a) is
 
@@ -97,7 +97,7 @@ plain_flows : (n k : ℕ) (w : Actors) (event : Event) (v : Actors) → taken n 
 plain_flows n k w event v nobody dropped (as_before same nothing) = quiet_flows n k w event v nothing nobody (quiet_base same)
 plain_flows n k w event v nobody dropped (next message first is gave) =
     flows
-    (ap (acknowledgements k) (ap (λ (ms : List Rsl). ms ++ (base_of v n).messages) gave ∙ ap (λ (b : BaseState). message ∷ b.messages) is ∙ first-and-behind (base_of w n).messages message first)
+    (ap (acknowledgements k) (ap (λ (ms : List Rsl). ms ++ (base_of v n).messages) gave ∙ ap (λ (b : BaseState). message ∷ b.messages) is ∙ first_and_behind (base_of w n).messages message first)
     ∙ sym (append-nil (acknowledgements k (base_of w n).messages))
     ∙ ap (λ (entries : List OutboxEntry). acknowledgements k (base_of w n).messages ++ due k (is_active (base_of w n).active k) entries) (sym nobody))
     (ap (λ (b : BaseState). is_active b.active k) is ∙ ap (active_all k (is_active (base_of w n).active k)) (sym nobody))
@@ -119,7 +119,7 @@ record Took (n k : ℕ) (w v : Actors) : Type 0 where
 
 own_takes : (n k : ℕ) (w : Actors) → n - 1 < length w.stations → OfTaken (Took n k w) (after_base_takes w n)
 unfolding AnswersAt
-own_takes n k w there = base_takes-leads (Took n k w) w n (λ first others up stood.
+own_takes n k w there = base_takes_leads (Took n k w) w n (λ first others up stood.
     map_taken {P = AnswersAt n k (with_outbox n others w) (rsl_in first.out.frame)} (λ v answers. record { first = first; others = others; stood = stood; answers = answers }) (took n first.target (rsl_in first.out.frame) (with_outbox n others w))
     (took_answers n k first.target (rsl_in first.out.frame) (with_outbox n others w) there))
 
@@ -161,15 +161,15 @@ takes_flows n s k w o n_is there is takes =
 pub step : (n k : ℕ) (w : Actors) (event : Event) → n ≢ 0 → n - 1 < length w.stations → (is_up w n ≡ false → outbox_of w n ≡ []) → Step n k w event (actors_after w event)
 unfolding event_after FromAir OfTaken
 step n k w (BaseTakes s) n_is there none = takes_flows n s k w (after_base_takes w s) n_is there refl refl
-step n k w (BasePush source) n_is there none = plain_flows n k w (BasePush source) (actors_after w (BasePush source)) refl (down-outbox n w (BasePush source) none) (pushing n source w n_is)
+step n k w (BasePush source) n_is there none = plain_flows n k w (BasePush source) (actors_after w (BasePush source)) refl (down_outbox n w (BasePush source) none) (pushing n source w n_is)
 step n k w Handle n_is there none =
-    quietly n k w Handle (after_handle w) refl refl (handle-leads (Quiet n k w) w (λ item items _. turn-leads (Quiet n k w) (target_in w item.source item.what) (take item w.controller) (record w { inbox = items }) (λ links. quiet_base refl)))
+    quietly n k w Handle (after_handle w) refl refl (handle_leads (Quiet n k w) w (λ item items _. turn_leads (Quiet n k w) (target_in w item.source item.what) (take item w.controller) (record w { inbox = items }) (λ links. quiet_base refl)))
 step n k w SwitchTakes n_is there none =
     quietly n k w SwitchTakes (after_switch_takes w) refl (ap (λ (b : Bool). if b then (if is_some (after_switch_takes w) then first_of (outbox_of w n) else []) else []) (ne_eqb SWITCH_LINK n (λ same. n_is (sym same))))
-    (switch_takes-leads (Quiet n k w) w (λ first others _ _. switch_took-leads (Quiet n k w) (with_outbox SWITCH_LINK others w) (sccp_in first.out.frame) (quiet_base refl) (λ nows made. quiet_base refl)))
-step n k w (SwitchDoes action) n_is there none = quietly n k w (SwitchDoes action) (after_switch_does w action) refl refl (does-leads (Quiet n k w) w action (λ nows made. quiet_base refl))
-step n k w (Tick ms) n_is there none = quietly n k w (Tick ms) (after_tick w ms) refl refl (turn-leads (Quiet n k w) None (tick ms w.controller) w (λ links. quiet_base refl))
-step n k w (BaseDown source) n_is there none = plain_flows n k w (BaseDown source) (actors_after w (BaseDown source)) refl (down-outbox n w (BaseDown source) none) (breaking n source w n_is)
+    (switch_takes_leads (Quiet n k w) w (λ first others _ _. switch_took-leads (Quiet n k w) (with_outbox SWITCH_LINK others w) (sccp_in first.out.frame) (quiet_base refl) (λ nows made. quiet_base refl)))
+step n k w (SwitchDoes action) n_is there none = quietly n k w (SwitchDoes action) (after_switch_does w action) refl refl (does_leads (Quiet n k w) w action (λ nows made. quiet_base refl))
+step n k w (Tick ms) n_is there none = quietly n k w (Tick ms) (after_tick w ms) refl refl (turn_leads (Quiet n k w) None (tick ms w.controller) w (λ links. quiet_base refl))
+step n k w (BaseDown source) n_is there none = plain_flows n k w (BaseDown source) (actors_after w (BaseDown source)) refl (down_outbox n w (BaseDown source) none) (breaking n source w n_is)
 step n k w event n_is there none =
     quietly n k w event (event_after w event) refl refl (air_leads (Quiet n k w) w event refl (keeps_quiet n k w event n_is (λ is. absurd cc)) (quiet_base refl))
 
@@ -192,20 +192,20 @@ data Kept (n k : ℕ) (gave : List Rsl) (took_so_far : List OutboxEntry) (w : Ac
   works : acknowledgements k (gave ++ (base_of w n).messages) ≡ due k false took_so_far → is_active (base_of w n).active k ≡ active_all k false took_so_far → Kept n k gave took_so_far w
   rested : is_up w n ≡ false → outbox_of w n ≡ [] → acknowledgements k (base_of w n).messages ≡ [] → IsPrefix (acknowledgements k gave) (due k false took_so_far) → Kept n k gave took_so_far w
 
-pub acks-append : (k : ℕ) (xs ys : List Rsl) → acknowledgements k (xs ++ ys) ≡ acknowledgements k xs ++ acknowledgements k ys
-acks-append k xs ys = filter-append (is_bound_of k) xs ys
+pub acks_append : (k : ℕ) (xs ys : List Rsl) → acknowledgements k (xs ++ ys) ≡ acknowledgements k xs ++ acknowledgements k ys
+acks_append k xs ys = filter-append (is_bound_of k) xs ys
 
 works_begins : (k : ℕ) (gave made : List Rsl) (ds : List Rsl) → acknowledgements k (gave ++ made) ≡ ds → IsPrefix (acknowledgements k gave) ds
-works_begins k gave made ds is = (acknowledgements k made, sym (acks-append k gave made) ∙ is)
+works_begins k gave made ds is = (acknowledgements k made, sym (acks_append k gave made) ∙ is)
 
 kept_by : (n k : ℕ) (gave : List Rsl) (took_so_far : List OutboxEntry) (w : Actors) (event : Event) (v : Actors) → Step n k w event v → (is_up w n ≡ false → is_up v n ≡ false) → (is_up w n ≡ false → outbox_of w n ≡ [] → (taken n w event ≡ []) × (outbox_of v n ≡ [])) → Kept n k gave took_so_far w → Kept n k (gave ++ given n w event) (took_so_far ++ taken n w event) v
 kept_by n k gave took_so_far w event v (flows all active) stays empties (works made on) =
     works
     (ap (acknowledgements k) (append_assoc gave (given n w event) (base_of v n).messages)
-    ∙ acks-append k gave (given n w event ++ (base_of v n).messages)
+    ∙ acks_append k gave (given n w event ++ (base_of v n).messages)
     ∙ ap (λ (ms : List Rsl). acknowledgements k gave ++ ms) all
     ∙ sym (append_assoc (acknowledgements k gave) (acknowledgements k (base_of w n).messages) (due k (is_active (base_of w n).active k) (taken n w event)))
-    ∙ ap (λ (ms : List Rsl). ms ++ due k (is_active (base_of w n).active k) (taken n w event)) (sym (acks-append k gave (base_of w n).messages) ∙ made)
+    ∙ ap (λ (ms : List Rsl). ms ++ due k (is_active (base_of w n).active k) (taken n w event)) (sym (acks_append k gave (base_of w n).messages) ∙ made)
     ∙ ap (λ (b : Bool). due k false took_so_far ++ due k b (taken n w event)) on
     ∙ sym (due-append k false took_so_far (taken n w event)))
     (active ∙ ap (λ (b : Bool). active_all k b (taken n w event)) on ∙ sym (active-append k false took_so_far (taken n w event)))
@@ -219,9 +219,9 @@ kept_by n k gave took_so_far w event v (flows all active) stays empties (rested 
     let none : acknowledgements k (given n w event ++ (base_of v n).messages) ≡ [] =
     all ∙ ap (λ (es : List OutboxEntry). acknowledgements k (base_of w n).messages ++ due k (is_active (base_of w n).active k) es) gone.0 ∙ append-nil (acknowledgements k (base_of w n).messages) ∙ left in
     let parts : (acknowledgements k (given n w event) ≡ []) × (acknowledgements k (base_of v n).messages ≡ []) =
-    Both-empty (acknowledgements k (given n w event)) (acknowledgements k (base_of v n).messages) (sym none ∙ acks-append k (given n w event) (base_of v n).messages) in
+    both_empty (acknowledgements k (given n w event)) (acknowledgements k (base_of v n).messages) (sym none ∙ acks_append k (given n w event) (base_of v n).messages) in
     rested (stays down) gone.1 parts.1
-    (subst (λ (ms : List Rsl). IsPrefix ms (due k false (took_so_far ++ taken n w event))) (sym (acks-append k gave (given n w event) ∙ ap (λ (ms : List Rsl). acknowledgements k gave ++ ms) parts.0 ∙ append-nil (acknowledgements k gave)))
+    (subst (λ (ms : List Rsl). IsPrefix ms (due k false (took_so_far ++ taken n w event))) (sym (acks_append k gave (given n w event) ∙ ap (λ (ms : List Rsl). acknowledgements k gave ++ ms) parts.0 ∙ append-nil (acknowledgements k gave)))
     (subst (λ (es : List OutboxEntry). IsPrefix (acknowledgements k gave) (due k false es)) (sym (ap (λ (es : List OutboxEntry). took_so_far ++ es) gone.0 ∙ append-nil took_so_far)) begins))
 kept_by n k gave took_so_far w event v (stops down left dropped nothing nobody) stays empties (rested down_before dropped_before left_before begins) =
     rested down dropped (ap (acknowledgements k) left)
@@ -235,8 +235,8 @@ kept_all n k gave took_so_far w (event ∷ events) n_is there none kept =
     subst (λ (ms : List Rsl). Kept n k ms (took_so_far ++ all_taken n w (event ∷ events)) (actors_after_all w (event ∷ events))) (append_assoc gave (given n w event) (all_given n (actors_after w event) events))
     (subst (λ (es : List OutboxEntry). Kept n k ((gave ++ given n w event) ++ all_given n (actors_after w event) events) es (actors_after_all w (event ∷ events))) (append_assoc took_so_far (taken n w event) (all_taken n (actors_after w event) events))
     (kept_all n k (gave ++ given n w event) (took_so_far ++ taken n w event) (actors_after w event) events n_is
-    (subst (λ (l : ℕ). n - 1 < l) (sym (same-stations w event)) there) (down-outbox n w event none)
-    (kept_by n k gave took_so_far w event (actors_after w event) (step n k w event n_is there none) (down-after n w event) (down_empty n w event) kept)))
+    (subst (λ (l : ℕ). n - 1 < l) (sym (same_stations w event)) there) (down_outbox n w event none)
+    (kept_by n k gave took_so_far w event (actors_after w event) (step n k w event n_is there none) (down_after n w event) (down_empty n w event) kept)))
 
 -- ---- from the beginning
 
@@ -257,7 +257,7 @@ pipe_flows : (n k : ℕ) (gave : List Rsl) (took_so_far puts : List OutboxEntry)
 pipe_flows n k gave took_so_far puts w (works made on) up is =
     ap (due k false) is ∙ due-append k false took_so_far (outbox_of w n)
     ∙ ap (λ (b : Bool). due k false took_so_far ++ due k b (outbox_of w n)) (sym on)
-    ∙ ap (λ (ms : List Rsl). ms ++ due k (is_active (base_of w n).active k) (outbox_of w n)) (sym made ∙ acks-append k gave (base_of w n).messages)
+    ∙ ap (λ (ms : List Rsl). ms ++ due k (is_active (base_of w n).active k) (outbox_of w n)) (sym made ∙ acks_append k gave (base_of w n).messages)
     ∙ append_assoc (acknowledgements k gave) (acknowledgements k (base_of w n).messages) (due k (is_active (base_of w n).active k) (outbox_of w n))
 pipe_flows n k gave took_so_far puts w (rested down dropped left begins) up is = absurd (impossible (sym down ∙ up)) where
   impossible : false ≡ true → ⊥
@@ -273,7 +273,7 @@ prefix_trans {X} xs ys zs (more, is) (rest, is_too) = (more ++ rest, sym (append
 pipe_starts : (n k : ℕ) (gave : List Rsl) (took_so_far : List OutboxEntry) (w : Actors) → Kept n k gave took_so_far w → IsPrefix (acknowledgements k (gave ++ (base_of w n).messages)) (due k false took_so_far)
 pipe_starts n k gave took_so_far w (works made on) = ([], append-nil (acknowledgements k (gave ++ (base_of w n).messages)) ∙ made)
 pipe_starts n k gave took_so_far w (rested down dropped left begins) =
-    subst (λ (ms : List Rsl). IsPrefix ms (due k false took_so_far)) (sym (acks-append k gave (base_of w n).messages ∙ ap (λ (ms : List Rsl). acknowledgements k gave ++ ms) left ∙ append-nil (acknowledgements k gave))) begins
+    subst (λ (ms : List Rsl). IsPrefix ms (due k false took_so_far)) (sym (acks_append k gave (base_of w n).messages ∙ ap (λ (ms : List Rsl). acknowledgements k gave ++ ms) left ∙ append-nil (acknowledgements k gave))) begins
 
 kept_new : (settings : Parameters) (events : List Event) (n k : ℕ) → 1 ≤ n → n ≤ length settings.cells → Kept n k (all_given n (new_actors settings) events) (all_taken n (new_actors settings) events) (actors_after_all (new_actors settings) events)
 kept_new settings events n k least most =
@@ -284,9 +284,9 @@ kept_new settings events n k least most =
       not_zero : n ≡ 0 → 1 ≤ n → ⊥
       not_zero is least = absurd (omega arith)
 
-pub acks-start : (settings : Parameters) (events : List Event) (n k : ℕ) → 1 ≤ n → n ≤ length settings.cells
+pub acks_start : (settings : Parameters) (events : List Event) (n k : ℕ) → 1 ≤ n → n ≤ length settings.cells
     → IsPrefix (acknowledgements k (all_given n (new_actors settings) events ++ (base_of (actors_after_all (new_actors settings) events) n).messages)) (due k false (all_put n (new_actors settings) events))
-acks-start settings events n k least most =
+acks_start settings events n k least most =
     let w : Actors = new_actors settings in
     prefix_trans (acknowledgements k (all_given n w events ++ (base_of (actors_after_all w events) n).messages)) (due k false (all_taken n w events)) (due k false (all_put n w events))
     (pipe_starts n k (all_given n w events) (all_taken n w events) (actors_after_all w events) (kept_new settings events n k least most))

@@ -76,8 +76,8 @@ pub use Rattle.std.specs.Option.{is_none, option_and_then}
 pub use Rattle.std.specs.Result.{result_ok}
 pub use Rattle.world_model.specs.Honest.{AreHonest, all_given, given}
 pub use Rattle.world_model.specs.Life.{actors_after, actors_after_all, event_after}
-pub use Rattle.world_model.specs.Lives.{MobilesLive, place_in}
-pub use Rattle.world_model.specs.OwnerLines.Comes.{began, begins, begins_and_ends, ends, nothing}
+pub use Rattle.world_model.specs.CallsMade.{MobilesLive, place_in}
+pub use Rattle.world_model.specs.OwnerLines.IsOwed.{began, begins, begins_and_ends, ends, nothing}
 pub use Rattle.world_model.specs.Owners.{is_begun, owner_in, user_by, user_of}
 pub use Rattle.world_model.specs.Pipe.{ArePipes, acknowledgement, acknowledgements, active_all, due, is_active_then}
 pub use Rattle.world_model.specs.Queues.{KeepsQueues, all_popped, all_pushed, all_put, all_taken, first_of, made_item, of_source, outputs}
@@ -88,7 +88,7 @@ pub use Rattle.world_model.specs.Relay.{without_made}
 pub use Rattle.world_model.specs.Sized.{HasSized}
 pub use Rattle.world_model.specs.Stations.{accepts, activated, activated_unless, after_base_takes, answered, assigned, assigned_from}
 pub use Rattle.world_model.specs.Stations.{assigned_to, link_answer, mobile_on, new_tenure, released, rsl_in, took, took_first}
-pub use Rattle.world_model.specs.Steps.{LivesByTable, RunsByTable, all_outputs, all_steps, first_taken, step_at}
+pub use Rattle.world_model.specs.Steps.{FollowsTable, RunsByTable, all_outputs, all_steps, first_taken, step_at}
 pub use Rattle.world_model.specs.SwitchSide.{after_switch_does, after_switch_takes, is_layer_3, may_send_on, sccp_in, sent_on, switch_took}
 pub use Rattle.world_model.specs.SwitchSide.{switch_took_first}
 pub use Rattle.world_model.specs.Tickets.{AllAreBy, AssignsBy, IsBy, LeadsBy, SitsBy, TakesBy, TakesFirstBy, on_seat, senders}

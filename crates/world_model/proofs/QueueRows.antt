@@ -3,6 +3,7 @@ use Rattle.world_model.proofs.Prelude.{◌≡◌, true, false, [], ◌∷◌, ma
 use Rattle.world_model.proofs.Prelude.{Parameters, eager_settings, Upper, Connect, AirUp, AirAck, AirDown, Move, Touch, Arrive, BaseTakes}
 use Rattle.world_model.proofs.Prelude.{BasePush, Handle, SwitchTakes, SwitchDoes, Tick, BaseDown, Report, Assign, Clear, Dtap, World}
 use Rattle.world_model.proofs.Prelude.{new_world, with_outbox, outbox_of}
+use Rattle.octets.proofs.Hex.{hex}
 use Rattle.world_model.specs.Views.{sent, taken, accepted, unnumbered, progress_of}
 use Rattle.world_model.proofs.Worlds.{on_literals, after_all, bodies, made_bodies, takes}
 use Rattle.world_model.proofs.Rows.{opened, opened_eager}
@@ -15,13 +16,13 @@ queues_are_empty = refl
 
 -- the inbox has the items of all sources, in the order in which they came
 abbrev pub two_ask : World
-two_ask = after_all (new_world usual_settings) (Connect 1 1 (0x05 ∷ 0x24 ∷ 0x71 ∷ []) true ∷ Connect 2 2 (0x05 ∷ 0x24 ∷ 0x71 ∷ []) true ∷ Connect 3 1 (0x05 ∷ 0x24 ∷ 0x71 ∷ []) true ∷ BasePush 2 ∷ BasePush 1 ∷ [])
+two_ask = after_all (new_world usual_settings) (Connect 1 1 (hex "05 24 71") true ∷ Connect 2 2 (hex "05 24 71") true ∷ Connect 3 1 (hex "05 24 71") true ∷ BasePush 2 ∷ BasePush 1 ∷ [])
 
 inbox_in_order : map (λ item. item.source) (two_ask).actors.inbox ≡ 2 ∷ 1 ∷ []
 unfolding on_literals
 inbox_in_order = refl
 
-others_wait : made_bodies two_ask 1 ≡ (0x0c ∷ 0x13 ∷ 0x01 ∷ 0x88 ∷ 0x13 ∷ 0x03 ∷ 0x00 ∷ 0x00 ∷ 0x11 ∷ 0x00 ∷ []) ∷ []
+others_wait : made_bodies two_ask 1 ≡ (hex "0c 13 01 88 13 03 00 00 11 00") ∷ []
 unfolding on_literals
 others_wait = refl
 
@@ -29,7 +30,7 @@ each_has_its_own : map (takes two_ask) (BasePush 0 ∷ BasePush 1 ∷ BasePush 2
 unfolding on_literals
 each_has_its_own = refl
 
-first_is_handled : bodies (after_all two_ask (Handle ∷ [])) 2 ≡ (0x08 ∷ 0x21 ∷ 0x01 ∷ 0x41 ∷ 0x03 ∷ 0x00 ∷ 0x06 ∷ 0x04 ∷ 0x00 ∷ 0x03 ∷ 0x01 ∷ 0x00 ∷ []) ∷ []
+first_is_handled : bodies (after_all two_ask (Handle ∷ [])) 2 ≡ (hex "08 21 01 41 03 00 06 04 00 03 01 00") ∷ []
 unfolding on_literals
 first_is_handled = refl
 
@@ -43,13 +44,13 @@ next_waits = refl
 
 -- time passes for the controller
 abbrev pub unanswered : World
-unanswered = after_all (new_world usual_settings) (Connect 1 1 (0x05 ∷ 0x24 ∷ 0x71 ∷ []) true ∷ BasePush 1 ∷ Handle ∷ Tick 2999 ∷ [])
+unanswered = after_all (new_world usual_settings) (Connect 1 1 (hex "05 24 71") true ∷ BasePush 1 ∷ Handle ∷ Tick 2999 ∷ [])
 
-not_yet : bodies unanswered 1 ≡ (0x08 ∷ 0x21 ∷ 0x01 ∷ 0x41 ∷ 0x03 ∷ 0x00 ∷ 0x06 ∷ 0x04 ∷ 0x00 ∷ 0x03 ∷ 0x01 ∷ 0x00 ∷ []) ∷ []
+not_yet : bodies unanswered 1 ≡ (hex "08 21 01 41 03 00 06 04 00 03 01 00") ∷ []
 unfolding on_literals
 not_yet = refl
 
-then_it_expires : bodies (after_all unanswered (Tick 1 ∷ [])) 1 ≡ (0x08 ∷ 0x21 ∷ 0x01 ∷ 0x41 ∷ 0x03 ∷ 0x00 ∷ 0x06 ∷ 0x04 ∷ 0x00 ∷ 0x03 ∷ 0x01 ∷ 0x00 ∷ []) ∷ (0x08 ∷ 0x2e ∷ 0x01 ∷ 0x41 ∷ []) ∷ []
+then_it_expires : bodies (after_all unanswered (Tick 1 ∷ [])) 1 ≡ (hex "08 21 01 41 03 00 06 04 00 03 01 00") ∷ (hex "08 2e 01 41") ∷ []
 unfolding on_literals
 then_it_expires = refl
 
@@ -59,27 +60,27 @@ time_always_passes = refl
 
 -- a command of the controller leads to the channel whose activation was acknowledged, and no other
 -- message leads anywhere
-command_leads_to_target : map (λ entry. entry.target) (outbox_of ((after_all opened_eager (Report 1 (0x14 ∷ 0x14 ∷ 0x00 ∷ 0x57 ∷ 0x02 ∷ 0x40 ∷ 0x00 ∷ 0x00 ∷ 0x00 ∷ 0x00 ∷ 0x00 ∷ 0x00 ∷ 0x00 ∷ 0x00 ∷ 0x00 ∷ 0x00 ∷ []) ∷ BasePush 1 ∷ Handle ∷ BaseTakes 2 ∷ BasePush 2 ∷ Handle ∷ []))).actors 1) ≡ Some (record { at = place_at 2 0x41; number = 1 }) ∷ []
+command_leads_to_target : map (λ entry. entry.target) (outbox_of ((after_all opened_eager (Report 1 (hex "14 14 00 57 02 40 00 00 00 00 00 00 00 00 00 00") ∷ BasePush 1 ∷ Handle ∷ BaseTakes 2 ∷ BasePush 2 ∷ Handle ∷ []))).actors 1) ≡ Some (record { at = place_at 2 0x41; number = 1 }) ∷ []
 unfolding on_literals
 command_leads_to_target = refl
 
-text_leads_nowhere : map (λ entry. entry.target) (outbox_of ((after_all opened (SwitchDoes (Dtap 1 Zero (0x06 ∷ 0x2e ∷ 0x0a ∷ 0x20 ∷ 0x14 ∷ 0x00 ∷ [])) ∷ BasePush 0 ∷ Handle ∷ []))).actors 1) ≡ None ∷ []
+text_leads_nowhere : map (λ entry. entry.target) (outbox_of ((after_all opened (SwitchDoes (Dtap 1 Zero (hex "06 2e 0a 20 14 00")) ∷ BasePush 0 ∷ Handle ∷ []))).actors 1) ≡ None ∷ []
 unfolding on_literals
 text_leads_nowhere = refl
 
-assignment_leads_nowhere : map (λ entry. entry.target) (outbox_of ((after_all (new_world usual_settings) (Connect 1 1 (0x05 ∷ 0x24 ∷ 0x71 ∷ []) true ∷ BasePush 1 ∷ Handle ∷ BaseTakes 1 ∷ BasePush 1 ∷ Handle ∷ []))).actors 1) ≡ None ∷ []
+assignment_leads_nowhere : map (λ entry. entry.target) (outbox_of ((after_all (new_world usual_settings) (Connect 1 1 (hex "05 24 71") true ∷ BasePush 1 ∷ Handle ∷ BaseTakes 1 ∷ BasePush 1 ∷ Handle ∷ []))).actors 1) ≡ None ∷ []
 unfolding on_literals
 assignment_leads_nowhere = refl
 
 -- a break drops what was made and what the outbox has; what is in the inbox stays
 abbrev pub busy : World
-busy = after_all opened (Upper 1 Zero (0x03 ∷ 0x05 ∷ []) ∷ AirUp 1 Zero ∷ Connect 2 1 (0x05 ∷ 0x24 ∷ 0x72 ∷ []) true ∷ Connect 3 2 (0x05 ∷ 0x24 ∷ 0x71 ∷ []) true ∷ BasePush 2 ∷ Handle ∷ SwitchDoes (Dtap 1 Zero (0x83 ∷ 0x02 ∷ [])) ∷ BasePush 0 ∷ Handle ∷ SwitchDoes (Dtap 1 Zero (0x83 ∷ 0x03 ∷ [])) ∷ BasePush 1 ∷ [])
+busy = after_all opened (Upper 1 Zero (hex "03 05") ∷ AirUp 1 Zero ∷ Connect 2 1 (hex "05 24 72") true ∷ Connect 3 2 (hex "05 24 71") true ∷ BasePush 2 ∷ Handle ∷ SwitchDoes (Dtap 1 Zero (hex "83 02")) ∷ BasePush 0 ∷ Handle ∷ SwitchDoes (Dtap 1 Zero (hex "83 03")) ∷ BasePush 1 ∷ [])
 
-has_made : made_bodies busy 1 ≡ (0x0c ∷ 0x13 ∷ 0x01 ∷ 0x88 ∷ 0x13 ∷ 0x02 ∷ 0x00 ∷ 0x00 ∷ 0x11 ∷ 0x00 ∷ []) ∷ []
+has_made : made_bodies busy 1 ≡ (hex "0c 13 01 88 13 02 00 00 11 00") ∷ []
 unfolding on_literals
 has_made = refl
 
-has_put : bodies busy 1 ≡ (0x03 ∷ 0x01 ∷ 0x01 ∷ 0x41 ∷ 0x02 ∷ 0x00 ∷ 0x0b ∷ 0x00 ∷ 0x02 ∷ 0x83 ∷ 0x02 ∷ []) ∷ []
+has_put : bodies busy 1 ≡ (hex "03 01 01 41 02 00 0b 00 02 83 02") ∷ []
 unfolding on_literals
 has_put = refl
 
@@ -94,7 +95,7 @@ outbox_is_dropped : bodies station_broken 1 ≡ []
 unfolding on_literals
 outbox_is_dropped = refl
 
-other_outbox_stays : bodies station_broken 2 ≡ (0x08 ∷ 0x21 ∷ 0x01 ∷ 0x41 ∷ 0x03 ∷ 0x00 ∷ 0x06 ∷ 0x04 ∷ 0x00 ∷ 0x03 ∷ 0x01 ∷ 0x00 ∷ []) ∷ []
+other_outbox_stays : bodies station_broken 2 ≡ (hex "08 21 01 41 03 00 06 04 00 03 01 00") ∷ []
 unfolding on_literals
 other_outbox_stays = refl
 
@@ -110,11 +111,11 @@ breaks_once : map (takes station_broken) (BaseDown 0 ∷ BaseDown 1 ∷ BaseDown
 unfolding on_literals
 breaks_once = refl
 
-relays_what_came_before : bodies (after_all station_broken (Handle ∷ [])) 0 ≡ (0x06 ∷ 0x80 ∷ 0x00 ∷ 0x01 ∷ 0x00 ∷ 0x01 ∷ 0x05 ∷ 0x01 ∷ 0x00 ∷ 0x02 ∷ 0x03 ∷ 0x45 ∷ []) ∷ []
+relays_what_came_before : bodies (after_all station_broken (Handle ∷ [])) 0 ≡ (hex "06 80 00 01 00 01 05 01 00 02 03 45") ∷ []
 unfolding on_literals
 relays_what_came_before = refl
 
-then_it_ends : bodies (after_all station_broken (Handle ∷ Handle ∷ [])) 0 ≡ (0x06 ∷ 0x80 ∷ 0x00 ∷ 0x01 ∷ 0x00 ∷ 0x01 ∷ 0x05 ∷ 0x01 ∷ 0x00 ∷ 0x02 ∷ 0x03 ∷ 0x45 ∷ []) ∷ (0x06 ∷ 0x80 ∷ 0x00 ∷ 0x01 ∷ 0x00 ∷ 0x01 ∷ 0x06 ∷ 0x00 ∷ 0x04 ∷ 0x22 ∷ 0x04 ∷ 0x01 ∷ 0x20 ∷ []) ∷ []
+then_it_ends : bodies (after_all station_broken (Handle ∷ Handle ∷ [])) 0 ≡ (hex "06 80 00 01 00 01 05 01 00 02 03 45") ∷ (hex "06 80 00 01 00 01 06 00 04 22 04 01 20") ∷ []
 unfolding on_literals
 then_it_ends = refl
 
@@ -122,7 +123,7 @@ no_output_joins : bodies (after_all station_broken (Handle ∷ Handle ∷ BasePu
 unfolding on_literals
 no_output_joins = refl
 
-no_output_joins_before_it_is_handled : bodies (after_all (new_world usual_settings) (Connect 1 1 (0x05 ∷ 0x24 ∷ 0x71 ∷ []) true ∷ BasePush 1 ∷ BaseDown 1 ∷ Handle ∷ [])) 1 ≡ []
+no_output_joins_before_it_is_handled : bodies (after_all (new_world usual_settings) (Connect 1 1 (hex "05 24 71") true ∷ BasePush 1 ∷ BaseDown 1 ∷ Handle ∷ [])) 1 ≡ []
 unfolding on_literals
 no_output_joins_before_it_is_handled = refl
 
@@ -133,16 +134,16 @@ switch_outbox_is_dropped : bodies switch_broken 0 ≡ []
 unfolding on_literals
 switch_outbox_is_dropped = refl
 
-switch_is_silent : map (takes switch_broken) (BasePush 0 ∷ SwitchTakes ∷ SwitchDoes (Assign 1) ∷ SwitchDoes (Clear 1) ∷ SwitchDoes (Dtap 1 Zero (0x83 ∷ 0x02 ∷ [])) ∷ BaseDown 0 ∷ []) ≡ false ∷ false ∷ false ∷ false ∷ false ∷ false ∷ []
+switch_is_silent : map (takes switch_broken) (BasePush 0 ∷ SwitchTakes ∷ SwitchDoes (Assign 1) ∷ SwitchDoes (Clear 1) ∷ SwitchDoes (Dtap 1 Zero (hex "83 02")) ∷ BaseDown 0 ∷ []) ≡ false ∷ false ∷ false ∷ false ∷ false ∷ false ∷ []
 unfolding on_literals
 switch_is_silent = refl
 
-switch_keeps_its_lists : taken (switch_broken).actors 1 ≡ Some ((0x05 ∷ 0x24 ∷ 0x71 ∷ []) ∷ [])
+switch_keeps_its_lists : taken (switch_broken).actors 1 ≡ Some ((hex "05 24 71") ∷ [])
 unfolding on_literals
 switch_keeps_its_lists = refl
 
 -- the switch acts on its open connections
-switch_does : map (takes opened) (SwitchDoes (Assign 1) ∷ SwitchDoes (Clear 1) ∷ SwitchDoes (Dtap 1 Zero (0x83 ∷ 0x02 ∷ [])) ∷ SwitchDoes (Dtap 1 Three (0x09 ∷ 0x02 ∷ [])) ∷ SwitchDoes (Assign 0) ∷ SwitchDoes (Assign 2) ∷ SwitchDoes (Clear 2) ∷ SwitchDoes (Dtap 2 Zero (0x83 ∷ 0x02 ∷ [])) ∷ []) ≡ true ∷ true ∷ true ∷ true ∷ false ∷ false ∷ false ∷ false ∷ []
+switch_does : map (takes opened) (SwitchDoes (Assign 1) ∷ SwitchDoes (Clear 1) ∷ SwitchDoes (Dtap 1 Zero (hex "83 02")) ∷ SwitchDoes (Dtap 1 Three (hex "09 02")) ∷ SwitchDoes (Assign 0) ∷ SwitchDoes (Assign 2) ∷ SwitchDoes (Clear 2) ∷ SwitchDoes (Dtap 2 Zero (hex "83 02")) ∷ []) ≡ true ∷ true ∷ true ∷ true ∷ false ∷ false ∷ false ∷ false ∷ []
 unfolding on_literals
 switch_does = refl
 
@@ -150,23 +151,23 @@ sends_1_to_251 : map (λ message. takes opened (SwitchDoes (Dtap 1 Zero message)
 unfolding on_literals
 sends_1_to_251 = refl
 
-switch_makes : map sccp_text ((after_all opened (SwitchDoes (Assign 1) ∷ SwitchDoes (Dtap 1 Three (0x09 ∷ 0x02 ∷ [])) ∷ SwitchDoes (Clear 1) ∷ []))).actors.switch_made ≡ (0x06 ∷ 0x00 ∷ 0x00 ∷ 0x01 ∷ 0x00 ∷ 0x01 ∷ 0x08 ∷ 0x00 ∷ 0x06 ∷ 0x01 ∷ 0x0b ∷ 0x03 ∷ 0x01 ∷ 0x08 ∷ 0x01 ∷ []) ∷ (0x06 ∷ 0x00 ∷ 0x00 ∷ 0x01 ∷ 0x00 ∷ 0x01 ∷ 0x05 ∷ 0x01 ∷ 0x03 ∷ 0x02 ∷ 0x09 ∷ 0x02 ∷ []) ∷ (0x06 ∷ 0x00 ∷ 0x00 ∷ 0x01 ∷ 0x00 ∷ 0x01 ∷ 0x06 ∷ 0x00 ∷ 0x04 ∷ 0x20 ∷ 0x04 ∷ 0x01 ∷ 0x09 ∷ []) ∷ []
+switch_makes : map sccp_text ((after_all opened (SwitchDoes (Assign 1) ∷ SwitchDoes (Dtap 1 Three (hex "09 02")) ∷ SwitchDoes (Clear 1) ∷ []))).actors.switch_made ≡ (hex "06 00 00 01 00 01 08 00 06 01 0b 03 01 08 01") ∷ (hex "06 00 00 01 00 01 05 01 03 02 09 02") ∷ (hex "06 00 00 01 00 01 06 00 04 20 04 01 09") ∷ []
 unfolding on_literals
 switch_makes = refl
 
-not_after_a_clear : map (takes (after_all opened (SwitchDoes (Clear 1) ∷ []))) (SwitchDoes (Assign 1) ∷ SwitchDoes (Clear 1) ∷ SwitchDoes (Dtap 1 Zero (0x83 ∷ 0x02 ∷ [])) ∷ []) ≡ false ∷ false ∷ false ∷ []
+not_after_a_clear : map (takes (after_all opened (SwitchDoes (Clear 1) ∷ []))) (SwitchDoes (Assign 1) ∷ SwitchDoes (Clear 1) ∷ SwitchDoes (Dtap 1 Zero (hex "83 02")) ∷ []) ≡ false ∷ false ∷ false ∷ []
 unfolding on_literals
 not_after_a_clear = refl
 
-takes_what_is_not_read : taken ((after_all (record opened { actors = with_outbox 0 (record { out = record { to = 0; conn = 1; frame = record { stream = 253; body = (0x06 ∷ 0x80 ∷ 0x00 ∷ 0x01 ∷ 0x00 ∷ 0x01 ∷ 0xff ∷ 0x01 ∷ 0x00 ∷ 0x02 ∷ 0x03 ∷ 0x45 ∷ []) } }; target = None } ∷ []) (opened).actors }) (SwitchTakes ∷ []))).actors 1 ≡ Some ((0x05 ∷ 0x24 ∷ 0x71 ∷ []) ∷ [])
+takes_what_is_not_read : taken ((after_all (record opened { actors = with_outbox 0 (record { out = record { to = 0; conn = 1; frame = record { stream = 253; body = (hex "06 80 00 01 00 01 ff 01 00 02 03 45") } }; target = None } ∷ []) (opened).actors }) (SwitchTakes ∷ []))).actors 1 ≡ Some ((hex "05 24 71") ∷ [])
 unfolding on_literals
 takes_what_is_not_read = refl
 
-takes_other_streams_too : taken ((after_all (record opened { actors = with_outbox 0 (record { out = record { to = 0; conn = 1; frame = record { stream = 254; body = (0x06 ∷ 0x80 ∷ 0x00 ∷ 0x01 ∷ 0x00 ∷ 0x01 ∷ 0x05 ∷ 0x01 ∷ 0x00 ∷ 0x02 ∷ 0x03 ∷ 0x45 ∷ []) } }; target = None } ∷ []) (opened).actors }) (SwitchTakes ∷ []))).actors 1 ≡ Some ((0x05 ∷ 0x24 ∷ 0x71 ∷ []) ∷ [])
+takes_other_streams_too : taken ((after_all (record opened { actors = with_outbox 0 (record { out = record { to = 0; conn = 1; frame = record { stream = 254; body = (hex "06 80 00 01 00 01 05 01 00 02 03 45") } }; target = None } ∷ []) (opened).actors }) (SwitchTakes ∷ []))).actors 1 ≡ Some ((hex "05 24 71") ∷ [])
 unfolding on_literals
 takes_other_streams_too = refl
 
-takes_dtap : taken ((after_all (record opened { actors = with_outbox 0 (record { out = record { to = 0; conn = 1; frame = record { stream = 253; body = (0x06 ∷ 0x80 ∷ 0x00 ∷ 0x01 ∷ 0x00 ∷ 0x01 ∷ 0x05 ∷ 0x01 ∷ 0x00 ∷ 0x02 ∷ 0x03 ∷ 0x45 ∷ []) } }; target = None } ∷ []) (opened).actors }) (SwitchTakes ∷ []))).actors 1 ≡ Some ((0x05 ∷ 0x24 ∷ 0x71 ∷ []) ∷ (0x03 ∷ 0x45 ∷ []) ∷ [])
+takes_dtap : taken ((after_all (record opened { actors = with_outbox 0 (record { out = record { to = 0; conn = 1; frame = record { stream = 253; body = (hex "06 80 00 01 00 01 05 01 00 02 03 45") } }; target = None } ∷ []) (opened).actors }) (SwitchTakes ∷ []))).actors 1 ≡ Some ((hex "05 24 71") ∷ (hex "03 45") ∷ [])
 unfolding on_literals
 takes_dtap = refl
 
@@ -192,17 +193,17 @@ abbrev release98_settings : Parameters
 release98_settings = record eager_settings { network = record { mcc = eager_settings.network.mcc; mnc = eager_settings.network.mnc; release98 = true } }
 
 abbrev pub modulo_2 : World
-modulo_2 = after_all (new_world release98_settings) (Connect 1 1 (0x05 ∷ 0x24 ∷ 0x71 ∷ []) true ∷ BasePush 1 ∷ Handle ∷ BaseTakes 1 ∷ BasePush 1 ∷ Handle ∷ BaseTakes 1 ∷ AirUp 1 Zero ∷ BasePush 1 ∷ Handle ∷ SwitchTakes ∷ AirAck 1 Zero ∷ BasePush 0 ∷ Handle ∷ Report 1 (0x14 ∷ 0x14 ∷ 0x00 ∷ 0x57 ∷ 0x02 ∷ 0x40 ∷ 0x00 ∷ 0x00 ∷ 0x00 ∷ 0x00 ∷ 0x00 ∷ 0x00 ∷ 0x00 ∷ 0x00 ∷ 0x00 ∷ 0x00 ∷ []) ∷ BasePush 1 ∷ Handle ∷ BaseTakes 2 ∷ BasePush 2 ∷ Handle ∷ Upper 1 Zero (0x03 ∷ 0x05 ∷ []) ∷ AirUp 1 Zero ∷ AirAck 1 Zero ∷ Upper 1 Zero (0x03 ∷ 0x0f ∷ []) ∷ BaseTakes 1 ∷ AirDown 1 ∷ Move 1 ∷ Touch 1 ∷ Arrive 1 ∷ AirUp 1 Zero ∷ AirAck 1 Zero ∷ AirUp 1 Zero ∷ BasePush 2 ∷ Handle ∷ BasePush 2 ∷ Handle ∷ BasePush 2 ∷ Handle ∷ BasePush 2 ∷ Handle ∷ BasePush 1 ∷ Handle ∷ BaseTakes 1 ∷ BasePush 1 ∷ Handle ∷ SwitchTakes ∷ SwitchTakes ∷ SwitchTakes ∷ [])
+modulo_2 = after_all (new_world release98_settings) (Connect 1 1 (hex "05 24 71") true ∷ BasePush 1 ∷ Handle ∷ BaseTakes 1 ∷ BasePush 1 ∷ Handle ∷ BaseTakes 1 ∷ AirUp 1 Zero ∷ BasePush 1 ∷ Handle ∷ SwitchTakes ∷ AirAck 1 Zero ∷ BasePush 0 ∷ Handle ∷ Report 1 (hex "14 14 00 57 02 40 00 00 00 00 00 00 00 00 00 00") ∷ BasePush 1 ∷ Handle ∷ BaseTakes 2 ∷ BasePush 2 ∷ Handle ∷ Upper 1 Zero (hex "03 05") ∷ AirUp 1 Zero ∷ AirAck 1 Zero ∷ Upper 1 Zero (hex "03 0f") ∷ BaseTakes 1 ∷ AirDown 1 ∷ Move 1 ∷ Touch 1 ∷ Arrive 1 ∷ AirUp 1 Zero ∷ AirAck 1 Zero ∷ AirUp 1 Zero ∷ BasePush 2 ∷ Handle ∷ BasePush 2 ∷ Handle ∷ BasePush 2 ∷ Handle ∷ BasePush 2 ∷ Handle ∷ BasePush 1 ∷ Handle ∷ BaseTakes 1 ∷ BasePush 1 ∷ Handle ∷ SwitchTakes ∷ SwitchTakes ∷ SwitchTakes ∷ [])
 
-modulo_2_sent : sent (modulo_2).actors 1 ≡ Some ((0x05 ∷ 0x24 ∷ 0x71 ∷ []) ∷ (0x03 ∷ 0x05 ∷ []) ∷ (0x03 ∷ 0x0f ∷ []) ∷ [])
+modulo_2_sent : sent (modulo_2).actors 1 ≡ Some ((hex "05 24 71") ∷ (hex "03 05") ∷ (hex "03 0f") ∷ [])
 unfolding on_literals
 modulo_2_sent = refl
 
-modulo_2_taken : taken (modulo_2).actors 1 ≡ Some ((0x05 ∷ 0x24 ∷ 0x71 ∷ []) ∷ (0x03 ∷ 0x45 ∷ []) ∷ (0x03 ∷ 0x0f ∷ []) ∷ [])
+modulo_2_taken : taken (modulo_2).actors 1 ≡ Some ((hex "05 24 71") ∷ (hex "03 45") ∷ (hex "03 0f") ∷ [])
 unfolding on_literals
 modulo_2_taken = refl
 
-modulo_2_accepted : accepted (modulo_2).actors 1 ≡ Some ((0x05 ∷ 0x24 ∷ 0x71 ∷ []) ∷ (0x03 ∷ 0x05 ∷ []) ∷ (0x03 ∷ 0x0f ∷ []) ∷ [])
+modulo_2_accepted : accepted (modulo_2).actors 1 ≡ Some ((hex "05 24 71") ∷ (hex "03 05") ∷ (hex "03 0f") ∷ [])
 unfolding on_literals
 modulo_2_accepted = refl
 

@@ -8,11 +8,11 @@ use Rattle.world_model.proofs.Prelude.{new_actors}
 use Rattle.mobile_end.specs.Calls.{begins, establishments, frame_lent, may_arrive, taken_by_call}
 use Rattle.mobile_end.specs.OneRepeat.{OneRepeat}
 use Rattle.mobile_end.proofs.Lives.{IsGoing-new, OneRepeat-calls}
-use Rattle.world_model.specs.Calls.{all_calls, calls_at, calls_to_arrive, calls_to_return, comes_at, frame_of, seat_of, taken_at, taken_by_channel, MobilesRepeatAtMostOne}
+use Rattle.world_model.specs.Calls.{all_calls, calls_at, calls_to_arrive, calls_to_return, arrives_at, frame_of, seat_of, taken_at, taken_by_channel, MobilesRepeatAtMostOne}
 use Rattle.world_model.specs.Life.{event_after}
 use Rattle.world_model.specs.Mobiles.{complete, failure}
-use Rattle.world_model.proofs.Leads.{OfTaken, and-left, and-right, arrive-leads, return-leads}
-use Rattle.world_model.proofs.Mobility.{Fits, MobilesLive-new, Stands, Takes, control-complete, control-failure, end_of, may-come, stands_new, takes_at}
+use Rattle.world_model.proofs.Leads.{OfTaken, and_left, and_right, arrive_leads, return_leads}
+use Rattle.world_model.proofs.Mobility.{Fits, MobilesLive-new, Stands, Takes, control_complete, control_failure, end_of, may_come, stands_new, takes_at}
 
 -- ---- one event
 
@@ -39,14 +39,14 @@ turn_silent e call true begun gives = turn_one e call false [] begun gives
 turn_silent e call false begun gives = turn_none e
 
 -- a frame that a station takes
-pub frame-same : (m : ℕ) (o : Option Mobile) → frame_lent (frame_answer (end_of m o) Zero) ≡ frame_of o
-frame-same m None = refl
-frame-same m (Some p) = refl
+pub frame_same : (m : ℕ) (o : Option Mobile) → frame_lent (frame_answer (end_of m o) Zero) ≡ frame_of o
+frame_same m None = refl
+frame_same m (Some p) = refl
 
 turn_frame : (m number : ℕ) (w : Actors) (n : ℕ) (taken b : Bool) → (n == number) && taken ≡ b → IsTurn (end_of m (mobile_of w number)) (if b then frames Zero ∷ [] else []) false (if b then frame_of (mobile_of w n) else [])
 turn_frame m number w n taken true does =
     turn_one (end_of m (mobile_of w number)) (frames Zero) false (frame_of (mobile_of w n)) refl
-    (frame-same m (mobile_of w number) ∙ ap (λ (k : ℕ). frame_of (mobile_of w k)) (sym (eqb-true n number (and-left (n == number) taken does))))
+    (frame_same m (mobile_of w number) ∙ ap (λ (k : ℕ). frame_of (mobile_of w k)) (sym (eqb-true n number (and_left (n == number) taken does))))
 turn_frame m number w n taken false doesnt = turn_none (end_of m (mobile_of w number))
 
 -- ---- it comes to a channel
@@ -66,18 +66,18 @@ taken_so (Some v) leads is = leads
 
 pub arriving : (w : Actors) (n : ℕ) → is_some (event_after w (Arrive n)) ≡ true → IsBetween w n
 unfolding event_after
-arriving w n is = taken_so (event_after w (Arrive n)) (arrive-leads (λ _. IsBetween w n) w n (λ p from command found seat _. record { p = p; found = found; from = from; command = command; seat = seat })) is
+arriving w n is = taken_so (event_after w (Arrive n)) (arrive_leads (λ _. IsBetween w n) w n (λ p from command found seat _. record { p = p; found = found; from = from; command = command; seat = seat })) is
 
 pub returning : (w : Actors) (n : ℕ) → is_some (event_after w (Return n)) ≡ true → IsBetween w n
 unfolding event_after
-returning w n is = taken_so (event_after w (Return n)) (return-leads (λ _. IsBetween w n) w n (λ p from command found seat _. record { p = p; found = found; from = from; command = command; seat = seat })) is
+returning w n is = taken_so (event_after w (Return n)) (return_leads (λ _. IsBetween w n) w n (λ p from command found seat _. record { p = p; found = found; from = from; command = command; seat = seat })) is
 
 -- its end is between two channels
 pub place_between : {m number : ℕ} {w : Actors} (n : ℕ) → Stands m number w → n ≡ number → (between : IsBetween w n) → Fits (Some between.p)
 place_between {w = w} n stands same between = subst Fits (ap (mobile_of w) (sym same) ∙ between.found) stands.fits
 
-pub end-between : (m number : ℕ) (w : Actors) (n : ℕ) → n ≡ number → (between : IsBetween w n) → end_of m (mobile_of w number) ≡ between.p.end
-end-between m number w n same between = ap (end_of m) (ap (mobile_of w) (sym same) ∙ between.found)
+pub end_between : (m number : ℕ) (w : Actors) (n : ℕ) → n ≡ number → (between : IsBetween w n) → end_of m (mobile_of w number) ≡ between.p.end
+end_between m number w n same between = ap (end_of m) (ap (mobile_of w) (sym same) ∙ between.found)
 
 -- it comes to a channel with this text
 turn_come : (m number : ℕ) (w : Actors) (n : ℕ) (call : List ℕ → Call) (text : Change → List ℕ) (calls : Seat → List Call)
@@ -86,25 +86,25 @@ turn_come : (m number : ℕ) (w : Actors) (n : ℕ) (call : List ℕ → Call) (
     → Stands m number w → IsTurn (end_of m (mobile_of w number)) (if b then calls (seat_of (mobile_of w n)) else []) b []
 turn_come m number w n call text calls called control begun gives taken true between does stands =
     let e : MobileState = end_of m (mobile_of w number) in
-    let at : IsBetween w n = between (and-right (n == number) taken does) in
-    let same : n ≡ number = eqb-true n number (and-left (n == number) taken does) in
+    let at : IsBetween w n = between (and_right (n == number) taken does) in
+    let same : n ≡ number = eqb-true n number (and_left (n == number) taken does) in
     let xs : List ℕ = text at.command.change in
     subst (λ (cs : List Call). IsTurn e cs true []) (sym (ap (λ (o : Option Mobile). calls (seat_of o)) at.found ∙ ap calls at.seat ∙ called at.from at.command))
-    (turn_one e (call xs) true [] (begun e xs ∙ ap (λ (x : MobileState). may_arrive x xs) (end-between m number w n same at)
-    ∙ may-come at.p.end at.from at.command xs (place_between n stands same at ∙ ap place_in at.seat) (control at.command.change)) (gives e xs))
+    (turn_one e (call xs) true [] (begun e xs ∙ ap (λ (x : MobileState). may_arrive x xs) (end_between m number w n same at)
+    ∙ may_come at.p.end at.from at.command xs (place_between n stands same at ∙ ap place_in at.seat) (control at.command.change)) (gives e xs))
 turn_come m number w n call text calls called control begun gives taken false between doesnt stands = turn_none (end_of m (mobile_of w number))
 
 -- ---- each event
 
-turn_at : (m number : ℕ) (w : Actors) (event : Event) → Stands m number w → IsTurn (end_of m (mobile_of w number)) (calls_at w event number) (comes_at w event number) (taken_at w event number)
+turn_at : (m number : ℕ) (w : Actors) (event : Event) → Stands m number w → IsTurn (end_of m (mobile_of w number)) (calls_at w event number) (arrives_at w event number) (taken_at w event number)
 turn_at m number w (Connect n station initial accepts) stands = turn_silent (end_of m (mobile_of w number)) (connects (Some initial)) ((n == number) && is_some (event_after w (Connect n station initial accepts))) refl refl
 turn_at m number w (Upper n sapi message) stands = turn_silent (end_of m (mobile_of w number)) (sends sapi message) ((n == number) && is_some (event_after w (Upper n sapi message))) refl refl
 turn_at m number w (AirUp n Zero) stands = turn_frame m number w n (is_some (event_after w (AirUp n Zero))) ((n == number) && is_some (event_after w (AirUp n Zero))) refl
 turn_at m number w (AirUp n Three) stands = turn_silent (end_of m (mobile_of w number)) (frames Three) ((n == number) && is_some (event_after w (AirUp n Three))) refl refl
 turn_at m number w (AirAck n sapi) stands = turn_silent (end_of m (mobile_of w number)) (acknowledges sapi) ((n == number) && is_some (event_after w (AirAck n sapi))) refl refl
 turn_at m number w (Move n) stands = turn_silent (end_of m (mobile_of w number)) leaves ((n == number) && is_some (event_after w (Move n))) refl refl
-turn_at m number w (Arrive n) stands = turn_come m number w n (λ xs. arrives xs) complete calls_to_arrive (λ from command. refl) control-complete (λ e xs. refl) (λ e xs. refl) _ _ (arriving w n) refl stands
-turn_at m number w (Return n) stands = turn_come m number w n (λ xs. gives_up xs) failure calls_to_return (λ from command. refl) control-failure (λ e xs. refl) (λ e xs. refl) _ _ (returning w n) refl stands
+turn_at m number w (Arrive n) stands = turn_come m number w n (λ xs. arrives xs) complete calls_to_arrive (λ from command. refl) control_complete (λ e xs. refl) (λ e xs. refl) _ _ (arriving w n) refl stands
+turn_at m number w (Return n) stands = turn_come m number w n (λ xs. gives_up xs) failure calls_to_return (λ from command. refl) control_failure (λ e xs. refl) (λ e xs. refl) _ _ (returning w n) refl stands
 turn_at m number w _ stands = turn_none (end_of m (mobile_of w number))
 
 -- ---- all these events
@@ -117,10 +117,10 @@ channels_same m number w so_far (event ∷ events) stands =
     let rest : List Call = all_calls (actors_after w event) events number in
     let takes : Takes m number w (calls_at w event number) (actors_after w event) = takes_at m number w event stands in
     turn_at m number w event stands so_far rest
-    ∙ ap (λ (end : MobileState). if comes_at w event number then so_far ∷ establishments end [] rest else establishments end (so_far ++ taken_at w event number) rest) (sym takes.ends)
-    ∙ ap (λ (xs : List (List (List ℕ))). if comes_at w event number then so_far ∷ xs else establishments (end_of m (mobile_of (actors_after w event) number)) (so_far ++ taken_at w event number) rest)
+    ∙ ap (λ (end : MobileState). if arrives_at w event number then so_far ∷ establishments end [] rest else establishments end (so_far ++ taken_at w event number) rest) (sym takes.ends)
+    ∙ ap (λ (xs : List (List (List ℕ))). if arrives_at w event number then so_far ∷ xs else establishments (end_of m (mobile_of (actors_after w event) number)) (so_far ++ taken_at w event number) rest)
     (channels_same m number (actors_after w event) [] events takes.stands)
-    ∙ ap (λ (xs : List (List (List ℕ))). if comes_at w event number then so_far ∷ taken_by_channel (actors_after w event) number [] events else xs)
+    ∙ ap (λ (xs : List (List (List ℕ))). if arrives_at w event number then so_far ∷ taken_by_channel (actors_after w event) number [] events else xs)
     (channels_same m number (actors_after w event) (so_far ++ taken_at w event number) events takes.stands)
 
 pub mobiles_repeat_at_most_one_new : (settings : Parameters) (events : List Event) → MobilesRepeatAtMostOne settings events

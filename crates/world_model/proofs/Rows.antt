@@ -1,15 +1,16 @@
 -- A mobile opens a connection.
 use Rattle.world_model.proofs.Prelude.{◌≡◌, ℕ, true, [], ◌∷◌, map, Some, None, refl, usual_settings, Zero, Active, Live, eager_settings}
 use Rattle.world_model.proofs.Prelude.{state_of, Upper, Connect, AirUp, AirAck, BaseTakes, BasePush, Handle, SwitchTakes, World, new_world}
+use Rattle.octets.proofs.Hex.{hex}
 use Rattle.world_model.specs.Lists.{behind_first, first_in}
 use Rattle.world_model.specs.Views.{sent, received, taken, accepted, unnumbered}
 use Rattle.world_model.proofs.Worlds.{on_literals, after_all, bodies}
 
 -- what the opening makes of two cells
 abbrev pub opened : World
-opened = after_all (new_world usual_settings) (Connect 1 1 (0x05 ∷ 0x24 ∷ 0x71 ∷ []) true ∷ BasePush 1 ∷ Handle ∷ BaseTakes 1 ∷ BasePush 1 ∷ Handle ∷ BaseTakes 1 ∷ AirUp 1 Zero ∷ BasePush 1 ∷ Handle ∷ SwitchTakes ∷ AirAck 1 Zero ∷ BasePush 0 ∷ Handle ∷ [])
+opened = after_all (new_world usual_settings) (Connect 1 1 (hex "05 24 71") true ∷ BasePush 1 ∷ Handle ∷ BaseTakes 1 ∷ BasePush 1 ∷ Handle ∷ BaseTakes 1 ∷ AirUp 1 Zero ∷ BasePush 1 ∷ Handle ∷ SwitchTakes ∷ AirAck 1 Zero ∷ BasePush 0 ∷ Handle ∷ [])
 
-opening_sent : sent (opened).actors 1 ≡ Some ((0x05 ∷ 0x24 ∷ 0x71 ∷ []) ∷ [])
+opening_sent : sent (opened).actors 1 ≡ Some ((hex "05 24 71") ∷ [])
 unfolding on_literals
 opening_sent = refl
 
@@ -17,11 +18,11 @@ opening_received : received (opened).actors 1 ≡ Some ([])
 unfolding on_literals
 opening_received = refl
 
-opening_taken : taken (opened).actors 1 ≡ Some ((0x05 ∷ 0x24 ∷ 0x71 ∷ []) ∷ [])
+opening_taken : taken (opened).actors 1 ≡ Some ((hex "05 24 71") ∷ [])
 unfolding on_literals
 opening_taken = refl
 
-opening_accepted : accepted (opened).actors 1 ≡ Some ((0x05 ∷ 0x24 ∷ 0x71 ∷ []) ∷ [])
+opening_accepted : accepted (opened).actors 1 ≡ Some ((hex "05 24 71") ∷ [])
 unfolding on_literals
 opening_accepted = refl
 
@@ -51,25 +52,25 @@ no_connection_before_it = refl
 
 -- where each report decides
 abbrev pub opened_eager : World
-opened_eager = after_all (new_world eager_settings) (Connect 1 1 (0x05 ∷ 0x24 ∷ 0x71 ∷ []) true ∷ BasePush 1 ∷ Handle ∷ BaseTakes 1 ∷ BasePush 1 ∷ Handle ∷ BaseTakes 1 ∷ AirUp 1 Zero ∷ BasePush 1 ∷ Handle ∷ SwitchTakes ∷ AirAck 1 Zero ∷ BasePush 0 ∷ Handle ∷ [])
+opened_eager = after_all (new_world eager_settings) (Connect 1 1 (hex "05 24 71") true ∷ BasePush 1 ∷ Handle ∷ BaseTakes 1 ∷ BasePush 1 ∷ Handle ∷ BaseTakes 1 ∷ AirUp 1 Zero ∷ BasePush 1 ∷ Handle ∷ SwitchTakes ∷ AirAck 1 Zero ∷ BasePush 0 ∷ Handle ∷ [])
 
 -- a PAGING RESPONSE begins, which carries no number
 abbrev pub answered_paging : World
-answered_paging = after_all (new_world usual_settings) (Connect 1 1 (0x06 ∷ 0x27 ∷ 0x71 ∷ []) true ∷ BasePush 1 ∷ Handle ∷ BaseTakes 1 ∷ BasePush 1 ∷ Handle ∷ BaseTakes 1 ∷ AirUp 1 Zero ∷ BasePush 1 ∷ Handle ∷ SwitchTakes ∷ AirAck 1 Zero ∷ BasePush 0 ∷ Handle ∷ Upper 1 Zero (0x03 ∷ 0x05 ∷ []) ∷ AirUp 1 Zero ∷ BasePush 1 ∷ Handle ∷ SwitchTakes ∷ [])
+answered_paging = after_all (new_world usual_settings) (Connect 1 1 (hex "06 27 71") true ∷ BasePush 1 ∷ Handle ∷ BaseTakes 1 ∷ BasePush 1 ∷ Handle ∷ BaseTakes 1 ∷ AirUp 1 Zero ∷ BasePush 1 ∷ Handle ∷ SwitchTakes ∷ AirAck 1 Zero ∷ BasePush 0 ∷ Handle ∷ Upper 1 Zero (hex "03 05") ∷ AirUp 1 Zero ∷ BasePush 1 ∷ Handle ∷ SwitchTakes ∷ [])
 
-paging_sent : sent (answered_paging).actors 1 ≡ Some ((0x03 ∷ 0x05 ∷ []) ∷ [])
+paging_sent : sent (answered_paging).actors 1 ≡ Some ((hex "03 05") ∷ [])
 unfolding on_literals
 paging_sent = refl
 
-paging_taken : taken (answered_paging).actors 1 ≡ Some ((0x06 ∷ 0x27 ∷ 0x71 ∷ []) ∷ (0x03 ∷ 0x05 ∷ []) ∷ [])
+paging_taken : taken (answered_paging).actors 1 ≡ Some ((hex "06 27 71") ∷ (hex "03 05") ∷ [])
 unfolding on_literals
 paging_taken = refl
 
-paging_accepted : accepted (answered_paging).actors 1 ≡ Some ((0x03 ∷ 0x05 ∷ []) ∷ [])
+paging_accepted : accepted (answered_paging).actors 1 ≡ Some ((hex "03 05") ∷ [])
 unfolding on_literals
 paging_accepted = refl
 
-paging_unnumbered : unnumbered (answered_paging).actors 1 ≡ Some ((0x06 ∷ 0x27 ∷ 0x71 ∷ []) ∷ [])
+paging_unnumbered : unnumbered (answered_paging).actors 1 ≡ Some ((hex "06 27 71") ∷ [])
 unfolding on_literals
 paging_unnumbered = refl
 
@@ -77,15 +78,15 @@ paging_not_taken : (answered_paging).not_taken ≡ 0
 unfolding on_literals
 paging_not_taken = refl
 
-activation_waits : bodies (after_all (new_world usual_settings) (Connect 1 1 (0x05 ∷ 0x24 ∷ 0x71 ∷ []) true ∷ BasePush 1 ∷ Handle ∷ [])) 1 ≡ (0x08 ∷ 0x21 ∷ 0x01 ∷ 0x41 ∷ 0x03 ∷ 0x00 ∷ 0x06 ∷ 0x04 ∷ 0x00 ∷ 0x03 ∷ 0x01 ∷ 0x00 ∷ []) ∷ []
+activation_waits : bodies (after_all (new_world usual_settings) (Connect 1 1 (hex "05 24 71") true ∷ BasePush 1 ∷ Handle ∷ [])) 1 ≡ (hex "08 21 01 41 03 00 06 04 00 03 01 00") ∷ []
 unfolding on_literals
 activation_waits = refl
 
-assignment_waits : bodies (after_all (new_world usual_settings) (Connect 1 1 (0x05 ∷ 0x24 ∷ 0x71 ∷ []) true ∷ BasePush 1 ∷ Handle ∷ BaseTakes 1 ∷ BasePush 1 ∷ Handle ∷ [])) 1 ≡ (0x0c ∷ 0x16 ∷ 0x01 ∷ 0x90 ∷ 0x2b ∷ 0x17 ∷ 0x2d ∷ 0x06 ∷ 0x3f ∷ 0x00 ∷ 0x41 ∷ 0x20 ∷ 0x14 ∷ 0x01 ∷ 0x00 ∷ 0x00 ∷ 0x00 ∷ 0x00 ∷ 0x2b ∷ 0x2b ∷ 0x2b ∷ 0x2b ∷ 0x2b ∷ 0x2b ∷ 0x2b ∷ 0x2b ∷ 0x2b ∷ 0x2b ∷ 0x2b ∷ []) ∷ []
+assignment_waits : bodies (after_all (new_world usual_settings) (Connect 1 1 (hex "05 24 71") true ∷ BasePush 1 ∷ Handle ∷ BaseTakes 1 ∷ BasePush 1 ∷ Handle ∷ [])) 1 ≡ (hex "0c 16 01 90 2b 17 2d 06 3f 00 41 20 14 01 00 00 00 00 2b 2b 2b 2b 2b 2b 2b 2b 2b 2b 2b") ∷ []
 unfolding on_literals
 assignment_waits = refl
 
-request_waits : bodies (after_all (new_world usual_settings) (Connect 1 1 (0x05 ∷ 0x24 ∷ 0x71 ∷ []) true ∷ BasePush 1 ∷ Handle ∷ BaseTakes 1 ∷ BasePush 1 ∷ Handle ∷ BaseTakes 1 ∷ AirUp 1 Zero ∷ BasePush 1 ∷ Handle ∷ [])) 0 ≡ (0x01 ∷ 0x00 ∷ 0x00 ∷ 0x01 ∷ 0x02 ∷ 0x02 ∷ 0x04 ∷ 0x02 ∷ 0x42 ∷ 0xfe ∷ 0x0f ∷ 0x12 ∷ 0x00 ∷ 0x10 ∷ 0x57 ∷ 0x05 ∷ 0x08 ∷ 0x00 ∷ 0x00 ∷ 0xf1 ∷ 0x10 ∷ 0x00 ∷ 0x01 ∷ 0x00 ∷ 0x01 ∷ 0x17 ∷ 0x03 ∷ 0x05 ∷ 0x24 ∷ 0x71 ∷ 0x00 ∷ []) ∷ []
+request_waits : bodies (after_all (new_world usual_settings) (Connect 1 1 (hex "05 24 71") true ∷ BasePush 1 ∷ Handle ∷ BaseTakes 1 ∷ BasePush 1 ∷ Handle ∷ BaseTakes 1 ∷ AirUp 1 Zero ∷ BasePush 1 ∷ Handle ∷ [])) 0 ≡ (hex "01 00 00 01 02 02 04 02 42 fe 0f 12 00 10 57 05 08 00 00 f1 10 00 01 00 01 17 03 05 24 71 00") ∷ []
 unfolding on_literals
 request_waits = refl
 

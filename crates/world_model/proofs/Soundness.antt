@@ -23,8 +23,8 @@ pub record IsSound (message : Rsl) : Type 0 where
   pub lawful : IsLawful message
   pub written : rsl_write_fault message ≡ None
 
-pub sound-read : (message : Rsl) → IsSound message → rsl_reading (rsl_text message) ≡ Ok message
-sound-read message sound = text_is_read (rsl_text message) message
+pub sound_read : (message : Rsl) → IsSound message → rsl_reading (rsl_text message) ≡ Ok message
+sound_read message sound = text_is_read (rsl_text message) message
     (subst (λ (octets : List ℕ). IsRsl octets message) (append-nil (rsl_text message)) (rsl_text_is_text message [] sound.lawful sound.written tt))
 
 fault_free : (l3 : List ℕ) → IsL3 (Some l3) → cond (nat_eq (length l3) 0) (Some Short) (cond (nat_lt MESSAGE_LIMIT (length l3) || false) (Some TooLong) None) ≡ None

@@ -3,6 +3,7 @@ use Rattle.world_model.proofs.Prelude.{◌≡◌, true, false, [], ◌∷◌, ma
 use Rattle.world_model.proofs.Prelude.{Upper, Connect, AirUp, AirAck, AirDown, AirDownLost, Move, Arrive, Return, BaseTakes, BasePush}
 use Rattle.world_model.proofs.Prelude.{Handle, SwitchTakes, SwitchDoes, Report, Assign, Clear, Dtap, Asking, On, World, new_world}
 use Rattle.world_model.proofs.Prelude.{is_active_at, spot_at, with_spot, with_outbox, event_after}
+use Rattle.octets.proofs.Hex.{hex}
 use Rattle.world_model.specs.Views.{received}
 use Rattle.world_model.proofs.Worlds.{on_literals, after_all, bodies, made_bodies, seat_of, takes}
 use Rattle.world_model.proofs.Rows.{opened}
@@ -13,7 +14,7 @@ takes_nothing = refl
 
 -- an activation begins a tenure
 abbrev pub activated : World
-activated = after_all (new_world usual_settings) (Connect 1 1 (0x05 ∷ 0x24 ∷ 0x71 ∷ []) true ∷ BasePush 1 ∷ Handle ∷ BaseTakes 1 ∷ [])
+activated = after_all (new_world usual_settings) (Connect 1 1 (hex "05 24 71") true ∷ BasePush 1 ∷ Handle ∷ BaseTakes 1 ∷ [])
 
 is_active_then : is_active_at (activated).actors (place_at 1 0x41) ≡ true
 unfolding on_literals
@@ -23,7 +24,7 @@ no_other_is_active : map (is_active_at (activated).actors) (place_at 1 0x49 ∷ 
 unfolding on_literals
 no_other_is_active = refl
 
-acknowledges_activation : made_bodies activated 1 ≡ (0x08 ∷ 0x22 ∷ 0x01 ∷ 0x41 ∷ 0x08 ∷ 0x00 ∷ 0x00 ∷ []) ∷ []
+acknowledges_activation : made_bodies activated 1 ≡ (hex "08 22 01 41 08 00 00") ∷ []
 unfolding on_literals
 acknowledges_activation = refl
 
@@ -31,31 +32,31 @@ has_a_first_tenure : (spot_at (activated).actors (place_at 1 0x41)).tenure ≡ 1
 unfolding on_literals
 has_a_first_tenure = refl
 
-not_active_before : is_active_at ((after_all (new_world usual_settings) (Connect 1 1 (0x05 ∷ 0x24 ∷ 0x71 ∷ []) true ∷ BasePush 1 ∷ Handle ∷ []))).actors (place_at 1 0x41) ≡ false
+not_active_before : is_active_at ((after_all (new_world usual_settings) (Connect 1 1 (hex "05 24 71") true ∷ BasePush 1 ∷ Handle ∷ []))).actors (place_at 1 0x41) ≡ false
 unfolding on_literals
 not_active_before = refl
 
-begins_anew : option_map (λ w. spot_at w (place_at 1 0x41)) (event_after (with_spot (place_at 1 0x41) (record { tenure = 7; sapi_three_up = true; air = record { message = 0x03 ∷ 0x05 ∷ []; target = None } ∷ []; reports = 9 }) ((after_all (new_world usual_settings) (Connect 1 1 (0x05 ∷ 0x24 ∷ 0x71 ∷ []) true ∷ BasePush 1 ∷ Handle ∷ []))).actors) (BaseTakes 1)) ≡ Some (record { tenure = 8; sapi_three_up = false; air = []; reports = 0 })
+begins_anew : option_map (λ w. spot_at w (place_at 1 0x41)) (event_after (with_spot (place_at 1 0x41) (record { tenure = 7; sapi_three_up = true; air = record { message = hex "03 05"; target = None } ∷ []; reports = 9 }) ((after_all (new_world usual_settings) (Connect 1 1 (hex "05 24 71") true ∷ BasePush 1 ∷ Handle ∷ []))).actors) (BaseTakes 1)) ≡ Some (record { tenure = 8; sapi_three_up = false; air = []; reports = 0 })
 unfolding on_literals
 begins_anew = refl
 
-last_tenure : option_map (λ w. (spot_at w (place_at 1 0x41)).tenure) (event_after (with_spot (place_at 1 0x41) (record (spot_at ((new_world usual_settings)).actors (place_at 1 0x41)) { tenure = 18446744073709551614 }) ((after_all (new_world usual_settings) (Connect 1 1 (0x05 ∷ 0x24 ∷ 0x71 ∷ []) true ∷ BasePush 1 ∷ Handle ∷ []))).actors) (BaseTakes 1)) ≡ Some 18446744073709551615
+last_tenure : option_map (λ w. (spot_at w (place_at 1 0x41)).tenure) (event_after (with_spot (place_at 1 0x41) (record (spot_at ((new_world usual_settings)).actors (place_at 1 0x41)) { tenure = 18446744073709551614 }) ((after_all (new_world usual_settings) (Connect 1 1 (hex "05 24 71") true ∷ BasePush 1 ∷ Handle ∷ []))).actors) (BaseTakes 1)) ≡ Some 18446744073709551615
 unfolding on_literals
 last_tenure = refl
 
-no_tenure_after_the_last : option_map (λ w. (spot_at w (place_at 1 0x41)).tenure) (event_after (with_spot (place_at 1 0x41) (record (spot_at ((new_world usual_settings)).actors (place_at 1 0x41)) { tenure = 18446744073709551615 }) ((after_all (new_world usual_settings) (Connect 1 1 (0x05 ∷ 0x24 ∷ 0x71 ∷ []) true ∷ BasePush 1 ∷ Handle ∷ []))).actors) (BaseTakes 1)) ≡ None
+no_tenure_after_the_last : option_map (λ w. (spot_at w (place_at 1 0x41)).tenure) (event_after (with_spot (place_at 1 0x41) (record (spot_at ((new_world usual_settings)).actors (place_at 1 0x41)) { tenure = 18446744073709551615 }) ((after_all (new_world usual_settings) (Connect 1 1 (hex "05 24 71") true ∷ BasePush 1 ∷ Handle ∷ []))).actors) (BaseTakes 1)) ≡ None
 unfolding on_literals
 no_tenure_after_the_last = refl
 
 -- an active channel stays as it is
 abbrev pub activated_twice : World
-activated_twice = after_all (record activated { actors = with_outbox 1 (record { out = record { to = 1; conn = 1; frame = record { stream = 0; body = (0x08 ∷ 0x21 ∷ 0x01 ∷ 0x41 ∷ 0x03 ∷ 0x00 ∷ 0x06 ∷ 0x04 ∷ 0x00 ∷ 0x03 ∷ 0x01 ∷ 0x00 ∷ []) } }; target = None } ∷ []) (activated).actors }) (BaseTakes 1 ∷ [])
+activated_twice = after_all (record activated { actors = with_outbox 1 (record { out = record { to = 1; conn = 1; frame = record { stream = 0; body = (hex "08 21 01 41 03 00 06 04 00 03 01 00") } }; target = None } ∷ []) (activated).actors }) (BaseTakes 1 ∷ [])
 
 tenure_goes_on : (spot_at (activated_twice).actors (place_at 1 0x41)).tenure ≡ 1
 unfolding on_literals
 tenure_goes_on = refl
 
-is_acknowledged_once : made_bodies activated_twice 1 ≡ (0x08 ∷ 0x22 ∷ 0x01 ∷ 0x41 ∷ 0x08 ∷ 0x00 ∷ 0x00 ∷ []) ∷ []
+is_acknowledged_once : made_bodies activated_twice 1 ≡ (hex "08 22 01 41 08 00 00") ∷ []
 unfolding on_literals
 is_acknowledged_once = refl
 
@@ -64,41 +65,41 @@ unfolding on_literals
 has_taken_the_entry = refl
 
 -- IMMEDIATE ASSIGNMENT seats the mobile that it names, if that is asking
-assigns_who_asks : seat_of (after_all (record (after_all (new_world usual_settings) (Connect 7 1 (0x05 ∷ 0x24 ∷ 0x71 ∷ []) true ∷ [])) { actors = with_outbox 1 (record { out = record { to = 1; conn = 1; frame = record { stream = 0; body = (0x0c ∷ 0x16 ∷ 0x01 ∷ 0x90 ∷ 0x2b ∷ 0x17 ∷ 0x2d ∷ 0x06 ∷ 0x3f ∷ 0x00 ∷ 0x49 ∷ 0x20 ∷ 0x14 ∷ 0x07 ∷ 0x00 ∷ 0x00 ∷ 0x00 ∷ 0x00 ∷ 0x2b ∷ 0x2b ∷ 0x2b ∷ 0x2b ∷ 0x2b ∷ 0x2b ∷ 0x2b ∷ 0x2b ∷ 0x2b ∷ 0x2b ∷ 0x2b ∷ []) } }; target = None } ∷ []) ((after_all (new_world usual_settings) (Connect 7 1 (0x05 ∷ 0x24 ∷ 0x71 ∷ []) true ∷ []))).actors }) (BaseTakes 1 ∷ [])) 7 ≡ Some (On (record { at = place_at 1 0x49; number = 0 }) None)
+assigns_who_asks : seat_of (after_all (record (after_all (new_world usual_settings) (Connect 7 1 (hex "05 24 71") true ∷ [])) { actors = with_outbox 1 (record { out = record { to = 1; conn = 1; frame = record { stream = 0; body = (hex "0c 16 01 90 2b 17 2d 06 3f 00 49 20 14 07 00 00 00 00 2b 2b 2b 2b 2b 2b 2b 2b 2b 2b 2b") } }; target = None } ∷ []) ((after_all (new_world usual_settings) (Connect 7 1 (hex "05 24 71") true ∷ []))).actors }) (BaseTakes 1 ∷ [])) 7 ≡ Some (On (record { at = place_at 1 0x49; number = 0 }) None)
 unfolding on_literals
 assigns_who_asks = refl
 
-assigns_no_octet_without_channel : seat_of (after_all (record (after_all (new_world usual_settings) (Connect 7 1 (0x05 ∷ 0x24 ∷ 0x71 ∷ []) true ∷ [])) { actors = with_outbox 1 (record { out = record { to = 1; conn = 1; frame = record { stream = 0; body = (0x0c ∷ 0x16 ∷ 0x01 ∷ 0x90 ∷ 0x2b ∷ 0x17 ∷ 0x2d ∷ 0x06 ∷ 0x3f ∷ 0x00 ∷ 0x01 ∷ 0x20 ∷ 0x14 ∷ 0x07 ∷ 0x00 ∷ 0x00 ∷ 0x00 ∷ 0x00 ∷ 0x2b ∷ 0x2b ∷ 0x2b ∷ 0x2b ∷ 0x2b ∷ 0x2b ∷ 0x2b ∷ 0x2b ∷ 0x2b ∷ 0x2b ∷ 0x2b ∷ []) } }; target = None } ∷ []) ((after_all (new_world usual_settings) (Connect 7 1 (0x05 ∷ 0x24 ∷ 0x71 ∷ []) true ∷ []))).actors }) (BaseTakes 1 ∷ [])) 7 ≡ Some Asking
+assigns_no_octet_without_channel : seat_of (after_all (record (after_all (new_world usual_settings) (Connect 7 1 (hex "05 24 71") true ∷ [])) { actors = with_outbox 1 (record { out = record { to = 1; conn = 1; frame = record { stream = 0; body = (hex "0c 16 01 90 2b 17 2d 06 3f 00 01 20 14 07 00 00 00 00 2b 2b 2b 2b 2b 2b 2b 2b 2b 2b 2b") } }; target = None } ∷ []) ((after_all (new_world usual_settings) (Connect 7 1 (hex "05 24 71") true ∷ []))).actors }) (BaseTakes 1 ∷ [])) 7 ≡ Some Asking
 unfolding on_literals
 assigns_no_octet_without_channel = refl
 
-assigns_no_other : seat_of (after_all (record (after_all (new_world usual_settings) (Connect 7 1 (0x05 ∷ 0x24 ∷ 0x71 ∷ []) true ∷ Connect 6 1 (0x05 ∷ 0x24 ∷ 0x71 ∷ []) true ∷ [])) { actors = with_outbox 1 (record { out = record { to = 1; conn = 1; frame = record { stream = 0; body = (0x0c ∷ 0x16 ∷ 0x01 ∷ 0x90 ∷ 0x2b ∷ 0x17 ∷ 0x2d ∷ 0x06 ∷ 0x3f ∷ 0x00 ∷ 0x49 ∷ 0x20 ∷ 0x14 ∷ 0x07 ∷ 0x00 ∷ 0x00 ∷ 0x00 ∷ 0x00 ∷ 0x2b ∷ 0x2b ∷ 0x2b ∷ 0x2b ∷ 0x2b ∷ 0x2b ∷ 0x2b ∷ 0x2b ∷ 0x2b ∷ 0x2b ∷ 0x2b ∷ []) } }; target = None } ∷ []) ((after_all (new_world usual_settings) (Connect 7 1 (0x05 ∷ 0x24 ∷ 0x71 ∷ []) true ∷ Connect 6 1 (0x05 ∷ 0x24 ∷ 0x71 ∷ []) true ∷ []))).actors }) (BaseTakes 1 ∷ [])) 6 ≡ Some Asking
+assigns_no_other : seat_of (after_all (record (after_all (new_world usual_settings) (Connect 7 1 (hex "05 24 71") true ∷ Connect 6 1 (hex "05 24 71") true ∷ [])) { actors = with_outbox 1 (record { out = record { to = 1; conn = 1; frame = record { stream = 0; body = (hex "0c 16 01 90 2b 17 2d 06 3f 00 49 20 14 07 00 00 00 00 2b 2b 2b 2b 2b 2b 2b 2b 2b 2b 2b") } }; target = None } ∷ []) ((after_all (new_world usual_settings) (Connect 7 1 (hex "05 24 71") true ∷ Connect 6 1 (hex "05 24 71") true ∷ []))).actors }) (BaseTakes 1 ∷ [])) 6 ≡ Some Asking
 unfolding on_literals
 assigns_no_other = refl
 
-assigns_nobody_twice : seat_of (after_all (record opened { actors = with_outbox 1 (record { out = record { to = 1; conn = 1; frame = record { stream = 0; body = (0x0c ∷ 0x16 ∷ 0x01 ∷ 0x90 ∷ 0x2b ∷ 0x17 ∷ 0x2d ∷ 0x06 ∷ 0x3f ∷ 0x00 ∷ 0x49 ∷ 0x20 ∷ 0x14 ∷ 0x01 ∷ 0x00 ∷ 0x00 ∷ 0x00 ∷ 0x00 ∷ 0x2b ∷ 0x2b ∷ 0x2b ∷ 0x2b ∷ 0x2b ∷ 0x2b ∷ 0x2b ∷ 0x2b ∷ 0x2b ∷ 0x2b ∷ 0x2b ∷ []) } }; target = None } ∷ []) (opened).actors }) (BaseTakes 1 ∷ [])) 1 ≡ Some (On (record { at = place_at 1 0x41; number = 1 }) None)
+assigns_nobody_twice : seat_of (after_all (record opened { actors = with_outbox 1 (record { out = record { to = 1; conn = 1; frame = record { stream = 0; body = (hex "0c 16 01 90 2b 17 2d 06 3f 00 49 20 14 01 00 00 00 00 2b 2b 2b 2b 2b 2b 2b 2b 2b 2b 2b") } }; target = None } ∷ []) (opened).actors }) (BaseTakes 1 ∷ [])) 1 ≡ Some (On (record { at = place_at 1 0x41; number = 1 }) None)
 unfolding on_literals
 assigns_nobody_twice = refl
 
 -- DATA REQUEST
-airs_on_active : map (λ a. a.message) (spot_at ((after_all (record opened { actors = with_outbox 1 (record { out = record { to = 1; conn = 1; frame = record { stream = 0; body = (0x03 ∷ 0x01 ∷ 0x01 ∷ 0x41 ∷ 0x02 ∷ 0x00 ∷ 0x0b ∷ 0x00 ∷ 0x02 ∷ 0x83 ∷ 0x02 ∷ []) } }; target = None } ∷ []) (opened).actors }) (BaseTakes 1 ∷ []))).actors (place_at 1 0x41)).air ≡ (0x83 ∷ 0x02 ∷ []) ∷ []
+airs_on_active : map (λ a. a.message) (spot_at ((after_all (record opened { actors = with_outbox 1 (record { out = record { to = 1; conn = 1; frame = record { stream = 0; body = (hex "03 01 01 41 02 00 0b 00 02 83 02") } }; target = None } ∷ []) (opened).actors }) (BaseTakes 1 ∷ []))).actors (place_at 1 0x41)).air ≡ (hex "83 02") ∷ []
 unfolding on_literals
 airs_on_active = refl
 
-airs_not_on_others : (spot_at ((after_all (record opened { actors = with_outbox 1 (record { out = record { to = 1; conn = 1; frame = record { stream = 0; body = (0x03 ∷ 0x01 ∷ 0x01 ∷ 0x49 ∷ 0x02 ∷ 0x00 ∷ 0x0b ∷ 0x00 ∷ 0x02 ∷ 0x83 ∷ 0x02 ∷ []) } }; target = None } ∷ []) (opened).actors }) (BaseTakes 1 ∷ []))).actors (place_at 1 0x49)).air ≡ []
+airs_not_on_others : (spot_at ((after_all (record opened { actors = with_outbox 1 (record { out = record { to = 1; conn = 1; frame = record { stream = 0; body = (hex "03 01 01 49 02 00 0b 00 02 83 02") } }; target = None } ∷ []) (opened).actors }) (BaseTakes 1 ∷ []))).actors (place_at 1 0x49)).air ≡ []
 unfolding on_literals
 airs_not_on_others = refl
 
-but_takes_it : map (takes (record opened { actors = with_outbox 1 (record { out = record { to = 1; conn = 1; frame = record { stream = 0; body = (0x03 ∷ 0x01 ∷ 0x01 ∷ 0x49 ∷ 0x02 ∷ 0x00 ∷ 0x0b ∷ 0x00 ∷ 0x02 ∷ 0x83 ∷ 0x02 ∷ []) } }; target = None } ∷ []) (opened).actors })) (BaseTakes 1 ∷ BaseTakes 2 ∷ []) ≡ true ∷ false ∷ []
+but_takes_it : map (takes (record opened { actors = with_outbox 1 (record { out = record { to = 1; conn = 1; frame = record { stream = 0; body = (hex "03 01 01 49 02 00 0b 00 02 83 02") } }; target = None } ∷ []) (opened).actors })) (BaseTakes 1 ∷ BaseTakes 2 ∷ []) ≡ true ∷ false ∷ []
 unfolding on_literals
 but_takes_it = refl
 
 -- what is not read, and what asks for nothing, is taken
-takes_what_is_cut : made_bodies (after_all (record opened { actors = with_outbox 1 (record { out = record { to = 1; conn = 1; frame = record { stream = 0; body = (0x03 ∷ 0x01 ∷ 0x01 ∷ 0x41 ∷ []) } }; target = None } ∷ []) (opened).actors }) (BaseTakes 1 ∷ [])) 1 ≡ []
+takes_what_is_cut : made_bodies (after_all (record opened { actors = with_outbox 1 (record { out = record { to = 1; conn = 1; frame = record { stream = 0; body = (hex "03 01 01 41") } }; target = None } ∷ []) (opened).actors }) (BaseTakes 1 ∷ [])) 1 ≡ []
 unfolding on_literals
 takes_what_is_cut = refl
 
-takes_what_is_cut_and_has_it : bodies (after_all (record opened { actors = with_outbox 1 (record { out = record { to = 1; conn = 1; frame = record { stream = 0; body = (0x03 ∷ 0x01 ∷ 0x01 ∷ 0x41 ∷ []) } }; target = None } ∷ []) (opened).actors }) (BaseTakes 1 ∷ [])) 1 ≡ []
+takes_what_is_cut_and_has_it : bodies (after_all (record opened { actors = with_outbox 1 (record { out = record { to = 1; conn = 1; frame = record { stream = 0; body = (hex "03 01 01 41") } }; target = None } ∷ []) (opened).actors }) (BaseTakes 1 ∷ [])) 1 ≡ []
 unfolding on_literals
 takes_what_is_cut_and_has_it = refl
 
@@ -110,26 +111,26 @@ takes_other_streams_and_has_it : bodies (after_all (record opened { actors = wit
 unfolding on_literals
 takes_other_streams_and_has_it = refl
 
-takes_other_messages : made_bodies (after_all (record opened { actors = with_outbox 1 (record { out = record { to = 1; conn = 1; frame = record { stream = 0; body = (0x02 ∷ 0x07 ∷ 0x01 ∷ 0x41 ∷ 0x02 ∷ 0x00 ∷ 0x14 ∷ 0x00 ∷ []) } }; target = None } ∷ []) (opened).actors }) (BaseTakes 1 ∷ [])) 1 ≡ []
+takes_other_messages : made_bodies (after_all (record opened { actors = with_outbox 1 (record { out = record { to = 1; conn = 1; frame = record { stream = 0; body = (hex "02 07 01 41 02 00 14 00") } }; target = None } ∷ []) (opened).actors }) (BaseTakes 1 ∷ [])) 1 ≡ []
 unfolding on_literals
 takes_other_messages = refl
 
-takes_other_messages_and_has_it : bodies (after_all (record opened { actors = with_outbox 1 (record { out = record { to = 1; conn = 1; frame = record { stream = 0; body = (0x02 ∷ 0x07 ∷ 0x01 ∷ 0x41 ∷ 0x02 ∷ 0x00 ∷ 0x14 ∷ 0x00 ∷ []) } }; target = None } ∷ []) (opened).actors }) (BaseTakes 1 ∷ [])) 1 ≡ []
+takes_other_messages_and_has_it : bodies (after_all (record opened { actors = with_outbox 1 (record { out = record { to = 1; conn = 1; frame = record { stream = 0; body = (hex "02 07 01 41 02 00 14 00") } }; target = None } ∷ []) (opened).actors }) (BaseTakes 1 ∷ [])) 1 ≡ []
 unfolding on_literals
 takes_other_messages_and_has_it = refl
 
 -- ESTABLISH REQUEST: confirmed, or not accepted
 abbrev pub link_wanted : World
-link_wanted = after_all opened (SwitchDoes (Dtap 1 Three (0x09 ∷ 0x02 ∷ [])) ∷ BasePush 0 ∷ Handle ∷ [])
+link_wanted = after_all opened (SwitchDoes (Dtap 1 Three (hex "09 02")) ∷ BasePush 0 ∷ Handle ∷ [])
 
-asks_for_link : bodies link_wanted 1 ≡ (0x02 ∷ 0x04 ∷ 0x01 ∷ 0x41 ∷ 0x02 ∷ 0x03 ∷ []) ∷ []
+asks_for_link : bodies link_wanted 1 ≡ (hex "02 04 01 41 02 03") ∷ []
 unfolding on_literals
 asks_for_link = refl
 
 abbrev pub link_confirmed : World
 link_confirmed = after_all link_wanted (BaseTakes 1 ∷ [])
 
-confirms_link : made_bodies link_confirmed 1 ≡ (0x02 ∷ 0x05 ∷ 0x01 ∷ 0x41 ∷ 0x02 ∷ 0x03 ∷ []) ∷ []
+confirms_link : made_bodies link_confirmed 1 ≡ (hex "02 05 01 41 02 03") ∷ []
 unfolding on_literals
 confirms_link = refl
 
@@ -138,37 +139,37 @@ unfolding on_literals
 link_is_up = refl
 
 abbrev pub short_message_handed : World
-short_message_handed = after_all link_confirmed (BasePush 1 ∷ Handle ∷ BaseTakes 1 ∷ AirDown 1 ∷ Upper 1 Three (0x09 ∷ 0x01 ∷ []) ∷ AirUp 1 Three ∷ [])
+short_message_handed = after_all link_confirmed (BasePush 1 ∷ Handle ∷ BaseTakes 1 ∷ AirDown 1 ∷ Upper 1 Three (hex "09 01") ∷ AirUp 1 Three ∷ [])
 
-short_message_received : received (short_message_handed).actors 1 ≡ Some ((0x09 ∷ 0x02 ∷ []) ∷ [])
+short_message_received : received (short_message_handed).actors 1 ≡ Some ((hex "09 02") ∷ [])
 unfolding on_literals
 short_message_received = refl
 
-link_stays_up : made_bodies short_message_handed 1 ≡ (0x03 ∷ 0x02 ∷ 0x01 ∷ 0x41 ∷ 0x02 ∷ 0x03 ∷ 0x0b ∷ 0x00 ∷ 0x02 ∷ 0x09 ∷ 0x01 ∷ []) ∷ []
+link_stays_up : made_bodies short_message_handed 1 ≡ (hex "03 02 01 41 02 03 0b 00 02 09 01") ∷ []
 unfolding on_literals
 link_stays_up = refl
 
-rejects_link : made_bodies (after_all (new_world usual_settings) (Connect 1 1 (0x05 ∷ 0x24 ∷ 0x71 ∷ []) false ∷ BasePush 1 ∷ Handle ∷ BaseTakes 1 ∷ BasePush 1 ∷ Handle ∷ BaseTakes 1 ∷ AirUp 1 Zero ∷ BasePush 1 ∷ Handle ∷ SwitchTakes ∷ AirAck 1 Zero ∷ BasePush 0 ∷ Handle ∷ SwitchDoes (Dtap 1 Three (0x09 ∷ 0x02 ∷ [])) ∷ BasePush 0 ∷ Handle ∷ BaseTakes 1 ∷ [])) 1 ≡ (0x02 ∷ 0x09 ∷ 0x01 ∷ 0x41 ∷ 0x02 ∷ 0x03 ∷ []) ∷ []
+rejects_link : made_bodies (after_all (new_world usual_settings) (Connect 1 1 (hex "05 24 71") false ∷ BasePush 1 ∷ Handle ∷ BaseTakes 1 ∷ BasePush 1 ∷ Handle ∷ BaseTakes 1 ∷ AirUp 1 Zero ∷ BasePush 1 ∷ Handle ∷ SwitchTakes ∷ AirAck 1 Zero ∷ BasePush 0 ∷ Handle ∷ SwitchDoes (Dtap 1 Three (hex "09 02")) ∷ BasePush 0 ∷ Handle ∷ BaseTakes 1 ∷ [])) 1 ≡ (hex "02 09 01 41 02 03") ∷ []
 unfolding on_literals
 rejects_link = refl
 
-rejects_link_of_who_is_gone : made_bodies (after_all opened (SwitchDoes (Dtap 1 Zero (0x06 ∷ 0x0d ∷ 0x00 ∷ [])) ∷ BasePush 0 ∷ Handle ∷ BaseTakes 1 ∷ AirDown 1 ∷ SwitchDoes (Dtap 1 Three (0x09 ∷ 0x02 ∷ [])) ∷ BasePush 0 ∷ Handle ∷ BaseTakes 1 ∷ [])) 1 ≡ (0x02 ∷ 0x09 ∷ 0x01 ∷ 0x41 ∷ 0x02 ∷ 0x03 ∷ []) ∷ []
+rejects_link_of_who_is_gone : made_bodies (after_all opened (SwitchDoes (Dtap 1 Zero (hex "06 0d 00")) ∷ BasePush 0 ∷ Handle ∷ BaseTakes 1 ∷ AirDown 1 ∷ SwitchDoes (Dtap 1 Three (hex "09 02")) ∷ BasePush 0 ∷ Handle ∷ BaseTakes 1 ∷ [])) 1 ≡ (hex "02 09 01 41 02 03") ∷ []
 unfolding on_literals
 rejects_link_of_who_is_gone = refl
 
-rejected_link_is_down : (spot_at ((after_all (record (after_all (new_world usual_settings) (Connect 1 1 (0x05 ∷ 0x24 ∷ 0x71 ∷ []) false ∷ BasePush 1 ∷ Handle ∷ BaseTakes 1 ∷ BasePush 1 ∷ Handle ∷ BaseTakes 1 ∷ AirUp 1 Zero ∷ BasePush 1 ∷ Handle ∷ SwitchTakes ∷ AirAck 1 Zero ∷ BasePush 0 ∷ Handle ∷ Upper 1 Three (0x09 ∷ 0x01 ∷ []) ∷ AirUp 1 Three ∷ [])) { actors = with_outbox 1 (record { out = record { to = 1; conn = 1; frame = record { stream = 0; body = (0x02 ∷ 0x04 ∷ 0x01 ∷ 0x41 ∷ 0x02 ∷ 0x03 ∷ []) } }; target = None } ∷ []) ((after_all (new_world usual_settings) (Connect 1 1 (0x05 ∷ 0x24 ∷ 0x71 ∷ []) false ∷ BasePush 1 ∷ Handle ∷ BaseTakes 1 ∷ BasePush 1 ∷ Handle ∷ BaseTakes 1 ∷ AirUp 1 Zero ∷ BasePush 1 ∷ Handle ∷ SwitchTakes ∷ AirAck 1 Zero ∷ BasePush 0 ∷ Handle ∷ Upper 1 Three (0x09 ∷ 0x01 ∷ []) ∷ AirUp 1 Three ∷ []))).actors }) (BaseTakes 1 ∷ []))).actors (place_at 1 0x41)).sapi_three_up ≡ false
+rejected_link_is_down : (spot_at ((after_all (record (after_all (new_world usual_settings) (Connect 1 1 (hex "05 24 71") false ∷ BasePush 1 ∷ Handle ∷ BaseTakes 1 ∷ BasePush 1 ∷ Handle ∷ BaseTakes 1 ∷ AirUp 1 Zero ∷ BasePush 1 ∷ Handle ∷ SwitchTakes ∷ AirAck 1 Zero ∷ BasePush 0 ∷ Handle ∷ Upper 1 Three (hex "09 01") ∷ AirUp 1 Three ∷ [])) { actors = with_outbox 1 (record { out = record { to = 1; conn = 1; frame = record { stream = 0; body = (hex "02 04 01 41 02 03") } }; target = None } ∷ []) ((after_all (new_world usual_settings) (Connect 1 1 (hex "05 24 71") false ∷ BasePush 1 ∷ Handle ∷ BaseTakes 1 ∷ BasePush 1 ∷ Handle ∷ BaseTakes 1 ∷ AirUp 1 Zero ∷ BasePush 1 ∷ Handle ∷ SwitchTakes ∷ AirAck 1 Zero ∷ BasePush 0 ∷ Handle ∷ Upper 1 Three (hex "09 01") ∷ AirUp 1 Three ∷ []))).actors }) (BaseTakes 1 ∷ []))).actors (place_at 1 0x41)).sapi_three_up ≡ false
 unfolding on_literals
 rejected_link_is_down = refl
 
 -- RF CHANNEL RELEASE ends a tenure
 abbrev pub released_channel : World
-released_channel = after_all opened (SwitchDoes (Dtap 1 Zero (0x83 ∷ 0x02 ∷ [])) ∷ SwitchDoes (Clear 1) ∷ BasePush 0 ∷ Handle ∷ BasePush 0 ∷ Handle ∷ BaseTakes 1 ∷ BaseTakes 1 ∷ BaseTakes 1 ∷ [])
+released_channel = after_all opened (SwitchDoes (Dtap 1 Zero (hex "83 02")) ∷ SwitchDoes (Clear 1) ∷ BasePush 0 ∷ Handle ∷ BasePush 0 ∷ Handle ∷ BaseTakes 1 ∷ BaseTakes 1 ∷ BaseTakes 1 ∷ [])
 
 is_not_active : is_active_at (released_channel).actors (place_at 1 0x41) ≡ false
 unfolding on_literals
 is_not_active = refl
 
-acknowledges_release : made_bodies released_channel 1 ≡ (0x08 ∷ 0x33 ∷ 0x01 ∷ 0x41 ∷ []) ∷ []
+acknowledges_release : made_bodies released_channel 1 ≡ (hex "08 33 01 41") ∷ []
 unfolding on_literals
 acknowledges_release = refl
 
@@ -176,7 +177,7 @@ list_is_dropped : spot_at (released_channel).actors (place_at 1 0x41) ≡ record
 unfolding on_literals
 list_is_dropped = refl
 
-list_was_there : map (λ a. a.message) (spot_at ((after_all opened (SwitchDoes (Dtap 1 Zero (0x83 ∷ 0x02 ∷ [])) ∷ SwitchDoes (Clear 1) ∷ BasePush 0 ∷ Handle ∷ BasePush 0 ∷ Handle ∷ BaseTakes 1 ∷ BaseTakes 1 ∷ []))).actors (place_at 1 0x41)).air ≡ (0x83 ∷ 0x02 ∷ []) ∷ (0x06 ∷ 0x0d ∷ 0x00 ∷ []) ∷ []
+list_was_there : map (λ a. a.message) (spot_at ((after_all opened (SwitchDoes (Dtap 1 Zero (hex "83 02")) ∷ SwitchDoes (Clear 1) ∷ BasePush 0 ∷ Handle ∷ BasePush 0 ∷ Handle ∷ BaseTakes 1 ∷ BaseTakes 1 ∷ []))).actors (place_at 1 0x41)).air ≡ (hex "83 02") ∷ (hex "06 0d 00") ∷ []
 unfolding on_literals
 list_was_there = refl
 
@@ -184,27 +185,27 @@ link_is_down_when_released : (spot_at ((after_all short_message_handed (SwitchDo
 unfolding on_literals
 link_is_down_when_released = refl
 
-rejects_link_when_released : made_bodies (after_all (record released_channel { actors = with_outbox 1 (record { out = record { to = 1; conn = 1; frame = record { stream = 0; body = (0x02 ∷ 0x04 ∷ 0x01 ∷ 0x41 ∷ 0x02 ∷ 0x03 ∷ []) } }; target = None } ∷ []) (released_channel).actors }) (BaseTakes 1 ∷ [])) 1 ≡ (0x08 ∷ 0x33 ∷ 0x01 ∷ 0x41 ∷ []) ∷ (0x02 ∷ 0x09 ∷ 0x01 ∷ 0x41 ∷ 0x02 ∷ 0x03 ∷ []) ∷ []
+rejects_link_when_released : made_bodies (after_all (record released_channel { actors = with_outbox 1 (record { out = record { to = 1; conn = 1; frame = record { stream = 0; body = (hex "02 04 01 41 02 03") } }; target = None } ∷ []) (released_channel).actors }) (BaseTakes 1 ∷ [])) 1 ≡ (hex "08 33 01 41") ∷ (hex "02 09 01 41 02 03") ∷ []
 unfolding on_literals
 rejects_link_when_released = refl
 
-air_is_silent_when_released : map (takes released_channel) (Upper 1 Zero (0x03 ∷ 0x05 ∷ []) ∷ AirUp 1 Zero ∷ AirAck 1 Zero ∷ AirDown 1 ∷ AirDownLost 1 ∷ Report 1 (0x14 ∷ 0x14 ∷ 0x00 ∷ 0x57 ∷ 0x02 ∷ 0x40 ∷ 0x00 ∷ 0x00 ∷ 0x00 ∷ 0x00 ∷ 0x00 ∷ 0x00 ∷ 0x00 ∷ 0x00 ∷ 0x00 ∷ 0x00 ∷ []) ∷ []) ≡ true ∷ false ∷ false ∷ false ∷ false ∷ false ∷ []
+air_is_silent_when_released : map (takes released_channel) (Upper 1 Zero (hex "03 05") ∷ AirUp 1 Zero ∷ AirAck 1 Zero ∷ AirDown 1 ∷ AirDownLost 1 ∷ Report 1 (hex "14 14 00 57 02 40 00 00 00 00 00 00 00 00 00 00") ∷ []) ≡ true ∷ false ∷ false ∷ false ∷ false ∷ false ∷ []
 unfolding on_literals
 air_is_silent_when_released = refl
 
 -- a move drops the list of its channel, and the data link of SAPI 3
 abbrev pub with_link : World
-with_link = after_all opened (Upper 1 Three (0x09 ∷ 0x01 ∷ []) ∷ AirUp 1 Three ∷ AirAck 1 Three ∷ BasePush 1 ∷ Handle ∷ BasePush 1 ∷ Handle ∷ SwitchDoes (Assign 1) ∷ BasePush 0 ∷ Handle ∷ BaseTakes 1 ∷ BasePush 1 ∷ Handle ∷ BaseTakes 1 ∷ AirDown 1 ∷ [])
+with_link = after_all opened (Upper 1 Three (hex "09 01") ∷ AirUp 1 Three ∷ AirAck 1 Three ∷ BasePush 1 ∷ Handle ∷ BasePush 1 ∷ Handle ∷ SwitchDoes (Assign 1) ∷ BasePush 0 ∷ Handle ∷ BaseTakes 1 ∷ BasePush 1 ∷ Handle ∷ BaseTakes 1 ∷ AirDown 1 ∷ [])
 
-link_comes_again : made_bodies (after_all with_link (Move 1 ∷ Return 1 ∷ Upper 1 Three (0x09 ∷ 0x02 ∷ []) ∷ AirUp 1 Three ∷ [])) 1 ≡ (0x02 ∷ 0x06 ∷ 0x01 ∷ 0x41 ∷ 0x02 ∷ 0x00 ∷ []) ∷ (0x02 ∷ 0x06 ∷ 0x01 ∷ 0x41 ∷ 0x02 ∷ 0x03 ∷ []) ∷ (0x03 ∷ 0x02 ∷ 0x01 ∷ 0x41 ∷ 0x02 ∷ 0x03 ∷ 0x0b ∷ 0x00 ∷ 0x02 ∷ 0x09 ∷ 0x02 ∷ []) ∷ []
+link_comes_again : made_bodies (after_all with_link (Move 1 ∷ Return 1 ∷ Upper 1 Three (hex "09 02") ∷ AirUp 1 Three ∷ [])) 1 ≡ (hex "02 06 01 41 02 00") ∷ (hex "02 06 01 41 02 03") ∷ (hex "03 02 01 41 02 03 0b 00 02 09 02") ∷ []
 unfolding on_literals
 link_comes_again = refl
 
-link_goes_on_without_move : made_bodies (after_all with_link (Upper 1 Three (0x09 ∷ 0x02 ∷ []) ∷ AirUp 1 Three ∷ [])) 1 ≡ (0x03 ∷ 0x02 ∷ 0x01 ∷ 0x41 ∷ 0x02 ∷ 0x03 ∷ 0x0b ∷ 0x00 ∷ 0x02 ∷ 0x09 ∷ 0x02 ∷ []) ∷ []
+link_goes_on_without_move : made_bodies (after_all with_link (Upper 1 Three (hex "09 02") ∷ AirUp 1 Three ∷ [])) 1 ≡ (hex "03 02 01 41 02 03 0b 00 02 09 02") ∷ []
 unfolding on_literals
 link_goes_on_without_move = refl
 
-link_of_a_tch : made_bodies (after_all with_link (Move 1 ∷ Arrive 1 ∷ Upper 1 Three (0x09 ∷ 0x02 ∷ []) ∷ AirUp 1 Three ∷ [])) 1 ≡ (0x02 ∷ 0x06 ∷ 0x01 ∷ 0x0a ∷ 0x02 ∷ 0x00 ∷ []) ∷ (0x02 ∷ 0x06 ∷ 0x01 ∷ 0x0a ∷ 0x02 ∷ 0x43 ∷ []) ∷ (0x03 ∷ 0x02 ∷ 0x01 ∷ 0x0a ∷ 0x02 ∷ 0x43 ∷ 0x0b ∷ 0x00 ∷ 0x02 ∷ 0x09 ∷ 0x02 ∷ []) ∷ []
+link_of_a_tch : made_bodies (after_all with_link (Move 1 ∷ Arrive 1 ∷ Upper 1 Three (hex "09 02") ∷ AirUp 1 Three ∷ [])) 1 ≡ (hex "02 06 01 0a 02 00") ∷ (hex "02 06 01 0a 02 43") ∷ (hex "03 02 01 0a 02 43 0b 00 02 09 02") ∷ []
 unfolding on_literals
 link_of_a_tch = refl
 

@@ -3,6 +3,7 @@ use Rattle.world_model.proofs.Prelude.{◌≡◌, ℕ, ◌==◌, if◌then◌els
 use Rattle.world_model.proofs.Prelude.{place_at, usual_settings, Zero, Event, Connect, AirUp, BaseTakes, BasePush, Handle, BaseDown, Asking}
 use Rattle.world_model.proofs.Prelude.{On, Moving, Gone, Tenure, IsBy, LeadsBy, SitsBy, TakesFirstBy, on_seat, senders, actors_after_all}
 use Rattle.world_model.proofs.Prelude.{Actors, new_actors, outbox_of}
+use Rattle.octets.proofs.Hex.{hex}
 use Rattle.world_model.proofs.Worlds.{on_literals}
 
 begin : Actors
@@ -14,7 +15,7 @@ tenure channel number = record { at = place_at 1 channel; number = number }
 -- two mobiles ask for channels of the first cell; the first one sends before it is told its
 -- channel, and once it is
 abbrev asking : List Event
-asking = Connect 1 1 (0x05 ∷ 0x24 ∷ 0x71 ∷ []) true ∷ Connect 2 1 (0x05 ∷ 0x24 ∷ 0x72 ∷ []) true ∷ AirUp 1 Zero ∷ BasePush 1 ∷ Handle ∷ BasePush 1 ∷ Handle ∷ BaseTakes 1 ∷ BaseTakes 1 ∷ BasePush 1 ∷ Handle ∷ BasePush 1 ∷ Handle ∷ []
+asking = Connect 1 1 (hex "05 24 71") true ∷ Connect 2 1 (hex "05 24 72") true ∷ AirUp 1 Zero ∷ BasePush 1 ∷ Handle ∷ BasePush 1 ∷ Handle ∷ BaseTakes 1 ∷ BaseTakes 1 ∷ BasePush 1 ∷ Handle ∷ BasePush 1 ∷ Handle ∷ []
 
 nobody_sends : senders begin asking ≡ []
 unfolding on_literals begin

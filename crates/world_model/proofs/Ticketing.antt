@@ -20,10 +20,10 @@ use Rattle.world_model.proofs.Prelude.{spot_at, station_of, stations_from, tenur
 use Rattle.world_model.specs.Life.{event_after}
 use Rattle.world_model.specs.Mobiles.{complete, failure, after_upper, after_connecting, after_air_up, after_air_ack, after_air_down, after_air_down_lost, after_move, after_touch, after_arriving, after_return, after_report, brought, connected, controlled, framed, hearing, left, remembering}
 use Rattle.world_model.specs.Tickets.{AllSitBy, OneMobileEach, Sender, sender_at, sender_of}
-use Rattle.world_model.proofs.Honesty.{reached-up, set-elsewhere, set-or-not, up-right, less_one}
-use Rattle.world_model.proofs.Leads.{OfTaken, FromAir, and-right, upper-leads, connect-leads, air_up-leads, air_ack-leads, air_down-leads, air_down_lost-leads, move-leads, touch-leads, arrive-leads, return-leads, report-leads, base_takes-leads, handle-leads, turn-leads, switch_takes-leads, switch_took-leads, push-leads, does-leads, broken-leads, after-taken, unless_last-leads}
-use Rattle.world_model.proofs.Mobility.{back-all, behind-all, found-all}
-use Rattle.world_model.proofs.Found.{found-number}
+use Rattle.world_model.proofs.Honesty.{reached_up, set-elsewhere, set-or-not, up_right, less_one}
+use Rattle.world_model.proofs.Leads.{OfTaken, FromAir, and_right, upper_leads, connect_leads, air_up_leads, air_ack_leads, air_down_leads, air_down_lost_leads, move_leads, touch_leads, arrive_leads, return_leads, report-leads, base_takes_leads, handle_leads, turn_leads, switch_takes_leads, switch_took-leads, push_leads, does_leads, broken_leads, after_taken, unless_last_leads}
+use Rattle.world_model.proofs.Mobility.{back_all, behind_all, found_all}
+use Rattle.world_model.proofs.Found.{number_found}
 
 -- ---- channels
 
@@ -32,8 +32,8 @@ set-spots (first ∷ stations) zero zero station same = same
 set-spots (first ∷ stations) (suc k) (suc j) station same = set-spots stations k j station same
 set-spots _ _ _ station same = refl
 
-pub spot-with_base : (n : ℕ) (base : BaseState) (w : Actors) (at : Place) → spot_at (with_base n base w) at ≡ spot_at w at
-spot-with_base n base w at = ap (λ (spots : List Spot). slice_index_or spots at.number new_spot) (set-spots w.stations (n - 1) (at.station - 1) _ refl)
+pub spot_with_base : (n : ℕ) (base : BaseState) (w : Actors) (at : Place) → spot_at (with_base n base w) at ≡ spot_at w at
+spot_with_base n base w at = ap (λ (spots : List Spot). slice_index_or spots at.number new_spot) (set-spots w.stations (n - 1) (at.station - 1) _ refl)
 
 spots_here : (spots : List Spot) (k : ℕ) (spot : Spot) → (slice_index_or (set spots k spot) k new_spot ≡ spot) ⊎ (slice_index_or (set spots k spot) k new_spot ≡ slice_index_or spots k new_spot)
 spots_here [] k spot = inr refl
@@ -102,16 +102,16 @@ same_sits {owner} sits mobiles spots = record {
 }
 
 based : {owner : Tenure → ℕ} {w : Actors} (n : ℕ) (base : BaseState) → Sits owner w → Sits owner (with_base n base w)
-based {owner} {w} n base sits = same_sits sits refl (λ at. spot-with_base n base w at)
+based {owner} {w} n base sits = same_sits sits refl (λ at. spot_with_base n base w at)
 
 spotted : {owner : Tenure → ℕ} {w : Actors} (p : Place) (spot : Spot) → p.station ≢ 0 → AirBy owner p spot → Sits owner w → Sits owner (with_spot p spot w)
 spotted {owner} {w} p spot p_is here sits = record { mobiles = sits.mobiles; air = spot_all (AirBy owner) w p spot p_is here sits.air }
 
 put : {owner : Tenure → ℕ} {w : Actors} (p : Mobile) → SitsBy owner p.number p.seat → Sits owner w → Sits owner (with_mobile p w)
-put {owner} {w} p here sits = record { mobiles = back-all (λ (q : Mobile). SitsBy owner q.number q.seat) p w.mobiles here sits.mobiles; air = sits.air }
+put {owner} {w} p here sits = record { mobiles = back_all (λ (q : Mobile). SitsBy owner q.number q.seat) p w.mobiles here sits.mobiles; air = sits.air }
 
 sits_of : {owner : Tenure → ℕ} {w : Actors} {p : Mobile} (number : ℕ) → Sits owner w → mobile_of w number ≡ Some p → SitsBy owner p.number p.seat
-sits_of {owner} {w} {p} number sits found = found-all (λ (q : Mobile). SitsBy owner q.number q.seat) number w.mobiles p sits.mobiles found
+sits_of {owner} {w} {p} number sits found = found_all (λ (q : Mobile). SitsBy owner q.number q.seat) number w.mobiles p sits.mobiles found
 
 -- ---- mobiles
 
@@ -121,10 +121,10 @@ on_own owner number tenure (Some command) sits = sits.0
 
 -- a tenure that is reached is the present one of its channel
 reached_is : (w : Actors) (tenure : Tenure) → is_reached w tenure ≡ true → record { at = tenure.at; number = (spot_at w tenure.at).tenure } ≡ tenure
-reached_is w tenure reached = ap (λ (n : ℕ). record { at = tenure.at; number = n }) (eqb-true (spot_at w tenure.at).tenure tenure.number (and-right (is_station_up w tenure.at.station && is_active_at w tenure.at) ((spot_at w tenure.at).tenure == tenure.number) reached))
+reached_is w tenure reached = ap (λ (n : ℕ). record { at = tenure.at; number = n }) (eqb-true (spot_at w tenure.at).tenure tenure.number (and_right (is_station_up w tenure.at.station && is_active_at w tenure.at) ((spot_at w tenure.at).tenure == tenure.number) reached))
 
-pub reached-station : (w : Actors) (tenure : Tenure) → is_reached w tenure ≡ true → tenure.at.station ≢ 0
-reached-station w tenure reached = (up-right tenure.at.station w (reached-up w tenure reached).0).0
+pub reached_station : (w : Actors) (tenure : Tenure) → is_reached w tenure ≡ true → tenure.at.station ≢ 0
+reached_station w tenure reached = (up_right tenure.at.station w (reached_up w tenure reached).0).0
 
 remembers : (owner : Tenure → ℕ) (p : Mobile) (change : Change) (target here : Tenure) (seat : Seat) → p.seat ≡ seat → owner target ≡ p.number → SitsBy owner p.number seat → SitsBy owner p.number (remembering p change target seat).seat
 remembers owner p change target here (On tenure command) is own sits = (on_own owner p.number tenure command sits, own)
@@ -136,29 +136,29 @@ controls owner p here (Some target) (Ok (AssignmentCommand channel)) own leads s
 controls owner p here (Some target) (Ok (HandoverCommand cell channel reference)) own leads sits = remembers owner p Handover target here p.seat refl (leads ∙ own) sits
 controls owner p here _ _ own leads sits = sits
 
-pub same-number : (p : Mobile) (target : Option Tenure) (r : Result RrMessage RrFault) → (controlled p target r).number ≡ p.number
-same-number p target (Ok (ChannelRelease cause)) = refl
-same-number p (Some target) (Ok (AssignmentCommand channel)) = by p.seat
+pub same_number : (p : Mobile) (target : Option Tenure) (r : Result RrMessage RrFault) → (controlled p target r).number ≡ p.number
+same_number p target (Ok (ChannelRelease cause)) = refl
+same_number p (Some target) (Ok (AssignmentCommand channel)) = by p.seat
   where
     by : (seat : Seat) → (remembering p Assignment target seat).number ≡ p.number
     by (On tenure command) = refl
     by _ = refl
-same-number p (Some target) (Ok (HandoverCommand cell channel reference)) = by p.seat
+same_number p (Some target) (Ok (HandoverCommand cell channel reference)) = by p.seat
   where
     by : (seat : Seat) → (remembering p Handover target seat).number ≡ p.number
     by (On tenure command) = refl
     by _ = refl
-same-number p None (Ok (AssignmentCommand channel)) = refl
-same-number p None (Ok (HandoverCommand cell channel reference)) = refl
-same-number p target (Ok _) = refl
-same-number p target (Err fault) = refl
+same_number p None (Ok (AssignmentCommand channel)) = refl
+same_number p None (Ok (HandoverCommand cell channel reference)) = refl
+same_number p target (Ok _) = refl
+same_number p target (Err fault) = refl
 
 hears : (owner : Tenure → ℕ) (p : Mobile) (here : Tenure) (a : AirMessage) → owner here ≡ p.number → LeadsBy owner here a.target → SitsBy owner p.number p.seat → SitsBy owner (hearing p a).number (hearing p a).seat
 hears owner p here a own leads sits = by (is_dtap a.message)
   where
     by : (b : Bool) → SitsBy owner (if b then record p { received = p.received ++ a.message ∷ [] } else controlled p a.target (rr_reading a.message)).number (if b then record p { received = p.received ++ a.message ∷ [] } else controlled p a.target (rr_reading a.message)).seat
     by true = sits
-    by false = subst (λ (n : ℕ). SitsBy owner n (controlled p a.target (rr_reading a.message)).seat) (sym (same-number p a.target (rr_reading a.message))) (controls owner p here a.target (rr_reading a.message) own leads sits)
+    by false = subst (λ (n : ℕ). SitsBy owner n (controlled p a.target (rr_reading a.message)).seat) (sym (same_number p a.target (rr_reading a.message))) (controls owner p here a.target (rr_reading a.message) own leads sits)
 
 first_leads : (owner : Tenure → ℕ) (here : Tenure) (air : List AirMessage) (first : AirMessage) (others : List AirMessage) → air ≡ first ∷ others → AllByRecursion (λ (a : AirMessage). LeadsBy owner here a.target) air → LeadsBy owner here first.target × AllByRecursion (λ (a : AirMessage). LeadsBy owner here a.target) others
 first_leads owner here air first others is all = subst (AllByRecursion (λ (a : AirMessage). LeadsBy owner here a.target)) is all
@@ -167,7 +167,7 @@ first_leads owner here air first others is all = subst (AllByRecursion (λ (a : 
 takes_air : (owner : Tenure → ℕ) (w : Actors) (number : ℕ) (p q : Mobile) (tenure : Tenure) (first : AirMessage) (others : List AirMessage) → is_reached w tenure ≡ true → (spot_at w tenure.at).air ≡ first ∷ others → Sits owner w → (LeadsBy owner tenure first.target → SitsBy owner q.number q.seat) →
     Sits owner (with_mobile q (with_spot tenure.at (record (spot_at w tenure.at) { air = others }) w))
 takes_air owner w number p q tenure first others reached is sits here =
-    let station = reached-station w tenure reached in
+    let station = reached_station w tenure reached in
     let present : Tenure = record { at = tenure.at; number = (spot_at w tenure.at).tenure } in
     let parts = first_leads owner present (spot_at w tenure.at).air first others is (sits.air tenure.at station) in
     put q (here (subst (λ (t : Tenure). LeadsBy owner t first.target) (reached_is w tenure reached) parts.0))
@@ -187,7 +187,7 @@ assigned_sits owner w station (Ok (ImmediateAssignment channel request advance))
 
     by : (o : Option Mobile) → mobile_of w (slice_index_or request 0 0) ≡ o → Sits owner (assigned_to o tenure w)
     by None found = sits
-    by (Some p) found = from p p.seat (names ∙ sym (found-number (slice_index_or request 0 0) w.mobiles p found))
+    by (Some p) found = from p p.seat (names ∙ sym (number_found (slice_index_or request 0 0) w.mobiles p found))
 
     numbered : (b : Bool) → Sits owner (if b then assigned_to (mobile_of w (slice_index_or request 0 0)) tenure w else w)
     numbered true = by (mobile_of w (slice_index_or request 0 0)) refl
@@ -209,7 +209,7 @@ activated_sits owner w at None is sits = spotted at (new_tenure (spot_at w at)) 
 took_sits : (owner : Tenure → ℕ) (w : Actors) (station : ℕ) (target : Option Tenure) (o : Option Rsl) → station ≢ 0 → TakesBy owner w station target o → Sits owner w → OfTaken (Sits owner) (took station target o w)
 unfolding OfTaken
 took_sits owner w station target (Some (ChannelActivation a)) is takes sits =
-    unless_last-leads (Sits owner) ((spot_at w (place_at station a.channel)).tenure == MAX_TENURE) (activated (place_at station a.channel) w) (activated_sits owner w (place_at station a.channel) (refusal_of_activate (base_of w station) a.channel) is sits)
+    unless_last_leads (Sits owner) ((spot_at w (place_at station a.channel)).tenure == MAX_TENURE) (activated (place_at station a.channel) w) (activated_sits owner w (place_at station a.channel) (refusal_of_activate (base_of w station) a.channel) is sits)
 took_sits owner w station target (Some (ImmediateAssignCommand i)) is takes sits = assigned_sits owner w station (rr_reading i.information) takes sits
 took_sits owner w station target (Some (DataRequest d)) is takes sits = aired_sits owner w station d.channel (record { message = d.l3; target = target }) (is_active_at w (place_at station d.channel)) is takes sits
 took_sits owner w station target (Some (EstablishRequest l)) is takes sits =
@@ -226,11 +226,11 @@ took_sits owner w station target _ is takes sits = sits
 brought_sits : (owner : Tenure → ℕ) (w : Actors) (number : ℕ) (p : Mobile) (tenure : Tenure) (sapi : Sapi) (frame : List ℕ) → is_reached w tenure ≡ true → SitsBy owner p.number p.seat → Sits owner w → Sits owner (brought w p tenure.at sapi frame)
 brought_sits owner w number p tenure Zero frame reached here sits = put (record (framed p Zero) { opens = false }) here (based tenure.at.station _ sits)
 brought_sits owner w number p tenure Three frame reached here sits =
-    let station = reached-station w tenure reached in
+    let station = reached_station w tenure reached in
     put (framed p Three) here (spotted tenure.at (record (spot_at w tenure.at) { sapi_three_up = true }) station (sits.air tenure.at station) (based tenure.at.station _ sits))
 
 after_sits : (owner : Tenure → ℕ) (w : Actors) (o : Option Actors) → Sits owner w → OfTaken (Sits owner) o → Sits owner (unwrap_or o w)
-after_sits owner w o sits leads = after-taken (Sits owner) o w leads sits
+after_sits owner w o sits leads = after_taken (Sits owner) o w leads sits
 
 first_takes : (owner : Tenure → ℕ) (w : Actors) (station : ℕ) (entries : List OutboxEntry) (first : OutboxEntry) (others : List OutboxEntry) → entries ≡ first ∷ others → TakesFirstBy owner w station entries → TakesBy owner w station first.target (rsl_in first.out.frame)
 first_takes owner w station entries first others is takes = subst (TakesFirstBy owner w station) is takes
@@ -238,16 +238,16 @@ first_takes owner w station entries first others is takes = subst (TakesFirstBy 
 sits_step : (owner : Tenure → ℕ) (w : Actors) (event : Event) → IsBy owner w event → Sits owner w → Sits owner (actors_after w event)
 unfolding event_after FromAir OfTaken
 sits_step owner w (Upper number sapi message) by sits =
-    after_sits owner w (after_upper w number sapi message) sits (upper-leads (Sits owner) w number sapi message (λ p found. put (record p { end = after_queue p.end sapi message }) (sits_of number sits found) sits))
+    after_sits owner w (after_upper w number sapi message) sits (upper_leads (Sits owner) w number sapi message (λ p found. put (record p { end = after_queue p.end sapi message }) (sits_of number sits found) sits))
 sits_step owner w (Connect number station initial accepts) by sits =
-    after_sits owner w (after_connecting w number station initial accepts) sits (connect-leads (Sits owner) w number station initial accepts (λ may.
-    based station _ (record { mobiles = behind-all (λ (q : Mobile). SitsBy owner q.number q.seat) (connected w.modulus number initial accepts) w.mobiles tt sits.mobiles; air = sits.air })))
+    after_sits owner w (after_connecting w number station initial accepts) sits (connect_leads (Sits owner) w number station initial accepts (λ may.
+    based station _ (record { mobiles = behind_all (λ (q : Mobile). SitsBy owner q.number q.seat) (connected w.modulus number initial accepts) w.mobiles tt sits.mobiles; air = sits.air })))
 sits_step owner w (AirUp number sapi) by sits =
-    after_sits owner w (after_air_up w number sapi) sits (air_up-leads (Sits owner) w number sapi (λ p tenure command frame found seat lent reached. brought_sits owner w number p tenure sapi frame reached (sits_of number sits found) sits))
+    after_sits owner w (after_air_up w number sapi) sits (air_up_leads (Sits owner) w number sapi (λ p tenure command frame found seat lent reached. brought_sits owner w number p tenure sapi frame reached (sits_of number sits found) sits))
 sits_step owner w (AirAck number sapi) by sits =
-    after_sits owner w (after_air_ack w number sapi) sits (air_ack-leads (Sits owner) w number sapi (λ p found. put (record p { end = after_acked p.end sapi }) (sits_of number sits found) sits))
+    after_sits owner w (after_air_ack w number sapi) sits (air_ack_leads (Sits owner) w number sapi (λ p found. put (record p { end = after_acked p.end sapi }) (sits_of number sits found) sits))
 sits_step owner w (AirDown number) by sits =
-    after_sits owner w (after_air_down w number) sits (air_down-leads (Sits owner) w number (λ p tenure command found seat reached first others air. heard p tenure command found seat reached first others air))
+    after_sits owner w (after_air_down w number) sits (air_down_leads (Sits owner) w number (λ p tenure command found seat reached first others air. heard p tenure command found seat reached first others air))
   where
     heard : (p : Mobile) (tenure : Tenure) (command : Option Command) → mobile_of w number ≡ Some p → p.seat ≡ On tenure command → is_reached w tenure ≡ true → (first : AirMessage) (others : List AirMessage) → (spot_at w tenure.at).air ≡ first ∷ others →
         Sits owner (with_mobile (hearing p first) (with_spot tenure.at (record (spot_at w tenure.at) { air = others }) w))
@@ -255,22 +255,22 @@ sits_step owner w (AirDown number) by sits =
         let here = sits_of number sits found in
         takes_air owner w number p (hearing p first) tenure first others reached air sits (λ leads. hears owner p tenure first (on_own owner p.number tenure command (subst (SitsBy owner p.number) seat here)) leads here)
 sits_step owner w (AirDownLost number) by sits =
-    after_sits owner w (after_air_down_lost w number) sits (air_down_lost-leads (Sits owner) w number (λ p tenure command found seat reached first others air. takes_air owner w number p p tenure first others reached air sits (λ leads. sits_of number sits found)))
+    after_sits owner w (after_air_down_lost w number) sits (air_down_lost_leads (Sits owner) w number (λ p tenure command found seat reached first others air. takes_air owner w number p p tenure first others reached air sits (λ leads. sits_of number sits found)))
 sits_step owner w (Move number) by sits =
-    after_sits owner w (after_move w number) sits (move-leads (Sits owner) w number (λ p tenure command found seat reached. leaving p tenure command reached (subst (SitsBy owner p.number) seat (sits_of number sits found))))
+    after_sits owner w (after_move w number) sits (move_leads (Sits owner) w number (λ p tenure command found seat reached. leaving p tenure command reached (subst (SitsBy owner p.number) seat (sits_of number sits found))))
   where
     leaving : (p : Mobile) (tenure : Tenure) (command : Command) → is_reached w tenure ≡ true → (owner tenure ≡ p.number) × (owner command.target ≡ p.number) → Sits owner (left w p tenure command)
-    leaving p tenure command reached own = put (record p { end = after_leave p.end; seat = Moving tenure command; opens = false }) own (spotted tenure.at (record (spot_at w tenure.at) { air = []; sapi_three_up = false }) (reached-station w tenure reached) tt sits)
-sits_step owner w (Touch number) by sits = after_sits owner w (after_touch w number) sits (touch-leads (Sits owner) w number (λ command reached. based command.target.at.station _ sits))
+    leaving p tenure command reached own = put (record p { end = after_leave p.end; seat = Moving tenure command; opens = false }) own (spotted tenure.at (record (spot_at w tenure.at) { air = []; sapi_three_up = false }) (reached_station w tenure reached) tt sits)
+sits_step owner w (Touch number) by sits = after_sits owner w (after_touch w number) sits (touch_leads (Sits owner) w number (λ command reached. based command.target.at.station _ sits))
 sits_step owner w (Arrive number) by sits =
-    after_sits owner w (after_arriving w number) sits (arrive-leads (Sits owner) w number (λ p from command found seat reached.
+    after_sits owner w (after_arriving w number) sits (arrive_leads (Sits owner) w number (λ p from command found seat reached.
     put (record p { end = after_arrival p.end (complete command.change); seat = On command.target None }) (subst (SitsBy owner p.number) seat (sits_of number sits found)).1 (based command.target.at.station _ sits)))
 sits_step owner w (Return number) by sits =
-    after_sits owner w (after_return w number) sits (return-leads (Sits owner) w number (λ p from command found seat reached.
+    after_sits owner w (after_return w number) sits (return_leads (Sits owner) w number (λ p from command found seat reached.
     put (record p { end = after_arrival p.end (failure command.change); seat = On from None }) (subst (SitsBy owner p.number) seat (sits_of number sits found)).0 (based from.at.station _ sits)))
 sits_step owner w (BaseTakes station) by sits =
-    after_sits owner w (after_base_takes w station) sits (base_takes-leads (Sits owner) w station (λ first others up is.
-    took_sits owner (with_outbox station others w) station first.target (rsl_in first.out.frame) (up-right station w up).0 (took_by first others up is) (same_sits sits refl (λ at. refl))))
+    after_sits owner w (after_base_takes w station) sits (base_takes_leads (Sits owner) w station (λ first others up is.
+    took_sits owner (with_outbox station others w) station first.target (rsl_in first.out.frame) (up_right station w up).0 (took_by first others up is) (same_sits sits refl (λ at. refl))))
   where
     -- the outbox doesn't matter to it
     same_takes : (target : Option Tenure) (others : List OutboxEntry) (o : Option Rsl) → TakesBy owner w station target o → TakesBy owner (with_outbox station others w) station target o
@@ -286,18 +286,18 @@ sits_step owner w (BaseTakes station) by sits =
     took_by : (first : OutboxEntry) (others : List OutboxEntry) → is_station_up w station ≡ true → outbox_of w station ≡ first ∷ others → TakesBy owner (with_outbox station others w) station first.target (rsl_in first.out.frame)
     took_by first others up is = same_takes first.target others (rsl_in first.out.frame) (first_takes owner w station (outbox_of w station) first others is (by up))
 sits_step owner w (BasePush source) by sits =
-    after_sits owner w (after_base_push w source) sits (push-leads (Sits owner) w source (λ first others. same_sits sits refl (λ at. refl)) (λ message _. same_sits sits refl (λ at. spot-with_base source _ w at)))
+    after_sits owner w (after_base_push w source) sits (push_leads (Sits owner) w source (λ first others. same_sits sits refl (λ at. refl)) (λ message _. same_sits sits refl (λ at. spot_with_base source _ w at)))
 sits_step owner w Handle by sits =
-    after_sits owner w (after_handle w) sits (handle-leads (Sits owner) w (λ item items _. turn-leads (Sits owner) (target_in w item.source item.what) (take item w.controller) (record w { inbox = items }) (λ links. same_sits sits refl (λ at. refl))))
+    after_sits owner w (after_handle w) sits (handle_leads (Sits owner) w (λ item items _. turn_leads (Sits owner) (target_in w item.source item.what) (take item w.controller) (record w { inbox = items }) (λ links. same_sits sits refl (λ at. refl))))
 sits_step owner w SwitchTakes by sits =
-    after_sits owner w (after_switch_takes w) sits (switch_takes-leads (Sits owner) w (λ first others _ _. switch_took-leads (Sits owner) (with_outbox SWITCH_LINK others w) (sccp_in first.out.frame) (same_sits sits refl (λ at. refl)) (λ next made. same_sits sits refl (λ at. refl))))
-sits_step owner w (SwitchDoes action) by sits = after_sits owner w (after_switch_does w action) sits (does-leads (Sits owner) w action (λ next made. same_sits sits refl (λ at. refl)))
-sits_step owner w (Tick ms) by sits = after_sits owner w (after_tick w ms) sits (turn-leads (Sits owner) None (tick ms w.controller) w (λ links. same_sits sits refl (λ at. refl)))
+    after_sits owner w (after_switch_takes w) sits (switch_takes_leads (Sits owner) w (λ first others _ _. switch_took-leads (Sits owner) (with_outbox SWITCH_LINK others w) (sccp_in first.out.frame) (same_sits sits refl (λ at. refl)) (λ next made. same_sits sits refl (λ at. refl))))
+sits_step owner w (SwitchDoes action) by sits = after_sits owner w (after_switch_does w action) sits (does_leads (Sits owner) w action (λ next made. same_sits sits refl (λ at. refl)))
+sits_step owner w (Tick ms) by sits = after_sits owner w (after_tick w ms) sits (turn_leads (Sits owner) None (tick ms w.controller) w (λ links. same_sits sits refl (λ at. refl)))
 sits_step owner w (BaseDown source) by sits =
-    after_sits owner w (after_break w source) sits (broken-leads (Sits owner) w source (λ _ _. same_sits sits refl (λ at. refl)) (λ _ _. same_sits sits refl (λ at. spot-with_base source _ w at)))
+    after_sits owner w (after_break w source) sits (broken_leads (Sits owner) w source (λ _ _. same_sits sits refl (λ at. refl)) (λ _ _. same_sits sits refl (λ at. spot_with_base source _ w at)))
 sits_step owner w (Report number report) by sits =
     after_sits owner w (after_report w number report) sits (report-leads (Sits owner) w number report (λ tenure reached.
-    let station = reached-station w tenure reached in
+    let station = reached_station w tenure reached in
     based tenure.at.station _ (spotted tenure.at (record (spot_at w tenure.at) { reports = ((spot_at w tenure.at).reports + 1) % 256 }) station (sits.air tenure.at station) sits)))
 
 -- ---- all events
@@ -311,15 +311,15 @@ no_air zero k = refl
 no_air (suc n) zero = refl
 no_air (suc n) (suc k) = no_air n k
 
-new-air : (cells : List CellParameters) (from k number : ℕ) → (slice_index_or (get_or (stations_from from cells) k no_station).spots number new_spot).air ≡ []
-new-air [] from k number = refl
-new-air (cell ∷ cells) from zero number = no_air CHANNEL_NUMBERS number
-new-air (cell ∷ cells) from (suc k) number = new-air cells (from + 1) k number
+new_air : (cells : List CellParameters) (from k number : ℕ) → (slice_index_or (get_or (stations_from from cells) k no_station).spots number new_spot).air ≡ []
+new_air [] from k number = refl
+new_air (cell ∷ cells) from zero number = no_air CHANNEL_NUMBERS number
+new_air (cell ∷ cells) from (suc k) number = new_air cells (from + 1) k number
 
 new_sits : (settings : Parameters) (owner : Tenure → ℕ) → Sits owner (new_actors settings)
 new_sits settings owner = record {
   mobiles = tt;
-  air = λ at at_is. subst (AllByRecursion (λ (a : AirMessage). LeadsBy owner (tenure_at (new_actors settings) at) a.target)) (sym (new-air settings.cells 1 (at.station - 1) at.number)) tt;
+  air = λ at at_is. subst (AllByRecursion (λ (a : AirMessage). LeadsBy owner (tenure_at (new_actors settings) at) a.target)) (sym (new_air settings.cells 1 (at.station - 1) at.number)) tt;
 }
 
 pub AllSitBy-new : (settings : Parameters) (events : List Event) (owner : Tenure → ℕ) → AllAreBy owner (new_actors settings) events → AllSitBy owner (actors_after_all (new_actors settings) events)

@@ -1,14 +1,17 @@
 -- What happens to a mobile's end in a run, call by call, and what stations take of it, channel
 -- after channel.
-use Rattle.std.specs.Prelude.{◌≡◌, ℕ, ◌==◌, ◌&&◌, Bool, false, if◌then◌else◌, is_some, List, [], ◌∷◌, ◌++◌, Option, Some, None}
+use Rattle.std.specs.Prelude.{◌≡◌, ℕ, ◌==◌, ◌&&◌, Bool, false, if◌then◌else◌, is_some, List, []}
+use Rattle.std.specs.Prelude.{◌∷◌, ◌++◌, Option, Some, None}
 use Rattle.dtap_codec.specs.declared.sapi.Sapi.TheVariants.{Zero}
 use Rattle.mobile_end.specs.Calls.{Call, frame_lent}
-use Rattle.mobile_end.specs.Calls.Call.{connects, sends, frames, acknowledges, leaves, arrives, gives_up}
+use Rattle.mobile_end.specs.Calls.Call.{connects, sends, frames, acknowledges, leaves, arrives}
+use Rattle.mobile_end.specs.Calls.Call.{gives_up}
 use Rattle.mobile_end.specs.Mobile.{frame_answer}
 use Rattle.mobile_end.specs.OneRepeat.{OneRepeat}
 use Rattle.settings.specs.Parameters.{Parameters}
 use Rattle.world_model.specs.declared.event.Event.{Event}
-use Rattle.world_model.specs.declared.event.Event.TheVariants.{Upper, Connect, AirUp, AirAck, Move, Arrive, Return}
+use Rattle.world_model.specs.declared.event.Event.TheVariants.{Upper, Connect, AirUp, AirAck, Move}
+use Rattle.world_model.specs.declared.event.Event.TheVariants.{Arrive, Return}
 use Rattle.world_model.specs.declared.seat.Seat.{Seat}
 use Rattle.world_model.specs.declared.seat.Seat.TheVariants.{Asking, Moving}
 use Rattle.world_model.specs.Life.{actors_after, actors_after_all, event_after}
@@ -37,18 +40,29 @@ calls_to_return seat = []
 
 -- at an event, and at all these
 abbrev pub calls_at : Actors → Event → ℕ → List Call
-calls_at w (Connect mobile station initial accepts) number = if is_done_by number w mobile (Connect mobile station initial accepts) then connects (Some initial) ∷ [] else []
-calls_at w (Upper mobile sapi message) number = if is_done_by number w mobile (Upper mobile sapi message) then sends sapi message ∷ [] else []
-calls_at w (AirUp mobile sapi) number = if is_done_by number w mobile (AirUp mobile sapi) then frames sapi ∷ [] else []
-calls_at w (AirAck mobile sapi) number = if is_done_by number w mobile (AirAck mobile sapi) then acknowledges sapi ∷ [] else []
-calls_at w (Move mobile) number = if is_done_by number w mobile (Move mobile) then leaves ∷ [] else []
-calls_at w (Arrive mobile) number = if is_done_by number w mobile (Arrive mobile) then calls_to_arrive (seat_of (mobile_of w mobile)) else []
-calls_at w (Return mobile) number = if is_done_by number w mobile (Return mobile) then calls_to_return (seat_of (mobile_of w mobile)) else []
+calls_at w (Connect mobile station initial accepts) number =
+    if is_done_by number w mobile (Connect mobile station initial accepts)
+    then connects (Some initial) ∷ [] else []
+calls_at w (Upper mobile sapi message) number =
+    if is_done_by number w mobile (Upper mobile sapi message) then sends sapi message ∷ [] else []
+calls_at w (AirUp mobile sapi) number =
+    if is_done_by number w mobile (AirUp mobile sapi) then frames sapi ∷ [] else []
+calls_at w (AirAck mobile sapi) number =
+    if is_done_by number w mobile (AirAck mobile sapi) then acknowledges sapi ∷ [] else []
+calls_at w (Move mobile) number =
+    if is_done_by number w mobile (Move mobile) then leaves ∷ [] else []
+calls_at w (Arrive mobile) number =
+    if is_done_by number w mobile (Arrive mobile)
+    then calls_to_arrive (seat_of (mobile_of w mobile)) else []
+calls_at w (Return mobile) number =
+    if is_done_by number w mobile (Return mobile)
+    then calls_to_return (seat_of (mobile_of w mobile)) else []
 calls_at w _ number = []
 
 abbrev pub all_calls : Actors → List Event → ℕ → List Call
 all_calls w [] number = []
-all_calls w (event ∷ events) number = calls_at w event number ++ all_calls (actors_after w event) events number
+all_calls w (event ∷ events) number =
+    calls_at w event number ++ all_calls (actors_after w event) events number
 
 -- ---- what stations take of it
 
@@ -58,21 +72,22 @@ frame_of (Some p) = frame_lent (frame_answer p.end Zero)
 
 -- its frame of SAPI 0 that a station takes at an event
 abbrev pub taken_at : Actors → Event → ℕ → List (List ℕ)
-taken_at w (AirUp mobile Zero) number = if is_done_by number w mobile (AirUp mobile Zero) then frame_of (mobile_of w mobile) else []
+taken_at w (AirUp mobile Zero) number =
+    if is_done_by number w mobile (AirUp mobile Zero) then frame_of (mobile_of w mobile) else []
 taken_at w _ number = []
 
 -- it comes to a channel to which it was commanded, or back to the one that it left
-abbrev pub comes_at : Actors → Event → ℕ → Bool
-comes_at w (Arrive mobile) number = is_done_by number w mobile (Arrive mobile)
-comes_at w (Return mobile) number = is_done_by number w mobile (Return mobile)
-comes_at w _ number = false
+abbrev pub arrives_at : Actors → Event → ℕ → Bool
+arrives_at w (Arrive mobile) number = is_done_by number w mobile (Arrive mobile)
+arrives_at w (Return mobile) number = is_done_by number w mobile (Return mobile)
+arrives_at w _ number = false
 
 -- What stations take of it on SAPI 0, one list for its first channel and for each time that it
 -- comes to a channel; so_far was taken on the first of them.
 abbrev pub taken_by_channel : Actors → ℕ → List (List ℕ) → List Event → List (List (List ℕ))
 taken_by_channel w number so_far [] = so_far ∷ []
 taken_by_channel w number so_far (event ∷ events) =
-    if comes_at w event number
+    if arrives_at w event number
     then so_far ∷ taken_by_channel (actors_after w event) number [] events
     else taken_by_channel (actors_after w event) number (so_far ++ taken_at w event number) events
 
@@ -83,8 +98,10 @@ taken_by_channel w number so_far (event ∷ events) =
 -- the next channel.
 abbrev pub MobilesRepeatAtMostOne : Parameters → List Event → Type 0
 MobilesRepeatAtMostOne settings events =
-    (number : ℕ) (p : Mobile) → mobile_of (actors_after_all (new_actors settings) events) number ≡ Some p
-    → OneRepeat (modulus_in settings) p.end.sent 0 (taken_by_channel (new_actors settings) number [] events)
+    (number : ℕ) (p : Mobile) → mobile_of (actors_after_all (new_actors settings) events) number
+    ≡ Some p
+    → OneRepeat (modulus_in settings) p.end.sent 0
+    (taken_by_channel (new_actors settings) number [] events)
 
 -- ---- COMPLETE comes first
 
@@ -98,18 +115,18 @@ abbrev pub failure_of : Seat → Option (List ℕ)
 failure_of (Moving from command) = Some (failure command.change)
 failure_of seat = None
 
-abbrev pub comes_with : Actors → Event → Option (List ℕ)
-comes_with w (Arrive mobile) = complete_of (seat_of (mobile_of w mobile))
-comes_with w (Return mobile) = failure_of (seat_of (mobile_of w mobile))
-comes_with w _ = None
+abbrev pub arrives_with : Actors → Event → Option (List ℕ)
+arrives_with w (Arrive mobile) = complete_of (seat_of (mobile_of w mobile))
+arrives_with w (Return mobile) = failure_of (seat_of (mobile_of w mobile))
+arrives_with w _ = None
 
 -- With which it comes, each time that it comes to a channel; to the present one it came with this,
 -- to its first channel with none.
 abbrev pub comings : Actors → ℕ → Option (List ℕ) → List Event → List (Option (List ℕ))
 comings w number present [] = present ∷ []
 comings w number present (event ∷ events) =
-    if comes_at w event number
-    then present ∷ comings (actors_after w event) number (comes_with w event) events
+    if arrives_at w event number
+    then present ∷ comings (actors_after w event) number (arrives_with w event) events
     else comings (actors_after w event) number present events
 
 -- what was taken begins with this message, where it isn't empty
@@ -124,5 +141,7 @@ EachBegins _ _ = ⊥
 
 -- Whatever happened: of each mobile, stations take COMPLETE first on a channel to which it was
 -- commanded, and FAILURE first where it came back.
-abbrev pub CompleteComesFirst : Parameters → List Event → Type 0
-CompleteComesFirst settings events = (number : ℕ) → EachBegins (comings (new_actors settings) number None events) (taken_by_channel (new_actors settings) number [] events)
+abbrev pub CompleteIsFirst : Parameters → List Event → Type 0
+CompleteIsFirst settings events =
+    (number : ℕ) → EachBegins (comings (new_actors settings) number None events)
+    (taken_by_channel (new_actors settings) number [] events)

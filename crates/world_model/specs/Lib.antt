@@ -16,7 +16,7 @@ pub mod Honest
 pub mod Steps
 pub mod Pipe
 pub mod Calls
-pub mod Lives
+pub mod CallsMade
 pub mod Reading
 pub mod Sized
 pub mod Takes

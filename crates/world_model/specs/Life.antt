@@ -2,9 +2,15 @@
 use Rattle.std.specs.Prelude.{◌+◌, min, if◌then◌else◌, is_some, unwrap_or, List, fold, Option}
 use Rattle.settings.specs.Parameters.{Parameters}
 use Rattle.world_model.specs.declared.event.Event.{Event}
-use Rattle.world_model.specs.declared.event.Event.TheVariants.{Upper, Connect, AirUp, AirAck, AirDown, AirDownLost, Move, Touch, Arrive, Return, BaseTakes, BasePush, Handle, SwitchTakes, SwitchDoes, Tick, BaseDown, Report}
+use Rattle.world_model.specs.declared.event.Event.TheVariants.{Upper, Connect, AirUp, AirAck}
+use Rattle.world_model.specs.declared.event.Event.TheVariants.{AirDown, AirDownLost, Move, Touch}
+use Rattle.world_model.specs.declared.event.Event.TheVariants.{Arrive, Return, BaseTakes, BasePush}
+use Rattle.world_model.specs.declared.event.Event.TheVariants.{Handle, SwitchTakes, SwitchDoes}
+use Rattle.world_model.specs.declared.event.Event.TheVariants.{Tick, BaseDown, Report}
 use Rattle.world_model.specs.declared.limits.TheConstants.{MAX_NOT_TAKEN}
-use Rattle.world_model.specs.Mobiles.{after_upper, after_connecting, after_air_up, after_air_ack, after_air_down, after_air_down_lost, after_move, after_touch, after_arriving, after_return, after_report}
+use Rattle.world_model.specs.Mobiles.{after_upper, after_connecting, after_air_up, after_air_ack}
+use Rattle.world_model.specs.Mobiles.{after_air_down, after_air_down_lost, after_move, after_touch}
+use Rattle.world_model.specs.Mobiles.{after_arriving, after_return, after_report}
 use Rattle.world_model.specs.Relay.{after_base_push, after_handle, after_tick, after_break}
 use Rattle.world_model.specs.Stations.{after_base_takes}
 use Rattle.world_model.specs.SwitchSide.{after_switch_takes, after_switch_does}
@@ -13,7 +19,8 @@ use Rattle.world_model.specs.World.{Actors, World, new_world}
 -- the actors after an event; None where its actor can't take it
 unfoldable pub event_after : Actors → Event → Option Actors
 event_after w (Upper mobile sapi message) = after_upper w mobile sapi message
-event_after w (Connect mobile station initial accepts) = after_connecting w mobile station initial accepts
+event_after w (Connect mobile station initial accepts) =
+    after_connecting w mobile station initial accepts
 event_after w (AirUp mobile sapi) = after_air_up w mobile sapi
 event_after w (AirAck mobile sapi) = after_air_ack w mobile sapi
 event_after w (AirDown mobile) = after_air_down w mobile
@@ -39,7 +46,9 @@ actors_after w event = unwrap_or (event_after w event) w
 abbrev pub after : World → Event → World
 after w event = record {
   actors = actors_after w.actors event;
-  not_taken = if is_some (event_after w.actors event) then w.not_taken else min (w.not_taken + 1) MAX_NOT_TAKEN;
+  not_taken =
+      if is_some (event_after w.actors event) then w.not_taken
+      else min (w.not_taken + 1) MAX_NOT_TAKEN;
 }
 
 -- the actors after all these events, one after the other

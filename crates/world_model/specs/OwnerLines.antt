@@ -1,10 +1,13 @@
 -- Whose each tenure is, while it is on its way: what waits for a station agrees with an ownership
 -- of tenures, and what comes of a channel fits its state at the controller.
-use Rattle.std.specs.Prelude.{◌<◌, ◌≤◌, length, ◌≡◌, ℕ, ◌+◌, ◌==◌, ◌&&◌, not, Bool, true, false, if◌then◌else◌, List, [], ◌∷◌, ◌++◌, slice_index_or, option_map, option_to_list, Option, Some, Result, Ok}
+use Rattle.std.specs.Prelude.{◌<◌, ◌≤◌, length, ◌≡◌, ℕ, ◌+◌, ◌==◌, ◌&&◌, not, Bool, true, false}
+use Rattle.std.specs.Prelude.{if◌then◌else◌, List, [], ◌∷◌, ◌++◌, slice_index_or, option_map}
+use Rattle.std.specs.Prelude.{option_to_list, Option, Some, Result, Ok}
 use Rattle.std.specs.List.{flat_map}
 use Rattle.conn_messages.specs.declared.channel.Place.{Place}
 use Rattle.controller_model.specs.declared.channel_state.ChannelState.{ChannelState}
-use Rattle.controller_model.specs.declared.channel_state.ChannelState.TheVariants.{Free, InUse, Releasing}
+use Rattle.controller_model.specs.declared.channel_state.ChannelState.TheVariants.{Free, InUse}
+use Rattle.controller_model.specs.declared.channel_state.ChannelState.TheVariants.{Releasing}
 use Rattle.controller_model.specs.declared.limits.TheConstants.{CHANNEL_NUMBERS}
 use Rattle.controller_model.specs.Controller.{Controller, channel_state, entry_of, is_up as hears}
 use Rattle.dtap_codec.specs.declared.rr.RrMessage.{RrMessage}
@@ -16,7 +19,8 @@ use Rattle.ruled_relay.specs.declared.item.Item.{Item}
 use Rattle.ruled_relay.specs.declared.item.What.{What}
 use Rattle.ruled_relay.specs.declared.item.What.TheVariants as whats
 use Rattle.rsl_codec.specs.declared.rsl.Rsl.{Rsl}
-use Rattle.rsl_codec.specs.declared.rsl.Rsl.TheVariants.{DataRequest, ImmediateAssignCommand, ChannelActivation, RfChannelReleaseAck}
+use Rattle.rsl_codec.specs.declared.rsl.Rsl.TheVariants.{DataRequest, ImmediateAssignCommand}
+use Rattle.rsl_codec.specs.declared.rsl.Rsl.TheVariants.{ChannelActivation, RfChannelReleaseAck}
 use Rattle.settings.specs.Parameters.{Parameters}
 use Rattle.world_model.specs.declared.line.OutboxEntry.{OutboxEntry}
 use Rattle.world_model.specs.declared.seat.Tenure.{Tenure}
@@ -30,20 +34,28 @@ use Rattle.world_model.specs.World.{Actors, base_of, is_active_at, is_up, outbox
 -- an IMMEDIATE ASSIGNMENT of the channel names the mobile of that tenure
 abbrev pub AssignsIn : (Tenure → ℕ) → Place → ℕ → Result RrMessage RrFault → Type 0
 AssignsIn owner at tenure (Ok (ImmediateAssignment channel request advance)) =
-    channel.channel.0 ≡ at.number → owner (record { at = at; number = tenure }) ≡ slice_index_or request 0 0
+    channel.channel.0 ≡ at.number → owner (record {
+      at =
+          at;
+      number = tenure;
+    }) ≡ slice_index_or request 0 0
 AssignsIn owner at tenure _ = Unit {0}
 
 -- it is activated only where it is there and isn't active; a command on it leads to a tenure of the
 -- same mobile
 abbrev pub FitsTenure : (Tenure → ℕ) → Place → Bool → ℕ → Option Tenure → Option Rsl → Type 0
-FitsTenure owner at active tenure target (Some (ChannelActivation a)) = a.channel ≡ at.number → (active ≡ false) × (at.number < CHANNEL_NUMBERS)
-FitsTenure owner at active tenure target (Some (ImmediateAssignCommand i)) = AssignsIn owner at tenure (rr_reading i.information)
-FitsTenure owner at active tenure target (Some (DataRequest d)) = d.channel ≡ at.number → LeadsBy owner (record { at = at; number = tenure }) target
+FitsTenure owner at active tenure target (Some (ChannelActivation a)) =
+    a.channel ≡ at.number → (active ≡ false) × (at.number < CHANNEL_NUMBERS)
+FitsTenure owner at active tenure target (Some (ImmediateAssignCommand i)) =
+    AssignsIn owner at tenure (rr_reading i.information)
+FitsTenure owner at active tenure target (Some (DataRequest d)) =
+    d.channel ≡ at.number → LeadsBy owner (record { at = at; number = tenure }) target
 FitsTenure owner at active tenure target _ = Unit {0}
 
 -- the number of its last tenure then
 abbrev pub tenure_then : ℕ → Bool → ℕ → Option Rsl → ℕ
-tenure_then channel active tenure (Some (ChannelActivation a)) = if (a.channel == channel) && not active then tenure + 1 else tenure
+tenure_then channel active tenure (Some (ChannelActivation a)) =
+    if (a.channel == channel) && not active then tenure + 1 else tenure
 tenure_then channel active tenure _ = tenure
 
 -- one after the other
@@ -51,19 +63,25 @@ abbrev pub AreFitting : (Tenure → ℕ) → Place → Bool → ℕ → List Out
 AreFitting owner at active tenure [] = Unit {0}
 AreFitting owner at active tenure (entry ∷ entries) =
     FitsTenure owner at active tenure entry.target (rsl_in entry.out.frame)
-    × AreFitting owner at (is_active_then at.number active (rsl_in entry.out.frame)) (tenure_then at.number active tenure (rsl_in entry.out.frame)) entries
+    × AreFitting owner at (is_active_then at.number active (rsl_in entry.out.frame))
+    (tenure_then at.number active tenure (rsl_in entry.out.frame)) entries
 
 abbrev pub tenure_all : ℕ → Bool → ℕ → List OutboxEntry → ℕ
 tenure_all channel active tenure [] = tenure
 tenure_all channel active tenure (entry ∷ entries) =
-    tenure_all channel (is_active_then channel active (rsl_in entry.out.frame)) (tenure_then channel active tenure (rsl_in entry.out.frame)) entries
+    tenure_all channel (is_active_then channel active (rsl_in entry.out.frame))
+    (tenure_then channel active tenure (rsl_in entry.out.frame)) entries
 
 -- behind all that waits: whether the channel is active, and its last tenure
 abbrev pub active_behind : Actors → Place → Bool
 active_behind w at = active_all at.number (is_active_at w at) (outbox_of w at.station)
 
 abbrev pub tenure_behind : Actors → Place → Tenure
-tenure_behind w at = record { at = at; number = tenure_all at.number (is_active_at w at) (spot_at w at).tenure (outbox_of w at.station) }
+tenure_behind w at =
+    record {
+      at = at;
+      number = tenure_all at.number (is_active_at w at) (spot_at w at).tenure (outbox_of w at.station);
+    }
 
 -- ---- the acknowledgements of a channel that are on their way up, or due for what waits
 
@@ -79,15 +97,17 @@ acknowledged_in at items = acknowledgements at.number (flat_map (said at.station
 
 abbrev pub to_come : Actors → Place → List Rsl
 to_come w at =
-    acknowledged_in at w.inbox ++ (acknowledgements at.number (base_of w at.station).messages ++ due at.number (is_active_at w at) (outbox_of w at.station))
+    acknowledged_in at w.inbox ++ (acknowledgements at.number (base_of w at.station).messages
+    ++ due at.number (is_active_at w at) (outbox_of w at.station))
 
 -- what comes where the controller has the channel in this state
-pub data Comes (channel : ℕ) : ChannelState → List Rsl → Type 0 where
-  nothing : Comes channel Free []
-  began : {number : ℕ} → Comes channel (InUse number) []
-  begins : {number : ℕ} → Comes channel (InUse number) (activation_ack channel ∷ [])
-  ends : {number : ℕ} → Comes channel (Releasing number) (RfChannelReleaseAck channel ∷ [])
-  begins_and_ends : {number : ℕ} → Comes channel (Releasing number) (activation_ack channel ∷ RfChannelReleaseAck channel ∷ [])
+pub data IsOwed (channel : ℕ) : ChannelState → List Rsl → Type 0 where
+  nothing : IsOwed channel Free []
+  began : {number : ℕ} → IsOwed channel (InUse number) []
+  begins : {number : ℕ} → IsOwed channel (InUse number) (activation_ack channel ∷ [])
+  ends : {number : ℕ} → IsOwed channel (Releasing number) (RfChannelReleaseAck channel ∷ [])
+  begins_and_ends : {number : ℕ} → IsOwed channel (Releasing number) (activation_ack channel
+      ∷ RfChannelReleaseAck channel ∷ [])
 
 abbrev pub is_in_use : ChannelState → Bool
 is_in_use (InUse number) = true
@@ -96,7 +116,7 @@ is_in_use _ = false
 -- all of it comes while the station's link is up, and else its beginning
 pub record IsOnItsWay (w : Actors) (at : Place) (state : ChannelState) : Type 0 where
   pub lost : List Rsl
-  pub comes : Comes at.number state (to_come w at ++ lost)
+  pub comes : IsOwed at.number state (to_come w at ++ lost)
   pub all : is_up w at.station ≡ true → lost ≡ []
   pub active : is_up w at.station ≡ true → active_behind w at ≡ is_in_use state
 
@@ -113,9 +133,11 @@ pub record Agrees (owner : Tenure → ℕ) (w : Actors) (at : Place) : Type 0 wh
   pub way : hears w.controller at.station ≡ true → IsOnItsWay w at (channel_state w.controller at)
   -- the last tenure is of the mobile of the connection that uses the channel, unless the link broke
   -- and no acknowledgement comes
-  pub own : (number mobile : ℕ) → hears w.controller at.station ≡ true → channel_state w.controller at ≡ InUse number → asker w.controller number ≡ Some mobile
+  pub own : (number mobile : ℕ) → hears w.controller at.station ≡ true
+      → channel_state w.controller at ≡ InUse number → asker w.controller number ≡ Some mobile
       → (is_up w at.station ≡ false → to_come w at ≡ [] → ⊥) → owner (tenure_behind w at) ≡ mobile
 
 -- each channel of each station of the settings
 abbrev pub AllAgree : Parameters → (Tenure → ℕ) → Actors → Type 0
-AllAgree settings owner w = (at : Place) → 1 ≤ at.station → at.station ≤ length settings.cells → Agrees owner w at
+AllAgree settings owner w =
+    (at : Place) → 1 ≤ at.station → at.station ≤ length settings.cells → Agrees owner w at

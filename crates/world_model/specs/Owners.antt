@@ -1,5 +1,6 @@
 -- Whose each tenure is: the mobile for which its channel was activated.
-use Rattle.std.specs.Prelude.{ℕ, ◌&&◌, nat_lt, nat_le, Bool, if◌then◌else◌, unwrap_or, List, [], ◌∷◌}
+use Rattle.std.specs.Prelude.{ℕ, ◌&&◌, nat_lt, nat_le, Bool, if◌then◌else◌, unwrap_or, List, []}
+use Rattle.std.specs.Prelude.{◌∷◌}
 use Rattle.conn_messages.specs.declared.channel.Place.{Place}
 use Rattle.controller_model.specs.declared.channel_state.ChannelState.{ChannelState}
 use Rattle.controller_model.specs.declared.channel_state.ChannelState.TheVariants.{InUse}
@@ -21,9 +22,13 @@ user_of c at = user_by c (channel_state c at)
 -- the activation that begins the tenure is put at this event: behind all that waits there were
 -- fewer tenures, and are so many
 abbrev pub is_begun : Actors → Event → Tenure → Bool
-is_begun w event t = nat_lt (tenure_behind w t.at).number t.number && nat_le t.number (tenure_behind (actors_after w event) t.at).number
+is_begun w event t =
+    nat_lt (tenure_behind w t.at).number t.number
+    && nat_le t.number (tenure_behind (actors_after w event) t.at).number
 
 -- over all these events: it is the tenure of the mobile whose connection used the channel then
 abbrev pub owner_in : Actors → List Event → Tenure → ℕ
 owner_in w [] t = 0
-owner_in w (event ∷ events) t = if is_begun w event t then user_of (actors_after w event).controller t.at else owner_in (actors_after w event) events t
+owner_in w (event ∷ events) t =
+    if is_begun w event t then user_of (actors_after w event).controller t.at
+    else owner_in (actors_after w event) events t

@@ -1,5 +1,6 @@
 -- The relay's queues: what was put there by any list of events, and what was taken.
-use Rattle.std.specs.Prelude.{◌≡◌, ℕ, ◌==◌, Bool, true, if◌then◌else◌, is_some, List, [], ◌∷◌, ◌++◌, filter, map, option_to_list, None}
+use Rattle.std.specs.Prelude.{◌≡◌, ℕ, ◌==◌, Bool, true, if◌then◌else◌, is_some, List, [], ◌∷◌, ◌++◌}
+use Rattle.std.specs.Prelude.{filter, map, option_to_list, None}
 use Rattle.conn_messages.specs.declared.parameters.TheConstants.{SWITCH_LINK}
 use Rattle.controller_model.specs.Life.{take, tick}
 use Rattle.link_model.specs.Base.{first_message}
@@ -7,7 +8,8 @@ use Rattle.octets.specs.Lists.{IsPrefix}
 use Rattle.ruled_relay.specs.declared.item.Item.{Item}
 use Rattle.ruled_relay.specs.declared.item.What.TheVariants as whats
 use Rattle.world_model.specs.declared.event.Event.{Event}
-use Rattle.world_model.specs.declared.event.Event.TheVariants.{BaseTakes, BasePush, Handle, SwitchTakes, Tick, BaseDown}
+use Rattle.world_model.specs.declared.event.Event.TheVariants.{BaseTakes, BasePush, Handle}
+use Rattle.world_model.specs.declared.event.Event.TheVariants.{SwitchTakes, Tick, BaseDown}
 use Rattle.world_model.specs.declared.line.OutboxEntry.{OutboxEntry}
 use Rattle.world_model.specs.Life.{event_after, actors_after, actors_after_all}
 use Rattle.world_model.specs.Relay.{station_item, switch_item, entry_of, target_in}
@@ -22,12 +24,14 @@ first_of (first ∷ others) = first ∷ []
 -- the first made item of a source
 abbrev pub made_item : Actors → ℕ → List Item
 made_item w source =
-    if source == SWITCH_LINK then map switch_item (first_of w.switch_made) else map (station_item source) (option_to_list (first_message (base_of w source)))
+    if source == SWITCH_LINK then map switch_item (first_of w.switch_made)
+    else map (station_item source) (option_to_list (first_message (base_of w source)))
 
 -- what an event puts there: a made item, or the end of a link that breaks
 abbrev pub pushed : Actors → Event → List Item
 pushed w (BasePush source) = made_item w source
-pushed w (BaseDown source) = if is_up w source then record { source = source; what = whats.Down } ∷ [] else []
+pushed w (BaseDown source) =
+    if is_up w source then record { source = source; what = whats.Down } ∷ [] else []
 pushed w _ = []
 
 -- what the controller handles
@@ -51,7 +55,8 @@ of_source source items = filter (λ item. item.source == source) items
 -- what the controller puts at an event
 abbrev pub outputs_at : Actors → List Item → List OutboxEntry
 outputs_at w [] = []
-outputs_at w (item ∷ items) = map (entry_of (target_in w item.source item.what)) (take item w.controller).outs
+outputs_at w (item ∷ items) =
+    map (entry_of (target_in w item.source item.what)) (take item w.controller).outs
 
 abbrev pub outputs : Actors → Event → List OutboxEntry
 outputs w Handle = outputs_at w w.inbox
@@ -66,7 +71,9 @@ abbrev pub put : ℕ → Actors → Event → List OutboxEntry
 put link w event = if is_up w link then to_link link (outputs w event) else []
 
 abbrev pub first_if : Bool → Actors → Event → ℕ → List OutboxEntry
-first_if taker w event link = if taker then (if is_some (event_after w event) then first_of (outbox_of w link) else []) else []
+first_if taker w event link =
+    if taker then (if is_some (event_after w event) then first_of (outbox_of w link) else [])
+    else []
 
 -- what the other end of the link takes
 abbrev pub taken : ℕ → Actors → Event → List OutboxEntry
@@ -80,16 +87,22 @@ all_put link w (event ∷ events) = put link w event ++ all_put link (actors_aft
 
 abbrev pub all_taken : ℕ → Actors → List Event → List OutboxEntry
 all_taken link w [] = []
-all_taken link w (event ∷ events) = taken link w event ++ all_taken link (actors_after w event) events
+all_taken link w (event ∷ events) =
+    taken link w event ++ all_taken link (actors_after w event) events
 
 -- ---- each queue gives what was put there, in order
 
 pub record KeepsQueues (begin : Actors) (events : List Event) : Type 0 where
   -- the inbox: what was put is what was handled, and then what is left, and so it is for each
   -- source
-  pub inbox : all_pushed begin events ≡ all_popped begin events ++ (actors_after_all begin events).inbox
-  pub sources : (source : ℕ) → of_source source (all_pushed begin events) ≡ of_source source (all_popped begin events) ++ of_source source (actors_after_all begin events).inbox
+  pub inbox : all_pushed begin events
+      ≡ all_popped begin events ++ (actors_after_all begin events).inbox
+  pub sources : (source : ℕ) → of_source source (all_pushed begin events)
+      ≡ of_source source (all_popped begin events)
+      ++ of_source source (actors_after_all begin events).inbox
   -- an outbox: what was taken is the beginning of what was put, and while the link is up the rest
   -- is left
   pub outboxes : (link : ℕ) → IsPrefix (all_taken link begin events) (all_put link begin events)
-  pub left : (link : ℕ) → is_up (actors_after_all begin events) link ≡ true → all_put link begin events ≡ all_taken link begin events ++ outbox_of (actors_after_all begin events) link
+  pub left : (link : ℕ) → is_up (actors_after_all begin events) link ≡ true
+      → all_put link begin events ≡ all_taken link begin events
+      ++ outbox_of (actors_after_all begin events) link

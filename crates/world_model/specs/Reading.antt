@@ -20,7 +20,8 @@ frame_of message = record { stream = RSL_STREAM; body = rsl_text message }
 
 -- a frame of RSL whose body is the text of a message, and is read as it
 abbrev pub IsRead : What → Type 0
-IsRead (whats.Frame frame) = (message : Rsl) × (frame ≡ frame_of message) × (rsl_reading (rsl_text message) ≡ Ok message)
+IsRead (whats.Frame frame) =
+    (message : Rsl) × (frame ≡ frame_of message) × (rsl_reading (rsl_text message) ≡ Ok message)
 IsRead whats.Down = Unit {0}
 
 abbrev pub IsReadItem : Item → Type 0

@@ -1,6 +1,7 @@
 -- What goes through the controller and its queues: pushes into the inbox, what is handled, ticks,
 -- and breaks of links.
-use Rattle.std.specs.Prelude.{ℕ, ◌==◌, Bool, true, false, if◌then◌else◌, List, [], ◌∷◌, ◌++◌, fold, Option, Some, None, Result, Ok}
+use Rattle.std.specs.Prelude.{ℕ, ◌==◌, Bool, true, false, if◌then◌else◌, List, [], ◌∷◌, ◌++◌, fold}
+use Rattle.std.specs.Prelude.{Option, Some, None, Result, Ok}
 use Rattle.bssmap_codec.specs.declared.sccp.Sccp.{Sccp}
 use Rattle.bssmap_codec.specs.SccpText.{sccp_text}
 use Rattle.conn_messages.specs.declared.out.Out.{Out}
@@ -22,30 +23,37 @@ use Rattle.rsl_codec.specs.RslText.{rsl_text}
 use Rattle.world_model.specs.declared.line.OutboxEntry.{OutboxEntry}
 use Rattle.world_model.specs.declared.seat.Tenure.{Tenure}
 use Rattle.world_model.specs.Stations.{rsl_in}
-use Rattle.world_model.specs.World.{Actors, is_up, outbox_of, with_outbox, broken_link, with_link, base_of, with_base, tenure_at}
+use Rattle.world_model.specs.World.{Actors, is_up, outbox_of, with_outbox, broken_link, with_link}
+use Rattle.world_model.specs.World.{base_of, with_base, tenure_at}
 
 -- ---- the first made item of a source goes to the inbox's end
 
 abbrev pub station_item : ℕ → Rsl → Item
-station_item station message = record { source = station; what = whats.Frame (record { stream = RSL_STREAM; body = rsl_text message }) }
+station_item station message =
+    record { source = station; what = whats.Frame (record { stream = RSL_STREAM; body = rsl_text message }) }
 
 abbrev pub switch_item : Sccp → Item
-switch_item message = record { source = SWITCH_LINK; what = whats.Frame (record { stream = SCCP_STREAM; body = sccp_text message }) }
+switch_item message =
+    record { source = SWITCH_LINK; what = whats.Frame (record { stream = SCCP_STREAM; body = sccp_text message }) }
 
 abbrev pub with_item : Item → Actors → Actors
 with_item item w = record w { inbox = w.inbox ++ item ∷ [] }
 
 abbrev pub pushed_by_station : ℕ → Option Rsl → Actors → Option Actors
 pushed_by_station station None w = None
-pushed_by_station station (Some message) w = Some (with_item (station_item station message) (with_base station (after_next (base_of w station)) w))
+pushed_by_station station (Some message) w =
+    Some (with_item (station_item station message)
+    (with_base station (after_next (base_of w station)) w))
 
 abbrev pub pushed_by_switch : List Sccp → Actors → Option Actors
 pushed_by_switch [] w = None
-pushed_by_switch (first ∷ others) w = Some (with_item (switch_item first) (record w { switch_made = others }))
+pushed_by_switch (first ∷ others) w =
+    Some (with_item (switch_item first) (record w { switch_made = others }))
 
 abbrev pub after_base_push : Actors → ℕ → Option Actors
 after_base_push w source =
-    if source == SWITCH_LINK then pushed_by_switch w.switch_made w else pushed_by_station source (first_message (base_of w source)) w
+    if source == SWITCH_LINK then pushed_by_switch w.switch_made w
+    else pushed_by_station source (first_message (base_of w source)) w
 
 -- ---- outputs join the outboxes, except those of links that are down
 
@@ -61,10 +69,13 @@ commands _ = false
 -- a command leads to the channel whose activation was acknowledged
 abbrev pub entry_of : Option Tenure → Out → OutboxEntry
 entry_of None out = record { out = out; target = None }
-entry_of (Some target) out = record { out = out; target = if commands (rsl_in out.frame) then Some target else None }
+entry_of (Some target) out =
+    record { out = out; target = if commands (rsl_in out.frame) then Some target else None }
 
 abbrev pub joined_by : Option Tenure → Actors → Out → Actors
-joined_by target w out = if is_up w out.to then with_outbox out.to (outbox_of w out.to ++ entry_of target out ∷ []) w else w
+joined_by target w out =
+    if is_up w out.to then with_outbox out.to (outbox_of w out.to ++ entry_of target out ∷ []) w
+    else w
 
 abbrev pub with_turn : Option Tenure → Turn → Actors → Actors
 with_turn target t w = fold (joined_by target) (record w { controller = t.next }) t.outs
@@ -73,7 +84,8 @@ with_turn target t w = fold (joined_by target) (record w { controller = t.next }
 
 -- the tenure that an ACTIVATION ACK begins for the controller
 abbrev pub acknowledged_tenure : Actors → ℕ → Option Rsl → Option Tenure
-acknowledged_tenure w station (Some (ChannelActivationAck a)) = Some (tenure_at w (place_at station a.channel))
+acknowledged_tenure w station (Some (ChannelActivationAck a)) =
+    Some (tenure_at w (place_at station a.channel))
 acknowledged_tenure w station _ = None
 
 abbrev pub target_in : Actors → ℕ → What → Option Tenure
@@ -82,7 +94,9 @@ target_in w source whats.Down = None
 
 abbrev pub handled : List Item → Actors → Option Actors
 handled [] w = None
-handled (item ∷ items) w = Some (with_turn (target_in w item.source item.what) (take item w.controller) (record w { inbox = items }))
+handled (item ∷ items) w =
+    Some (with_turn (target_in w item.source item.what) (take item w.controller)
+    (record w { inbox = items }))
 
 abbrev pub after_handle : Actors → Option Actors
 after_handle w = handled w.inbox w
@@ -96,10 +110,13 @@ after_tick w ms = Some (with_turn None (tick ms w.controller) w)
 
 abbrev pub without_made : ℕ → Actors → Actors
 without_made source w =
-    if source == SWITCH_LINK then record w { switch_made = [] } else with_base source (after_take_down (base_of w source)) w
+    if source == SWITCH_LINK then record w { switch_made = [] }
+    else with_base source (after_take_down (base_of w source)) w
 
 abbrev pub broken : ℕ → Actors → Actors
-broken source w = with_item (record { source = source; what = whats.Down }) (without_made source (with_link source broken_link w))
+broken source w =
+    with_item (record { source = source; what = whats.Down })
+    (without_made source (with_link source broken_link w))
 
 abbrev pub after_break : Actors → ℕ → Option Actors
 after_break w source = if is_up w source then Some (broken source w) else None

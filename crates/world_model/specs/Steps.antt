@@ -31,16 +31,21 @@ all_steps w (event ∷ events) = step_at w event ++ all_steps (actors_after w ev
 -- what the controller put at these events
 abbrev pub all_outputs : Actors → List Event → List Out
 all_outputs w [] = []
-all_outputs w (event ∷ events) = map (λ entry. entry.out) (outputs w event) ++ all_outputs (actors_after w event) events
+all_outputs w (event ∷ events) =
+    map (λ entry. entry.out) (outputs w event) ++ all_outputs (actors_after w event) events
 
 -- the controller after these events, and what it put
 abbrev pub controller_run : Actors → List Event → Turn
 controller_run w events = turn (all_outputs w events) (actors_after_all w events).controller
 
 -- the controller is the one after these steps,
-abbrev pub LivesByTable : Parameters → List Event → Type 0
-LivesByTable settings events = (actors_after_all (new_actors settings) events).controller ≡ (life settings (all_steps (new_actors settings) events)).next
+abbrev pub FollowsTable : Parameters → List Event → Type 0
+FollowsTable settings events =
+    (actors_after_all (new_actors settings) events).controller
+    ≡ (life settings (all_steps (new_actors settings) events)).next
 
 -- and what it put is what they put
 abbrev pub RunsByTable : Parameters → List Event → Type 0
-RunsByTable settings events = controller_run (new_actors settings) events ≡ life settings (all_steps (new_actors settings) events)
+RunsByTable settings events =
+    controller_run (new_actors settings) events
+    ≡ life settings (all_steps (new_actors settings) events)

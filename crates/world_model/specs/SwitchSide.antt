@@ -1,5 +1,6 @@
 -- What the switch makes of the first entry of its outbox, and what it does of its own.
-use Rattle.std.specs.Prelude.{ℕ, ◌==◌, ◌&&◌, nat_le, Bool, if◌then◌else◌, List, [], ◌∷◌, ◌++◌, length, Option, Some, None}
+use Rattle.std.specs.Prelude.{ℕ, ◌==◌, ◌&&◌, nat_le, Bool, if◌then◌else◌, List, [], ◌∷◌, ◌++◌}
+use Rattle.std.specs.Prelude.{length, Option, Some, None}
 use Rattle.std.specs.Option.{is_none}
 use Rattle.std.specs.Result.{result_ok}
 use Rattle.bssmap_codec.specs.declared.bssap.Bssap.{Bssap}
@@ -10,7 +11,8 @@ use Rattle.conn_messages.specs.declared.parameters.TheConstants.{SWITCH_LINK}
 use Rattle.ipa_framing.specs.declared.frame.Frame.{Frame}
 use Rattle.ipa_framing.specs.declared.streams.TheConstants.{SCCP_STREAM}
 use Rattle.msc_end.specs.Refusal.{send_fault}
-use Rattle.msc_end.specs.Switch.{after, after_clear, assignment_request, clear_command, connection_of, data_forms_on, dlci_for, replies}
+use Rattle.msc_end.specs.Switch.{after, after_clear, assignment_request, clear_command}
+use Rattle.msc_end.specs.Switch.{connection_of, data_forms_on, dlci_for, replies}
 use Rattle.msc_end.specs.SwitchState.{SwitchState}
 use Rattle.octets.specs.declared.limits.TheConstants.{MESSAGE_LIMIT}
 use Rattle.world_model.specs.declared.event.SwitchAction.{SwitchAction}
@@ -26,24 +28,36 @@ sccp_in frame = if frame.stream == SCCP_STREAM then result_ok (sccp_reading fram
 
 abbrev pub switch_took : Option Sccp → Actors → Actors
 switch_took None w = w
-switch_took (Some message) w = record w { switch = after w.switch message; switch_made = w.switch_made ++ replies w.switch.connections message }
+switch_took (Some message) w =
+    record w {
+      switch = after w.switch message;
+      switch_made = w.switch_made ++ replies w.switch.connections message;
+    }
 
 abbrev pub switch_took_first : List OutboxEntry → Actors → Option Actors
 switch_took_first [] w = None
-switch_took_first (first ∷ others) w = Some (switch_took (sccp_in first.out.frame) (with_outbox SWITCH_LINK others w))
+switch_took_first (first ∷ others) w =
+    Some (switch_took (sccp_in first.out.frame) (with_outbox SWITCH_LINK others w))
 
 abbrev pub after_switch_takes : Actors → Option Actors
-after_switch_takes w = if is_up w SWITCH_LINK then switch_took_first (outbox_of w SWITCH_LINK) w else None
+after_switch_takes w =
+    if is_up w SWITCH_LINK then switch_took_first (outbox_of w SWITCH_LINK) w else None
 
 -- ---- it sends on a connection that is open
 
 abbrev pub may_send_on : Actors → ℕ → Bool
-may_send_on w connection = is_up w SWITCH_LINK && is_none (send_fault (connection_of w.switch.connections connection))
+may_send_on w connection =
+    is_up w SWITCH_LINK && is_none (send_fault (connection_of w.switch.connections connection))
 
 abbrev pub sent_on : Actors → ℕ → Bssap → SwitchState → Option Actors
 sent_on w connection message next =
     if may_send_on w connection
-    then Some (record w { switch = next; switch_made = w.switch_made ++ data_forms_on (connection_of w.switch.connections connection) message })
+    then Some (record w {
+      switch =
+          next;
+      switch_made = w.switch_made
+          ++ data_forms_on (connection_of w.switch.connections connection) message;
+    })
     else None
 
 -- a layer 3 message has 1 to 251 octets
@@ -52,6 +66,8 @@ is_layer_3 message = nat_le 1 (length message) && nat_le (length message) MESSAG
 
 abbrev pub after_switch_does : Actors → SwitchAction → Option Actors
 after_switch_does w (Assign connection) = sent_on w connection assignment_request w.switch
-after_switch_does w (Clear connection) = sent_on w connection clear_command (after_clear w.switch connection)
+after_switch_does w (Clear connection) =
+    sent_on w connection clear_command (after_clear w.switch connection)
 after_switch_does w (Dtap connection sapi message) =
-    if is_layer_3 message then sent_on w connection (Transfer (dlci_for sapi) message) w.switch else None
+    if is_layer_3 message then sent_on w connection (Transfer (dlci_for sapi) message) w.switch
+    else None

@@ -1,6 +1,7 @@
 -- One mobile per tenure: what stations take, and where mobiles are, where a tenure of a channel is
 -- one mobile's.
-use Rattle.std.specs.Prelude.{◌≡◌, ℕ, true, if◌then◌else◌, is_some, List, [], ◌∷◌, ◌++◌, slice_index_or, Contains, Option, Some, None, Result, Ok}
+use Rattle.std.specs.Prelude.{◌≡◌, ℕ, true, if◌then◌else◌, is_some, List, [], ◌∷◌, ◌++◌}
+use Rattle.std.specs.Prelude.{slice_index_or, Contains, Option, Some, None, Result, Ok}
 use Rattle.std.specs.List.{AllByRecursion}
 use Rattle.controller_model.specs.Controller.{place_at}
 use Rattle.dtap_codec.specs.declared.rr.RrMessage.{RrMessage}
@@ -24,7 +25,8 @@ use Rattle.world_model.specs.World.{Actors, Mobile, is_station_up, mobile_of, ou
 -- the tenure that a mobile is on or left, and the one that it was told to change to, are its own
 abbrev pub SitsBy : (Tenure → ℕ) → ℕ → Seat → Type 0
 SitsBy owner number (On tenure None) = owner tenure ≡ number
-SitsBy owner number (On tenure (Some command)) = (owner tenure ≡ number) × (owner command.target ≡ number)
+SitsBy owner number (On tenure (Some command)) =
+    (owner tenure ≡ number) × (owner command.target ≡ number)
 SitsBy owner number (Moving from command) = (owner from ≡ number) × (owner command.target ≡ number)
 SitsBy owner number _ = Unit {0}
 
@@ -45,22 +47,27 @@ LeadsBy owner here None = Unit {0}
 LeadsBy owner here (Some target) = owner target ≡ owner here
 
 abbrev pub TakesBy : (Tenure → ℕ) → Actors → ℕ → Option Tenure → Option Rsl → Type 0
-TakesBy owner w station target (Some (ImmediateAssignCommand i)) = AssignsBy owner w station (rr_reading i.information)
-TakesBy owner w station target (Some (DataRequest d)) = LeadsBy owner (tenure_at w (place_at station d.channel)) target
+TakesBy owner w station target (Some (ImmediateAssignCommand i)) =
+    AssignsBy owner w station (rr_reading i.information)
+TakesBy owner w station target (Some (DataRequest d)) =
+    LeadsBy owner (tenure_at w (place_at station d.channel)) target
 TakesBy owner w station target _ = Unit {0}
 
 abbrev pub TakesFirstBy : (Tenure → ℕ) → Actors → ℕ → List OutboxEntry → Type 0
 TakesFirstBy owner w station [] = Unit {0}
-TakesFirstBy owner w station (first ∷ others) = TakesBy owner w station first.target (rsl_in first.out.frame)
+TakesFirstBy owner w station (first ∷ others) =
+    TakesBy owner w station first.target (rsl_in first.out.frame)
 
 -- at an event, where the link of the station is up, and at all these
 abbrev pub IsBy : (Tenure → ℕ) → Actors → Event → Type 0
-IsBy owner w (BaseTakes station) = is_station_up w station ≡ true → TakesFirstBy owner w station (outbox_of w station)
+IsBy owner w (BaseTakes station) =
+    is_station_up w station ≡ true → TakesFirstBy owner w station (outbox_of w station)
 IsBy owner w _ = Unit {0}
 
 abbrev pub AllAreBy : (Tenure → ℕ) → Actors → List Event → Type 0
 AllAreBy owner w [] = Unit {0}
-AllAreBy owner w (event ∷ events) = IsBy owner w event × AllAreBy owner (actors_after w event) events
+AllAreBy owner w (event ∷ events) =
+    IsBy owner w event × AllAreBy owner (actors_after w event) events
 
 -- ---- who sends on which tenure
 
@@ -78,7 +85,8 @@ sender_of (Some p) = on_seat p.number p.seat
 
 -- a mobile whose frame a station takes, where it can
 abbrev pub sender_at : Actors → Event → List Sender
-sender_at w (AirUp number sapi) = if is_some (event_after w (AirUp number sapi)) then sender_of (mobile_of w number) else []
+sender_at w (AirUp number sapi) =
+    if is_some (event_after w (AirUp number sapi)) then sender_of (mobile_of w number) else []
 sender_at w _ = []
 
 abbrev pub senders : Actors → List Event → List Sender
@@ -87,4 +95,6 @@ senders w (event ∷ events) = sender_at w event ++ senders (actors_after w even
 
 -- in each tenure one mobile at most
 abbrev pub OneMobileEach : List Sender → Type 0
-OneMobileEach all = (one other : Sender) → Contains all one → Contains all other → one.tenure ≡ other.tenure → one.mobile ≡ other.mobile
+OneMobileEach all =
+    (one other : Sender) → Contains all one → Contains all other → one.tenure ≡ other.tenure
+    → one.mobile ≡ other.mobile

@@ -1,5 +1,6 @@
 -- The world with a controller, as a record of plain lists.
-use Rattle.std.specs.Prelude.{ℕ, ◌+◌, ◌-◌, ◌==◌, ◌&&◌, not, Bool, true, false, if◌then◌else◌, List, [], ◌∷◌, length, replicate, find, slice_index_or, set, Option}
+use Rattle.std.specs.Prelude.{ℕ, ◌+◌, ◌-◌, ◌==◌, ◌&&◌, not, Bool, true, false, if◌then◌else◌, List}
+use Rattle.std.specs.Prelude.{[], ◌∷◌, length, replicate, find, slice_index_or, set, Option}
 use Rattle.bssmap_codec.specs.declared.sccp.Sccp.{Sccp}
 use Rattle.conn_messages.specs.declared.channel.Place.{Place}
 use Rattle.conn_messages.specs.declared.parameters.TheConstants.{SWITCH_LINK}
@@ -168,7 +169,10 @@ spot_at w at = slice_index_or (station_of w at.station).spots at.number new_spot
 
 abbrev pub with_spot : Place → Spot → Actors → Actors
 with_spot at spot w =
-    with_station at.station (record (station_of w at.station) { spots = set (station_of w at.station).spots at.number spot }) w
+    with_station at.station (record (station_of w at.station) {
+      spots =
+          set (station_of w at.station).spots at.number spot;
+    }) w
 
 abbrev pub is_active_at : Actors → Place → Bool
 is_active_at w at = is_active (base_of w at.station).active at.number
@@ -178,4 +182,5 @@ tenure_at w at = record { at = at; number = (spot_at w at).tenure }
 
 -- it is the present tenure of its channel, and the station is up
 abbrev pub is_reached : Actors → Tenure → Bool
-is_reached w t = is_station_up w t.at.station && is_active_at w t.at && ((spot_at w t.at).tenure == t.number)
+is_reached w t =
+    is_station_up w t.at.station && is_active_at w t.at && ((spot_at w t.at).tenure == t.number)

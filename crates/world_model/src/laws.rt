@@ -1,35 +1,38 @@
 ghost use Rattle.std.specs.Prelude.{ℕ, List};
 ghost use Rattle.settings.specs.Parameters.{Parameters};
 ghost use Rattle.world_model.specs.declared.event.Event.{Event as WorldEvent};
-ghost use Rattle.world_model.specs.Calls.{CompleteComesFirst, MobilesRepeatAtMostOne};
+ghost use Rattle.world_model.specs.Calls.{CompleteIsFirst, MobilesRepeatAtMostOne};
 ghost use Rattle.world_model.specs.Honest.{AreHonest};
-ghost use Rattle.world_model.specs.Lives.{MobilesLive};
+ghost use Rattle.world_model.specs.CallsMade.{MobilesLive};
 ghost use Rattle.world_model.specs.Pipe.{ArePipes};
 ghost use Rattle.world_model.specs.Queues.{KeepsQueues};
 ghost use Rattle.world_model.specs.Reading.{AreRead};
 ghost use Rattle.world_model.specs.declared.seat.Tenure.{Tenure as TenureValue};
 ghost use Rattle.world_model.specs.Life.{actors_after_all};
-ghost use Rattle.world_model.specs.Steps.{LivesByTable, RunsByTable};
+ghost use Rattle.world_model.specs.Steps.{FollowsTable, RunsByTable};
 ghost use Rattle.world_model.specs.Tickets.{AllAreBy, AllSitBy, OneMobileEach, senders};
 ghost use Rattle.world_model.specs.World.{new_actors};
 
 /// Law: whatever events happen, each queue of the relay gives what was put there, in order.
 pub fn queues_keep_order()
-    ensures { (settings : Parameters) (events : List WorldEvent) → KeepsQueues (new_actors settings) events }
+    ensures { (settings : Parameters) (events : List WorldEvent)
+        → KeepsQueues (new_actors settings) events }
 {}
 
 /// Law: whatever events happen, stations are honest. Of what a station gives of a channel, no
 /// ESTABLISH INDICATION and no DTAP stands outside the stretch from an activation acknowledgement
 /// to the release acknowledgement after it.
 pub fn stations_are_honest()
-    ensures { (settings : Parameters) (events : List WorldEvent) → AreHonest (new_actors settings) events }
+    ensures { (settings : Parameters) (events : List WorldEvent)
+        → AreHonest (new_actors settings) events }
 {}
 
 /// Law: the controller of a world is the one after the items that it handled and the time that
 /// passed for it, and what it put at the events is what these steps put. So what holds of the
 /// controller after any steps, and of what they put, holds of it.
 pub fn controller_lives_by_its_table()
-    ensures lives { (settings : Parameters) (events : List WorldEvent) → LivesByTable settings events }
+    ensures lives { (settings : Parameters) (events : List WorldEvent)
+        → FollowsTable settings events }
     ensures runs { (settings : Parameters) (events : List WorldEvent) → RunsByTable settings events }
 {}
 
@@ -54,14 +57,16 @@ pub fn mobiles_live_by_their_ends()
 /// next one begins where the last one ended, or at its last message: so that message alone can come
 /// again.
 pub fn mobiles_repeat_at_most_one()
-    ensures { (settings : Parameters) (events : List WorldEvent) → MobilesRepeatAtMostOne settings events }
+    ensures { (settings : Parameters) (events : List WorldEvent)
+        → MobilesRepeatAtMostOne settings events }
 {}
 
 /// Law: whatever events happen, of each mobile: on a channel to which it was commanded, stations
 /// take COMPLETE of it first, before all else on SAPI 0; and where it came back to the channel that
 /// it left, FAILURE.
 pub fn complete_comes_first()
-    ensures { (settings : Parameters) (events : List WorldEvent) → CompleteComesFirst settings events }
+    ensures { (settings : Parameters) (events : List WorldEvent)
+        → CompleteIsFirst settings events }
 {}
 
 /// Law: whatever events happen, each frame that a station gives to the inbox is the text of a
@@ -75,8 +80,10 @@ pub fn stations_are_read()
 /// What a station takes agrees where an IMMEDIATE ASSIGNMENT names the mobile of its channel's
 /// present tenure, and a command leads to a tenure of the mobile to which it is handed.
 pub fn mobiles_keep_to_their_tenures()
-    ensures seats { (settings : Parameters) (events : List WorldEvent) (owner : TenureValue → ℕ) → AllAreBy owner (new_actors settings) events
+    ensures seats { (settings : Parameters) (events : List WorldEvent) (owner : TenureValue → ℕ)
+        → AllAreBy owner (new_actors settings) events
         → AllSitBy owner (actors_after_all (new_actors settings) events) }
-    ensures senders { (settings : Parameters) (events : List WorldEvent) (owner : TenureValue → ℕ) → AllAreBy owner (new_actors settings) events
+    ensures senders { (settings : Parameters) (events : List WorldEvent) (owner : TenureValue → ℕ)
+        → AllAreBy owner (new_actors settings) events
         → OneMobileEach (senders (new_actors settings) events) }
 {}

@@ -5,7 +5,7 @@ use Rattle.controller_model.proofs.Prelude.{Decision, Stay, Move, What, RequestR
 use Rattle.controller_model.proofs.Prelude.{Word, Nothing, Ping, Asks, OnChannel, Reports, OnConnection, access_channel, Controller, Entry}
 use Rattle.controller_model.proofs.Prelude.{Turn, turn, each, ignoring, is_up, entry_of, with_entry, with_down, freed, freed_station}
 use Rattle.controller_model.proofs.Prelude.{channel_state, by_row, by_fitting, row_in, concerning, concerning_too, given, may_open, frees}
-use Rattle.controller_model.proofs.Prelude.{entry_at, on_freed, measures, with_report, measured, on_decision, on_report, on_word, told}
+use Rattle.controller_model.proofs.Prelude.{entry_at, on_freed, measures, with_report, measured, on_decision, on_report, on_word, with_own_input}
 use Rattle.controller_model.proofs.Prelude.{break_of, on_what, all_aged, expiry, timed, step, word_of, decision_over}
 use Rattle.controller_model.specs.Life.{take, on_expiry, tick}
 use Rattle.ruled_relay.specs.declared.item.What.TheVariants as whats
@@ -104,8 +104,8 @@ what_goes : (up : Bool) (source : ℕ) (what : What) (c : Controller) → Goes c
 what_goes true source (whats.Frame frame) c = going c (on_word source (word_of source frame) c).next (of_word source (word_of source frame) c)
 what_goes true source whats.Down c =
     let down : Controller = with_down source c in
-    let told_all = of_each (told (break_of source)) (λ d e. of_concerning_too (break_of source) d (Some e)) down c.entries in
-    without (source == SWITCH_LINK) source c (set c.links source false) (each (told (break_of source)) down c.entries).next
+    let told_all = of_each (with_own_input (break_of source)) (λ d e. of_concerning_too (break_of source) d (Some e)) down c.entries in
+    without (source == SWITCH_LINK) source c (set c.links source false) (each (with_own_input (break_of source)) down c.entries).next
     (record { settings = told_all.settings; links_are = told_all.links; numbers = told_all.numbers })
 what_goes false source (whats.Frame frame) c = going c (ignoring c).next (same c (ignoring c).next refl refl refl)
 what_goes false source whats.Down c = going c (ignoring c).next (same c (ignoring c).next refl refl refl)

@@ -5,7 +5,7 @@ use Rattle.controller_model.proofs.Prelude.{clear_complete, clear_request, compl
 use Rattle.controller_model.proofs.Prelude.{Due, Active, Changing, Draining, Preparing, State, Closed, Live, Removed, WaitActivation}
 use Rattle.controller_model.proofs.Prelude.{WaitConfirm, WaitEstablish, relayed, Sapi, Three, Zero, handed, AllAreRead, AllKeepSilence}
 use Rattle.controller_model.proofs.Prelude.{GoToServing, HasNoStream, IsAway, IsThere, KeepsSilence, OnlyReleasesAfter, SilenceIsKept}
-use Rattle.controller_model.proofs.Prelude.{StaysSilent, IsHistory, Moment, all_messages, messages_on, InUse, Step, Tick, Controller}
+use Rattle.controller_model.proofs.Prelude.{IsSilentThrough, IsHistory, Moment, all_messages, messages_on, InUse, Step, Tick, Controller}
 use Rattle.controller_model.proofs.Prelude.{free_channels, new_controller, turn, step, forwarded, handed_in}
 use Rattle.controller_model.proofs.LifeLaws.OwnRows.{busy, channels, other, out_for, own, with_channels}
 use Rattle.controller_model.proofs.LifeLaws.UsedRows.{channel, connection}
@@ -284,7 +284,7 @@ not_on_the_other_sapi all = absurd (cc (all.0 Three).0)
 
 -- ---- over a list of steps
 
-stays_silent : StaysSilent 7 (in_state (Closed (Asked 5))) (Tick 1 ∷ clears ∷ [])
+stays_silent : IsSilentThrough 7 (in_state (Closed (Asked 5))) (Tick 1 ∷ clears ∷ [])
 unfolding on_literals
 stays_silent = record { moments = moment (Tick 1) [] ∷ moment clears (clear_complete 5 ∷ []) ∷ []; history = (refl, refl, (refl, refl, tt)); silent = (none, (completes, tt)) } where
   none : HasNoStream []

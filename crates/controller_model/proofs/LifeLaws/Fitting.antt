@@ -1,7 +1,7 @@
 -- What holds of a connection that the controller has.
 use Rattle.controller_model.proofs.Prelude.{◌≡◌, ℕ, ◌==◌, ◌≤◌, Bool, true, false, if◌then◌else◌, List, [], ◌∷◌, fold, Option, Some, None}
 use Rattle.controller_model.proofs.Prelude.{refl, sym, subst, ap, ◌∙◌, inl, inr, arith, true≢false, cases_Bool, cond-true, cond-false}
-use Rattle.controller_model.proofs.Prelude.{eq-eqb, Message, SWITCH_LINK, Input, Drain, State, Removed, Connection, IsCarried, Stands, Row}
+use Rattle.controller_model.proofs.Prelude.{eq-eqb, Message, SWITCH_LINK, Input, Drain, State, Removed, Connection, IsCarried, IsValid, Row}
 use Rattle.controller_model.proofs.Prelude.{OfRow, on_switch_down, after_pass, What, Parameters, Stands-new, DrainTime, drained_after, Acts}
 use Rattle.controller_model.proofs.Prelude.{IsAged, passed, Brought, IsBrought, IsTimer, if_held, brought_by, brought_with, brought_in}
 use Rattle.controller_model.proofs.Prelude.{kept_in, ages, rests, opens, goes, nothing, comes, reports, breaks, passes, connection_of}
@@ -21,7 +21,7 @@ drain_time : (ms : ℕ) (draining : List Drain) (drained : ℕ) → DrainTime dr
 drain_time ms [] drained time = time
 drain_time ms (d ∷ ds) drained time = tt
 
-pub pass_stands : (ms : ℕ) (s : Connection) → Stands s → Stands (after_pass ms s)
+pub pass_stands : (ms : ℕ) (s : Connection) → IsValid s → IsValid (after_pass ms s)
 pass_stands ms s stands = record {
   state = stands.state;
   down_limit = stands.down_limit;
@@ -138,19 +138,19 @@ IsPresent _ = Unit {0}
 
 unfoldable pub IsFine : Option Connection → Type 0
 IsFine None = Unit {0}
-IsFine (Some s) = IsPresent s.state × Stands s
+IsFine (Some s) = IsPresent s.state × IsValid s
 
-kept_fine : (state : State) (s : Connection) → s.state ≡ state → Stands s → IsFine (kept_in state s)
+kept_fine : (state : State) (s : Connection) → s.state ≡ state → IsValid s → IsFine (kept_in state s)
 unfolding IsFine IsPresent
 kept_fine Removed s is stands = tt
 kept_fine _ s is stands = (subst IsPresent (sym is) tt, stands)
 
 FinePart : Connection → Type 0
-FinePart s = IsPresent s.state × Stands s
+FinePart s = IsPresent s.state × IsValid s
 
-pub fine_old : (before : Option Connection) (old s : Connection) → before ≡ Some old → IsAged old s → IsFine before → IsPresent s.state × Stands s
+pub fine_old : (before : Option Connection) (old s : Connection) → before ≡ Some old → IsAged old s → IsFine before → IsPresent s.state × IsValid s
 unfolding IsFine FinePart
-fine_old before old s is aged fine = aged_holds (λ (c : Connection). IsPresent c.state × Stands c) (λ ms c holds. (holds.0, pass_stands ms c holds.1)) old s aged (subst IsFine is fine)
+fine_old before old s is aged fine = aged_holds (λ (c : Connection). IsPresent c.state × IsValid c) (λ ms c holds. (holds.0, pass_stands ms c holds.1)) old s aged (subst IsFine is fine)
 
 pub fine_after : (number next : ℕ) (up : Bool) (brought : Brought) (before after : Option Connection) (put : List Message) → Acts number next up brought before put after → IsCarriedIn brought → IsBreak brought → IsFine before → IsFine after
 unfolding IsFine IsPresent
@@ -158,7 +158,7 @@ fine_after number next up brought before after put (rests silent same none) carr
 fine_after number next up brought before after put (ages old s is_time is aged silent same) carried own fine = subst IsFine (sym same) (fine_old before old s is aged fine)
 fine_after number next up brought before after put (opens begins is_up channel request delay is_nothing is put_is same) carried own fine = subst IsFine (sym same) (tt, Stands-new number channel request delay)
 fine_after number next up brought before after put (goes old s input offer r is aged by fits put_is same) carried own fine =
-    let stands : Stands r.next = subst (OfRow (λ (q : Row). Stands q.next)) fits (Stands-row s input offer (fine_old before old s is aged fine).1 (brought_carried brought input carried own by)) in
+    let stands : IsValid r.next = subst (OfRow (λ (q : Row). IsValid q.next)) fits (Stands-row s input offer (fine_old before old s is aged fine).1 (brought_carried brought input carried own by)) in
     subst IsFine (sym same) (kept_fine r.next.state r.next refl stands)
 
 -- ---- the link of the switch

@@ -2,13 +2,13 @@
 use Rattle.controller_model.proofs.Prelude.{◌≡◌, ℕ, ◌==◌, ◌&&◌, Bool, true, false, not, if◌then◌else◌, List, [], ◌∷◌, ◌++◌, Option, Some}
 use Rattle.controller_model.proofs.Prelude.{None, refl, sym, subst, ap, ◌∙◌, append_assoc, append-nil, cond-true, eq-eqb, flat_map-append}
 use Rattle.controller_model.proofs.Prelude.{Channel, Place, Message, AreAway, Input, Drain, Preparing, Changing, State, Live, Target}
-use Rattle.controller_model.proofs.Prelude.{Connection, is_at, TargetRole, Roles, RoleStep, GoesOn, after_step, awaits_at, changes_by}
+use Rattle.controller_model.proofs.Prelude.{Connection, is_at, TargetRole, Roles, RoleStep, RemainsOpen, after_step, awaits_at, changes_by}
 use Rattle.controller_model.proofs.Prelude.{roles_of, step_by, target_channels, target_role, with_target, stays, commands, completes}
-use Rattle.controller_model.proofs.Prelude.{goes_back, leaves, Stands, Row, AreApart, Future, IsApart, IsOpen, OfRow, from_input, of_target}
+use Rattle.controller_model.proofs.Prelude.{goes_back, leaves, IsValid, Row, AreApart, Future, IsApart, IsOpen, OfRow, from_input, of_target}
 use Rattle.controller_model.proofs.Prelude.{relayed, still_of, undone, used_channels, Sapi, Zero, Three, HeldTenure, all_behind}
-use Rattle.controller_model.proofs.Prelude.{away-of_other, Ends, KeepsUplink, of_prepared, on_channel, relayed_by, row_of, used_in, Tenure}
+use Rattle.controller_model.proofs.Prelude.{away_of_other, Ends, KeepsUplink, of_prepared, on_channel, relayed_by, row_of, used_in, Tenure}
 use Rattle.controller_model.proofs.Prelude.{is_on, is_same, place_of}
-use Rattle.conn_rules.proofs.UplinkTable.{row-keeps}
+use Rattle.conn_rules.proofs.UplinkTable.{row_keeps}
 use Rattle.conn_rules.specs.declared.input.Input.TheVariants as inputs
 use Rattle.controller_model.proofs.LifeLaws.Tenures.{NoneOn, clear, joined_clear, joined_with, same_false, still_clear}
 
@@ -97,11 +97,11 @@ prepared_killed f _ killed = refl
 
 -- ---- a row, where nothing comes on the target any more
 
-pub keeps : (sapi : Sapi) (s : Connection) (input : Input) (offer : Option Channel) (r : Row) (f : Future) → Stands s → AreApart (used_channels s) → Ends f s.state input → row_of s input offer ≡ Some r → IsOpen r.next.state →
+pub keeps : (sapi : Sapi) (s : Connection) (input : Input) (offer : Option Channel) (r : Row) (f : Future) → IsValid s → AreApart (used_channels s) → Ends f s.state input → row_of s input offer ≡ Some r → IsOpen r.next.state →
     relayed sapi r.outs ++ (still_of sapi f r.next.serving r.next.draining r.next.up.tenures ++ of_target f r.next.state) ≡ still_of sapi (from_input sapi input f) s.serving s.draining s.up.tenures ++ of_target (from_input sapi input f) s.state
-keeps sapi s input offer r f stands apart ends is there = subst (OfRow (KeepsUplink sapi f s input)) is (row-keeps s input offer sapi f stands apart ends) there
+keeps sapi s input offer r f stands apart ends is there = subst (OfRow (KeepsUplink sapi f s input)) is (row_keeps s input offer sapi f stands apart ends) there
 
-pub quiet_keeps : (sapi : Sapi) (s : Connection) (input : Input) (offer : Option Channel) (r : Row) (f : Future) → Stands s → AreApart (used_channels s) → Ends f s.state input → row_of s input offer ≡ Some r → IsOpen r.next.state → GoesOn (step_by input (roles_of s)) (roles_of s) s.down input offer r → from_input sapi input f ≡ f → Killed f (target_role s.state) →
+pub quiet_keeps : (sapi : Sapi) (s : Connection) (input : Input) (offer : Option Channel) (r : Row) (f : Future) → IsValid s → AreApart (used_channels s) → Ends f s.state input → row_of s input offer ≡ Some r → IsOpen r.next.state → RemainsOpen (step_by input (roles_of s)) (roles_of s) s.down input offer r → from_input sapi input f ≡ f → Killed f (target_role s.state) →
     relayed sapi r.outs ++ still_of sapi f r.next.serving r.next.draining r.next.up.tenures ≡ still_of sapi f s.serving s.draining s.up.tenures
 quiet_keeps sapi s input offer r f stands apart ends is there on same killed =
     let next : of_target f r.next.state ≡ [] =
@@ -170,7 +170,7 @@ target_away s (Some u) apart t is =
     of is = cc
 
     turned : (c : Channel) → IsApart c u.target.channel → is_at (place_of u.target.channel) c ≡ false
-    turned c apart = away-of_other (place_of u.target.channel) c u.target.channel apart (same_true (place_of u.target.channel))
+    turned c apart = away_of_other (place_of u.target.channel) c u.target.channel apart (same_true (place_of u.target.channel))
 
     old : (cs : List Channel) → AreApart (cs ++ s.serving ∷ u.target.channel ∷ []) → AreAway (place_of u.target.channel) cs
     old [] apart = tt
@@ -199,7 +199,7 @@ relayed_append sapi xs ys = flat_map-append (relayed_by sapi) xs ys
 pub joins : (sapi : Sapi) (before put : List Message) (next now : List (List ℕ)) → relayed sapi put ++ next ≡ now → relayed sapi (before ++ put) ++ next ≡ relayed sapi before ++ now
 joins sapi before put next now is = ap (λ (xs : List (List ℕ)). xs ++ next) (relayed_append sapi before put) ∙ append_assoc (relayed sapi before) (relayed sapi put) next ∙ ap (λ (xs : List (List ℕ)). relayed sapi before ++ xs) is
 
-pub plain_follows : (s : Connection) (input : Input) (offer : Option Channel) (r : Row) (before : List Message) (ts : List Tenure) → Stands s → AreApart (used_channels s) → AreApart (used_in (roles_of s)) → row_of s input offer ≡ Some r → IsOpen r.next.state → GoesOn (step_by input (roles_of s)) (roles_of s) s.down input offer r → IsPlain input → Follows s before ts → Follows r.next (before ++ r.outs) ts
+pub plain_follows : (s : Connection) (input : Input) (offer : Option Channel) (r : Row) (before : List Message) (ts : List Tenure) → IsValid s → AreApart (used_channels s) → AreApart (used_in (roles_of s)) → row_of s input offer ≡ Some r → IsOpen r.next.state → RemainsOpen (step_by input (roles_of s)) (roles_of s) s.down input offer r → IsPlain input → Follows s before ts → Follows r.next (before ++ r.outs) ts
 plain_follows s input offer r before ts stands apart roles_apart is there on plain follows =
     let step : RoleStep = step_by input (roles_of s) in
     let one = plain_same input (roles_of s) plain in

@@ -1,12 +1,12 @@
 -- What was relayed follows the tenures: a change is complete; access; which rows fit.
 use Rattle.controller_model.proofs.Prelude.{◌≡◌, ℕ, ◌&&◌, Bool, true, false, if◌then◌else◌, List, [], ◌∷◌, ◌++◌, Option, Some, None, refl}
 use Rattle.controller_model.proofs.Prelude.{sym, subst, ap, ◌∙◌, inl, inr, append_assoc, append-nil, cases_Bool, cond-true, cond-false}
-use Rattle.controller_model.proofs.Prelude.{and_parts, Change, Assignment, Handover, Channel, Place, Message, AreAway, drain_at-drains}
+use Rattle.controller_model.proofs.Prelude.{and_parts, Change, Assignment, Handover, Channel, Place, Message, AreAway, drain_at_drains}
 use Rattle.controller_model.proofs.Prelude.{same_place, Input, Drain, Stage, Changing, State, WaitEstablish, WaitConfirm, Live, Connection}
-use Rattle.controller_model.proofs.Prelude.{is_at, tenure_at, TargetRole, Roles, RoleStep, GoesOn, after_step, changes_by, roles_of}
-use Rattle.controller_model.proofs.Prelude.{step_by, target_channels, target_role, stays, completes, Stands, Row, failing, AreApart, Future}
+use Rattle.controller_model.proofs.Prelude.{is_at, tenure_at, TargetRole, Roles, RoleStep, RemainsOpen, after_step, changes_by, roles_of}
+use Rattle.controller_model.proofs.Prelude.{step_by, target_channels, target_role, stays, completes, IsValid, Row, failing, AreApart, Future}
 use Rattle.controller_model.proofs.Prelude.{IsApart, IsOpen, from_input, of_target, relayed, still_of, undone, used_channels, complete}
-use Rattle.controller_model.proofs.Prelude.{dtap_in, on_complete, on_dtap, EQUIPMENT_FAILURE, Sapi, Zero, Three, away-of, drain-behind_away}
+use Rattle.controller_model.proofs.Prelude.{dtap_in, on_complete, on_dtap, EQUIPMENT_FAILURE, Sapi, Zero, Three, away_of, drain_behind_away}
 use Rattle.controller_model.proofs.Prelude.{is_target_at, same_change, used_in, Tenure, begin_next, beginning, of_sapi, performs, place_of}
 use Rattle.conn_rules.specs.declared.input.Input.TheVariants as inputs
 use Rattle.conn_rules.specs.Table.{row_of}
@@ -64,8 +64,8 @@ begins : (ts : List Tenure) (serving : Channel) (b : Bool) (at : Place) → Serv
 begins [] serving b at serves is = absurd serves
 begins (t ∷ old) serving b at serves is = cond-true _ _ _ is
 
-pub complete_follows : (s : Connection) (at : Place) (change : Change) (cause : _) (offer : Option Channel) (r : Row) (before : List Message) (ts : List Tenure) → Stands s → AreApart (used_channels s) → row_of s (inputs.Complete at change cause) offer ≡ Some r → IsOpen r.next.state →
-    GoesOn (step_by (inputs.Complete at change cause) (roles_of s)) (roles_of s) s.down (inputs.Complete at change cause) offer r → Follows s before ts → Follows r.next (before ++ r.outs) (begin_next ts (performs r.outs) at)
+pub complete_follows : (s : Connection) (at : Place) (change : Change) (cause : _) (offer : Option Channel) (r : Row) (before : List Message) (ts : List Tenure) → IsValid s → AreApart (used_channels s) → row_of s (inputs.Complete at change cause) offer ≡ Some r → IsOpen r.next.state →
+    RemainsOpen (step_by (inputs.Complete at change cause) (roles_of s)) (roles_of s) s.down (inputs.Complete at change cause) offer r → Follows s before ts → Follows r.next (before ++ r.outs) (begin_next ts (performs r.outs) at)
 unfolding role_target
 complete_follows s at change cause offer r before ts stands apart is there on follows =
     let input : Input = inputs.Complete at change cause in
@@ -119,8 +119,8 @@ dtap_by _ reference _ s at _ message r is there = absurd cc
 target_off : (s : Connection) (at : Place) (target : Option TargetRole) (place : ℕ) → AreApart (undone s.draining ++ s.serving ∷ target_channels target) → tenure_at at s.serving s.draining ≡ Some place → AreAway at (target_channels target)
 target_off s at None place apart is = tt
 target_off s at (Some t) place apart is = elim (cases_Bool (is_at at s.serving)) [
-  | inl here ↦ (away-of at s.serving t.target.channel (last (undone s.draining) apart) here, tt)
-  | inr other ↦ (drain-behind_away at place s.draining (s.serving ∷ t.target.channel ∷ []) (drain_at-drains at s.draining place (sym (cond-false _ _ _ other) ∙ is)) apart).1
+  | inl here ↦ (away_of at s.serving t.target.channel (last (undone s.draining) apart) here, tt)
+  | inr other ↦ (drain_behind_away at place s.draining (s.serving ∷ t.target.channel ∷ []) (drain_at_drains at s.draining place (sym (cond-false _ _ _ other) ∙ is)) apart).1
 ]
   where
     last : (cs : List Channel) → AreApart (cs ++ s.serving ∷ t.target.channel ∷ []) → IsApart s.serving t.target.channel

@@ -2,11 +2,11 @@
 -- channel is released.
 use Rattle.controller_model.proofs.Prelude.{◌≡◌, ◌≢◌, ℕ, zero, suc, ◌==◌, Bool, true, false, if◌then◌else◌, List, [], ◌∷◌, ◌++◌, map}
 use Rattle.controller_model.proofs.Prelude.{Option, Some, None, refl, sym, subst, ap, ◌∙◌, inl, inr, append-nil, true≢false, cases_Bool}
-use Rattle.controller_model.proofs.Prelude.{cond-true, cond-false, eqb-true, and_parts, Channel, Place, Message, AreAway, drain_at-drains}
-use Rattle.controller_model.proofs.Prelude.{same_place, Input, Drain, Connection, drain_at, is_at, TargetRole, Roles, RoleStep, GoesOn}
-use Rattle.controller_model.proofs.Prelude.{after_step, leaves_at, roles_of, step_by, target_channels, target_role, stays, leaves, Stands}
+use Rattle.controller_model.proofs.Prelude.{cond-true, cond-false, eqb-true, and_parts, Channel, Place, Message, AreAway, drain_at_drains}
+use Rattle.controller_model.proofs.Prelude.{same_place, Input, Drain, Connection, drain_at, is_at, TargetRole, Roles, RoleStep, RemainsOpen}
+use Rattle.controller_model.proofs.Prelude.{after_step, leaves_at, roles_of, step_by, target_channels, target_role, stays, leaves, IsValid}
 use Rattle.controller_model.proofs.Prelude.{Row, done_at, AreApart, Future, IsOpen, from_input, of_target, relayed, still_of, undone}
-use Rattle.controller_model.proofs.Prelude.{used_channels, Sapi, Zero, Three, undone-still_draining, DrainsAt, drain-behind_away, row_of}
+use Rattle.controller_model.proofs.Prelude.{used_channels, Sapi, Zero, Three, undone-still_draining, DrainsAt, drain_behind_away, row_of}
 use Rattle.controller_model.proofs.Prelude.{used_in, Tenure, acknowledged, ended, heard, is_on, is_same, with_message, place_of}
 use Rattle.conn_rules.specs.declared.input.Input.TheVariants as inputs
 use Rattle.controller_model.proofs.LifeLaws.Following.{Follows, Killed, Serves, begun_same, begun_killed, joined_kill, joins, keeps, kill, kill_kills, none_on, of_target_role, older, quiet_keeps, role_killed, role_target, same_true, serving_off, still_kill, target_away}
@@ -69,20 +69,20 @@ kill_cleared (Some t) at f = elim (cases_Bool (is_same at (place_of t.target.cha
   | inr miss ↦ cond-false _ _ _ miss ∙ cond-true _ _ _ (same_true at)
 ]
 
-pub release_follows : (s : Connection) (at : Place) (place : ℕ) (offer : Option Channel) (r : Row) (before : List Message) (ts : List Tenure) → Stands s → AreApart (used_channels s) → AreApart (used_in (roles_of s)) → drain_at at s.draining ≡ Some place → row_of s (inputs.ReleaseAck at) offer ≡ Some r → IsOpen r.next.state →
-    GoesOn (step_by (inputs.ReleaseAck at) (roles_of s)) (roles_of s) s.down (inputs.ReleaseAck at) offer r → Follows s before ts → Follows r.next (before ++ r.outs) (acknowledged at ts)
+pub release_follows : (s : Connection) (at : Place) (place : ℕ) (offer : Option Channel) (r : Row) (before : List Message) (ts : List Tenure) → IsValid s → AreApart (used_channels s) → AreApart (used_in (roles_of s)) → drain_at at s.draining ≡ Some place → row_of s (inputs.ReleaseAck at) offer ≡ Some r → IsOpen r.next.state →
+    RemainsOpen (step_by (inputs.ReleaseAck at) (roles_of s)) (roles_of s) s.down (inputs.ReleaseAck at) offer r → Follows s before ts → Follows r.next (before ++ r.outs) (acknowledged at ts)
 release_follows s at place offer r before [] stands apart roles_apart found is there on follows = absurd follows.serves
 release_follows s at place offer r before (t ∷ older_ones) stands apart roles_apart found is there on follows =
     let input : Input = inputs.ReleaseAck at in
     let ts : List Tenure = t ∷ older_ones in
-    let drains = drain_at-drains at s.draining place found in
+    let drains = drain_at_drains at s.draining place found in
     let step : step_by input (roles_of s) ≡ leaves place = ap leaves_at found in
     let after : after_step (step_by input (roles_of s)) (roles_of s) ≡ after_step (leaves place) (roles_of s) = ap (λ (k : RoleStep). after_step k (roles_of s)) step in
     let two = begun_same on.begun (after_step (step_by input (roles_of s)) (roles_of s)) in
     let serving : r.next.serving ≡ s.serving = ap (λ (roles : Roles). roles.serving) on.roles ∙ two.serving ∙ ap (λ (roles : Roles). roles.serving) after in
     let draining : undone r.next.draining ≡ undone (done_at place s.draining) =
     ap undone (ap (λ (roles : Roles). roles.draining) on.roles ∙ two.draining ∙ ap (λ (roles : Roles). roles.draining) after) ∙ undone-still_draining (done_at place s.draining) in
-    let behind = drain-behind_away at place s.draining (s.serving ∷ target_channels (target_role s.state)) drains roles_apart in
+    let behind = drain_behind_away at place s.draining (s.serving ∷ target_channels (target_role s.state)) drains roles_apart in
     let gone : AreAway at (undone r.next.draining) = subst (AreAway at) (sym draining) (away_done at place s.draining (s.serving ∷ target_channels (target_role s.state)) drains roles_apart) in
     record {
       serves = subst (λ (c : Channel). Serves c (acknowledged at ts)) (sym serving) follows.serves;
@@ -148,8 +148,8 @@ joined_killed sapi f s before at of message ts (Some t) apart follows =
     let away = target_away s (Some t) apart t refl in
     joined_clear sapi (place_of t.target.channel) f (map (heard at of message) ts) (none_heard at (place_of t.target.channel) of message ts (none_on s before ts (place_of t.target.channel) follows away.0 away.1))
 
-pub dtap_follows : (s : Connection) (at : Place) (of : Sapi) (message : List ℕ) (offer : Option Channel) (r : Row) (before : List Message) (ts : List Tenure) → Stands s → AreApart (used_channels s) → AreApart (used_in (roles_of s)) → AreAway at (target_channels (target_role s.state)) → row_of s (inputs.Dtap at of message) offer ≡ Some r → IsOpen r.next.state →
-    GoesOn stays (roles_of s) s.down (inputs.Dtap at of message) offer r → Follows s before ts → Follows r.next (before ++ r.outs) (map (heard at of message) ts)
+pub dtap_follows : (s : Connection) (at : Place) (of : Sapi) (message : List ℕ) (offer : Option Channel) (r : Row) (before : List Message) (ts : List Tenure) → IsValid s → AreApart (used_channels s) → AreApart (used_in (roles_of s)) → AreAway at (target_channels (target_role s.state)) → row_of s (inputs.Dtap at of message) offer ≡ Some r → IsOpen r.next.state →
+    RemainsOpen stays (roles_of s) s.down (inputs.Dtap at of message) offer r → Follows s before ts → Follows r.next (before ++ r.outs) (map (heard at of message) ts)
 dtap_follows s at of message offer r before ts stands apart roles_apart away is there on follows =
     let input : Input = inputs.Dtap at of message in
     let two = begun_same on.begun (roles_of s) in

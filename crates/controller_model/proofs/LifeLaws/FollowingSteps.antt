@@ -3,7 +3,7 @@ use Rattle.controller_model.proofs.Prelude.{◌≡◌, ◌≢◌, ◌⊎◌, ℕ
 use Rattle.controller_model.proofs.Prelude.{Some, None, refl, sym, subst, ap, ◌∙◌, inl, inr, true≢false, cases_Bool, cond-true, cond-false}
 use Rattle.controller_model.proofs.Prelude.{eq-eqb, Channel, Place, Message, by_state, AreAway, Input, Drain, Stage, State, WaitActivation}
 use Rattle.controller_model.proofs.Prelude.{WaitEstablish, WaitConfirm, Live, Closed, Removed, Connection, drain_at, is_at, tenure_at}
-use Rattle.controller_model.proofs.Prelude.{roles_of, Stands, hold_up, undone, dtap_in, on_dtap, on_release_ack, release_in, Sapi, Zero}
+use Rattle.controller_model.proofs.Prelude.{roles_of, IsValid, hold_up, undone, dtap_in, on_dtap, on_release_ack, release_in, Sapi, Zero}
 use Rattle.controller_model.proofs.Prelude.{What, Brought, FitsNone, IsBrought, IsTimer, brought_by, brought_in, brought_with, if_held}
 use Rattle.controller_model.proofs.Prelude.{nothing, comes, reports, breaks, passes, requests, word_by, word_in, Owns, Tenure, after_input}
 use Rattle.controller_model.proofs.Prelude.{after_word, Step, Take, Tick, Word, OnChannel, Reports, OnConnection, Controller, channel_state}
@@ -37,7 +37,7 @@ no_tenure at serving ds none = elim (cases_Bool (is_at at serving)) [
 none_drains : (at : Place) (ds : List Drain) → ds ≡ [] → AreAway at (undone ds)
 none_drains at ds none = subst (λ (xs : List Drain). AreAway at (undone xs)) (sym none) tt
 
-dtap_misses : (state : State) (s : Connection) → s.state ≡ state → (at : Place) (of : Sapi) (message : List ℕ) (before : List Message) (ts : List Tenure) → (state ≡ WaitConfirm) ⊎ IsLive state → Stands s → on_dtap state s at of message ≡ None → Follows s before ts → NoneOn at ts
+dtap_misses : (state : State) (s : Connection) → s.state ≡ state → (at : Place) (of : Sapi) (message : List ℕ) (before : List Message) (ts : List Tenure) → (state ≡ WaitConfirm) ⊎ IsLive state → IsValid s → on_dtap state s at of message ≡ None → Follows s before ts → NoneOn at ts
 dtap_misses WaitConfirm s same at of message before ts in_it stands none follows =
     none_on s before ts at follows (none_drains at s.draining (by_state WaitConfirm s same stands).none_drains) (none_if (is_at at s.serving) (hold_up WaitConfirm 0 of message s) none)
 dtap_misses (Live reference stage) s same at of message before ts in_it stands none follows =
@@ -56,7 +56,7 @@ pub drains_none : (o : Option ℕ) (reference : ℕ) (stage : Stage) (offer : Op
 drains_none None reference stage offer s none = refl
 drains_none (Some place) reference stage offer s none = absurd cc
 
-ack_misses : (state : State) (s : Connection) → s.state ≡ state → (at : Place) (offer : Option Channel) (before : List Message) (ts : List Tenure) → (state ≡ WaitConfirm) ⊎ IsLive state → Stands s → on_release_ack state s at offer ≡ None → Follows s before ts → NoneOn at (older ts)
+ack_misses : (state : State) (s : Connection) → s.state ≡ state → (at : Place) (offer : Option Channel) (before : List Message) (ts : List Tenure) → (state ≡ WaitConfirm) ⊎ IsLive state → IsValid s → on_release_ack state s at offer ≡ None → Follows s before ts → NoneOn at (older ts)
 ack_misses WaitConfirm s same at offer before ts in_it stands none follows = follows.old at (none_drains at s.draining (by_state WaitConfirm s same stands).none_drains)
 ack_misses (Live reference stage) s same at offer before ts in_it stands none follows = follows.old at (away_none at s.draining (drains_none (drain_at at s.draining) reference stage offer s none))
 ack_misses WaitActivation s same at offer before ts (inl is) stands none follows = absurd cc
@@ -68,7 +68,7 @@ ack_misses (Closed clearing) s same at offer before ts (inr live) stands none fo
 ack_misses Removed s same at offer before ts (inl is) stands none follows = absurd cc
 ack_misses Removed s same at offer before ts (inr live) stands none follows = absurd live
 
-missed : (s : Connection) (input : Input) (offer : Option Channel) (before : List Message) (ts : List Tenure) → (s.state ≡ WaitConfirm) ⊎ IsLive s.state → Stands s → row_of s input offer ≡ None → Follows s before ts → after_input input [] ts ≡ ts
+missed : (s : Connection) (input : Input) (offer : Option Channel) (before : List Message) (ts : List Tenure) → (s.state ≡ WaitConfirm) ⊎ IsLive s.state → IsValid s → row_of s input offer ≡ None → Follows s before ts → after_input input [] ts ≡ ts
 unfolding row_of
 missed s (inputs.Dtap at of message) offer before ts in_it stands none follows = heard_none of at message ts (dtap_misses s.state s refl at of message before ts in_it stands none follows)
 missed s (inputs.ReleaseAck at) offer before ts in_it stands none follows = older_none at ts (ack_misses s.state s refl at offer before ts in_it stands none follows)
@@ -159,14 +159,14 @@ pub word_none : (word : Word) (put : List Message) → requests put ≡ false �
 word_none (OnChannel at input) put none = early_none input put none
 word_none _ put none = refl
 
-missed_in : (state : State) (s : Connection) → s.state ≡ state → (input : Input) (before : List Message) (ts : List Tenure) → Stands s → FitsNone (comes input) (Some s) → UpIn state s before ts → after_input input [] ts ≡ ts
+missed_in : (state : State) (s : Connection) → s.state ≡ state → (input : Input) (before : List Message) (ts : List Tenure) → IsValid s → FitsNone (comes input) (Some s) → UpIn state s before ts → after_input input [] ts ≡ ts
 missed_in WaitConfirm s same input before ts stands none up = missed s input none.0 before ts (inl same) stands none.1 up
 missed_in (Live reference stage) s same input before ts stands none up = missed s input none.0 before ts (inr (subst IsLive (sym same) tt)) stands none.1 up
 missed_in (Closed clearing) s same input before ts stands none up = absurd up
 missed_in Removed s same input before ts stands none up = absurd up
 missed_in _ s same input before ts stands none up = subst (λ (us : List Tenure). after_input input [] us ≡ us) (sym up.0) (early_none input [] refl)
 
-pub rest_tenures : (s : Connection) (word : Word) (brought : Brought) (before : List Message) (ts : List Tenure) → SaysUp word ts brought → Stands s → FitsNone brought (Some s) → UpIn s.state s before ts → after_word word [] ts ≡ ts
+pub rest_tenures : (s : Connection) (word : Word) (brought : Brought) (before : List Message) (ts : List Tenure) → SaysUp word ts brought → IsValid s → FitsNone brought (Some s) → UpIn s.state s before ts → after_word word [] ts ≡ ts
 rest_tenures s word nothing before ts says stands none up = says
 rest_tenures s word (comes input) before ts says stands none up = says [] ∙ missed_in s.state s refl input before ts stands none up
 rest_tenures s word _ before ts says stands none up = says []

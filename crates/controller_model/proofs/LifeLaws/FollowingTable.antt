@@ -3,14 +3,14 @@ use Rattle.controller_model.proofs.Prelude.{◌≡◌, ◌⊎◌, ℕ, ◌==◌,
 use Rattle.controller_model.proofs.Prelude.{refl, sym, subst, ap, ◌∙◌, inl, inr, cases_Bool, cond-true, cond-false, Channel, Place, Message}
 use Rattle.controller_model.proofs.Prelude.{complete_layer3, by_state, same_place, Input, Drain, Active}
 use Rattle.controller_model.proofs.Prelude.{State, WaitActivation, WaitEstablish, WaitConfirm, Live, Closed, Removed, Connection, drain_at}
-use Rattle.controller_model.proofs.Prelude.{emptied, enter, is_at, ChangesRoles, GoesOn, roles_of, step_by, goes_on, ends, had_ended}
-use Rattle.controller_model.proofs.Prelude.{Stands, Row, row, dropping, without_station, AreApart, Future, IsOpen, OfRow, relayed, still_of}
+use Rattle.controller_model.proofs.Prelude.{emptied, enter, is_at, ChangesRoles, RemainsOpen, roles_of, step_by, goes_on, ends, had_ended}
+use Rattle.controller_model.proofs.Prelude.{IsValid, Row, row, dropping, without_station, AreApart, Future, IsOpen, OfRow, relayed, still_of}
 use Rattle.controller_model.proofs.Prelude.{used_channels, access, assign_immediately, on_activation_ack, on_activation_nack}
 use Rattle.controller_model.proofs.Prelude.{on_assignment_request, on_cipher_mode_command, on_clear_command, on_complete, on_confirm}
 use Rattle.controller_model.proofs.Prelude.{on_connection_failure, on_downlink, on_drain_expiry, on_dtap, on_error_indication}
 use Rattle.controller_model.proofs.Prelude.{on_establish_confirm, on_establish_indication, on_expiry, on_failure, on_move, on_refused}
 use Rattle.controller_model.proofs.Prelude.{on_release_ack, on_release_indication, on_released, on_station_down, on_switch_down, release_in}
-use Rattle.controller_model.proofs.Prelude.{Sapi, Zero, Three, HeldTenure, INITIAL_LIMIT, ChangesRoles-row, ChangesRolesBy, requests}
+use Rattle.controller_model.proofs.Prelude.{Sapi, Zero, Three, HeldTenure, INITIAL_LIMIT, changes_roles_row, ChangesRolesBy, requests}
 use Rattle.controller_model.proofs.Prelude.{used_in, Tenure, after_input, begin_first, beginning, of_sapi, place_of, empty_tenure}
 use Rattle.conn_rules.specs.declared.input.Input.TheVariants as inputs
 use Rattle.conn_rules.specs.Table.{row_of}
@@ -146,15 +146,15 @@ ack_found : (state : State) (s : Connection) (at : Place) (offer : Option Channe
 ack_found (Live reference stage) s at offer r is = release_found (drain_at at s.draining) reference stage offer s r is
 ack_found _ s at offer r is = absurd cc
 
-pub going : (s : Connection) (input : Input) (offer : Option Channel) (r : Row) → Stands s → row_of s input offer ≡ Some r → IsOpen r.next.state → GoesOn (step_by input (roles_of s)) (roles_of s) s.down input offer r
-going s input offer r stands is there = by (subst (ChangesRolesBy s input offer) is (ChangesRoles-row s input offer stands))
+pub going : (s : Connection) (input : Input) (offer : Option Channel) (r : Row) → IsValid s → row_of s input offer ≡ Some r → IsOpen r.next.state → RemainsOpen (step_by input (roles_of s)) (roles_of s) s.down input offer r
+going s input offer r stands is there = by (subst (ChangesRolesBy s input offer) is (changes_roles_row s input offer stands))
   where
-    by : ChangesRoles s input offer r → GoesOn (step_by input (roles_of s)) (roles_of s) s.down input offer r
+    by : ChangesRoles s input offer r → RemainsOpen (step_by input (roles_of s)) (roles_of s) s.down input offer r
     by (goes_on was_open is_open on) = on
     by (ends was_open closed over) = absurd (closed there)
     by (had_ended was_shut closed nothing) = absurd (closed there)
 
-pub serving_row : (s : Connection) (input : Input) (offer : Option Channel) (r : Row) (before : List Message) (ts : List Tenure) → (s.state ≡ WaitConfirm) ⊎ IsLive s.state → Stands s → AreApart (used_channels s) → AreApart (used_in (roles_of s)) → row_of s input offer ≡ Some r → IsOpen r.next.state → Follows s before ts → Follows r.next (before ++ r.outs) (after_input input r.outs ts)
+pub serving_row : (s : Connection) (input : Input) (offer : Option Channel) (r : Row) (before : List Message) (ts : List Tenure) → (s.state ≡ WaitConfirm) ⊎ IsLive s.state → IsValid s → AreApart (used_channels s) → AreApart (used_in (roles_of s)) → row_of s input offer ≡ Some r → IsOpen r.next.state → Follows s before ts → Follows r.next (before ++ r.outs) (after_input input r.outs ts)
 unfolding row_by
 serving_row s (inputs.Dtap at of message) offer r before ts in_it stands apart roles_apart is there follows =
     dtap_follows s at of message offer r before ts stands apart roles_apart (dtap_off s at of message offer r roles_apart is there) is there (going s (inputs.Dtap at of message) offer r stands is there) follows
@@ -168,7 +168,7 @@ serving_row s (inputs.EstablishIndication at Zero message) offer r before ts in_
 serving_row s input offer r before ts in_it stands apart roles_apart is there follows =
     plain_follows s input offer r before ts stands apart roles_apart is there (going s input offer r stands is there) tt follows
 
-pub row_up : (state : State) (s : Connection) → s.state ≡ state → (input : Input) (offer : Option Channel) (r : Row) (before : List Message) (ts : List Tenure) → Stands s → AreApart (used_channels s) → AreApart (used_in (roles_of s)) → row_of s input offer ≡ Some r → IsOpen r.next.state → UpIn state s before ts → UpIn r.next.state r.next (before ++ r.outs) (after_input input r.outs ts)
+pub row_up : (state : State) (s : Connection) → s.state ≡ state → (input : Input) (offer : Option Channel) (r : Row) (before : List Message) (ts : List Tenure) → IsValid s → AreApart (used_channels s) → AreApart (used_in (roles_of s)) → row_of s input offer ≡ Some r → IsOpen r.next.state → UpIn state s before ts → UpIn r.next.state r.next (before ++ r.outs) (after_input input r.outs ts)
 row_up WaitActivation s same input offer r before ts stands apart roles_apart is there up =
     let next : Next WaitActivation input r.next.state r.outs = subst (λ (state : State). Next state input r.next.state r.outs) same (subst (OfRow (Advances s.state input)) is (advances s input offer) there) in
     subst (λ (state : State). UpIn state r.next (before ++ r.outs) (after_input input r.outs ts)) (sym next.0) (

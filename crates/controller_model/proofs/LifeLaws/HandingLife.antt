@@ -3,7 +3,7 @@ use Rattle.controller_model.proofs.Prelude.{◌≡◌, ℕ, ◌≤◌, ◌<◌, 
 use Rattle.controller_model.proofs.Prelude.{None, refl, sym, subst, ap, ◌∙◌, inl, inr, arith, append-nil, true≢false, and_parts}
 use Rattle.controller_model.proofs.Prelude.{flat_map-append, AllByRecursion, list_any, Channel, Place, Message, Station, SWITCH_LINK}
 use Rattle.controller_model.proofs.Prelude.{access_activation, Input, Complete, State, WaitActivation, WaitEstablish, WaitConfirm, Live}
-use Rattle.controller_model.proofs.Prelude.{Closed, Removed, Connection, new_connection, Row, GoesTo, IsChanging, IsOpen, OfRow, Stands}
+use Rattle.controller_model.proofs.Prelude.{Closed, Removed, Connection, new_connection, Row, IsHandedTo, IsChanging, IsOpen, OfRow, IsValid}
 use Rattle.controller_model.proofs.Prelude.{after_pass, Sapi, Zero, Three, Parameters, or_cases, fold-append, AllByRecursion-so, AreParting}
 use Rattle.controller_model.proofs.Prelude.{IsParting, Does, IsReleaseComplete, OnlyReleases, handed, row_of, Acts, Brought, IsAged}
 use Rattle.controller_model.proofs.Prelude.{IsBrought, brought_in, kept_in, ages, goes, opens, rests, GoToServing, HasNoStream, IsAway}
@@ -120,7 +120,7 @@ row_changing s input offer r word broken changes fits says away is = elim (or_ca
 removed_cleared : (state : State) (s : Connection) → state ≡ Removed → IsClearedIn (kept_in state s)
 removed_cleared state s is = subst (λ (state : State). IsClearedIn (kept_in state s)) (sym is) tt
 
-row_agrees : (number next later : ℕ) (changes : Bool) (ts : List Tenure) (cleared : Bool) (word : Word) (broken : Bool) (s : Connection) (input : Input) (offer : Option Channel) (r : Row) → number < next → next ≤ later → Stands s → SaysInput word broken input → row_of s input offer ≡ Some r →
+row_agrees : (number next later : ℕ) (changes : Bool) (ts : List Tenure) (cleared : Bool) (word : Word) (broken : Bool) (s : Connection) (input : Input) (offer : Option Channel) (r : Row) → number < next → next ≤ later → IsValid s → SaysInput word broken input → row_of s input offer ≡ Some r →
     Agrees number next changes ts cleared (Some s) → Agrees number later (changed word broken changes r.outs) (after_word word r.outs ts) (cleared || list_any is_clear_complete r.outs) (kept_in r.next.state r.next)
 row_agrees number next later changes ts cleared word broken s input offer r less more stands says fits agrees = record {
   away = λ is. changing_kept r.next.state r.next refl (row_changing s input offer r word broken changes fits says agrees.away is);
@@ -231,16 +231,16 @@ acts_early number next up brought before after put (goes old s input offer r is 
     ap (handed sapi) put_is ∙ early_by s.state s refl input offer r fits (was s input offer r fits (early_open r.next.state next_early)) next_early sapi
 
 -- what goes to the serving channel goes to its place
-goes_on_place : (c : Channel) (at : Place) (m : Message) → at ≡ place_of c → GoesTo c m → IsHandedOn at m
+goes_on_place : (c : Channel) (at : Place) (m : Message) → at ≡ place_of c → IsHandedTo c m → IsHandedOn at m
 goes_on_place c at m is to = subst (λ (p : Place). IsHandedOn p m) (sym is) (of m to)
   where
-    of : (m : Message) → GoesTo c m → IsHandedOn (place_of c) m
+    of : (m : Message) → IsHandedTo c m → IsHandedOn (place_of c) m
     of (Station station (DataRequest request)) to = to
     of _ to = tt
 
-on_first : (c : Channel) (ts : List Tenure) (put : List Message) → first_place ts ≡ Some (place_of c) → AllByRecursion (GoesTo c) put → AreHandedOn ts put
+on_first : (c : Channel) (ts : List Tenure) (put : List Message) → first_place ts ≡ Some (place_of c) → AllByRecursion (IsHandedTo c) put → AreHandedOn ts put
 on_first c [] put is all = absurd cc
-on_first c (t ∷ old) put is all = AllByRecursion-so (GoesTo c) (IsHandedOn t.place) (λ m. goes_on_place c t.place m (some is)) put all
+on_first c (t ∷ old) put is all = AllByRecursion-so (IsHandedTo c) (IsHandedOn t.place) (λ m. goes_on_place c t.place m (some is)) put all
   where
     some : (let o : Option Place = Some t.place in o) ≡ Some (place_of c) → t.place ≡ place_of c
     some is = cc

@@ -2,7 +2,7 @@
 use Rattle.controller_model.proofs.Prelude.{◌≡◌, ◌||◌, Bool, true, false, List, [], ◌∷◌, Option, Some, None, refl, sym, ap, subst, ◌∙◌}
 use Rattle.controller_model.proofs.Prelude.{true≢false, AllByRecursion, list_any, Management, Channel, Message, Data, Input, Complete}
 use Rattle.controller_model.proofs.Prelude.{WasAsked, State, Live, Closed, Connection, Row, OfRow, on_clear_command, ClearComplete, Puts}
-use Rattle.controller_model.proofs.Prelude.{free, row-messages}
+use Rattle.controller_model.proofs.Prelude.{free, row_messages}
 use Rattle.conn_rules.specs.declared.input.Input.TheVariants as inputs
 use Rattle.conn_rules.specs.Table.{row_of}
 use Rattle.controller_model.specs.LifeLaws.Handing.{is_clear_complete}
@@ -52,7 +52,7 @@ others s = record {
 }
 
 pub other_row : (s : Connection) (input : Input) (offer : Option Channel) → NoClear input → OfRow PutsOther (row_of s input offer)
-other_row s input offer other = row-messages IsOther ⊥ s input offer (others s) (λ is. subst NoClear is other)
+other_row s input offer other = row_messages IsOther ⊥ s input offer (others s) (λ is. subst NoClear is other)
 
 -- ---- CLEAR COMPLETE is put by the row that takes CLEAR COMMAND, and the connection is cleared
 

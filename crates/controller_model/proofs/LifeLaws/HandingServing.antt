@@ -2,8 +2,8 @@
 use Rattle.controller_model.proofs.Prelude.{◌≡◌, ℕ, ◌==◌, ◌&&◌, Bool, true, false, if◌then◌else◌, List, [], ◌∷◌, Option, Some, None, refl}
 use Rattle.controller_model.proofs.Prelude.{sym, subst, ap, ◌∙◌, inl, inr, Channel, Place, Message, complete_layer3, same_place, Input}
 use Rattle.controller_model.proofs.Prelude.{State, WaitActivation, WaitEstablish, WaitConfirm, Live, Closed, Removed, Connection, drain_at}
-use Rattle.controller_model.proofs.Prelude.{emptied, is_at, GoesOn, RoleStep, Roles, TargetRole, after_step, awaits_at, changes_by}
-use Rattle.controller_model.proofs.Prelude.{leaves_at, roles_of, step_by, stays, commands, completes, goes_back, Stands, Row, row, dropping}
+use Rattle.controller_model.proofs.Prelude.{emptied, is_at, RemainsOpen, RoleStep, Roles, TargetRole, after_step, awaits_at, changes_by}
+use Rattle.controller_model.proofs.Prelude.{leaves_at, roles_of, step_by, stays, commands, completes, goes_back, IsValid, Row, row, dropping}
 use Rattle.controller_model.proofs.Prelude.{without_station, IsOpen, OfRow, assign_immediately, where_fits, Sapi, Zero, Three, handed}
 use Rattle.controller_model.proofs.Prelude.{row_of, requests, Tenure, after_input, after_word, begin_first, begin_next, heard, is_on}
 use Rattle.controller_model.proofs.Prelude.{with_message, performs, Word, OnChannel, place_of}
@@ -92,14 +92,14 @@ kept_serving (inputs.Complete at change cause) roles other = absurd other
 kept_serving (inputs.ReleaseAck at) roles other = leaving_serving (drain_at at roles.draining) roles
 kept_serving _ roles other = refl
 
-next_serving : (s : Connection) (input : Input) (offer : Option Channel) (r : Row) → GoesOn (step_by input (roles_of s)) (roles_of s) s.down input offer r → r.next.serving ≡ (after_step (step_by input (roles_of s)) (roles_of s)).serving
+next_serving : (s : Connection) (input : Input) (offer : Option Channel) (r : Row) → RemainsOpen (step_by input (roles_of s)) (roles_of s) s.down input offer r → r.next.serving ≡ (after_step (step_by input (roles_of s)) (roles_of s)).serving
 next_serving s input offer r on = ap (λ (roles : Roles). roles.serving) on.roles ∙ (begun_same on.begun (after_step (step_by input (roles_of s)) (roles_of s))).serving
 
 some_place : (place other : Place) → place ≡ other → (let o : Option Place = Some place in o) ≡ Some other
 some_place place other is = ap (λ (p : Place). let o : Option Place = Some p in o) is
 
 complete_place : (s : Connection) (at : Place) (change : _) (cause : _) (offer : Option Channel) (r : Row) (ts : List Tenure) → row_of s (inputs.Complete at change cause) offer ≡ Some r →
-    GoesOn (step_by (inputs.Complete at change cause) (roles_of s)) (roles_of s) s.down (inputs.Complete at change cause) offer r → first_place ts ≡ Some (place_of s.serving) → first_place (begin_next ts (performs r.outs) at) ≡ Some (place_of r.next.serving)
+    RemainsOpen (step_by (inputs.Complete at change cause) (roles_of s)) (roles_of s) s.down (inputs.Complete at change cause) offer r → first_place ts ≡ Some (place_of s.serving) → first_place (begin_next ts (performs r.outs) at) ≡ Some (place_of r.next.serving)
 complete_place s at change cause offer r [] is on serves = absurd cc
 complete_place s at change cause offer r (t ∷ old) is on serves =
     let input : Input = inputs.Complete at change cause in
@@ -109,13 +109,13 @@ complete_place s at change cause offer r (t ∷ old) is on serves =
     ap (λ (b : Bool). first_place (begin_next (t ∷ old) b at)) c.performed
     ∙ some_place at (place_of r.next.serving) (same_place at c.t.target.channel c.here ∙ ap place_of (sym serving))
 
-other_place : (s : Connection) (input : Input) (offer : Option Channel) (r : Row) (ts : List Tenure) → NotComplete input → GoesOn (step_by input (roles_of s)) (roles_of s) s.down input offer r → first_place ts ≡ Some (place_of s.serving) → first_place (after_input input r.outs ts) ≡ Some (place_of r.next.serving)
+other_place : (s : Connection) (input : Input) (offer : Option Channel) (r : Row) (ts : List Tenure) → NotComplete input → RemainsOpen (step_by input (roles_of s)) (roles_of s) s.down input offer r → first_place ts ≡ Some (place_of s.serving) → first_place (after_input input r.outs ts) ≡ Some (place_of r.next.serving)
 other_place s input offer r [] other on serves = absurd cc
 other_place s input offer r (t ∷ old) other on serves =
     kept_place input r.outs t old other ∙ serves
     ∙ some_place (place_of s.serving) (place_of r.next.serving) (ap place_of (sym (next_serving s input offer r on ∙ kept_serving input (roles_of s) other)))
 
-row_place : (s : Connection) (input : Input) (offer : Option Channel) (r : Row) (ts : List Tenure) → Stands s → row_of s input offer ≡ Some r → IsOpen r.next.state → first_place ts ≡ Some (place_of s.serving) → first_place (after_input input r.outs ts) ≡ Some (place_of r.next.serving)
+row_place : (s : Connection) (input : Input) (offer : Option Channel) (r : Row) (ts : List Tenure) → IsValid s → row_of s input offer ≡ Some r → IsOpen r.next.state → first_place ts ≡ Some (place_of s.serving) → first_place (after_input input r.outs ts) ≡ Some (place_of r.next.serving)
 row_place s (inputs.Complete at change cause) offer r ts stands is there serves = complete_place s at change cause offer r ts is (going s (inputs.Complete at change cause) offer r stands is there) serves
 row_place s input offer r ts stands is there serves = other_place s input offer r ts tt (going s input offer r stands is there) serves
 
@@ -130,7 +130,7 @@ live_serves _ s ts live serves = absurd live
 pub next_in : (state : State) (s : Connection) → s.state ≡ state → (input : Input) (offer : Option Channel) (r : Row) → row_of s input offer ≡ Some r → IsOpen r.next.state → Next state input r.next.state r.outs
 next_in state s same input offer r is there = subst (λ (state : State). Next state input r.next.state r.outs) same (subst (OfRow (Advances s.state input)) is (advances s input offer) there)
 
-by_state : (state : State) (s : Connection) → s.state ≡ state → (input : Input) (offer : Option Channel) (r : Row) (ts : List Tenure) → Stands s → row_of s input offer ≡ Some r → IsOpen r.next.state → ServesIn state s ts → ServesIn r.next.state r.next (after_input input r.outs ts)
+by_state : (state : State) (s : Connection) → s.state ≡ state → (input : Input) (offer : Option Channel) (r : Row) (ts : List Tenure) → IsValid s → row_of s input offer ≡ Some r → IsOpen r.next.state → ServesIn state s ts → ServesIn r.next.state r.next (after_input input r.outs ts)
 by_state WaitActivation s same input offer r ts stands is there serves =
     let next = next_in WaitActivation s same input offer r is there in
     subst (λ (state : State). ServesIn state r.next (after_input input r.outs ts)) (sym next.0) (ap (after_input input r.outs) serves ∙ early_none input r.outs next.1)
@@ -156,7 +156,7 @@ while_open (Closed clearing) s ts serves = tt
 while_open Removed s ts serves = tt
 while_open _ s ts serves = serves tt
 
-pub row_serves : (s : Connection) (input : Input) (offer : Option Channel) (r : Row) (ts : List Tenure) → Stands s → row_of s input offer ≡ Some r → ServesIn s.state s ts → ServesIn r.next.state r.next (after_input input r.outs ts)
+pub row_serves : (s : Connection) (input : Input) (offer : Option Channel) (r : Row) (ts : List Tenure) → IsValid s → row_of s input offer ≡ Some r → ServesIn s.state s ts → ServesIn r.next.state r.next (after_input input r.outs ts)
 row_serves s input offer r ts stands is serves = while_open r.next.state r.next (after_input input r.outs ts) (λ there. by_state s.state s refl input offer r ts stands is there serves)
 
 -- ---- before access nothing is handed

@@ -5,7 +5,7 @@ use Rattle.controller_model.proofs.Prelude.{Message, Station, Request, Data, Rel
 use Rattle.controller_model.proofs.Prelude.{AllByRecursion-append, AllByRecursion-filter, Input, Target, Connection, TargetRole, Roles}
 use Rattle.controller_model.proofs.Prelude.{RoleStep, RoleEnd, ChangesRoles, MayBegin, roles_of, after_step, step_by, step_orders}
 use Rattle.controller_model.proofs.Prelude.{begin_orders, end_messages, target_channels, those_that_go, to_stations, orders, goes_on, ends}
-use Rattle.controller_model.proofs.Prelude.{had_ended, refused, drops, dismisses, stays, commands, completes, goes_back, leaves, Stands}
+use Rattle.controller_model.proofs.Prelude.{had_ended, refused, drops, dismisses, stays, commands, completes, goes_back, leaves, IsValid}
 use Rattle.controller_model.proofs.Prelude.{Row, IsOpen, serving_after, Report, Decision, Stay, Move, RequestReference, row_of, AreIn}
 use Rattle.controller_model.proofs.Prelude.{Sdcch, ChannelState, Free, InUse, Releasing, Word, Asks, OnChannel, Reports, OnConnection}
 use Rattle.controller_model.proofs.Prelude.{access_channel, handover_offer, kind_of, request_offer, Controller, Entry, Turn, turn, ignoring}
@@ -122,7 +122,7 @@ own_elsewhere : (links : List Bool) (c : Controller) (e : Entry) (n : ℕ) → e
 own_elsewhere links c e n there holds at is is_open = elsewhere c.channels e.connection.number (Releasing n) at (e.connection.serving ∷ target_channels (roles_of e.connection).target) (use≢release e.connection.number n) (owns_entry links c e there holds is_open).using is
 
 -- the channels are those of the controller, one perhaps freed
-row_keeps : (links : List Bool) (c : Controller) (channels : States) (e : Entry) (input : Input) (offer : Option Channel) (r : Row) (n : ℕ) → n ≢ e.connection.number → Stands e.connection → IsElsewhere c n e → row_of e.connection input offer ≡ Some r → Keeps n c.channels channels →
+row_keeps : (links : List Bool) (c : Controller) (channels : States) (e : Entry) (input : Input) (offer : Option Channel) (r : Row) (n : ℕ) → n ≢ e.connection.number → IsValid e.connection → IsElsewhere c n e → row_of e.connection input offer ≡ Some r → Keeps n c.channels channels →
     ((d : Channel) → offer ≡ Some d → state_in channels (place_of d) ≡ Free) → Keeps n c.channels (fold (channels_after e.connection.number) channels r.outs)
 row_keeps links c channels e input offer r n differ stands own fits keeps offered = record {
   still = λ at is.
@@ -135,7 +135,7 @@ row_keeps links c channels e input offer r n differ stands own fits keeps offere
   ];
 }
 
-fitting_keeps : (links : List Bool) (c d : Controller) (otherwise : Turn) (e : Entry) (input : Input) (offer : Option Channel) (o : Option Row) (n : ℕ) → row_of e.connection input offer ≡ o → n ≢ e.connection.number → Stands e.connection → IsElsewhere c n e → Keeps n c.channels d.channels →
+fitting_keeps : (links : List Bool) (c d : Controller) (otherwise : Turn) (e : Entry) (input : Input) (offer : Option Channel) (o : Option Row) (n : ℕ) → row_of e.connection input offer ≡ o → n ≢ e.connection.number → IsValid e.connection → IsElsewhere c n e → Keeps n c.channels d.channels →
     ((f : Channel) → offer ≡ Some f → state_in d.channels (place_of f) ≡ Free) → Keeps n c.channels otherwise.next.channels → Keeps n c.channels (by_fitting otherwise e o d).next.channels
 fitting_keeps links c d otherwise e input offer None n is differ stands own keeps offered same = same
 fitting_keeps links c d otherwise e input offer (Some r) n is differ stands own keeps offered same = row_keeps links c d.channels e input offer r n differ stands own is keeps offered

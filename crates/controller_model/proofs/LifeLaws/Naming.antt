@@ -1,6 +1,6 @@
 -- A row keeps the request of its connection, and an IMMEDIATE ASSIGNMENT names it.
 use Rattle.controller_model.proofs.Prelude.{◌≡◌, Option, ap, ◌∙◌, AllByRecursion, Channel, immediate_assign_command, Input, Connection}
-use Rattle.controller_model.proofs.Prelude.{Row, OfRow, RequestReference, row_of, Enters, Puts, free, free_brings, free_parts, row-puts}
+use Rattle.controller_model.proofs.Prelude.{Row, OfRow, RequestReference, row_of, Enters, Puts, free, free_brings, free_parts, row_puts}
 use Rattle.controller_model.proofs.Prelude.{Names}
 
 module _ (c : Channel) (q : RequestReference) where
@@ -41,5 +41,5 @@ module _ (c : Channel) (q : RequestReference) where
 
   pub row_named : (s : Connection) (input : Input) (offer : Option Channel) → s.serving ≡ c → s.request ≡ q → OfRow IsNamed (row_of s input offer)
   row_named s input offer here is =
-      row-puts (free (Unit {0})) (Names c q) (λ state request. request ≡ q) s offer (named s here is) same (free_parts (Unit {0}) s offer) is input
+      row_puts (free (Unit {0})) (Names c q) (λ state request. request ≡ q) s offer (named s here is) same (free_parts (Unit {0}) s offer) is input
       (free_brings (Unit {0}) input (λ clear. tt))

@@ -2,11 +2,11 @@
 use Rattle.controller_model.proofs.Prelude.{◌≡◌, ◌≢◌, ◌⊎◌, ℕ, zero, suc, ◌==◌, ◌&&◌, Bool, true, false, not, if◌then◌else◌, List, [], ◌∷◌}
 use Rattle.controller_model.proofs.Prelude.{◌++◌, fold, Option, Some, None, option_map, refl, sym, subst, ap, ◌∙◌, inl, inr, true≢false}
 use Rattle.controller_model.proofs.Prelude.{cases_Bool, cond-true, cond-false, eqb-true, eq-eqb, and_parts, AllByRecursion, Channel, Place}
-use Rattle.controller_model.proofs.Prelude.{rf_channel_release, AllByRecursion-append, AreAway, drain_at-drains, same_place, Input, Drain}
+use Rattle.controller_model.proofs.Prelude.{rf_channel_release, AllByRecursion-append, AreAway, drain_at_drains, same_place, Input, Drain}
 use Rattle.controller_model.proofs.Prelude.{Target, is_at, drain_at, TargetRole, Roles, RoleStep, after_step, step_by, step_orders}
 use Rattle.controller_model.proofs.Prelude.{target_channels, with_target, leaves_at, MayBegin, stays, commands, completes, goes_back}
 use Rattle.controller_model.proofs.Prelude.{leaves, done_at, AreApart, IsApart, undone, undone-still_draining, DrainsAt, all_away}
-use Rattle.controller_model.proofs.Prelude.{apart_first, apart_rest, drain-away, apart_behind, IsNew, AreIn, Owns, is_link_up, used_in}
+use Rattle.controller_model.proofs.Prelude.{apart_first, apart_rest, drain_away, apart_behind, IsNew, AreIn, Owns, is_link_up, used_in}
 use Rattle.controller_model.proofs.Prelude.{ChannelState, Free, InUse, Releasing, channels_after, place_of, state_in, with_state}
 use Rattle.conn_rules.proofs.RolesApart.{IsPart, IsPart-step, AreApart-begin, undone-begins}
 use Rattle.conn_rules.proofs.Standing.{AllByRecursion-push}
@@ -61,7 +61,7 @@ away_done at (suc place) (d ∷ ds) rest drains apart =
   where
     by : (b : Bool) → d.is_done ≡ b → AreAway at (undone (done_at place ds)) → AreAway at (if b then undone (done_at place ds) else d.channel ∷ undone (done_at place ds))
     by true is others = others
-    by false is others = (drain-away at d.channel place ds rest drains (apart_first d.is_done d.channel (undone ds) rest is apart), others)
+    by false is others = (drain_away at d.channel place ds rest drains (apart_first d.is_done d.channel (undone ds) rest is apart), others)
 
 none_there : (at : Place) (c : Channel) (done : Bool) (rest : Option ℕ) → (if (is_at at c && not done) then Some 0 else option_map (λ place. suc place) rest) ≡ None → (done ≡ false → is_at at c ≡ false) × (rest ≡ None)
 none_there at c done rest none = elim (cases_Bool (is_at at c && not done)) [
@@ -219,7 +219,7 @@ left_owns channels links n k at roles (Some place) some is owns =
     with_states channels (with_state at Free channels) links n (leaves place) roles owns (left_using channels links n k at roles is owns)
     (subst (AreIn (with_state at Free channels) (Releasing n)) (sym (undone-still_draining (done_at place roles.draining)))
     (away_in channels at Free (Releasing n) (undone (done_at place roles.draining))
-    (away_done at place roles.draining (roles.serving ∷ target_channels roles.target) (drain_at-drains at roles.draining place some) owns.apart)
+    (away_done at place roles.draining (roles.serving ∷ target_channels roles.target) (drain_at_drains at roles.draining place some) owns.apart)
     (all_done_at (λ c. state_in channels (place_of c) ≡ Releasing n) place roles.draining owns.releasing)))
 
 pub acknowledged_owns : (channels : States) (links : List Bool) (n k : ℕ) (at : Place) (roles : Roles) → state_in channels at ≡ Releasing k → Owns channels links n roles → Owns (with_state at Free channels) links n (after_step (step_by (inputs.ReleaseAck at) roles) roles)

@@ -5,14 +5,14 @@ use Rattle.controller_model.proofs.Prelude.{option_map, refl, sym, subst, ap, �
 use Rattle.controller_model.proofs.Prelude.{cond-false, eq-eqb, get_or-set_other, AllByRecursion, Channel, Message, SWITCH_LINK}
 use Rattle.controller_model.proofs.Prelude.{AllByRecursion-append, by_state, Input, Drain, Stage, Preparing, Changing}
 use Rattle.controller_model.proofs.Prelude.{State, WaitActivation, WaitEstablish, WaitConfirm, Live, Closed, Removed, Connection, Roles}
-use Rattle.controller_model.proofs.Prelude.{roles_of, target_channels, target_role, Stands, Row, IsOpen, undone, row_if, on_drain_expiry}
+use Rattle.controller_model.proofs.Prelude.{roles_of, target_channels, target_role, IsValid, Row, IsOpen, undone, row_if, on_drain_expiry}
 use Rattle.controller_model.proofs.Prelude.{on_expiry, on_station_down, on_switch_down, What, AreAllowed, CellParameters, Parameters}
 use Rattle.controller_model.proofs.Prelude.{length-replicate, drains_at, targets, is_some_draining, Acts, IsTimer, ages, goes, opens, rests}
 use Rattle.controller_model.proofs.Prelude.{breaks, connection_of, IsNumbered, AreRising, IsAbove, AreIn, Owns, OwnsOpen, is_link_up}
 use Rattle.controller_model.proofs.Prelude.{used_in, LinkedOf, ChannelState, Free, InUse, Releasing, CHANNEL_NUMBERS, Step, Take, Tick}
 use Rattle.controller_model.proofs.Prelude.{request_offer, Controller, Entry, Turn, turn, each, entry_of, free_channels, freed_station}
 use Rattle.controller_model.proofs.Prelude.{is_up, new_controller, with_down, aged, all_aged, break_of, expiry, on_break, expires, on_what}
-use Rattle.controller_model.proofs.Prelude.{row_in, step, timed, told, word_of, IsCell, IsChannel, recursion_from_All, all_behind}
+use Rattle.controller_model.proofs.Prelude.{row_in, step, timed, with_own_input, word_of, IsCell, IsChannel, recursion_from_All, all_behind}
 use Rattle.conn_rules.specs.declared.input.Input.TheVariants as inputs
 use Rattle.conn_rules.specs.Table.{row_of}
 use Rattle.controller_model.proofs.LifeLaws.Beside.{links_with, other_link, step_goes}
@@ -76,14 +76,14 @@ break_shut _ break s offer r is = absurd break
 
 -- ---- one connection after the other
 
-pub told_holds : (links : List Bool) (c : Controller) (e : Entry) (input : Input) → ((s : Connection) (offer : Option Channel) (r : Row) → row_of s input offer ≡ Some r → IsOpen r.next.state → ⊥) → AreRising c.entries → entry_of c e.connection.number ≡ Some e → Stands e.connection → Holds links c → Holds links (told input c e).next
+pub told_holds : (links : List Bool) (c : Controller) (e : Entry) (input : Input) → ((s : Connection) (offer : Option Channel) (r : Row) → row_of s input offer ≡ Some r → IsOpen r.next.state → ⊥) → AreRising c.entries → entry_of c e.connection.number ≡ Some e → IsValid e.connection → Holds links c → Holds links (with_own_input input c e).next
 told_holds links c e input shut rising there stands holds =
     fitting_holds links c (turn [] c) e input (request_offer c e.connection input) (row_in c e.connection input) refl rising there stands holds
     (λ r is is_open channel offered. absurd (shut e.connection (request_offer c e.connection input) r is is_open)) holds
 
 each_holds : (links : List Bool) (f : Controller → Entry → Turn) → ((c : Controller) (e : Entry) → AreRising c.entries → AreRising (f c e).next.entries) → ((m : ℕ) (c : Controller) (e : Entry) → m ≢ e.connection.number → entry_of (f c e).next m ≡ entry_of c m) →
-    ((c : Controller) (e : Entry) → AreRising c.entries → entry_of c e.connection.number ≡ Some e → Stands e.connection → Holds links c → Holds links (f c e).next) →
-    (c : Controller) (xs : List Entry) → AreRising c.entries → AreRising xs → AllByRecursion (λ (x : Entry). entry_of c x.connection.number ≡ Some x) xs → AllByRecursion (λ (x : Entry). Stands x.connection) xs → Holds links c → Holds links (each f c xs).next
+    ((c : Controller) (e : Entry) → AreRising c.entries → entry_of c e.connection.number ≡ Some e → IsValid e.connection → Holds links c → Holds links (f c e).next) →
+    (c : Controller) (xs : List Entry) → AreRising c.entries → AreRising xs → AllByRecursion (λ (x : Entry). entry_of c x.connection.number ≡ Some x) xs → AllByRecursion (λ (x : Entry). IsValid x.connection) xs → Holds links c → Holds links (each f c xs).next
 each_holds links f order leaves keeps c [] rising sorted there stand holds = holds
 each_holds links f order leaves keeps c (x ∷ xs) rising sorted there stand holds =
     each_holds links f order leaves keeps (f c x).next xs (order c x rising) sorted.1
@@ -91,7 +91,7 @@ each_holds links f order leaves keeps c (x ∷ xs) rising sorted there stand hol
     (λ y above found. leaves y.connection.number c x (λ same. absurd (omega arith)) ∙ found) sorted.0 there.1)
     stand.1 (keeps c x rising there.0 stand.0 holds)
 
-pub all_stand : (c : Controller) (xs : List Entry) → AllStand c → AllByRecursion (λ (x : Entry). entry_of c x.connection.number ≡ Some x) xs → AllByRecursion (λ (x : Entry). Stands x.connection) xs
+pub all_stand : (c : Controller) (xs : List Entry) → AllStand c → AllByRecursion (λ (x : Entry). entry_of c x.connection.number ≡ Some x) xs → AllByRecursion (λ (x : Entry). IsValid x.connection) xs
 unfolding AllStand
 all_stand c [] stand there = tt
 all_stand c (x ∷ xs) stand there = (stand x.connection.number x there.0, all_stand c xs stand there.1)
@@ -145,7 +145,7 @@ early_away s station q none alone is =
     subst (λ (ds : List Drain). AllByRecursion (IsAwayFrom station) (undone ds ++ s.serving ∷ target_channels (target_role s.state))) (sym none)
     (away_from station s.serving (none_if (s.serving.station == station) q is), subst (AllByRecursion (IsAwayFrom station)) (sym alone) tt)
 
-down_away : (state : State) (s : Connection) (station : ℕ) → s.state ≡ state → Stands s → IsOpen state → on_station_down state s station ≡ None → AllByRecursion (IsAwayFrom station) (used_in (roles_of s))
+down_away : (state : State) (s : Connection) (station : ℕ) → s.state ≡ state → IsValid s → IsOpen state → on_station_down state s station ≡ None → AllByRecursion (IsAwayFrom station) (used_in (roles_of s))
 down_away WaitActivation s station is stands is_open none =
     early_away s station _ (by_state WaitActivation s is stands).0.none_drains (ap (λ (state : State). target_channels (target_role state)) is) none
 down_away WaitEstablish s station is stands is_open none =
@@ -188,7 +188,7 @@ open_present Removed is_open = absurd is_open
 open_present _ is_open = tt
 
 -- no row fits a break: it is that of a station, and none of its channels are there
-break_away : (source : ℕ) (s : Connection) (offer : Option Channel) → Stands s → IsOpen s.state → row_of s (break_of source) offer ≡ None → ((source == SWITCH_LINK) ≡ false) × AllByRecursion (IsAwayFrom source) (used_in (roles_of s))
+break_away : (source : ℕ) (s : Connection) (offer : Option Channel) → IsValid s → IsOpen s.state → row_of s (break_of source) offer ≡ None → ((source == SWITCH_LINK) ≡ false) × AllByRecursion (IsAwayFrom source) (used_in (roles_of s))
 unfolding row_of
 break_away source s offer stands is_open none = elim (cases_Bool (source == SWITCH_LINK)) [
   | inl switch ↦
@@ -247,7 +247,7 @@ break_holds : (source : ℕ) (c : Controller) → IsNumbered c → AllFine c →
 unfolding AllFine
 break_holds source c numbered fine holds =
     let down : Controller = with_down source c in
-    let f : Controller → Entry → Turn = told (break_of source) in
+    let f : Controller → Entry → Turn = with_own_input (break_of source) in
     let tame = told_tame 1 1 true (break_of source) in
     let there = all_found c.entries numbered.rising in
     let last : Controller = (each f down c.entries).next in
@@ -265,11 +265,11 @@ what_holds true source whats.Down c numbered fine holds = break_holds source c n
 what_holds false source (whats.Frame frame) c numbered fine holds = record { shaped = holds.shaped; each = holds.each }
 what_holds false source whats.Down c numbered fine holds = record { shaped = holds.shaped; each = holds.each }
 
-pub expiry_holds : (links : List Bool) (o : Option Input) (c : Controller) (e : Entry) → IsDue o → AreRising c.entries → entry_of c e.connection.number ≡ Some e → Stands e.connection → Holds links c → Holds links (expires o c e).next
+pub expiry_holds : (links : List Bool) (o : Option Input) (c : Controller) (e : Entry) → IsDue o → AreRising c.entries → entry_of c e.connection.number ≡ Some e → IsValid e.connection → Holds links c → Holds links (expires o c e).next
 expiry_holds links None c e due rising there stands holds = holds
 expiry_holds links (Some input) c e due rising there stands holds = told_holds links c e input (timer_shut input due) rising there stands holds
 
-pub aged_stand : (ms : ℕ) (xs : List Entry) → AllByRecursion (λ (x : Entry). Stands x.connection) xs → AllByRecursion (λ (x : Entry). Stands x.connection) (map (aged ms) xs)
+pub aged_stand : (ms : ℕ) (xs : List Entry) → AllByRecursion (λ (x : Entry). IsValid x.connection) xs → AllByRecursion (λ (x : Entry). IsValid x.connection) (map (aged ms) xs)
 aged_stand ms [] all = tt
 aged_stand ms (x ∷ xs) all = (pass_stands ms x.connection all.0, aged_stand ms xs all.1)
 

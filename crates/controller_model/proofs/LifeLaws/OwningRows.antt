@@ -4,9 +4,9 @@ use Rattle.controller_model.proofs.Prelude.{None, refl, sym, subst, ap, ◌∙�
 use Rattle.controller_model.proofs.Prelude.{AllByRecursion, Change, Assignment, Handover, Channel, Place, Message, Station, Request, Data}
 use Rattle.controller_model.proofs.Prelude.{ReleaseComplete, change_activation, rf_channel_release, AllByRecursion-append}
 use Rattle.controller_model.proofs.Prelude.{AllByRecursion-filter, Input, Target, Connection, TargetRole, Roles, RoleStep, ChangesRoles}
-use Rattle.controller_model.proofs.Prelude.{GoesOn, RoleEnd, roles_of, after_step, step_by, step_orders, begin_orders, with_target}
+use Rattle.controller_model.proofs.Prelude.{RemainsOpen, RoleEnd, roles_of, after_step, step_by, step_orders, begin_orders, with_target}
 use Rattle.controller_model.proofs.Prelude.{end_messages, those_that_go, to_stations, is_order, orders, MayBegin, goes_on, ends, had_ended}
-use Rattle.controller_model.proofs.Prelude.{refused, drops, dismisses, stays, commands, completes, goes_back, leaves, Row, goes_to, IsOpen}
+use Rattle.controller_model.proofs.Prelude.{refused, drops, dismisses, stays, commands, completes, goes_back, leaves, Row, is_for_station, IsOpen}
 use Rattle.controller_model.proofs.Prelude.{fold-append, is_to_station, Owns, ChannelState, Free, InUse, Releasing, channels_after}
 use Rattle.controller_model.proofs.Prelude.{place_at, place_of, state_in, with_state}
 use Rattle.conn_rules.specs.declared.input.Input.TheVariants as inputs
@@ -84,7 +84,7 @@ others_fold m n links roles channels (ReleaseComplete destination ∷ ms) differ
 -- ---- the orders of a row are its own
 
 all_that_go : (P : Message → Type 0) (input : Input) (ms : List Message) → AllByRecursion P ms → AllByRecursion P (those_that_go input ms)
-all_that_go P (inputs.StationDown station) ms all = AllByRecursion-filter P (λ message. not (goes_to station message)) ms all
+all_that_go P (inputs.StationDown station) ms all = AllByRecursion-filter P (λ message. not (is_for_station station message)) ms all
 all_that_go P _ ms all = all
 
 -- all orders go to stations
@@ -201,7 +201,7 @@ begun_offer (Some target) input offer roles t may is = let same : target ≡ t =
     of is = cc
 
 -- a row that goes on
-pub row_owns : (m : ℕ) (channels : States) (links : List Bool) (s : Connection) (input : Input) (offer : Option Channel) (r : Row) → GoesOn (step_by input (roles_of s)) (roles_of s) s.down input offer r → StepOwns m channels links (step_by input (roles_of s)) (roles_of s) → ((c : Channel) → offer ≡ Some c → IsOffered channels links c) →
+pub row_owns : (m : ℕ) (channels : States) (links : List Bool) (s : Connection) (input : Input) (offer : Option Channel) (r : Row) → RemainsOpen (step_by input (roles_of s)) (roles_of s) s.down input offer r → StepOwns m channels links (step_by input (roles_of s)) (roles_of s) → ((c : Channel) → offer ≡ Some c → IsOffered channels links c) →
     Owns (fold (channels_after m) channels r.outs) links m (roles_of r.next)
 row_owns m channels links s input offer r on steps offers =
     let step : RoleStep = step_by input (roles_of s) in

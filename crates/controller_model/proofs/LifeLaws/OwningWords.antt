@@ -4,8 +4,8 @@ use Rattle.controller_model.proofs.Prelude.{sym, subst, ap, ◌∙◌, true≢fa
 use Rattle.controller_model.proofs.Prelude.{Preparing, State, WaitActivation, Live}
 use Rattle.controller_model.proofs.Prelude.{Removed, Connection, drain_at, emptied, is_at, TargetRole, Roles, RoleStep}
 use Rattle.controller_model.proofs.Prelude.{ChangesRoles, roles_of, target_role, after_step, awaits_at, end_messages, step_by, step_orders}
-use Rattle.controller_model.proofs.Prelude.{leaves_at, stays, goes_back, Stands, Row, row, IsOpen, row_if, refuse, on_activation_nack}
-use Rattle.controller_model.proofs.Prelude.{serving_after, Report, Decision, Stay, Move, RequestReference, is_some, ChangesRoles-row}
+use Rattle.controller_model.proofs.Prelude.{leaves_at, stays, goes_back, IsValid, Row, row, IsOpen, row_if, refuse, on_activation_nack}
+use Rattle.controller_model.proofs.Prelude.{serving_after, Report, Decision, Stay, Move, RequestReference, is_some, changes_roles_row}
 use Rattle.controller_model.proofs.Prelude.{ChangesRolesBy, target_orders, connection_of, IsNumbered, AreRising, Owns, OwnsOpen, Sdcch, Tch}
 use Rattle.controller_model.proofs.Prelude.{ChannelState, Free, InUse, Releasing, Word, Nothing, Ping, Asks, OnChannel, Reports}
 use Rattle.controller_model.proofs.Prelude.{OnConnection, access_channel, assignment_offer, handover_offer, request_offer, kind_of}
@@ -34,12 +34,12 @@ pub record Holds (links : List Bool) (c : Controller) : Type 0 where
 pub owns_entry : (links : List Bool) (c : Controller) (e : Entry) → entry_of c e.connection.number ≡ Some e → Holds links c → IsOpen e.connection.state → Owns c.channels links e.connection.number (roles_of e.connection)
 owns_entry links c e there holds = subst (OwnsOpen c.channels links e.connection.number) (ap (option_map (λ (x : Entry). x.connection)) there) (holds.each e.connection.number)
 
-pub changes_of : (s : Connection) (input : Input) (offer : Option Channel) (r : Row) → Stands s → row_of s input offer ≡ Some r → ChangesRoles s input offer r
-changes_of s input offer r stands is = subst (ChangesRolesBy s input offer) is (ChangesRoles-row s input offer stands)
+pub changes_of : (s : Connection) (input : Input) (offer : Option Channel) (r : Row) → IsValid s → row_of s input offer ≡ Some r → ChangesRoles s input offer r
+changes_of s input offer r stands is = subst (ChangesRolesBy s input offer) is (changes_roles_row s input offer stands)
 
 -- ---- a row of a frame
 
-pub usual_row : (links : List Bool) (c : Controller) (e : Entry) (input : Input) (offer : Option Channel) (r : Row) → entry_of c e.connection.number ≡ Some e → Stands e.connection → Holds links c → row_of e.connection input offer ≡ Some r →
+pub usual_row : (links : List Bool) (c : Controller) (e : Entry) (input : Input) (offer : Option Channel) (r : Row) → entry_of c e.connection.number ≡ Some e → IsValid e.connection → Holds links c → row_of e.connection input offer ≡ Some r →
     (IsOpen r.next.state → (channel : Channel) → offer ≡ Some channel → IsOffered c.channels links channel) → RowOwns e.connection.number c.channels links e.connection input offer r
 usual_row links c e input offer r there stands holds is offers = record {
   changes = changes_of e.connection input offer r stands is;
@@ -48,7 +48,7 @@ usual_row links c e input offer r there stands holds is offers = record {
   offers = offers;
 }
 
-pub fitting_holds : (links : List Bool) (c : Controller) (otherwise : Turn) (e : Entry) (input : Input) (offer : Option Channel) (o : Option Row) → row_of e.connection input offer ≡ o → AreRising c.entries → entry_of c e.connection.number ≡ Some e → Stands e.connection → Holds links c →
+pub fitting_holds : (links : List Bool) (c : Controller) (otherwise : Turn) (e : Entry) (input : Input) (offer : Option Channel) (o : Option Row) → row_of e.connection input offer ≡ o → AreRising c.entries → entry_of c e.connection.number ≡ Some e → IsValid e.connection → Holds links c →
     ((r : Row) → o ≡ Some r → IsOpen r.next.state → (channel : Channel) → offer ≡ Some channel → IsOffered c.channels links channel) → Holds links otherwise.next → Holds links (by_fitting otherwise e o c).next
 fitting_holds links c otherwise e input offer None is rising there stands holds offers same = same
 fitting_holds links c otherwise e input offer (Some r) is rising there stands holds offers same = record {
@@ -65,7 +65,7 @@ ignoring_holds links c holds = record { shaped = holds.shaped; each = holds.each
 pub at_number : (c : Controller) (m : ℕ) (e : Entry) → entry_of c m ≡ Some e → entry_of c e.connection.number ≡ Some e
 at_number c m e there = subst (λ (n : ℕ). entry_of c n ≡ Some e) (sym (found_number m c.entries e there)) there
 
-pub concerning_holds : (c : Controller) (input : Input) (m : ℕ) (o : Option Entry) → entry_of c m ≡ o → AreRising c.entries → ((e : Entry) → o ≡ Some e → Stands e.connection) → Holds c.links c → Holds c.links (concerning input c o).next
+pub concerning_holds : (c : Controller) (input : Input) (m : ℕ) (o : Option Entry) → entry_of c m ≡ o → AreRising c.entries → ((e : Entry) → o ≡ Some e → IsValid e.connection) → Holds c.links c → Holds c.links (concerning input c o).next
 concerning_holds c input m None there rising stands holds = ignoring_holds c.links c holds
 concerning_holds c input m (Some e) there rising stands holds =
     fitting_holds c.links c (ignoring c) e input (request_offer c e.connection input) (row_in c e.connection input) refl rising (at_number c m e there) (stands e refl) holds
@@ -88,7 +88,7 @@ freed_other c links at n k (Some s) differ held owns = λ is_open.
     not_release _ held same = absurd cc
 
 -- what a row needs in the controller whose channel was freed
-freed_row : (c : Controller) (e : Entry) (at : Place) (input : Input) (offer : Option Channel) (r : Row) → entry_of c e.connection.number ≡ Some e → Stands e.connection → Holds c.links c → row_of e.connection input offer ≡ Some r →
+freed_row : (c : Controller) (e : Entry) (at : Place) (input : Input) (offer : Option Channel) (r : Row) → entry_of c e.connection.number ≡ Some e → IsValid e.connection → Holds c.links c → row_of e.connection input offer ≡ Some r →
     (IsOpen e.connection.state → IsOpen r.next.state → StepOwns e.connection.number (with_state at Free c.channels) c.links (step_by input (roles_of e.connection)) (roles_of e.connection)) →
     (IsOpen r.next.state → (channel : Channel) → offer ≡ Some channel → IsOffered (with_state at Free c.channels) c.links channel) → RowOwns e.connection.number (with_state at Free c.channels) c.links e.connection input offer r
 freed_row c e at input offer r there stands holds is steps offers = record {
@@ -106,7 +106,7 @@ pub freed_shaped : (at : Place) (c : Controller) → IsShaped c.settings c.chann
 freed_shaped at c shaped = shaped_set c.settings c.channels at Free shaped
 
 -- by RELEASE ACK
-acknowledged_holds : (at : Place) (c : Controller) (k : ℕ) (o : Option Entry) → channel_state c at ≡ Releasing k → entry_of c k ≡ o → AreRising c.entries → ((e : Entry) → o ≡ Some e → Stands e.connection) → Holds c.links c → Holds c.links (concerning_too (inputs.ReleaseAck at) (freed at c) o).next
+acknowledged_holds : (at : Place) (c : Controller) (k : ℕ) (o : Option Entry) → channel_state c at ≡ Releasing k → entry_of c k ≡ o → AreRising c.entries → ((e : Entry) → o ≡ Some e → IsValid e.connection) → Holds c.links c → Holds c.links (concerning_too (inputs.ReleaseAck at) (freed at c) o).next
 acknowledged_holds at c k None state there rising stands holds = record {
   shaped = freed_shaped at c holds.shaped;
   each = λ n. decide_same n k (OwnsOpen (with_state at Free c.channels) c.links n (connection_of c n))
@@ -124,7 +124,7 @@ acknowledged_holds at c k (Some e) state there rising stands holds = by (row_in 
           (subst (OwnsOpen (with_state at Free c.channels) c.links k) (sym (ap (option_map (λ (x : Entry). x.connection)) there))
           (λ is_open.
           let own = subst (OwnsOpen c.channels c.links k) (ap (option_map (λ (x : Entry). x.connection)) there) (holds.each k) is_open in
-          let stay : step_by (inputs.ReleaseAck at) (roles_of e.connection) ≡ stays = subst (ChangesRolesBy e.connection (inputs.ReleaseAck at) (request_offer (freed at c) e.connection (inputs.ReleaseAck at))) none (ChangesRoles-row e.connection (inputs.ReleaseAck at) (request_offer (freed at c) e.connection (inputs.ReleaseAck at)) (stands e refl)) in
+          let stay : step_by (inputs.ReleaseAck at) (roles_of e.connection) ≡ stays = subst (ChangesRolesBy e.connection (inputs.ReleaseAck at) (request_offer (freed at c) e.connection (inputs.ReleaseAck at))) none (changes_roles_row e.connection (inputs.ReleaseAck at) (request_offer (freed at c) e.connection (inputs.ReleaseAck at)) (stands e refl)) in
           subst (λ (step : RoleStep). Owns (with_state at Free c.channels) c.links k (after_step step (roles_of e.connection))) stay
           (acknowledged_owns c.channels c.links k k at (roles_of e.connection) state own))))
           (λ differ. freed_other c c.links at n k (connection_of c n) differ (ap holder state) (holds.each n));
@@ -182,7 +182,7 @@ refused_steps c e at owns awaits =
     (refused_owns c.channels c.links e.connection.number at roles awaits.0 awaits.3
     (subst (λ (target : Option TargetRole). Owns c.channels c.links e.connection.number (record roles { target = target })) awaits.1 owns)))
 
-refused_by : (at : Place) (c : Controller) (k : ℕ) (e : Entry) (o : Option Row) → row_of e.connection (inputs.ActivationNack at) (request_offer (freed at c) e.connection (inputs.ActivationNack at)) ≡ o → holder (channel_state c at) ≡ Some k → entry_of c k ≡ Some e → fits (Some e) (inputs.ActivationNack at) ≡ true → AreRising c.entries → Stands e.connection → Holds c.links c → Holds c.links (by_fitting (turn [] (freed at c)) e o (freed at c)).next
+refused_by : (at : Place) (c : Controller) (k : ℕ) (e : Entry) (o : Option Row) → row_of e.connection (inputs.ActivationNack at) (request_offer (freed at c) e.connection (inputs.ActivationNack at)) ≡ o → holder (channel_state c at) ≡ Some k → entry_of c k ≡ Some e → fits (Some e) (inputs.ActivationNack at) ≡ true → AreRising c.entries → IsValid e.connection → Holds c.links c → Holds c.links (by_fitting (turn [] (freed at c)) e o (freed at c)).next
 unfolding row_of
 refused_by at c k e None none held there fitting rising stands holds = absurd (nack_fits e.connection.state e.connection at (request_offer (freed at c) e.connection (inputs.ActivationNack at)) fitting none)
 refused_by at c k e (Some r) is held there fitting rising stands holds = record {
@@ -194,7 +194,7 @@ refused_by at c k e (Some r) is held there fitting rising stands holds = record 
       (λ n differ. freed_other c c.links at n k (connection_of c n) (λ same. differ (same ∙ sym (found_number k c.entries e there))) held (holds.each n));
 }
 
-refused_holds : (at : Place) (c : Controller) (k : ℕ) (o : Option Entry) → holder (channel_state c at) ≡ Some k → entry_of c k ≡ o → fits o (inputs.ActivationNack at) ≡ true → AreRising c.entries → ((e : Entry) → o ≡ Some e → Stands e.connection) → Holds c.links c → Holds c.links (concerning_too (inputs.ActivationNack at) (freed at c) o).next
+refused_holds : (at : Place) (c : Controller) (k : ℕ) (o : Option Entry) → holder (channel_state c at) ≡ Some k → entry_of c k ≡ o → fits o (inputs.ActivationNack at) ≡ true → AreRising c.entries → ((e : Entry) → o ≡ Some e → IsValid e.connection) → Holds c.links c → Holds c.links (concerning_too (inputs.ActivationNack at) (freed at c) o).next
 refused_holds at c k None held there fitting rising stands holds = absurd (true≢false (sym fitting))
 refused_holds at c k (Some e) held there fitting rising stands holds = refused_by at c k e (row_in (freed at c) e.connection (inputs.ActivationNack at)) refl held there fitting rising (stands e refl) holds
 
@@ -212,17 +212,17 @@ free_holds : (b : Bool) (at : Place) (input : Input) (c : Controller) → channe
 free_holds true at input c is holds = freed_free at c is holds
 free_holds false at input c is holds = ignoring_holds c.links c holds
 
-nack_holds : (b : Bool) (at : Place) (c : Controller) (k : ℕ) (o : Option Entry) → fits o (inputs.ActivationNack at) ≡ b → holder (channel_state c at) ≡ Some k → entry_of c k ≡ o → AreRising c.entries → ((e : Entry) → o ≡ Some e → Stands e.connection) → Holds c.links c → Holds c.links (on_freed b at (inputs.ActivationNack at) c o).next
+nack_holds : (b : Bool) (at : Place) (c : Controller) (k : ℕ) (o : Option Entry) → fits o (inputs.ActivationNack at) ≡ b → holder (channel_state c at) ≡ Some k → entry_of c k ≡ o → AreRising c.entries → ((e : Entry) → o ≡ Some e → IsValid e.connection) → Holds c.links c → Holds c.links (on_freed b at (inputs.ActivationNack at) c o).next
 nack_holds true at c k o fitting held there rising stands holds = refused_holds at c k o held there fitting rising stands holds
 nack_holds false at c k o fitting held there rising stands holds = concerning_holds c (inputs.ActivationNack at) k o there rising stands holds
 
-using_holds : (at : Place) (input : Input) (c : Controller) (k : ℕ) (o : Option Entry) → IsAtPlace at input → channel_state c at ≡ InUse k → entry_of c k ≡ o → AreRising c.entries → ((e : Entry) → o ≡ Some e → Stands e.connection) → Holds c.links c → Holds c.links (on_state (InUse k) at input c o).next
+using_holds : (at : Place) (input : Input) (c : Controller) (k : ℕ) (o : Option Entry) → IsAtPlace at input → channel_state c at ≡ InUse k → entry_of c k ≡ o → AreRising c.entries → ((e : Entry) → o ≡ Some e → IsValid e.connection) → Holds c.links c → Holds c.links (on_state (InUse k) at input c o).next
 using_holds at (inputs.ActivationNack place) c k o is state there rising stands holds =
     subst (λ (p : Place). Holds c.links (on_state (InUse k) at (inputs.ActivationNack p) c o).next) (sym is)
     (nack_holds (fits o (inputs.ActivationNack at)) at c k o refl (ap holder state) there rising stands holds)
 using_holds at input c k o is state there rising stands holds = concerning_holds c input k o there rising stands holds
 
-releasing_holds : (at : Place) (input : Input) (c : Controller) (k : ℕ) (o : Option Entry) → IsAtPlace at input → channel_state c at ≡ Releasing k → entry_of c k ≡ o → AreRising c.entries → ((e : Entry) → o ≡ Some e → Stands e.connection) → Holds c.links c → Holds c.links (on_state (Releasing k) at input c o).next
+releasing_holds : (at : Place) (input : Input) (c : Controller) (k : ℕ) (o : Option Entry) → IsAtPlace at input → channel_state c at ≡ Releasing k → entry_of c k ≡ o → AreRising c.entries → ((e : Entry) → o ≡ Some e → IsValid e.connection) → Holds c.links c → Holds c.links (on_state (Releasing k) at input c o).next
 releasing_holds at (inputs.ReleaseAck place) c k o is state there rising stands holds =
     subst (λ (p : Place). Holds c.links (on_state (Releasing k) at (inputs.ReleaseAck p) c o).next) (sym is) (acknowledged_holds at c k o state there rising stands holds)
 releasing_holds at (inputs.ActivationNack place) c k o is state there rising stands holds =
@@ -232,7 +232,7 @@ releasing_holds at input c k o is state there rising stands holds = concerning_h
 
 -- all connections stand
 unfoldable pub AllStand : Controller → Type 0
-AllStand c = (m : ℕ) (e : Entry) → entry_of c m ≡ Some e → Stands e.connection
+AllStand c = (m : ℕ) (e : Entry) → entry_of c m ≡ Some e → IsValid e.connection
 
 channel_holds : (at : Place) (input : Input) (c : Controller) (state : ChannelState) → IsAtPlace at input → channel_state c at ≡ state → AreRising c.entries → AllStand c → Holds c.links c → Holds c.links (on_state state at input c (entry_at c state)).next
 unfolding AllStand
@@ -269,13 +269,13 @@ if_holds false c t holds after = ignoring_holds c.links c holds
 
 -- ---- a report
 
-decision_holds : (d : Decision) (c : Controller) (e : Entry) → AreRising c.entries → entry_of c e.connection.number ≡ Some e → Stands e.connection → Holds c.links c → Holds c.links (on_decision d c e).next
+decision_holds : (d : Decision) (c : Controller) (e : Entry) → AreRising c.entries → entry_of c e.connection.number ≡ Some e → IsValid e.connection → Holds c.links c → Holds c.links (on_decision d c e).next
 decision_holds Stay c e rising there stands holds = holds
 decision_holds (Move cell) c e rising there stands holds =
     fitting_holds c.links c (turn [] c) e inputs.Move (handover_offer c e.connection.serving cell) (row_of e.connection inputs.Move (handover_offer c e.connection.serving cell)) refl rising there stands holds
     (λ r is is_open channel offered. offered_free c c.links cell c.handovers (kind_of e.connection.serving.number) channel refl holds.shaped offered) holds
 
-report_holds : (at : Place) (of : ℕ) (report : Report) (c : Controller) (m : ℕ) (o : Option Entry) → entry_of c m ≡ o → AreRising c.entries → ((e : Entry) → o ≡ Some e → Stands e.connection) → Holds c.links c → Holds c.links (on_report at of report c o).next
+report_holds : (at : Place) (of : ℕ) (report : Report) (c : Controller) (m : ℕ) (o : Option Entry) → entry_of c m ≡ o → AreRising c.entries → ((e : Entry) → o ≡ Some e → IsValid e.connection) → Holds c.links c → Holds c.links (on_report at of report c o).next
 report_holds at of report c m None there rising stands holds = ignoring_holds c.links c holds
 report_holds at of report c m (Some e) there rising stands holds =
     if_holds (measures at e) c (measured of report c e) holds

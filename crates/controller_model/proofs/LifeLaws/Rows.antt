@@ -149,7 +149,7 @@ settings = record {
   switch_address = codes "a";
   timers = record { t3101_ms = 3000; t3103_ms = 5000; t3107_ms = 5000; drain_ms = 2000 };
   handover = record { rxlev_window = 10; rxqual_window = 1; neighbour_window = 10; interval = 6; hysteresis = 3 };
-  cells = record { listen = codes "b"; location_area_code = 1; cell_identity = 1; arfcn = 20; bsic = record { ncc = 1; bcc = 1 }; channels = 0x41 ∷ 0x0a ∷ [] } ∷ [];
+  cells = record { listen = codes "b"; location_area_code = 1; cell_identity = 1; arfcn = 20; bsic = record { ncc = 1; bcc = 1 }; channels = hex "41 0a" } ∷ [];
 }
 
 -- 41 is in use by connection 7, 0A releasing by it

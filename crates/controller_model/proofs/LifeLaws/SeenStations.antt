@@ -4,7 +4,7 @@ use Rattle.controller_model.proofs.Prelude.{drop, filter, fold, slice_index_or, 
 use Rattle.controller_model.proofs.Prelude.{inl, inr, append_assoc, append-nil, true≢false, cases_Bool, cond-true, cond-false, eqb-true}
 use Rattle.controller_model.proofs.Prelude.{and_parts, flat_map-append, AllByRecursion, flat_map, Channel, Message, Station, Out}
 use Rattle.controller_model.proofs.Prelude.{SWITCH_LINK, IsReadOf, outs_of, AllByRecursion-append, State, Closed, Removed, Connection}
-use Rattle.controller_model.proofs.Prelude.{Roles, roles_of, GoesTo, IsOpen, is_dtap, Sapi, RslFault, Rsl, rsl_text, station_out, handed_of}
+use Rattle.controller_model.proofs.Prelude.{Roles, roles_of, IsHandedTo, IsOpen, is_dtap, Sapi, RslFault, Rsl, rsl_text, station_out, handed_of}
 use Rattle.controller_model.proofs.Prelude.{handed_by_message, is_of, Switched, with_moment, GoToServing, HasNoStream, IsThere, Moment}
 use Rattle.controller_model.proofs.Prelude.{all_messages, connection_of, outs_for, Owns, OwnsOpen, IsSent, Step, Controller, place_of, step}
 use Rattle.controller_model.proofs.Prelude.{handed_by, DataMessage, rsl_reading, rsl_discriminator, rsl_octet}
@@ -126,7 +126,7 @@ right_none sapi (m ∷ ms) none =
     of (Station station x) is = λ same. is
     of _ is = tt
 
-right_one : (sapi : Sapi) (c : Channel) (m : Message) → c.station ≢ SWITCH_LINK → GoesTo c m → RightFor sapi m
+right_one : (sapi : Sapi) (c : Channel) (m : Message) → c.station ≢ SWITCH_LINK → IsHandedTo c m → RightFor sapi m
 right_one sapi c (Station station (rsl.DataRequest r)) other goes = λ same. elim (cases_Bool (is_of sapi r.link && is_dtap r.l3)) [
   | inl hit ↦ absurd (other (sym (goes (and_parts (is_of sapi r.link) (is_dtap r.l3) hit).1).0 ∙ same))
   | inr miss ↦ cond-false _ (r.l3 ∷ []) [] miss
@@ -134,7 +134,7 @@ right_one sapi c (Station station (rsl.DataRequest r)) other goes = λ same. eli
 right_one sapi c (Station station _) other goes = λ same. refl
 right_one sapi c _ other goes = tt
 
-right_all : (sapi : Sapi) (c : Channel) (ms : List Message) → c.station ≢ SWITCH_LINK → AllByRecursion (GoesTo c) ms → AllByRecursion (RightFor sapi) ms
+right_all : (sapi : Sapi) (c : Channel) (ms : List Message) → c.station ≢ SWITCH_LINK → AllByRecursion (IsHandedTo c) ms → AllByRecursion (RightFor sapi) ms
 right_all sapi c [] other all = tt
 right_all sapi c (m ∷ ms) other all = (right_one sapi c m other all.0, right_all sapi c ms other all.1)
 

@@ -2,7 +2,7 @@
 use Rattle.controller_model.proofs.Prelude.{◌≡◌, ℕ, ◌<◌, zero, suc, true, false, List, [], ◌∷◌, length, Result, Ok, refl, sym, ap, inl, inr, hex}
 use Rattle.controller_model.proofs.Prelude.{arith, true≢false, InterfaceFault, Sccp, Message, Station, ReleaseComplete, Out}
 use Rattle.controller_model.proofs.Prelude.{IsReadOf, handing, rf_channel_release, complete_layer3, relaying, release_complete, Active}
-use Rattle.controller_model.proofs.Prelude.{Live, Zero, Three, slice_index, out_of, GoesToUp, ComesInOctets, IsMessage, IsSent}
+use Rattle.controller_model.proofs.Prelude.{Live, Zero, Three, slice_index, out_of, PutsOnUpLinks, IsOctetStep, IsMessage, IsSent}
 use Rattle.controller_model.proofs.Prelude.{SendsMessages, Tick, Controller, new_controller, new_averages}
 use Rattle.bssmap_codec.specs.declared.sccp.Sccp.TheVariants as sccp
 use Rattle.conn_messages.specs.OutputsState.{IsSendable}
@@ -12,17 +12,17 @@ use Rattle.controller_model.proofs.OnLiterals.{on_literals}
 
 -- ---- what comes is of octets
 
-of_octets : ComesInOctets (on_stream 1 0x00 (0 ∷ 255 ∷ []))
+of_octets : IsOctetStep (on_stream 1 0x00 (0 ∷ 255 ∷ []))
 of_octets (suc zero) = omega arith
 of_octets _ = omega arith
 
-no_octet : ComesInOctets (on_stream 1 0x00 (0 ∷ 256 ∷ [])) → ⊥
+no_octet : IsOctetStep (on_stream 1 0x00 (0 ∷ 256 ∷ [])) → ⊥
 no_octet octets = let high : 256 < 256 = octets 1 in omega (arith, high)
 
-a_break_has_none : ComesInOctets (down 1)
+a_break_has_none : IsOctetStep (down 1)
 a_break_has_none = tt
 
-nor_has_time : ComesInOctets (Tick 5)
+nor_has_time : IsOctetStep (Tick 5)
 nor_has_time = tt
 
 -- ---- the frame of a message
@@ -118,7 +118,7 @@ of_each_frame sends = sends.0
 
 -- ---- to which links
 
-answers_where_it_came : GoesToUp (new_controller usual_settings) (on_stream 2 0xfe (hex "00"))
+answers_where_it_came : PutsOnUpLinks (new_controller usual_settings) (on_stream 2 0xfe (hex "00"))
 unfolding on_literals
 answers_where_it_came = (refl, tt)
 
@@ -130,19 +130,19 @@ serving_at station = record (new_controller usual_settings) {
   next_number = 8;
 }
 
-releases_its_channel : GoesToUp (serving_at 2) (down 0)
+releases_its_channel : PutsOnUpLinks (serving_at 2) (down 0)
 unfolding on_literals
 releases_its_channel = (refl, (refl, tt))
 
-not_to_a_link_that_is_down : GoesToUp (record (serving_at 2) { links = true ∷ true ∷ false ∷ [] }) (down 0) → ⊥
+not_to_a_link_that_is_down : PutsOnUpLinks (record (serving_at 2) { links = true ∷ true ∷ false ∷ [] }) (down 0) → ⊥
 unfolding on_literals
 not_to_a_link_that_is_down goes = true≢false (sym goes.0)
 
-not_to_a_link_that_is_not_there : GoesToUp (serving_at 3) (down 0) → ⊥
+not_to_a_link_that_is_not_there : PutsOnUpLinks (serving_at 3) (down 0) → ⊥
 unfolding on_literals
 not_to_a_link_that_is_not_there goes = true≢false (sym goes.0)
 
 -- it was up before the step
-not_to_the_link_that_breaks : GoesToUp (serving_at 0) (down 0) → ⊥
+not_to_the_link_that_breaks : PutsOnUpLinks (serving_at 0) (down 0) → ⊥
 unfolding on_literals
 not_to_the_link_that_breaks goes = true≢false (sym goes.0)

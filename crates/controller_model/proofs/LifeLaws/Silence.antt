@@ -1,10 +1,10 @@
 -- Nothing is handed while a channel changes, and nothing after the end.
 use Rattle.controller_model.proofs.Prelude.{◌≡◌, Bool, ℕ, ◌≤◌, ◌<◌, List, [], ◌∷◌, Option, Some, None, refl, sym, subst, ap, ◌∙◌, arith}
 use Rattle.controller_model.proofs.Prelude.{AllByRecursion, Message, SWITCH_LINK, Input, State, Closed, Removed, Complete, Connection, Row}
-use Rattle.controller_model.proofs.Prelude.{OfRow, IsOpen, IsChanging, GoesTo, Sapi, Zero, Three, IsFinal-row, IsSilent-row}
+use Rattle.controller_model.proofs.Prelude.{OfRow, IsOpen, IsChanging, IsHandedTo, Sapi, Zero, Three, IsFinal-row, IsSilent-row}
 use Rattle.controller_model.proofs.Prelude.{KeepsDownlink-row, IsSilent, IsFinal, OnlyReleases, KeepsDownlink, handed, row_of, Acts}
 use Rattle.controller_model.proofs.Prelude.{Brought, IsAged, kept, kept_in, brought_in, ages, rests, opens, goes, IsThere, HasNoStream}
-use Rattle.controller_model.proofs.Prelude.{IsAway, GoToServing, OnlyReleasesAfter, KeepsSilence, StaysSilent, connection_of, Step}
+use Rattle.controller_model.proofs.Prelude.{IsAway, GoToServing, OnlyReleasesAfter, KeepsSilence, IsSilentThrough, connection_of, Step}
 use Rattle.controller_model.proofs.Prelude.{Controller, is_up, step}
 use Rattle.controller_model.proofs.LifeLaws.Beside.{step_goes}
 use Rattle.controller_model.proofs.LifeLaws.Fitting.{IsFine, Fits, aged_holds, fine_old, step_fits}
@@ -47,7 +47,7 @@ goes_nowhere (Some s) = tt
 final_row : (s : Connection) (input : Input) (offer : _) (r : Row) → row_of s input offer ≡ Some r → IsFinal s r
 final_row s input offer r fits = subst (OfRow (IsFinal s)) fits (IsFinal-row s input offer)
 
-serving_kept : (state : State) (s : Connection) (put : List Message) → s.state ≡ state → ((IsOpen s.state → ⊥) → (sapi : Sapi) → handed sapi put ≡ []) → AllByRecursion (GoesTo s.serving) put → GoToServing (kept_in state s) put
+serving_kept : (state : State) (s : Connection) (put : List Message) → s.state ≡ state → ((IsOpen s.state → ⊥) → (sapi : Sapi) → handed sapi put ≡ []) → AllByRecursion (IsHandedTo s.serving) put → GoToServing (kept_in state s) put
 serving_kept Removed s put is none all = none (λ there. subst IsOpen is there)
 serving_kept _ s put is none all = all
 
@@ -68,7 +68,7 @@ acts_serving : (number next : ℕ) (up : Bool) (brought : Brought) (before after
 acts_serving number next up brought before after put (rests silent same none) fine = subst (GoToServing after) (sym silent) (goes_nowhere after)
 acts_serving number next up brought before after put (ages old s is_time is aged silent same) fine = subst (GoToServing after) (sym silent) (goes_nowhere after)
 acts_serving number next up brought before after put (opens begins linked channel request delay is_nothing none put_is same) fine =
-    subst (λ (o : Option Connection). GoToServing o put) (sym same) (subst (λ (ms : List Message). AllByRecursion (GoesTo channel) ms) (sym put_is) (tt, tt))
+    subst (λ (o : Option Connection). GoToServing o put) (sym same) (subst (λ (ms : List Message). AllByRecursion (IsHandedTo channel) ms) (sym put_is) (tt, tt))
 acts_serving number next up brought before after put (goes old s input offer r is aged by fits put_is same) fine =
     let keeps = subst (OfRow (KeepsDownlink Zero s input)) fits (KeepsDownlink-row Zero s input offer (fine_old before old s is aged fine).1) in
     subst (λ (o : Option Connection). GoToServing o put) (sym same) (subst (GoToServing (kept r.next)) (sym put_is)
@@ -123,7 +123,7 @@ step_silence number c s from_one fits =
 
 -- ---- the rest of a life
 
-pub stays_silent : (number : ℕ) (c : Controller) (steps : List Step) → 1 ≤ number → Fits number c → number < c.next_number → (IsThere (connection_of c number) → ⊥) → StaysSilent number c steps
+pub stays_silent : (number : ℕ) (c : Controller) (steps : List Step) → 1 ≤ number → Fits number c → number < c.next_number → (IsThere (connection_of c number) → ⊥) → IsSilentThrough number c steps
 stays_silent number c [] from_one fits less over = record { moments = []; history = tt; silent = tt }
 stays_silent number c (s ∷ ss) from_one fits less over =
     let does = step_does number c s from_one fits.numbered in

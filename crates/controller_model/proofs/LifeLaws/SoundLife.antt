@@ -8,7 +8,7 @@ use Rattle.controller_model.proofs.Prelude.{AllByRecursion-append, Input, State,
 use Rattle.controller_model.proofs.Prelude.{target_in, serving_after, Report, Decision, Stay, Move, Frame, CCM_STREAM, PING, RSL_STREAM}
 use Rattle.controller_model.proofs.Prelude.{SCCP_STREAM, What, RequestReference, AreAllowed, CellParameters, Parameters, ◌^◌, le-leb}
 use Rattle.controller_model.proofs.Prelude.{bssap_reading, sccp_reading, out_of, all_within, row_of, IsTimer, kept_in, connection_of}
-use Rattle.controller_model.proofs.Prelude.{AreRising, ComesInOctets, IsOfOctets, IsSent, SendsMessages, ChannelKind, Sdcch, Tch}
+use Rattle.controller_model.proofs.Prelude.{AreRising, IsOctetStep, IsOfOctets, IsSent, SendsMessages, ChannelKind, Sdcch, Tch}
 use Rattle.controller_model.proofs.Prelude.{ChannelState, Free, InUse, Releasing, MAX_CONNECTION_NUMBER, Step, Take, Tick, Word, Nothing}
 use Rattle.controller_model.proofs.Prelude.{Ping, Asks, OnChannel, Reports, OnConnection, access_channel, channel_in, channel_of_kind}
 use Rattle.controller_model.proofs.Prelude.{first_free, free_channel, free_in, handover_offer, is_alike, is_free, kind_of, request_offer}
@@ -16,7 +16,7 @@ use Rattle.controller_model.proofs.Prelude.{Controller, Entry, Turn, turn, each,
 use Rattle.controller_model.proofs.Prelude.{channel_state, freed, freed_station, new_controller, aged, all_aged, break_of, by_fitting}
 use Rattle.controller_model.proofs.Prelude.{by_row, concerning, concerning_too, entry_after, entry_at, expiry, frees, given, is_measured}
 use Rattle.controller_model.proofs.Prelude.{measured, measures, new_entry, on_break, on_decision, expires, on_freed, on_report, on_state}
-use Rattle.controller_model.proofs.Prelude.{on_what, on_word, pong, row_in, step, timed, told, with_connection, with_report, Carried}
+use Rattle.controller_model.proofs.Prelude.{on_what, on_word, pong, row_in, step, timed, with_own_input, with_connection, with_report, Carried}
 use Rattle.controller_model.proofs.Prelude.{body_word, bssap_word, management_of_link, management_word, station_word, switch_word}
 use Rattle.controller_model.proofs.Prelude.{radio_signalling, connection_control, link_management, other, carried, decision_over, AreOctets}
 use Rattle.controller_model.proofs.Prelude.{FIRST_TCH, LAST_SDCCH, PCH_AND_AGCH, RACH, is_channel, rsl_reading, IsCell, IsChannel}
@@ -324,7 +324,7 @@ word_sound source (OnConnection m input) c carried refers ready sound = concerni
 
 -- ---- one connection after the other
 
-told_sound : (links : List Bool) (input : Input) (c : Controller) (e : Entry) → IsCarried input → RefersBy input → IsHere links c e → IsSoundAll c → SoundTurn (told input c e)
+told_sound : (links : List Bool) (input : Input) (c : Controller) (e : Entry) → IsCarried input → RefersBy input → IsHere links c e → IsSoundAll c → SoundTurn (with_own_input input c e)
 told_sound links input c e carried refers here sound =
     fitting_sound links c (turn [] c) e input (request_offer c e.connection input) (row_in c e.connection input) refl here sound (request_sound c e.connection input sound.cells) carried refers (quiet_sound c sound)
 
@@ -355,7 +355,7 @@ without_sound false source t sound = record { sound = record { each = sound.soun
 break_sound : (source : ℕ) (c : Controller) → Ready c → IsSoundAll c → SoundTurn (on_break source c)
 break_sound source c ready sound =
     let down : Controller = with_down source c in
-    let f : Controller → Entry → Turn = told (break_of source) in
+    let f : Controller → Entry → Turn = with_own_input (break_of source) in
     let tame = told_tame 1 1 true (break_of source) in
     without_sound (source == SWITCH_LINK) source (each f down c.entries)
     (each_sound c.links f tame.rising tame.leaves (told_numbers (break_of source)) (λ d e here all. told_sound c.links (break_of source) d e (break_carried (break_of source) (own_carried source)) (break_refers (break_of source) (own_carried source)) here all)
@@ -401,7 +401,7 @@ tick_sound ms c ready sound =
 
 -- ---- a step
 
-pub step_sound : (c : Controller) (s : Step) → ComesInOctets s → Ready c → IsSoundAll c → SoundTurn (step c s)
+pub step_sound : (c : Controller) (s : Step) → IsOctetStep s → Ready c → IsSoundAll c → SoundTurn (step c s)
 unfolding take
 step_sound c (Take item) octets ready sound = what_sound (is_up c item.source) item.source item.what c octets ready sound
 step_sound c (Tick ms) octets ready sound = tick_sound ms c ready sound
@@ -423,23 +423,23 @@ pub new_sound : (p : Parameters) → AreAllowed p → IsSoundAll (new_controller
 unfolding SoundOf
 new_sound p allowed = record { each = λ n. tt; cells = cells_of p.cells (recursion_from_All IsCell p.cells allowed.cells.each); next = omega arith }
 
-sound_run : (c : Controller) (steps : List Step) → AllByRecursion ComesInOctets steps → ((n : ℕ) → 1 ≤ n → Fits n c) → Holds c.links c → Uses c.links c.links c → IsSoundAll c → IsSoundAll (each step c steps).next
+sound_run : (c : Controller) (steps : List Step) → AllByRecursion IsOctetStep steps → ((n : ℕ) → 1 ≤ n → Fits n c) → Holds c.links c → Uses c.links c.links c → IsSoundAll c → IsSoundAll (each step c steps).next
 sound_run c [] octets fits holds uses sound = sound
 sound_run c (s ∷ ss) octets fits holds uses sound =
     let after = run_step c s fits holds uses in
     sound_run (step c s).next ss octets.1 after.fits after.holds after.uses (step_sound c s octets.0 (ready_by c fits holds uses) sound).sound
 
-pub life_sound : (p : Parameters) (steps : List Step) → AreAllowed p → AllByRecursion ComesInOctets steps → IsSoundAll (life p steps).next
+pub life_sound : (p : Parameters) (steps : List Step) → AreAllowed p → AllByRecursion IsOctetStep steps → IsSoundAll (life p steps).next
 unfolding life
 life_sound p steps allowed octets = sound_run (new_controller p) steps octets (λ n from_one. new_fits n p) (new_holds p allowed) (new_uses p) (new_sound p allowed)
 
-pub life_sends : (p : Parameters) (steps : List Step) (s : Step) → AreAllowed p → AllByRecursion ComesInOctets steps → ComesInOctets s → SendsMessages (life p steps).next s
+pub life_sends : (p : Parameters) (steps : List Step) (s : Step) → AreAllowed p → AllByRecursion IsOctetStep steps → IsOctetStep s → SendsMessages (life p steps).next s
 unfolding life
 life_sends p steps s allowed octets own =
     (step_sound (each step (new_controller p) steps).next s own (life_ready p steps allowed)
     (sound_run (new_controller p) steps octets (λ n from_one. new_fits n p) (new_holds p allowed) (new_uses p) (new_sound p allowed))).sent
 
-sent_run : (c : Controller) (steps : List Step) → AllByRecursion ComesInOctets steps → ((n : ℕ) → 1 ≤ n → Fits n c) → Holds c.links c → Uses c.links c.links c → IsSoundAll c → AllByRecursion IsSent (each step c steps).outs
+sent_run : (c : Controller) (steps : List Step) → AllByRecursion IsOctetStep steps → ((n : ℕ) → 1 ≤ n → Fits n c) → Holds c.links c → Uses c.links c.links c → IsSoundAll c → AllByRecursion IsSent (each step c steps).outs
 sent_run c [] octets fits holds uses sound = tt
 sent_run c (s ∷ ss) octets fits holds uses sound =
     let after = run_step c s fits holds uses in
@@ -447,6 +447,6 @@ sent_run c (s ∷ ss) octets fits holds uses sound =
     AllByRecursion-append IsSent (step c s).outs (each step (step c s).next ss).outs turn_sound.sent (sent_run (step c s).next ss octets.1 after.fits after.holds after.uses turn_sound.sound)
 
 -- all frames of a life
-pub life_sends_all : (p : Parameters) (steps : List Step) → AreAllowed p → AllByRecursion ComesInOctets steps → AllByRecursion IsSent (life p steps).outs
+pub life_sends_all : (p : Parameters) (steps : List Step) → AreAllowed p → AllByRecursion IsOctetStep steps → AllByRecursion IsSent (life p steps).outs
 unfolding life
 life_sends_all p steps allowed octets = sent_run (new_controller p) steps octets (λ n from_one. new_fits n p) (new_holds p allowed) (new_uses p) (new_sound p allowed)

@@ -1,7 +1,7 @@
 -- What every row puts can be written, and is read as it was put.
 use Rattle.controller_model.proofs.Prelude.{Option, Some, AllByRecursion, IsLayer3, option_to_list, Channel, IsSound, Input}
 use Rattle.controller_model.proofs.Prelude.{WasAsked, State, Live, Closed, Connection, IsCarried, Row, OfRow, target_in, IsReference}
-use Rattle.controller_model.proofs.Prelude.{Brings, Enters, HasReference, Kinds, Parts, Puts, any_cause, row-puts, IsHeldTenure, row_of}
+use Rattle.controller_model.proofs.Prelude.{Brings, Enters, HasReference, Kinds, Parts, Puts, any_cause, row_puts, IsHeldTenure, row_of}
 use Rattle.conn_rules.specs.declared.input.Input.TheVariants as inputs
 use Rattle.controller_model.proofs.LifeLaws.SoundMessages.{IsSoundChannel, sound_activation, sound_assignment_failure, sound_cipher_reject, sound_clear_complete, sound_clear_request, sound_assigned, sound_command, sound_establish, sound_handing, sound_immediate, sound_initial, sound_performed, sound_reject, sound_relaying, sound_release_command, sound_rf_release}
 
@@ -91,4 +91,4 @@ row_sound s input offer k targets offered carried by =
       up = k.up;
       causes = (tt, tt, tt);
     } in
-    row-puts sound_kinds IsSound (λ state request. Refers state) s offer (sound s k.serving) refers parts k.refers input (brings input carried by)
+    row_puts sound_kinds IsSound (λ state request. Refers state) s offer (sound s k.serving) refers parts k.refers input (brings input carried by)

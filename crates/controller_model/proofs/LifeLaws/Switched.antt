@@ -3,7 +3,7 @@ use Rattle.controller_model.proofs.Prelude.{◌≡◌, ℕ, ◌==◌, ◌≤◌,
 use Rattle.controller_model.proofs.Prelude.{filter, Option, Some, None, refl, sym, subst, ap, ◌∙◌, inl, inr, arith, append_assoc}
 use Rattle.controller_model.proofs.Prelude.{append-nil, true≢false, cases_Bool, cond-true, cond-false, Channel, Message, SWITCH_LINK}
 use Rattle.controller_model.proofs.Prelude.{access_activation, Input, State, WaitActivation, WaitEstablish, WaitConfirm, Live, Closed}
-use Rattle.controller_model.proofs.Prelude.{Removed, Connection, new_connection, Stands, Row, OfRow, IsOpen, is_dtap, Sapi, Zero, Three}
+use Rattle.controller_model.proofs.Prelude.{Removed, Connection, new_connection, IsValid, Row, OfRow, IsOpen, is_dtap, Sapi, Zero, Three}
 use Rattle.controller_model.proofs.Prelude.{messages, What, IsFinal-row, KeepsDownlink-row, IsFinal, KeepsDownlink, handed, received_by}
 use Rattle.controller_model.proofs.Prelude.{rejects, without_rejected, row_of, Acts, Brought, IsAged, IsBrought, IsTimer, FitsNone}
 use Rattle.controller_model.proofs.Prelude.{brought_by, brought_with, brought_in, if_held, kept_in, ages, rests, opens, goes, nothing}
@@ -11,7 +11,7 @@ use Rattle.controller_model.proofs.Prelude.{comes_with, reports, breaks, passes,
 use Rattle.controller_model.proofs.Prelude.{nothing_switched, requests, with_moment, word_by, word_in, Step, Take, Tick, Word, OnChannel}
 use Rattle.controller_model.proofs.Prelude.{OnConnection, Controller, is_up, channel_state, holder, word_of}
 use Rattle.conn_rules.specs.declared.input.Input.TheVariants as inputs
-use Rattle.controller_model.specs.LifeLaws.Downlink.{comes}
+use Rattle.controller_model.specs.LifeLaws.Downlink.{dtap_received}
 use Rattle.controller_model.proofs.LifeLaws.Fitting.{IsFine, IsLinked, IsBreak, IsLinkBreak, aged_holds, fine_old}
 use Rattle.controller_model.proofs.LifeLaws.Progress.{Advances, IsLive, Next, NotDown, advances, confirm_fits, downlink_fits, received_none}
 use Rattle.controller_model.proofs.LifeLaws.Silence.{kept_holds, same_state}
@@ -29,7 +29,7 @@ is_confirming (comes_with input) = is_confirm input
 is_confirming _ = false
 
 pub record SaysSo (number : ℕ) (word : Word) (brought : Brought) : Type 0 where
-  pub came_is : (sapi : Sapi) → comes number sapi word ≡ came sapi brought
+  pub came_is : (sapi : Sapi) → dtap_received number sapi word ≡ came sapi brought
   pub confirms_is : confirms number word ≡ is_confirming brought
 
 at_place_up : (at : _) (input : Input) → IsAtPlace at input → NotDown input
@@ -266,7 +266,7 @@ row_held Three put before now held after came received keeps is = elim (cases_Bo
   | inr miss ↦ still_held before now held after came received (keeps ∙ cond-false _ _ _ miss) is ∙ sym (cond-false _ _ _ miss)
 ]
 
-row_agrees : (s : Connection) (input : Input) (offer : Option Channel) (r : Row) (sapi : Sapi) (brought : Brought) (a : Switched) → Stands s → IsBreak brought → IsBrought brought input → row_of s input offer ≡ Some r → IsOpen r.next.state → Flags s.state a → IsHeld sapi a s → Flags r.next.state (with_brought sapi brought r.outs a) × IsHeld sapi (with_brought sapi brought r.outs a) r.next
+row_agrees : (s : Connection) (input : Input) (offer : Option Channel) (r : Row) (sapi : Sapi) (brought : Brought) (a : Switched) → IsValid s → IsBreak brought → IsBrought brought input → row_of s input offer ≡ Some r → IsOpen r.next.state → Flags s.state a → IsHeld sapi a s → Flags r.next.state (with_brought sapi brought r.outs a) × IsHeld sapi (with_brought sapi brought r.outs a) r.next
 unfolding with_brought
 row_agrees s input offer r sapi brought a stands break by fits there flags held =
     let goes_on : Next s.state input r.next.state r.outs = subst (OfRow (Advances s.state input)) fits (advances s input offer) there in

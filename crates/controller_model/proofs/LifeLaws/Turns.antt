@@ -9,7 +9,7 @@ use Rattle.controller_model.proofs.Prelude.{Word, Nothing, Ping, Asks, OnChannel
 use Rattle.controller_model.proofs.Prelude.{Controller, Entry, Turn, turn, each, ignoring, has_number, entry_of, put_back, with_entry}
 use Rattle.controller_model.proofs.Prelude.{with_down, freed, freed_station, channel_state, is_up, by_row, by_fitting, row_in, concerning}
 use Rattle.controller_model.proofs.Prelude.{concerning_too, given, may_open, frees, entry_at, on_freed, measures, with_report, measured}
-use Rattle.controller_model.proofs.Prelude.{on_decision, on_report, on_word, told, break_of, on_break, on_what, aged, all_aged, expiry}
+use Rattle.controller_model.proofs.Prelude.{on_decision, on_report, on_word, with_own_input, break_of, on_break, on_what, aged, all_aged, expiry}
 use Rattle.controller_model.proofs.Prelude.{timed, step, entry_after, new_entry, word_of, decision_over}
 use Rattle.conn_rules.specs.declared.input.Input.TheVariants as inputs
 use Rattle.controller_model.proofs.LifeLaws.Acting.{Does, does_nothing, outs_append, outs_other}
@@ -21,7 +21,7 @@ use Rattle.ruled_relay.specs.declared.item.What.TheVariants as whats
 
 -- ---- an input of the controller's own
 
-told_does : (number next : ℕ) (up : Bool) (brought : Brought) (input : Input) (c : Controller) (e : Entry) → IsBrought brought input → ((s : Connection) (offer : Option Channel) → row_of s input offer ≡ None → FitsNone brought (Some s)) → (number ≢ e.connection.number → FitsNone brought (connection_of c number)) → AreRising c.entries → entry_of c e.connection.number ≡ Some e → Does number next up brought (connection_of c number) (told input c e)
+told_does : (number next : ℕ) (up : Bool) (brought : Brought) (input : Input) (c : Controller) (e : Entry) → IsBrought brought input → ((s : Connection) (offer : Option Channel) → row_of s input offer ≡ None → FitsNone brought (Some s)) → (number ≢ e.connection.number → FitsNone brought (connection_of c number)) → AreRising c.entries → entry_of c e.connection.number ≡ Some e → Does number next up brought (connection_of c number) (with_own_input input c e)
 told_does number next up brought input c e own misses others rising there =
     fitting_does number next up brought c (turn [] c) e input (request_offer c e.connection input) (row_in c e.connection input) refl rising there refl refl (λ here. own) (λ here none. misses e.connection (request_offer c e.connection input) none) others
 
@@ -70,7 +70,7 @@ pub record IsTame (number next : ℕ) (up : Bool) (brought : Brought) (f : Contr
   pub rising : (c : Controller) (e : Entry) → AreRising c.entries → AreRising (f c e).next.entries
   pub leaves : (m : ℕ) (c : Controller) (e : Entry) → m ≢ e.connection.number → entry_of (f c e).next m ≡ entry_of c m
 
--- others are told, and this one is as it was
+-- others are with_own_input, and this one is as it was
 each_other : (number next : ℕ) (up : Bool) (brought : Brought) (f : Controller → Entry → Turn) → IsTame number next up brought f → (c : Controller) (xs : List Entry) → AllByRecursion (IsAbove number) xs → (outs_for number (each f c xs).outs ≡ []) × (connection_of (each f c xs).next number ≡ connection_of c number)
 each_other number next up brought f tame c [] above = (refl, refl)
 each_other number next up brought f tame c (x ∷ xs) above =
@@ -110,7 +110,7 @@ expiry_silent : (number : ℕ) (o : Option Input) (c : Controller) (e : Entry) �
 expiry_silent number None c e differ = refl
 expiry_silent number (Some input) c e differ = fitting_silent number c e (row_in c e.connection input) differ
 
-pub told_tame : (number next : ℕ) (up : Bool) (input : Input) → IsTame number next up (breaks input) (told input)
+pub told_tame : (number next : ℕ) (up : Bool) (input : Input) → IsTame number next up (breaks input) (with_own_input input)
 told_tame number next up input = record {
   does = λ c e same rising there. told_does number next up (breaks input) input c e refl (λ s offer none. (offer, none)) (λ differ. absurd (differ same)) rising there;
   silent = λ c e differ. fitting_silent number c e (row_in c e.connection input) differ;
@@ -135,8 +135,8 @@ without_does number next up brought false source before t does = record { put = 
 pub break_does : (number next : ℕ) (up : Bool) (source : ℕ) (c : Controller) → AreRising c.entries → Does number next up (breaks (break_of source)) (connection_of c number) (on_break source c)
 break_does number next up source c rising =
     let down : Controller = with_down source c in
-    without_does number next up (breaks (break_of source)) (source == SWITCH_LINK) source (connection_of c number) (each (told (break_of source)) down c.entries)
-    (each_does number next up (breaks (break_of source)) (told (break_of source)) (told_tame number next up (break_of source)) down c.entries rising rising (all_found c.entries rising) refl)
+    without_does number next up (breaks (break_of source)) (source == SWITCH_LINK) source (connection_of c number) (each (with_own_input (break_of source)) down c.entries)
+    (each_does number next up (breaks (break_of source)) (with_own_input (break_of source)) (told_tame number next up (break_of source)) down c.entries rising rising (all_found c.entries rising) refl)
 
 what_does : (number : ℕ) (up : Bool) (source : ℕ) (what : What) (c : Controller) → 1 ≤ number → IsNumbered c → Does number c.next_number (is_up c SWITCH_LINK) (if up then brought_with c number source what else nothing) (connection_of c number) (on_what up source what c)
 what_does number true source (whats.Frame frame) c from_one numbered = word_does number source (word_of source frame) c from_one numbered
@@ -270,7 +270,7 @@ each_numbered : (f : Controller → Entry → Turn) → ((c : Controller) (e : E
 each_numbered f keeps c [] numbered = numbered
 each_numbered f keeps c (x ∷ xs) numbered = each_numbered f keeps (f c x).next xs (keeps c x numbered)
 
-told_numbered : (input : Input) (c : Controller) (e : Entry) → IsNumbered c → IsNumbered (told input c e).next
+told_numbered : (input : Input) (c : Controller) (e : Entry) → IsNumbered c → IsNumbered (with_own_input input c e).next
 told_numbered input c e numbered = concerning_too_numbered input c (Some e) numbered
 
 expiry_numbered : (o : Option Input) (c : Controller) (e : Entry) → IsNumbered c → IsNumbered (on_expiry o c e).next
@@ -284,8 +284,8 @@ without_numbered false source c numbered = same_numbers c (freed_station source 
 what_numbered : (up : Bool) (source : ℕ) (what : What) (c : Controller) → IsNumbered c → IsNumbered (on_what up source what c).next
 what_numbered true source (whats.Frame frame) c numbered = word_numbered source (word_of source frame) c numbered
 what_numbered true source whats.Down c numbered =
-    without_numbered (source == SWITCH_LINK) source (each (told (break_of source)) (with_down source c) c.entries).next
-    (each_numbered (told (break_of source)) (told_numbered (break_of source)) (with_down source c) c.entries (same_numbers c (with_down source c) refl refl numbered))
+    without_numbered (source == SWITCH_LINK) source (each (with_own_input (break_of source)) (with_down source c) c.entries).next
+    (each_numbered (with_own_input (break_of source)) (told_numbered (break_of source)) (with_down source c) c.entries (same_numbers c (with_down source c) refl refl numbered))
 what_numbered false source what c numbered = same_numbers c (ignoring c).next refl refl numbered
 
 pub aged_numbered : (ms : ℕ) (c : Controller) → IsNumbered c → IsNumbered (all_aged ms c)

@@ -3,13 +3,13 @@ use Rattle.controller_model.proofs.Prelude.{◌≡◌, ℕ, ◌+◌, ◌≤◌, 
 use Rattle.controller_model.proofs.Prelude.{Option, Some, None, option_map, refl, sym, subst, ap, ◌∙◌, arith, append_assoc, append-nil}
 use Rattle.controller_model.proofs.Prelude.{flat_map, Channel, Message, SWITCH_LINK, access_activation, AllByRecursion-append, by_state}
 use Rattle.controller_model.proofs.Prelude.{Drain, State, WaitActivation, WaitEstablish, WaitConfirm, Live, Closed, Removed, Connection}
-use Rattle.controller_model.proofs.Prelude.{new_connection, roles_of, Stands, AreApart, IsOpen, OfRow, relayed, still_of, undone}
+use Rattle.controller_model.proofs.Prelude.{new_connection, roles_of, IsValid, AreApart, IsOpen, OfRow, relayed, still_of, undone}
 use Rattle.controller_model.proofs.Prelude.{used_channels, after_pass, Sapi, Zero, Three, HeldTenure, AreAllowed, Parameters, Acts, Brought}
 use Rattle.controller_model.proofs.Prelude.{FitsNone, IsAged, brought_in, kept_in, ages, goes, opens, rests, IsThere, Moment, all_messages}
 use Rattle.controller_model.proofs.Prelude.{connection_of, word_in, Owns, OwnsOpen, used_in, Tenure, UplinkIsConserved, after_moment}
 use Rattle.controller_model.proofs.Prelude.{after_word, joined, service, Step, Word, Controller, Entry, Turn, each, entry_of, is_up}
 use Rattle.controller_model.proofs.Prelude.{new_controller, step, held_up, held_up_for, empty_tenure, tenure_messages}
-use Rattle.conn_rules.proofs.RolesApart.{target_in-role}
+use Rattle.conn_rules.proofs.RolesApart.{target_in_role}
 use Rattle.controller_model.proofs.LifeLaws.Beside.{step_goes}
 use Rattle.controller_model.proofs.LifeLaws.DownlinkLife.{begun_in, frames_in_life, history_of, moments_of}
 use Rattle.controller_model.proofs.LifeLaws.Fitting.{Fits, IsBreak, IsFine, aged_holds, fine_old, in_break, new_fits, step_fits}
@@ -51,7 +51,7 @@ aged_owns c number old s aged owns = aged_holds (λ (d : Connection). Owns c.cha
 -- ---- a row
 
 pub used_apart : (s : Connection) → AreApart (used_in (roles_of s)) → AreApart (used_channels s)
-used_apart s apart = subst (λ (cs : List Channel). AreApart (undone s.draining ++ s.serving ∷ cs)) (target_in-role s.state) apart
+used_apart s apart = subst (λ (cs : List Channel). AreApart (undone s.draining ++ s.serving ∷ cs)) (target_in_role s.state) apart
 
 kept_up : (number next : ℕ) (put : List Message) (ts : List Tenure) (state : State) (s : Connection) → s.state ≡ state → number < next → (IsOpen s.state → UpIn s.state s put ts) → AgreesUp number next put ts (kept_in state s)
 unfolding AgreesUp
@@ -161,7 +161,7 @@ early_held s put ts sapi one none silent =
     empty Zero = refl
     empty Three = refl
 
-up_held : (state : State) (s : Connection) → s.state ≡ state → (put : List Message) (ts : List Tenure) (sapi : Sapi) → Stands s → UpIn state s put ts → relayed sapi put ++ flat_map (λ tenure. tenure_messages tenure sapi) s.up.tenures ≡ joined sapi ts
+up_held : (state : State) (s : Connection) → s.state ≡ state → (put : List Message) (ts : List Tenure) (sapi : Sapi) → IsValid s → UpIn state s put ts → relayed sapi put ++ flat_map (λ tenure. tenure_messages tenure sapi) s.up.tenures ≡ joined sapi ts
 up_held WaitActivation s is put ts sapi stands up = early_held s put ts sapi (by_state WaitActivation s is stands).0.one_tenure up.0 (up.1 sapi)
 up_held WaitEstablish s is put ts sapi stands up = early_held s put ts sapi (by_state WaitEstablish s is stands).0.one_tenure up.0 (up.1 sapi)
 up_held WaitConfirm s is put ts sapi stands up =

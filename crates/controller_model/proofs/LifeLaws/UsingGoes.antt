@@ -6,7 +6,7 @@ use Rattle.controller_model.proofs.Prelude.{ReleaseComplete, Out, SWITCH_LINK, o
 use Rattle.controller_model.proofs.Prelude.{Changing, State, WaitActivation, WaitEstablish, Live, Closed, Removed}
 use Rattle.controller_model.proofs.Prelude.{Connection, TargetRole, Roles, RoleEnd, ChangesRoles, roles_of, target_role, end_messages}
 use Rattle.controller_model.proofs.Prelude.{target_channels, those_that_go, to_stations, goes_on, ends, had_ended, refused, drops}
-use Rattle.controller_model.proofs.Prelude.{dismisses, Row, goes_to, IsOpen, OfRow, target_in, on_switch_down, is_link_up, break_of}
+use Rattle.controller_model.proofs.Prelude.{dismisses, Row, is_for_station, IsOpen, OfRow, target_in, on_switch_down, is_link_up, break_of}
 use Rattle.conn_messages.specs.Out.{out_of}
 use Rattle.conn_rules.specs.declared.input.Input.TheVariants as inputs
 use Rattle.conn_rules.specs.Table.{row_of}
@@ -96,12 +96,12 @@ all_alive links (Station station message ∷ ms) stations all = (still_alive lin
 all_alive links _ stations all = absurd stations.0
 
 -- a station's
-kept_alive : (links : List Bool) (source : ℕ) (ms : List Message) → AllByRecursion (Reaches (IsAlive links)) ms → AllByRecursion (Reaches (IsAlive (set links source false))) (filter (λ message. not (goes_to source message)) ms)
+kept_alive : (links : List Bool) (source : ℕ) (ms : List Message) → AllByRecursion (Reaches (IsAlive links)) ms → AllByRecursion (Reaches (IsAlive (set links source false))) (filter (λ message. not (is_for_station source message)) ms)
 kept_alive links source [] all = tt
 kept_alive links source (Station station message ∷ ms) all = by (station == source) refl (kept_alive links source ms all.1)
   where
-    by : (b : Bool) → (station == source) ≡ b → AllByRecursion (Reaches (IsAlive (set links source false))) (filter (λ message. not (goes_to source message)) ms) →
-        AllByRecursion (Reaches (IsAlive (set links source false))) (if not b then Station station message ∷ filter (λ message. not (goes_to source message)) ms else filter (λ message. not (goes_to source message)) ms)
+    by : (b : Bool) → (station == source) ≡ b → AllByRecursion (Reaches (IsAlive (set links source false))) (filter (λ message. not (is_for_station source message)) ms) →
+        AllByRecursion (Reaches (IsAlive (set links source false))) (if not b then Station station message ∷ filter (λ message. not (is_for_station source message)) ms else filter (λ message. not (is_for_station source message)) ms)
     by true is rest = rest
     by false is rest = (still_alive links source station (λ same. true≢false (sym (eq-eqb station source same) ∙ is)) all.0, rest)
 kept_alive links source (Request message ∷ ms) all = (tt, kept_alive links source ms all.1)

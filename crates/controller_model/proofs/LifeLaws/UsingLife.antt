@@ -4,14 +4,14 @@ use Rattle.controller_model.proofs.Prelude.{List, [], ◌∷◌, length, replica
 use Rattle.controller_model.proofs.Prelude.{Result, Ok, refl, sym, subst, ap, ◌∙◌, inl, inr, arith, true≢false, cases_Bool, eqb-true}
 use Rattle.controller_model.proofs.Prelude.{eq-eqb, get_or-set_other, AllByRecursion, Bssap, Management, Bssmap, InterfaceFault}
 use Rattle.controller_model.proofs.Prelude.{Sccp, Channel, Place, Out, SWITCH_LINK, AllByRecursion-append, Input, State, Closed, Removed}
-use Rattle.controller_model.proofs.Prelude.{Connection, Roles, channels_in, channels_in_use, roles_of, target_channels, Stands, Row, IsOpen}
+use Rattle.controller_model.proofs.Prelude.{Connection, Roles, channels_in, channels_in_use, roles_of, target_channels, IsValid, Row, IsOpen}
 use Rattle.controller_model.proofs.Prelude.{Frame, CCM_STREAM, PING, RSL_STREAM, SCCP_STREAM, What, AreAllowed, Parameters}
 use Rattle.controller_model.proofs.Prelude.{unwrap_or-slice_get, bssap_reading, sccp_reading, IsTimer, connection_of, AreRising, IsAbove}
-use Rattle.controller_model.proofs.Prelude.{OwnsOpen, is_link_up, GoesToUp, AreUsed, used_places, ChannelState, Free, InUse, Releasing}
+use Rattle.controller_model.proofs.Prelude.{OwnsOpen, is_link_up, PutsOnUpLinks, AreUsed, used_places, ChannelState, Free, InUse, Releasing}
 use Rattle.controller_model.proofs.Prelude.{CHANNEL_NUMBERS, Step, Take, Tick, Word, Nothing, Ping, Asks, request_offer, Controller, Entry}
 use Rattle.controller_model.proofs.Prelude.{Turn, turn, each, entry_of, free_channels, freed_station, is_up, new_controller, place_of}
 use Rattle.controller_model.proofs.Prelude.{state_in, with_down, aged, all_aged, break_of, by_fitting, expiry, on_break, expires, on_what}
-use Rattle.controller_model.proofs.Prelude.{row_in, step, timed, told, Carried, body_word, bssap_word, carried, management_of_link}
+use Rattle.controller_model.proofs.Prelude.{row_in, step, timed, with_own_input, Carried, body_word, bssap_word, carried, management_of_link}
 use Rattle.controller_model.proofs.Prelude.{management_word, switch_word, radio_signalling, connection_control, link_management, other}
 use Rattle.bssmap_codec.specs.declared.bssmap.Bssmap.TheVariants as bssmap
 use Rattle.bssmap_codec.specs.declared.sccp.Sccp.TheVariants as sccp
@@ -80,7 +80,7 @@ word_asked source frame = body_asks (carried source frame.stream) source frame.b
 
 -- ---- one connection after the other
 
-pub told_numbers : (input : Input) (c : Controller) (e : Entry) → (told input c e).next.next_number ≡ c.next_number
+pub told_numbers : (input : Input) (c : Controller) (e : Entry) → (with_own_input input c e).next.next_number ≡ c.next_number
 told_numbers input c e = by (row_in c e.connection input)
   where
     by : (o : Option Row) → (by_fitting (turn [] c) e o c).next.next_number ≡ c.next_number
@@ -149,7 +149,7 @@ break_no_nack inputs.SwitchDown break = tt
 break_no_nack (inputs.StationDown station) break = tt
 break_no_nack _ break = absurd break
 
-told_sends : (links : List Bool) (source : ℕ) (c : Controller) (e : Entry) → IsHere links c e → Holds links c → Uses links (set links source false) c → Holds links (told (break_of source) c e).next × Sends links (set links source false) (told (break_of source) c e)
+told_sends : (links : List Bool) (source : ℕ) (c : Controller) (e : Entry) → IsHere links c e → Holds links c → Uses links (set links source false) c → Holds links (with_own_input (break_of source) c e).next × Sends links (set links source false) (with_own_input (break_of source) c e)
 told_sends links source c e here holds uses =
     let new : List Bool = set links source false in
     let offer : Option Channel = request_offer c e.connection (break_of source) in (
@@ -221,7 +221,7 @@ broken_uses false links source c is uses = record {
 break_sends : (source : ℕ) (c : Controller) → Ready c → Sends (set c.links source false) (set c.links source false) (on_break source c)
 break_sends source c ready =
     let down : Controller = with_down source c in
-    let f : Controller → Entry → Turn = told (break_of source) in
+    let f : Controller → Entry → Turn = with_own_input (break_of source) in
     let tame = told_tame 1 1 true (break_of source) in
     let all = each_sends c.links (set c.links source false) f tame.rising tame.leaves (told_numbers (break_of source)) (told_sends c.links source) down c.entries ready.numbered.rising
     (down_here c.entries (all_here c c.entries ready (all_found c.entries ready.numbered.rising)))
@@ -286,9 +286,9 @@ aged_ready ms c ready = record {
   linked = λ m e there. linked (entry_of c m) e (ready.linked m) (sym (all_age m ms c) ∙ there);
 }
   where
-    stands : (o : Option Entry) (e : Entry) → ((x : Entry) → o ≡ Some x → Stands x.connection) → option_map (aged ms) o ≡ Some e → Stands e.connection
+    stands : (o : Option Entry) (e : Entry) → ((x : Entry) → o ≡ Some x → IsValid x.connection) → option_map (aged ms) o ≡ Some e → IsValid e.connection
     stands None e was is = absurd cc
-    stands (Some x) e was is = subst (λ (y : Entry). Stands y.connection) (of is) (pass_stands ms x.connection (was x refl))
+    stands (Some x) e was is = subst (λ (y : Entry). IsValid y.connection) (of is) (pass_stands ms x.connection (was x refl))
       where
         of : (let o : Option Entry = Some (aged ms x) in o) ≡ Some e → aged ms x ≡ e
         of is = cc
@@ -378,7 +378,7 @@ life_ready p steps allowed = let now = life_after p steps allowed in ready_by (l
 
 -- ---- the laws
 
-pub life_reaches : (p : Parameters) (steps : List Step) (s : Step) → AreAllowed p → GoesToUp (life p steps).next s
+pub life_reaches : (p : Parameters) (steps : List Step) (s : Step) → AreAllowed p → PutsOnUpLinks (life p steps).next s
 life_reaches p steps s allowed = (step_sends (life p steps).next s (life_ready p steps allowed)).outs
 
 open_where : (state : State) (roles : Roles) (d : Channel) → Contains (channels_in state roles) d → IsOpen state × Contains (roles.serving ∷ target_channels roles.target) d

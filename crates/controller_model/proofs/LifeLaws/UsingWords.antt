@@ -3,7 +3,7 @@ use Rattle.controller_model.proofs.Prelude.{◌≡◌, ◌≢◌, ℕ, ◌+◌, 
 use Rattle.controller_model.proofs.Prelude.{slice_get, Contains, Option, Some, None, option_map, refl, sym, subst, ap, ◌∙◌, inl, inr, arith}
 use Rattle.controller_model.proofs.Prelude.{true≢false, cases_Bool, cond-true, cond-false, and_parts, option_and_then_some, AllByRecursion}
 use Rattle.controller_model.proofs.Prelude.{Channel, Place, Out, SWITCH_LINK, Input, Preparing, State, WaitActivation, Live, Connection}
-use Rattle.controller_model.proofs.Prelude.{is_at, roles_of, target_channels, target_role, Stands, Row, IsOpen, OfRow, target_in, row_if}
+use Rattle.controller_model.proofs.Prelude.{is_at, roles_of, target_channels, target_role, IsValid, Row, IsOpen, OfRow, target_in, row_if}
 use Rattle.controller_model.proofs.Prelude.{refuse, serving_after, on_activation_nack, Report, Decision, Stay, Move, Settings}
 use Rattle.controller_model.proofs.Prelude.{RequestReference, CellParameters, Parameters, is_some, keeps_channels, KeepsChannels}
 use Rattle.controller_model.proofs.Prelude.{connection_of, IsNumbered, AreRising, IsAbove, IsBelow, AreIn, OwnsOpen, is_link_up}
@@ -57,7 +57,7 @@ find_all P test (x ∷ xs) e all is = elim (cases_Bool (test x)) [
 pub record IsHere (links : List Bool) (c : Controller) (e : Entry) : Type 0 where
   pub rising : AreRising c.entries
   pub there : entry_of c e.connection.number ≡ Some e
-  pub stands : Stands e.connection
+  pub stands : IsValid e.connection
   pub from_one : 1 ≤ e.connection.number
   pub below : e.connection.number < c.next_number
   pub linked : is_link_up links SWITCH_LINK ≡ true

@@ -1,7 +1,7 @@
 -- What rows put: in CR the initial message alone, and in DT1 no initial message.
 use Rattle.controller_model.proofs.Prelude.{◌≡◌, ℕ, refl, nat_le, Bool, true, false, if◌then◌else◌, List, Option, AllByRecursion}
 use Rattle.controller_model.proofs.Prelude.{Management, Transfer, CompleteLayer3Information, is_dlci, Channel, Message, Data, Request}
-use Rattle.controller_model.proofs.Prelude.{Input, Connection, Row, OfRow, Sapi, Zero, Three, dlci_on, row_of, Puts, free, row-messages}
+use Rattle.controller_model.proofs.Prelude.{Input, Connection, Row, OfRow, Sapi, Zero, Three, dlci_on, row_of, Puts, free, row_messages}
 use Rattle.controller_model.proofs.Prelude.{FIRST_SDCCH}
 use Rattle.conn_messages.specs.declared.parameters.TheConstants.{SACCH_SAPI_3_DLCI, SDCCH_SAPI_3_DLCI}
 
@@ -48,4 +48,4 @@ usual s = record {
 }
 
 pub usual_row : (s : Connection) (input : Input) (offer : Option Channel) → OfRow PutsUsual (row_of s input offer)
-usual_row s input offer = row-messages IsUsual (Unit {0}) s input offer (usual s) (λ is. tt)
+usual_row s input offer = row_messages IsUsual (Unit {0}) s input offer (usual s) (λ is. tt)

@@ -1,6 +1,8 @@
 -- What a step does to one connection.
-use Rattle.std.specs.Prelude.{◌≡◌, Bool, true, fold, ℕ, ◌==◌, if◌then◌else◌, List, [], ◌∷◌, Option, Some, None}
-use Rattle.controller_model.specs.Prelude.{Channel, Message, Input, State, Connection, row_of, SWITCH_LINK, outs_of, What, RequestReference}
+use Rattle.std.specs.Prelude.{◌≡◌, Bool, true, fold, ℕ, ◌==◌, if◌then◌else◌, List, [], ◌∷◌, Option}
+use Rattle.std.specs.Prelude.{Some, None}
+use Rattle.controller_model.specs.Prelude.{Channel, Message, Input, State, Connection, row_of}
+use Rattle.controller_model.specs.Prelude.{SWITCH_LINK, outs_of, What, RequestReference}
 use Rattle.conn_messages.specs.StationMessage.{access_activation}
 use Rattle.conn_rules.specs.declared.input.Input.TheVariants as inputs
 use Rattle.conn_rules.specs.declared.state.State.TheVariants.{Removed}
@@ -47,7 +49,8 @@ brought_with c number source (whats.Frame frame) = brought_by c number (word_of 
 brought_with c number source whats.Down = breaks (break_of source)
 
 abbrev pub brought_in : Controller → ℕ → Step → Brought
-brought_in c number (Take item) = if is_up c item.source then brought_with c number item.source item.what else nothing
+brought_in c number (Take item) =
+    if is_up c item.source then brought_with c number item.source item.what else nothing
 brought_in c number (Tick ms) = passes
 
 -- ---- what it does
@@ -91,18 +94,27 @@ abbrev pub IsAged : Connection → Connection → Type 0
 IsAged old s = (times : List ℕ) × (s ≡ fold passed old times)
 
 -- One row at most.
-pub data Acts (number next : ℕ) (up : Bool) (brought : Brought) (before : Option Connection) (put : List Message) (after : Option Connection) : Type 0 where
+pub data Acts (number next : ℕ) (up : Bool) (brought : Brought) (before : Option Connection)
+    (put : List Message) (after : Option Connection) : Type 0 where
   -- it isn't there, or stays as it is
-  rests : put ≡ [] → after ≡ before → FitsNone brought before → Acts number next up brought before put after
+  rests : put ≡ [] → after ≡ before → FitsNone brought before
+      → Acts number next up brought before put after
   -- time passes
-  ages : (old s : Connection) → brought ≡ passes → before ≡ Some old → IsAged old s → put ≡ [] → after ≡ Some s → Acts number next up brought before put after
+  ages : (old s : Connection) → brought ≡ passes → before ≡ Some old → IsAged old s → put ≡ []
+      → after ≡ Some s → Acts number next up brought before put after
   -- it begins, as the next one, while the link of the switch is up
-  opens : number ≡ next → up ≡ true → (channel : Channel) (request : RequestReference) (delay : ℕ) → brought ≡ nothing → before ≡ None → put ≡ access_activation channel ∷ [] → after ≡ Some (new_connection number channel request delay) → Acts number next up brought before put after
+  opens : number ≡ next → up ≡ true → (channel : Channel) (request : RequestReference) (delay : ℕ)
+      → brought ≡ nothing → before ≡ None → put ≡ access_activation channel ∷ []
+      → after ≡ Some (new_connection number channel request delay)
+      → Acts number next up brought before put after
   -- a row of the table, perhaps after time passed
-  goes : (old s : Connection) (input : Input) (offer : Option Channel) (r : Row) → before ≡ Some old → IsAged old s → IsBrought brought input → row_of s input offer ≡ Some r → put ≡ r.outs → after ≡ kept r.next → Acts number next up brought before put after
+  goes : (old s : Connection) (input : Input) (offer : Option Channel) (r : Row) → before ≡ Some old
+      → IsAged old s → IsBrought brought input → row_of s input offer ≡ Some r → put ≡ r.outs
+      → after ≡ kept r.next → Acts number next up brought before put after
 
 -- What a step puts for a connection, and what it makes of it.
 pub record ActsOn (number : ℕ) (c : Controller) (s : Step) : Type 0 where
   pub put : List Message
   pub outs : outs_for number (step c s).outs ≡ outs_of number put
-  pub acts : Acts number c.next_number (is_up c SWITCH_LINK) (brought_in c number s) (connection_of c number) put (connection_of (step c s).next number)
+  pub acts : Acts number c.next_number (is_up c SWITCH_LINK) (brought_in c number s)
+      (connection_of c number) put (connection_of (step c s).next number)

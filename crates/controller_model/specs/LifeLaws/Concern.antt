@@ -16,10 +16,16 @@ use Rattle.ruled_relay.specs.declared.item.What.TheVariants as whats
 pub record IsLeft (number : ℕ) (c : Controller) (t : Turn) : Type 0 where
   pub entry : Leaves number c t.next
   pub outs : outs_for number t.outs ≡ []
-  pub using : (at : Place) → channel_state t.next at ≡ InUse number ↔ channel_state c at ≡ InUse number
-  pub releasing : (at : Place) → channel_state t.next at ≡ Releasing number ↔ channel_state c at ≡ Releasing number
+  pub using : (at : Place) → channel_state t.next at ≡ InUse number
+      ↔ channel_state c at ≡ InUse number
+  pub releasing : (at : Place) → channel_state t.next at ≡ Releasing number
+      ↔ channel_state c at ≡ Releasing number
 
 -- a frame of a source
 abbrev pub FrameLeaves : ℕ → Controller → ℕ → Frame → Type 0
 FrameLeaves number c source frame =
-    concerned c (word_of source frame) ≢ Some number → IsLeft number c (step c (Take (record { source = source; what = whats.Frame frame })))
+    concerned c (word_of source frame) ≢ Some number → IsLeft number c (step c (Take (record {
+      source =
+          source;
+      what = whats.Frame frame;
+    })))

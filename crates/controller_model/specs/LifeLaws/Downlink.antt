@@ -1,18 +1,21 @@
 -- The switch's messages of a connection: those that came, were rejected, were handed.
-use Rattle.std.specs.Prelude.{◌≡◌, ◌⊎◌, ℕ, ◌==◌, ◌&&◌, ◌||◌, Bool, true, false, if◌then◌else◌, List, [], ◌∷◌, ◌++◌, filter, fold, Option, Some, None}
+use Rattle.std.specs.Prelude.{◌≡◌, ◌⊎◌, ℕ, ◌==◌, ◌&&◌, ◌||◌, Bool, true, false, if◌then◌else◌, List}
+use Rattle.std.specs.Prelude.{[], ◌∷◌, ◌++◌, filter, fold, Option, Some, None}
 use Rattle.std.specs.List.{AllByRecursion}
-use Rattle.controller_model.specs.Prelude.{Message, outs_of, Input, Connection, IsOpen, handed, is_dtap, AreAllowed, Parameters, Sapi, Zero}
+use Rattle.controller_model.specs.Prelude.{Message, outs_of, Input, Connection, IsOpen, handed}
+use Rattle.controller_model.specs.Prelude.{is_dtap, AreAllowed, Parameters, Sapi, Zero}
 use Rattle.controller_model.specs.Prelude.{Three}
 use Rattle.conn_messages.specs.declared.message.Message.TheVariants.{Request}
 use Rattle.conn_rules.specs.declared.input.Input.TheVariants as inputs
 use Rattle.conn_rules.specs.Streams.{received_by, rejects}
 use Rattle.controller_model.specs.declared.word.Word.{Word}
 use Rattle.controller_model.specs.declared.word.Word.TheVariants.{OnConnection}
-use Rattle.controller_model.specs.LifeLaws.History.{IsHistory, Moment, all_messages, connection_of, outs_for, word_in}
+use Rattle.controller_model.specs.LifeLaws.History.{IsHistory, Moment, all_messages, connection_of}
+use Rattle.controller_model.specs.LifeLaws.History.{outs_for, word_in}
 use Rattle.controller_model.specs.declared.step.Step.{Step}
 use Rattle.controller_model.specs.Controller.{Turn, new_controller}
 use Rattle.controller_model.specs.Views.{handed as handed_in}
-use Rattle.controller_model.specs.LifeLaws.Sending.{ComesInOctets}
+use Rattle.controller_model.specs.LifeLaws.Sending.{IsOctetStep}
 use Rattle.hold_queue.specs.HoldState.{messages}
 
 -- ---- how far the switch knows the connection
@@ -26,7 +29,7 @@ abbrev pub requests : List Message → Bool
 requests [] = false
 requests (m ∷ ms) = is_request m || requests ms
 
--- CC comes for this connection
+-- CC dtap_received for this connection
 abbrev pub is_confirm : Input → Bool
 is_confirm (inputs.ConnectionConfirm source) = true
 is_confirm _ = false
@@ -38,9 +41,10 @@ confirms number _ = false
 -- ---- what came
 
 -- of this SAPI, for this connection
-abbrev pub comes : ℕ → Sapi → Word → List (List ℕ)
-comes number sapi (OnConnection destination input) = if destination == number then filter is_dtap (received_by sapi input) else []
-comes number sapi _ = []
+abbrev pub dtap_received : ℕ → Sapi → Word → List (List ℕ)
+dtap_received number sapi (OnConnection destination input) =
+    if destination == number then filter is_dtap (received_by sapi input) else []
+dtap_received number sapi _ = []
 
 -- The switch's messages of a SAPI so far, without those of radio resource management.
 pub record Switched : Type 0 where
@@ -55,11 +59,12 @@ pub record Switched : Type 0 where
   pub handed : List (List ℕ)
 
 abbrev pub nothing_switched : Switched
-nothing_switched = record { requested = false; confirmed = false; came = []; received = []; handed = [] }
+nothing_switched =
+    record { requested = false; confirmed = false; came = []; received = []; handed = [] }
 
 -- what came after CC in a step
 abbrev pub counted : ℕ → Sapi → Switched → Moment → List (List ℕ)
-counted number sapi a m = if a.confirmed then comes number sapi (word_in m.taken) else []
+counted number sapi a m = if a.confirmed then dtap_received number sapi (word_in m.taken) else []
 
 -- a SAPI N REJECT rejects all of SAPI 3 that came and wasn't handed before
 abbrev pub left_over : Sapi → List Message → List (List ℕ) → List (List ℕ) → List (List ℕ)
@@ -81,7 +86,8 @@ switched number sapi moments = fold (with_moment number sapi) nothing_switched m
 -- What was handed, then what is held, is what came and wasn't rejected.
 abbrev pub ConservesDownlink : Switched → Sapi → Option Connection → Type 0
 ConservesDownlink a sapi None = Unit {0}
-ConservesDownlink a sapi (Some s) = IsOpen s.state → a.handed ++ filter is_dtap (messages s.down sapi) ≡ a.received
+ConservesDownlink a sapi (Some s) =
+    IsOpen s.state → a.handed ++ filter is_dtap (messages s.down sapi) ≡ a.received
 
 -- Some of a list, each at most once and in its order: the first of them is the first of the list,
 -- or all are of the others.
@@ -94,10 +100,14 @@ IsPart (x ∷ xs) (y ∷ ys) = ((x ≡ y) × IsPart xs ys) ⊎ IsPart (x ∷ xs)
 -- what was handed, then what is held, is what came and wasn't rejected, as long as it is open; and
 -- always what was handed is some of what came, in its order. What was handed is what is read from
 -- the frames to stations, where what came was octets.
-pub record DownlinkIsConserved (number : ℕ) (p : Parameters) (steps : List Step) (life : Turn) : Type 0 where
+pub record DownlinkIsConserved (number : ℕ) (p : Parameters) (steps : List Step)
+    (life : Turn) : Type 0 where
   pub moments : List Moment
   pub history : IsHistory number (new_controller p) steps moments
   pub frames : outs_for number life.outs ≡ outs_of number (all_messages moments)
-  pub downlink : (sapi : Sapi) → ConservesDownlink (switched number sapi moments) sapi (connection_of life.next number)
-  pub in_order : (sapi : Sapi) → IsPart (switched number sapi moments).handed (switched number sapi moments).came
-  pub read : AreAllowed p → AllByRecursion ComesInOctets steps → (sapi : Sapi) → handed_in life.outs number sapi ≡ (switched number sapi moments).handed
+  pub downlink : (sapi : Sapi) → ConservesDownlink (switched number sapi moments) sapi
+      (connection_of life.next number)
+  pub in_order : (sapi : Sapi) → IsPart (switched number sapi moments).handed
+      (switched number sapi moments).came
+  pub read : AreAllowed p → AllByRecursion IsOctetStep steps → (sapi : Sapi)
+      → handed_in life.outs number sapi ≡ (switched number sapi moments).handed

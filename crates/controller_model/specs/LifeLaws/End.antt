@@ -1,14 +1,16 @@
 -- Where nothing is handed or relayed.
 use Rattle.std.specs.Prelude.{◌≡◌, ℕ, ◌<◌, List, [], ◌∷◌, Option, Some, None}
 use Rattle.std.specs.List.{AllByRecursion}
-use Rattle.controller_model.specs.Prelude.{Message, Connection, outs_of, IsOpen, handed, Sapi, AreAllowed, Parameters}
-use Rattle.conn_rules.specs.Streams.{IsChanging, GoesTo, OnlyReleases, relayed}
-use Rattle.controller_model.specs.LifeLaws.History.{IsHistory, Moment, all_messages, connection_of, outs_for}
+use Rattle.controller_model.specs.Prelude.{Message, Connection, outs_of, IsOpen, handed, Sapi}
+use Rattle.controller_model.specs.Prelude.{AreAllowed, Parameters}
+use Rattle.conn_rules.specs.Streams.{IsChanging, IsHandedTo, OnlyReleases, relayed}
+use Rattle.controller_model.specs.LifeLaws.History.{IsHistory, Moment, all_messages, connection_of}
+use Rattle.controller_model.specs.LifeLaws.History.{outs_for}
 use Rattle.controller_model.specs.declared.step.Step.{Step}
 use Rattle.controller_model.specs.Controller.{Controller, Turn, new_controller}
 use Rattle.controller_model.specs.Life.{step}
 use Rattle.controller_model.specs.Views.{forwarded, handed as handed_in}
-use Rattle.controller_model.specs.LifeLaws.Sending.{ComesInOctets}
+use Rattle.controller_model.specs.LifeLaws.Sending.{IsOctetStep}
 use Rattle.controller_model.specs.LifeLaws.Seen.{messages_on}
 
 -- a connection that is open
@@ -29,7 +31,7 @@ IsAway (Some s) = IsChanging s.state
 -- what is handed goes to the channel that serves, and nothing is handed where none does
 abbrev pub GoToServing : Option Connection → List Message → Type 0
 GoToServing None put = (sapi : Sapi) → handed sapi put ≡ []
-GoToServing (Some s) put = AllByRecursion (GoesTo s.serving) put
+GoToServing (Some s) put = AllByRecursion (IsHandedTo s.serving) put
 
 -- after CLEAR COMPLETE only RLC is put, and of a connection that is gone nothing
 abbrev pub OnlyReleasesAfter : Option Connection → List Message → Type 0
@@ -45,32 +47,38 @@ pub record KeepsSilence (number : ℕ) (c : Controller) (s : Step) (put : List M
   -- nothing is handed or relayed by the step that closes it, and from then on
   pub over : (IsThere (connection_of (step c s).next number) → ⊥) → HasNoStream put
   -- it doesn't open again
-  pub stays : number < c.next_number → (IsThere (connection_of c number) → ⊥) → IsThere (connection_of (step c s).next number) → ⊥
+  pub stays : number < c.next_number → (IsThere (connection_of c number) → ⊥)
+      → IsThere (connection_of (step c s).next number) → ⊥
   pub cleared : number < c.next_number → OnlyReleasesAfter (connection_of c number) put
 
 -- each step of a history
 abbrev pub AllKeepSilence : ℕ → Controller → List Moment → Type 0
 AllKeepSilence number c [] = Unit {0}
-AllKeepSilence number c (m ∷ ms) = KeepsSilence number c m.taken m.messages × AllKeepSilence number (step c m.taken).next ms
+AllKeepSilence number c (m ∷ ms) =
+    KeepsSilence number c m.taken m.messages × AllKeepSilence number (step c m.taken).next ms
 
 -- what is read from each step's frames is what was relayed and handed by its messages
 abbrev pub AllAreRead : ℕ → Controller → List Moment → Type 0
 AllAreRead number c [] = Unit {0}
 AllAreRead number c (m ∷ ms) =
-    ((sapi : Sapi) → (messages_on sapi (forwarded (step c m.taken).outs number) ≡ relayed sapi m.messages) × (handed_in (step c m.taken).outs number sapi ≡ handed sapi m.messages))
+    ((sapi : Sapi) → (messages_on sapi (forwarded (step c m.taken).outs number)
+    ≡ relayed sapi m.messages) × (handed_in (step c m.taken).outs number sapi
+    ≡ handed sapi m.messages))
     × AllAreRead number (step c m.taken).next ms
 
 -- There are messages, step by step, of which the connection's frames are, and each step keeps
 -- silence. What they relay and hand is what is read from the frames, where what came was octets.
-pub record SilenceIsKept (number : ℕ) (p : Parameters) (steps : List Step) (life : Turn) : Type 0 where
+pub record SilenceIsKept (number : ℕ) (p : Parameters) (steps : List Step)
+    (life : Turn) : Type 0 where
   pub moments : List Moment
   pub history : IsHistory number (new_controller p) steps moments
   pub frames : outs_for number life.outs ≡ outs_of number (all_messages moments)
   pub silent : AllKeepSilence number (new_controller p) moments
-  pub read : AreAllowed p → AllByRecursion ComesInOctets steps → AllAreRead number (new_controller p) moments
+  pub read : AreAllowed p → AllByRecursion IsOctetStep steps
+      → AllAreRead number (new_controller p) moments
 
 -- Nothing is handed or relayed in these steps.
-pub record StaysSilent (number : ℕ) (c : Controller) (steps : List Step) : Type 0 where
+pub record IsSilentThrough (number : ℕ) (c : Controller) (steps : List Step) : Type 0 where
   pub moments : List Moment
   pub history : IsHistory number c steps moments
   pub silent : AllByRecursion (λ m. HasNoStream m.messages) moments

@@ -1,16 +1,19 @@
 -- Where messages are handed, told by what came and what was put: nothing while the mobile changes
 -- its channel, else on the channel that serves, and after CLEAR COMPLETE only RLC is put.
-use Rattle.std.specs.Prelude.{◌≡◌, ℕ, ◌==◌, ◌&&◌, ◌||◌, not, Bool, true, false, List, [], ◌∷◌, ◌++◌, fold}
+use Rattle.std.specs.Prelude.{◌≡◌, ℕ, ◌==◌, ◌&&◌, ◌||◌, not, Bool, true, false, List, [], ◌∷◌, ◌++◌}
+use Rattle.std.specs.Prelude.{fold}
 use Rattle.std.specs.List.{AllByRecursion, list_any}
-use Rattle.controller_model.specs.Prelude.{Management, Place, Message, SWITCH_LINK, outs_of, Input, handed, is_dtap, Sapi, What, AreAllowed}
+use Rattle.controller_model.specs.Prelude.{Management, Place, Message, SWITCH_LINK, outs_of, Input}
+use Rattle.controller_model.specs.Prelude.{handed, is_dtap, Sapi, What, AreAllowed}
 use Rattle.controller_model.specs.Prelude.{Parameters}
 use Rattle.bssmap_codec.specs.declared.bssmap.Bssmap.TheVariants.{ClearComplete, ClearRequest}
 use Rattle.conn_messages.specs.declared.message.Message.TheVariants.{Station, Data, ReleaseComplete}
 use Rattle.conn_rules.specs.declared.input.Input.TheVariants as inputs
 use Rattle.conn_rules.specs.Streams.{IsReleaseComplete}
 use Rattle.controller_model.specs.LifeLaws.End.{AllAreRead}
-use Rattle.controller_model.specs.LifeLaws.History.{IsHistory, Moment, all_messages, outs_for, word_in}
-use Rattle.controller_model.specs.LifeLaws.Sending.{ComesInOctets}
+use Rattle.controller_model.specs.LifeLaws.History.{IsHistory, Moment, all_messages, outs_for}
+use Rattle.controller_model.specs.LifeLaws.History.{word_in}
+use Rattle.controller_model.specs.LifeLaws.Sending.{IsOctetStep}
 use Rattle.controller_model.specs.LifeLaws.Uplink.{Tenure, performs, service}
 use Rattle.controller_model.specs.declared.step.Step.{Step}
 use Rattle.controller_model.specs.declared.step.Step.TheVariants.{Take}
@@ -26,7 +29,9 @@ use Rattle.rsl_codec.specs.declared.rsl.Rsl.TheVariants.{DataRequest, RfChannelR
 
 -- ASSIGNMENT COMMAND or HANDOVER COMMAND
 abbrev pub is_command_text : List ℕ → Bool
-is_command_text (discriminator ∷ kind ∷ rest) = (discriminator == RADIO_RESOURCE) && ((kind == ASSIGNMENT_COMMAND) || (kind == HANDOVER_COMMAND))
+is_command_text (discriminator ∷ kind ∷ rest) =
+    (discriminator == RADIO_RESOURCE) && ((kind == ASSIGNMENT_COMMAND)
+    || (kind == HANDOVER_COMMAND))
 is_command_text _ = false
 
 abbrev pub is_command : Message → Bool
@@ -72,11 +77,14 @@ breaks_switch (Take item) = (item.source == SWITCH_LINK) && is_down item.what
 breaks_switch _ = false
 
 abbrev pub ends_change : Moment → Bool
-ends_change m = on_channel answers_by (word_in m.taken) m.messages || (list_any is_clear m.messages || breaks_switch m.taken)
+ends_change m =
+    on_channel answers_by (word_in m.taken) m.messages
+    || (list_any is_clear m.messages || breaks_switch m.taken)
 
 -- From the COMMAND on, until the mobile answers or the connection is cleared.
 abbrev pub with_change : Bool → Moment → Bool
-with_change changes m = on_channel begins_by (word_in m.taken) m.messages || (changes && not (ends_change m))
+with_change changes m =
+    on_channel begins_by (word_in m.taken) m.messages || (changes && not (ends_change m))
 
 abbrev pub changes_after : List Moment → Bool
 changes_after moments = fold with_change false moments
@@ -85,7 +93,8 @@ changes_after moments = fold with_change false moments
 
 -- DTAP that is handed goes to this channel
 abbrev pub IsHandedOn : Place → Message → Type 0
-IsHandedOn at (Station station (DataRequest request)) = is_dtap request.l3 ≡ true → (station ≡ at.station) × (request.channel ≡ at.number)
+IsHandedOn at (Station station (DataRequest request)) =
+    is_dtap request.l3 ≡ true → (station ≡ at.station) × (request.channel ≡ at.number)
 IsHandedOn at _ = Unit {0}
 
 -- the first of the service list serves; before there is one nothing is handed
@@ -121,9 +130,11 @@ AllInPlace earlier (m ∷ ms) = IsInPlace earlier m × AllInPlace (earlier ++ m 
 
 -- There are messages, step by step, of which the connection's frames are, and each step puts them
 -- in place. What they hand is what is read from the frames, where what came was octets.
-pub record HandsInPlace (number : ℕ) (p : Parameters) (steps : List Step) (life : Turn) : Type 0 where
+pub record HandsInPlace (number : ℕ) (p : Parameters) (steps : List Step)
+    (life : Turn) : Type 0 where
   pub moments : List Moment
   pub history : IsHistory number (new_controller p) steps moments
   pub frames : outs_for number life.outs ≡ outs_of number (all_messages moments)
   pub placed : AllInPlace [] moments
-  pub read : AreAllowed p → AllByRecursion ComesInOctets steps → AllAreRead number (new_controller p) moments
+  pub read : AreAllowed p → AllByRecursion IsOctetStep steps
+      → AllAreRead number (new_controller p) moments

@@ -37,7 +37,8 @@ pub record Moment : Type 0 where
 abbrev pub IsHistory : ℕ → Controller → List Step → List Moment → Type 0
 IsHistory number c [] [] = Unit {0}
 IsHistory number c (s ∷ ss) (m ∷ ms) =
-    (m.taken ≡ s) × (outs_for number (step c s).outs ≡ outs_of number m.messages) × IsHistory number (step c s).next ss ms
+    (m.taken ≡ s) × (outs_for number (step c s).outs ≡ outs_of number m.messages)
+    × IsHistory number (step c s).next ss ms
 IsHistory number c _ _ = ⊥
 
 -- all that was put for it, in order

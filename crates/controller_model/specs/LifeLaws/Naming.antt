@@ -13,11 +13,14 @@ use Rattle.rsl_codec.specs.declared.rsl.Rsl.TheVariants.{ImmediateAssignCommand}
 -- if the message is an IMMEDIATE ASSIGN COMMAND, it assigns this channel to the mobile of this
 -- request
 abbrev pub Names : Channel → RequestReference → Message → Type 0
-Names c request (Station station (ImmediateAssignCommand i)) = (delay : ℕ) × (Station station (ImmediateAssignCommand i) ≡ immediate_assign_command c request delay)
+Names c request (Station station (ImmediateAssignCommand i)) =
+    (delay : ℕ) × (Station station (ImmediateAssignCommand i)
+    ≡ immediate_assign_command c request delay)
 Names c request _ = Unit {0}
 
 abbrev pub NamesOf : Option Connection → List Message → Type 0
-NamesOf None put = AllByRecursion (λ m. (c : Channel) (request : RequestReference) → Names c request m) put
+NamesOf None put =
+    AllByRecursion (λ m. (c : Channel) (request : RequestReference) → Names c request m) put
 NamesOf (Some s) put = AllByRecursion (Names s.serving s.request) put
 
 abbrev pub SameRequest : Option Connection → Option Connection → Type 0

@@ -1,5 +1,6 @@
 -- Whose the channels are.
-use Rattle.std.specs.Prelude.{◌≡◌, ℕ, Bool, true, false, List, ◌∷◌, ◌++◌, slice_get, unwrap_or, Option, Some, None}
+use Rattle.std.specs.Prelude.{◌≡◌, ℕ, Bool, true, false, List, ◌∷◌, ◌++◌, slice_get, unwrap_or}
+use Rattle.std.specs.Prelude.{Option, Some, None}
 use Rattle.std.specs.List.{AllByRecursion}
 use Rattle.controller_model.specs.Prelude.{Channel, Connection, IsOpen}
 use Rattle.conn_rules.specs.Roles.{Roles, roles_of, target_channels}
@@ -20,7 +21,8 @@ used_in roles = undone roles.draining ++ roles.serving ∷ target_channels roles
 
 -- The serving channel and the target are in use by the connection, its old channels are releasing,
 -- all are different, and their stations' links are up.
-pub record Owns (channels : List (List ChannelState)) (links : List Bool) (number : ℕ) (roles : Roles) : Type 0 where
+pub record Owns (channels : List (List ChannelState)) (links : List Bool) (number : ℕ)
+    (roles : Roles) : Type 0 where
   pub using : AreIn channels (InUse number) (roles.serving ∷ target_channels roles.target)
   pub releasing : AreIn channels (Releasing number) (undone roles.draining)
   pub apart : AreApart (used_in roles)

@@ -6,5 +6,5 @@ use Rattle.controller_model.specs.Controller.{Controller, is_up}
 use Rattle.controller_model.specs.Life.{step}
 
 -- each to a link that is there, and is up after the step
-abbrev pub GoesToUp : Controller → Step → Type 0
-GoesToUp c s = AllByRecursion (λ out. is_up (step c s).next out.to ≡ true) (step c s).outs
+abbrev pub PutsOnUpLinks : Controller → Step → Type 0
+PutsOnUpLinks c s = AllByRecursion (λ out. is_up (step c s).next out.to ≡ true) (step c s).outs

@@ -16,9 +16,9 @@ abbrev pub IsOfOctets : What → Type 0
 IsOfOctets (whats.Frame frame) = AreOctets frame.body
 IsOfOctets whats.Down = Unit {0}
 
-abbrev pub ComesInOctets : Step → Type 0
-ComesInOctets (Take item) = IsOfOctets item.what
-ComesInOctets (Tick ms) = Unit {0}
+abbrev pub IsOctetStep : Step → Type 0
+IsOctetStep (Take item) = IsOfOctets item.what
+IsOctetStep (Tick ms) = Unit {0}
 
 -- the frame of a message of a connection; whoever gets it reads that message: RSL, or BSSAP in CR
 -- or DT1, or RLC

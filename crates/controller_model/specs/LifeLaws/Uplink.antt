@@ -1,9 +1,12 @@
 -- The mobile's messages of a connection: those of its tenures.
-use Rattle.std.specs.Prelude.{◌≡◌, ℕ, ◌==◌, ◌&&◌, ◌||◌, not, Bool, true, false, if◌then◌else◌, List, [], ◌∷◌, ◌++◌, fold, map, Some}
+use Rattle.std.specs.Prelude.{◌≡◌, ℕ, ◌==◌, ◌&&◌, ◌||◌, not, Bool, true, false, if◌then◌else◌, List}
+use Rattle.std.specs.Prelude.{[], ◌∷◌, ◌++◌, fold, map, Some}
 use Rattle.std.specs.List.{AllByRecursion}
-use Rattle.controller_model.specs.Prelude.{Place, Message, outs_of, Management, Input, Sapi, Zero, Three, Parameters}
+use Rattle.controller_model.specs.Prelude.{Place, Message, outs_of, Management, Input, Sapi, Zero}
+use Rattle.controller_model.specs.Prelude.{Three, Parameters}
 use Rattle.conn_messages.specs.declared.message.Message.TheVariants.{Data}
-use Rattle.bssmap_codec.specs.declared.bssmap.Bssmap.TheVariants.{AssignmentComplete, HandoverPerformed}
+use Rattle.bssmap_codec.specs.declared.bssmap.Bssmap.TheVariants.{AssignmentComplete}
+use Rattle.bssmap_codec.specs.declared.bssmap.Bssmap.TheVariants.{HandoverPerformed}
 use Rattle.conn_rules.specs.declared.input.Input.TheVariants as inputs
 use Rattle.conn_rules.specs.Streams.{relayed}
 use Rattle.controller_model.specs.declared.step.Step.{Step}
@@ -13,9 +16,10 @@ use Rattle.controller_model.specs.Controller.{Turn, new_controller}
 use Rattle.controller_model.specs.Views.{forwarded, held_up}
 use Rattle.controller_model.specs.LifeLaws.Downlink.{requests}
 use Rattle.controller_model.specs.LifeLaws.End.{IsThere}
-use Rattle.controller_model.specs.LifeLaws.History.{IsHistory, Moment, all_messages, connection_of, outs_for, word_in}
+use Rattle.controller_model.specs.LifeLaws.History.{IsHistory, Moment, all_messages, connection_of}
+use Rattle.controller_model.specs.LifeLaws.History.{outs_for, word_in}
 use Rattle.controller_model.specs.LifeLaws.Seen.{messages_on}
-use Rattle.controller_model.specs.LifeLaws.Sending.{ComesInOctets}
+use Rattle.controller_model.specs.LifeLaws.Sending.{IsOctetStep}
 
 -- A tenure: what came on a channel from the moment that it served, until its release is
 -- acknowledged.
@@ -76,7 +80,8 @@ begin_next [] performed at = []
 begin_next (t ∷ ts) performed at = if performed then beginning at [] ∷ t ∷ ts else t ∷ ts
 
 abbrev pub after_input : Input → List Message → List Tenure → List Tenure
-after_input (inputs.EstablishIndication at Zero (Some initial)) put tenures = begin_first (requests put) at initial tenures
+after_input (inputs.EstablishIndication at Zero (Some initial)) put tenures =
+    begin_first (requests put) at initial tenures
 after_input (inputs.Complete at change cause) put tenures = begin_next tenures (performs put) at
 after_input (inputs.Dtap at sapi message) put tenures = map (heard at sapi message) tenures
 after_input (inputs.ReleaseAck at) put tenures = acknowledged at tenures
@@ -104,11 +109,15 @@ joined sapi (serving ∷ old) = joined sapi old ++ of_sapi sapi serving
 -- SAPI, what was relayed, then what is held, is what came on its tenures, in the order in which
 -- they came to serve. What was relayed is what is read from the frames to the switch, where what
 -- came was octets.
-pub record UplinkIsConserved (number : ℕ) (p : Parameters) (steps : List Step) (life : Turn) : Type 0 where
+pub record UplinkIsConserved (number : ℕ) (p : Parameters) (steps : List Step)
+    (life : Turn) : Type 0 where
   pub moments : List Moment
   pub history : IsHistory number (new_controller p) steps moments
   pub frames : outs_for number life.outs ≡ outs_of number (all_messages moments)
   pub uplink : IsThere (connection_of life.next number) → (sapi : Sapi) →
-      relayed sapi (all_messages moments) ++ held_up life.next number sapi ≡ joined sapi (service moments)
-  pub read : AllByRecursion ComesInOctets steps → IsThere (connection_of life.next number) → (sapi : Sapi) →
-      messages_on sapi (forwarded life.outs number) ++ held_up life.next number sapi ≡ joined sapi (service moments)
+      relayed sapi (all_messages moments) ++ held_up life.next number sapi
+      ≡ joined sapi (service moments)
+  pub read : AllByRecursion IsOctetStep steps → IsThere (connection_of life.next number)
+      → (sapi : Sapi) →
+      messages_on sapi (forwarded life.outs number) ++ held_up life.next number sapi
+      ≡ joined sapi (service moments)

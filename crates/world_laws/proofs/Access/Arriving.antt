@@ -6,7 +6,7 @@ use Rattle.world_laws.proofs.Prelude.{Connection, roles_of, connection_of, Owns,
 use Rattle.world_laws.proofs.Prelude.{AreUsed, life_owns, life_uses, Free, InUse, Controller, channel_state, place_at, place_of, AreAllowed}
 use Rattle.world_laws.proofs.Prelude.{Parameters, Event, actors_after, actors_after_all, with_item, all_steps, switch_took_first, Actors}
 use Rattle.world_laws.proofs.Prelude.{Link, base_of, broken_link, is_station_up, is_up, modulus_in, new_actors, outbox_of, spot_at}
-use Rattle.world_laws.proofs.Prelude.{with_link, good-all, good-new, after-taken, broken-leads, LivesByTable-new, life, took_first}
+use Rattle.world_laws.proofs.Prelude.{with_link, good_all, good_new, after_taken, broken_leads, LivesByTable-new, life, took_first}
 use Rattle.world_laws.proofs.Prelude.{brings_in, coming_up, made_of, leading_from_air, leading_from_outbox, commanded_target, waiting_of}
 use Rattle.world_laws.proofs.Prelude.{IsUnconfirmed, IsHad, AreLinedUp, is_of_others}
 use Rattle.controller_model.specs.Views.{forwarded}
@@ -102,7 +102,7 @@ module _ (settings : Parameters) (done : List Event) (mobile : ℕ) (s : Connect
     | inl up ↦ elim (known.delivers up) [
       | inl delivers ↦ switch_keeps_line_ups_new settings done mobile s delivers lined
       | inr unheard ↦
-          let passes : Passes world (actors_after world events.SwitchTakes) = after-taken (Passes world) (event_after world events.SwitchTakes) world (event_passes world events.SwitchTakes refl (good-all (new_actors settings) done (good-new settings))) (passes_itself world) in
+          let passes : Passes world (actors_after world events.SwitchTakes) = after_taken (Passes world) (event_after world events.SwitchTakes) world (event_passes world events.SwitchTakes refl (good_all (new_actors settings) done (good_new settings))) (passes_itself world) in
           let there : connection_of (actors_after world events.SwitchTakes).controller s.number ≡ Some s = ap (λ (c : Controller). connection_of c s.number) passes.controller ∙ had.there in
           absurd (unconfirmed s.state state (subst IsUnconfirmed there unheard.unconfirmed))
     ]
@@ -114,16 +114,16 @@ module _ (settings : Parameters) (done : List Event) (mobile : ℕ) (s : Connect
     | inr miss ↦ station_breaks_keep_line_ups_new settings done source mobile s (eqb-false source SWITCH_LINK miss) (rw (draining) tt) lined
     | inl hit ↦
         let P : Actors → Type 0 = λ v. AreLinedUp (modulus_in settings) v mobile s in
-        after-taken P (event_after world (events.BaseDown source)) world
-        (broken-leads P world source
+        after_taken P (event_after world (events.BaseDown source)) world
+        (broken_leads P world source
         (λ up is. subst (λ (n : ℕ). P (with_item (record { source = n; what = whats.Down }) (record (with_link n broken_link world) { switch_made = [] }))) (sym is) (quiet_stays world _ mobile lined.one lined.found refl (switch_breaks world s state draining placed known.none_waits) lined.lined))
         (λ up isnt. absurd (isnt (eqb-true source SWITCH_LINK hit)))) lined
   ]
 
-  pub stays-lined : (event : Event) → is_of_others event ≡ true → s.state ≡ WaitEstablish → AreAllowed settings → IsHad world s → IsKnown (modulus_in settings) world mobile s → AreLinedUp (modulus_in settings) world mobile s → AreLinedUp (modulus_in settings) (actors_after world event) mobile s
-  stays-lined (events.BaseTakes station) is state allowed had known lined = takes_lined station state known lined
-  stays-lined events.SwitchTakes is state allowed had known lined = switch_lined state had known lined
-  stays-lined (events.BaseDown source) is state allowed had known lined = breaks_lined source state (bare_of s state (connections_stand_new settings done s.number s had.there)).draining (serving_placed settings done s allowed had) known lined
-  stays-lined events.Handle is state allowed had known lined = absurd cc
-  stays-lined (events.Tick ms) is state allowed had known lined = absurd cc
-  stays-lined event is state allowed had known lined = mobiles_keep_line_ups_new settings done event mobile s refl known.alone lined
+  pub stays_lined_up : (event : Event) → is_of_others event ≡ true → s.state ≡ WaitEstablish → AreAllowed settings → IsHad world s → IsKnown (modulus_in settings) world mobile s → AreLinedUp (modulus_in settings) world mobile s → AreLinedUp (modulus_in settings) (actors_after world event) mobile s
+  stays_lined_up (events.BaseTakes station) is state allowed had known lined = takes_lined station state known lined
+  stays_lined_up events.SwitchTakes is state allowed had known lined = switch_lined state had known lined
+  stays_lined_up (events.BaseDown source) is state allowed had known lined = breaks_lined source state (bare_of s state (connections_stand_new settings done s.number s had.there)).draining (serving_placed settings done s allowed had) known lined
+  stays_lined_up events.Handle is state allowed had known lined = absurd cc
+  stays_lined_up (events.Tick ms) is state allowed had known lined = absurd cc
+  stays_lined_up event is state allowed had known lined = mobiles_keep_line_ups_new settings done event mobile s refl known.alone lined

@@ -1,20 +1,20 @@
 -- A mobile that asked comes onto the serving channel: from then on it is lined up with its
 -- connection.
 use Rattle.world_laws.proofs.Prelude.{◌≡◌, ◌≢◌, ℕ, ◌&&◌, nat_eq, Bool, true, false, List, [], ◌∷◌, ◌++◌, None, refl, sym, ap, ◌∙◌, subst}
-use Rattle.world_laws.proofs.Prelude.{eq-eqb, SWITCH_LINK, WaitEstablish, Connection, is_at, Stands, StandsBy, place_of, empty_tenure}
+use Rattle.world_laws.proofs.Prelude.{eq-eqb, SWITCH_LINK, WaitEstablish, Connection, is_at, IsValid, IsValidState, place_of, empty_tenure}
 use Rattle.world_laws.proofs.Prelude.{DataLinkState, On, Actors, Mobile, is_station_up, tenure_at, Alive, sound, remains, flow, fresh}
 use Rattle.world_laws.proofs.Prelude.{messages_in, on_serving, coming_up, going_down, assembled, line_up, taken_of, waiting_of, LinedUp}
 use Rattle.world_laws.proofs.Prelude.{IsNew}
 use Rattle.world_laws.specs.LineUp.Alive.Follows.{goes_on}
-use Rattle.world_laws.specs.LineUp.Alive.Stands.{opens}
+use Rattle.world_laws.specs.LineUp.Alive.ChangePhase.{opens}
 use Rattle.world_laws.specs.LineUp.Places.{Item}
 use Rattle.world_laws.proofs.LineUp.Following.{follows_line}
-use Rattle.mobile_end.specs.GoesOn.{GoesOn}
+use Rattle.mobile_end.specs.RunsToEnd.{RunsToEnd}
 use Rattle.world_laws.specs.Seated.Remembers.{nothing}
 use Rattle.world_laws.specs.Seated.Sits.{stays}
 
 -- nothing came, and the link of its station is up: the initial message, whatever it is, is to come
-begin_alive : {m : ℕ} (sent : List (List ℕ)) (link : DataLinkState) (items : List Item) → messages_in items ≡ [] → GoesOn m sent [] link
+begin_alive : {m : ℕ} (sent : List (List ℕ)) (link : DataLinkState) (items : List Item) → messages_in items ≡ [] → RunsToEnd m sent [] link
     → Alive m (assembled sent link on_serving WaitEstablish 0 [] (record { hold = []; items = items; is_lost = false; is_done = false }) fresh [] [])
 begin_alive {m} sent link items none goes = record {
   follows = follows_line (ap (λ (xs : List (List ℕ)). flow xs ++ []) (sym none)) (goes_on goes);
@@ -29,8 +29,8 @@ pub record IsBareOf (s : Connection) : Type 0 where
   pub draining : s.draining ≡ []
   pub tenures : s.up.tenures ≡ empty_tenure ∷ []
 
-pub bare_of : (s : Connection) → s.state ≡ WaitEstablish → Stands s → IsBareOf s
-bare_of s is stands = let bare = (subst (λ (x : _). StandsBy x s.draining s.down s.up.tenures s.link s.waits) is stands.state).0 in record { draining = bare.none_drains; tenures = bare.one_tenure }
+pub bare_of : (s : Connection) → s.state ≡ WaitEstablish → IsValid s → IsBareOf s
+bare_of s is stands = let bare = (subst (λ (x : _). IsValidState x s.draining s.down s.up.tenures s.link s.waits) is stands.state).0 in record { draining = bare.none_drains; tenures = bare.one_tenure }
 
 pub begins_lined : {m : ℕ} (w : Actors) (p : Mobile) (s : Connection) → s.state ≡ WaitEstablish → IsBareOf s → s.serving.station ≢ SWITCH_LINK → p.seat ≡ On (tenure_at w (place_of s.serving)) None → IsNew m p → is_station_up w s.serving.station ≡ true
     → messages_in (coming_up w (place_of s.serving)) ≡ [] → going_down w (place_of s.serving) ≡ [] → waiting_of w s.number ≡ [] → taken_of w s.number ≡ [] → LinedUp m w p s

@@ -1,19 +1,19 @@
 -- A connection that begins is coming.
 use Rattle.world_laws.proofs.Prelude.{◌≡◌, ◌≢◌, ℕ, ◌≤◌, Bool, List, [], ◌∷◌, ◌++◌, Ok, Option, Some, None, refl, sym, ap, ◌∙◌}
 use Rattle.world_laws.proofs.Prelude.{subst, arith, inl, inr, AllByRecursion, Channel, Message, Out, outs_of, WaitActivation, WaitEstablish}
-use Rattle.world_laws.proofs.Prelude.{Connection, IsOpen, Acts, ActsOn, Brought, ages, rests, connection_of, outs_for, ComesInOctets}
+use Rattle.world_laws.proofs.Prelude.{Connection, IsOpen, Acts, ActsOn, Brought, ages, rests, connection_of, outs_for, IsOctetStep}
 use Rattle.world_laws.proofs.Prelude.{IsSent, life_acts, life_fits, Step, Take, Controller, Turn, place_of, RelayItem, Rsl, Parameters}
 use Rattle.world_laws.proofs.Prelude.{Event, Tenure, actors_after, actors_after_all, target_in, rsl_in, all_steps, step_at, first_taken}
 use Rattle.world_laws.proofs.Prelude.{Actors, modulus_in, new_actors, outbox_of, LivesByTable-new, OutboxEntry, Station, access_activation}
 use Rattle.world_laws.proofs.Prelude.{Activation, rsl_reading, rsl_text, result_ok, NamesItsMobile, IsNumbered, life_names, same_Some, take}
 use Rattle.world_laws.proofs.Prelude.{going_down, leading_by, leading_from_outbox, IsForOthers, AssignsBy, AssignsIn, IsComing, AreBeside}
-use Rattle.world_laws.proofs.Prelude.{AssignsAnother, IsBeside, read_request, IsEarlyIn, entry-out}
+use Rattle.world_laws.proofs.Prelude.{AssignsAnother, IsBeside, read_request, IsEarlyIn, entry_out}
 use Rattle.conn_messages.specs.Out.{out_of}
 use Rattle.controller_model.specs.LifeLaws.Acts.Acts.{goes as goes_by, opens as begins}
 use Rattle.rsl_codec.specs.declared.rsl.Rsl.TheVariants as rsl
 use Rattle.world_model.specs.declared.event.Event.TheVariants as events
 use Rattle.world_model.specs.Relay.{entry_of}
-use Rattle.world_laws.specs.Access.Coming.Comes.{asks}
+use Rattle.world_laws.specs.Access.Coming.IsAccessing.{asks}
 use Rattle.world_laws.proofs.Access.Turning.{all_down, another_assigns, assigned_turn, of_all, own_among}
 use Rattle.world_laws.proofs.Access.Came.{IsLess, behind_less, before, turn_comes, turned, v_controller, v_mobile}
 use Rattle.world_laws.proofs.OrderTexts.{assignment_back, read_of}
@@ -62,7 +62,7 @@ module _ (settings : Parameters) (done : List Event) (s : Connection) where
       let own_sent : IsSent (out_of s.number (Station c.station (rsl.ChannelActivation a.0))) = subst IsSent is sent in
       let read = read_of s.number c.station (rsl.ChannelActivation a.0) own_sent in
       let frame : rsl_in out.frame ≡ Some read.0 = ap (λ (o : Out). rsl_in o.frame) is ∙ ap result_ok read.1.reading in (
-        λ _. ap (λ (o : Out). leading_by s.serving.number (entry_of target out).target (rsl_in o.frame)) (entry-out target out) ∙ ap (leading_by s.serving.number (entry_of target out).target) frame ∙ activation_leads s.number c.station s.serving.number (entry_of target out).target a.0 read.0 own_sent read.1.reading,
+        λ _. ap (λ (o : Out). leading_by s.serving.number (entry_of target out).target (rsl_in o.frame)) (entry_out target out) ∙ ap (leading_by s.serving.number (entry_of target out).target) frame ∙ activation_leads s.number c.station s.serving.number (entry_of target out).target a.0 read.0 own_sent read.1.reading,
         subst (AssignsBy mobile s out.to) (sym frame) (activation_assigns mobile s out.to a.0 read.0 read.1.text),
       )
 
@@ -104,14 +104,14 @@ connections_begin_for_their_mobile_new settings done s item items allowed octets
     let world : Actors = actors_after_all (new_actors settings) done in
     let target : Option Tenure = target_in world item.source item.what in
     let leads : actors_after world events.Handle ≡ turned settings done s.request.access s target (take item world.controller) items = handled_is settings done s.request.access s (item ∷ items) stood in
-    let both : AllByRecursion ComesInOctets (all_steps (new_actors settings) done ++ step_at world events.Handle) = subst (AllByRecursion ComesInOctets) (snoc_steps (new_actors settings) done events.Handle) octets in
-    let own : ComesInOctets (Take item) = (subst (λ (xs : List RelayItem). AllByRecursion ComesInOctets (first_taken xs)) stood (all_right ComesInOctets (all_steps (new_actors settings) done) (step_at world events.Handle) both)).0 in
+    let both : AllByRecursion IsOctetStep (all_steps (new_actors settings) done ++ step_at world events.Handle) = subst (AllByRecursion IsOctetStep) (snoc_steps (new_actors settings) done events.Handle) octets in
+    let own : IsOctetStep (Take item) = (subst (λ (xs : List RelayItem). AllByRecursion IsOctetStep (first_taken xs)) stood (all_right IsOctetStep (all_steps (new_actors settings) done) (step_at world events.Handle) both)).0 in
     let now : connection_of (take item world.controller).next s.number ≡ Some s = ap (λ (c : Controller). connection_of c s.number) (sym (v_controller settings done s.request.access s target (take item world.controller) items) ∙ ap (λ (x : Actors). x.controller) (sym leads)) ∙ there in
     let acts : ActsOn s.number world.controller (Take item) = subst (λ (c : Controller). ActsOn s.number c (Take item)) (sym (LivesByTable-new settings done)) (life_acts settings (all_steps (new_actors settings) done) (Take item) s.number least) in
     let steps : List Step = all_steps (new_actors settings) done in
     let lives = LivesByTable-new settings done in
     let numbered : IsNumbered world.controller = subst IsNumbered (sym lives) (life_fits settings steps 1 (omega arith)).numbered in
-    let sent : AllByRecursion IsSent (take item world.controller).outs = sends_at settings done s.request.access s (Take item) allowed (all_left ComesInOctets (all_steps (new_actors settings) done) (step_at world events.Handle) both) own in
+    let sent : AllByRecursion IsSent (take item world.controller).outs = sends_at settings done s.request.access s (Take item) allowed (all_left IsOctetStep (all_steps (new_actors settings) done) (step_at world events.Handle) both) own in
     let beside : AreBeside target s.request.access s (take item world.controller).outs =
     all_both (λ (out : Out). out.conn ≢ s.number → IsForOthers target s out) (λ (out : Out). out.conn ≢ s.number → AssignsAnother s.request.access (rsl_in out.frame)) (λ (out : Out). out.conn ≢ s.number → IsBeside target s.request.access s out) (take item world.controller).outs
     (λ out one two. λ differs. record { for_others = one differs; assigns = two differs }) (item_begins settings done s item allowed least none now)

@@ -4,13 +4,13 @@ use Rattle.world_laws.proofs.Prelude.{Option, Some, sym, ap, ◌∙◌, subst, a
 use Rattle.world_laws.proofs.Prelude.{Three, is_flow_message, with_number, Whereabouts, Stage, Connected, is_control}
 use Rattle.world_laws.proofs.Prelude.{after_acknowledgement, after_lending, lent_message, to_be_taken, waits, DataLinkState, after_acked}
 use Rattle.world_laws.proofs.Prelude.{after_acked_at, after_frame, after_frame_at, after_number, after_queue, refusal_of_send, MobileState}
-use Rattle.world_laws.proofs.Prelude.{is_flow-with_number, controls_of, is_sendable, to_be_taken-acknowledged, to_be_taken-lent_message}
+use Rattle.world_laws.proofs.Prelude.{is_flow_with_number, controls_of, is_sendable, to_be_taken-acknowledged, to_be_taken-lent_message}
 use Rattle.world_laws.proofs.Prelude.{to_be_taken-waits, behind_first}
-use Rattle.world_laws.proofs.LineUp.Lines.{controls-append, controls_behind}
+use Rattle.world_laws.proofs.LineUp.Lines.{controls_append, controls_behind}
 use Rattle.world_laws.proofs.LineUp.Moving.{controls_waits, flow_no_control}
 use Rattle.mobile_end.specs.declared.mobile_end.Place.TheVariants as places
 use Rattle.mobile_end.specs.Mobile.{link_of, with_link}
-use Rattle.world_laws.proofs.OwnMobile.{no_control, sendable-of}
+use Rattle.world_laws.proofs.OwnMobile.{no_control, sendable_of}
 use Rattle.world_laws.proofs.Sublists.{Sub}
 use Rattle.world_laws.proofs.Sublists.Sub.{ends, keeps, drops}
 
@@ -19,8 +19,8 @@ pub controls_sub : {xs ys : List (List ℕ)} → Sub xs ys → controls_of xs �
 controls_sub ends = omega arith
 controls_sub (keeps {x} {xs} {ys} sub) =
     let fewer = controls_sub sub in
-    let less : controls_of (x ∷ xs) ≡ controls_of (x ∷ []) + controls_of xs = controls-append (x ∷ []) xs in
-    let more : controls_of (x ∷ ys) ≡ controls_of (x ∷ []) + controls_of ys = controls-append (x ∷ []) ys in
+    let less : controls_of (x ∷ xs) ≡ controls_of (x ∷ []) + controls_of xs = controls_append (x ∷ []) xs in
+    let more : controls_of (x ∷ ys) ≡ controls_of (x ∷ []) + controls_of ys = controls_append (x ∷ []) ys in
     omega (arith, fewer, less, more)
 controls_sub (drops {y} {ys} sub) = let fewer = controls_sub sub in let more = controls_behind y ys in omega (arith, fewer, more)
 
@@ -39,7 +39,7 @@ gives_same {after} {before} is = subst (λ (link : DataLinkState). GivesNoMore l
 behind_append : (xs : List (List ℕ)) (x : List ℕ) → is_control x ≡ false → controls_of (behind_first (xs ++ x ∷ [])) ≤ controls_of (behind_first xs)
 behind_append [] x other = omega arith
 behind_append (y ∷ ys) x other =
-    let sum : controls_of (ys ++ x ∷ []) ≡ controls_of ys + controls_of (x ∷ []) = controls-append ys (x ∷ []) in
+    let sum : controls_of (ys ++ x ∷ []) ≡ controls_of ys + controls_of (x ∷ []) = controls_append ys (x ∷ []) in
     let none : controls_of (x ∷ []) ≡ 0 = ap length (cond-false (is_control x) (x ∷ []) [] other) in
     omega (arith, sum, none)
 
@@ -55,8 +55,8 @@ pub queue_gives : (e : MobileState) (sapi : Sapi) (message : List ℕ) → is_no
 queue_gives e sapi message may =
     elim (cases_Bool (is_flow_message message)) [
       | inl numbered ↦ as_is true numbered
-          (waits_gives e.zero (with_number (length e.sent % e.modulus) message) (flow_no_control (with_number (length e.sent % e.modulus) message) (is_flow-with_number (length e.sent % e.modulus) message ∙ numbered)))
-      | inr other ↦ as_is false other (by_sapi sapi (sendable-of e sapi message may))
+          (waits_gives e.zero (with_number (length e.sent % e.modulus) message) (flow_no_control (with_number (length e.sent % e.modulus) message) (is_flow_with_number (length e.sent % e.modulus) message ∙ numbered)))
+      | inr other ↦ as_is false other (by_sapi sapi (sendable_of e sapi message may))
     ] where
       as_is : (b : Bool) → is_flow_message message ≡ b → GivesNoMore (if b then after_number e message else with_link e sapi (waits (link_of e sapi) message)).zero e.zero → GivesNoMore (after_queue e sapi message).zero e.zero
       as_is b is gives = subst (λ (c : Bool). GivesNoMore (if c then after_number e message else with_link e sapi (waits (link_of e sapi) message)).zero e.zero) (sym is) gives

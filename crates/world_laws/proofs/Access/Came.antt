@@ -4,10 +4,10 @@ use Rattle.world_laws.proofs.Prelude.{None, refl, sym, ap, ◌∙◌, subst, app
 use Rattle.world_laws.proofs.Prelude.{Place, SWITCH_LINK, WaitActivation, WaitEstablish, WaitConfirm, Connection, enter, is_at, IsOpen}
 use Rattle.world_laws.proofs.Prelude.{IsAged, connection_of, aged_holds, Controller, Turn, place_of, to_be_taken, RelayItem, Parameters}
 use Rattle.world_laws.proofs.Prelude.{Event, AirMessage, On, Tenure, actors_after_all, with_turn, Actors, Mobile, base_of, has_number}
-use Rattle.world_laws.proofs.Prelude.{is_station_up, mobile_of, modulus_in, new_actors, tenure_at, turn-leads, same_Some, Alive}
+use Rattle.world_laws.proofs.Prelude.{is_station_up, mobile_of, modulus_in, new_actors, tenure_at, turn_leads, same_Some, Alive}
 use Rattle.world_laws.proofs.Prelude.{controls_in, controls_of, flow, fresh, messages_in, on_serving, messages_up, read_of, brings_in}
 use Rattle.world_laws.proofs.Prelude.{coming_up, made_of, going_down, assembled, line_up, taken_of, waiting_of, initial_by, initials_up}
-use Rattle.world_laws.proofs.Prelude.{Leads, LinedUp, sits_stays, AreLinedUp, AreAssigned, BeginsOnce, IsComing, data_by, data_up, Came}
+use Rattle.world_laws.proofs.Prelude.{Leads, LinedUp, sits_stays, AreLinedUp, AreAssigned, BeginsOnce, IsComing, data_by, data_up, HasAccess}
 use Rattle.world_laws.proofs.Prelude.{still_comes, IsEarlyIn}
 use Rattle.conn_rules.specs.Timers.{after_pass}
 use Rattle.world_laws.specs.LineUp.Places.Item.{brought}
@@ -16,9 +16,9 @@ use Rattle.world_laws.specs.Seated.Remembers.{nothing}
 use Rattle.world_laws.proofs.Others.{turn_mobiles}
 use Rattle.world_laws.proofs.OwnTurn.{turn_stations}
 use Rattle.world_laws.proofs.Sublists.{Sub, sub_append, sub_behind, sub_flat_map, sub_itself, sub_length, sub_nothing}
-use Rattle.world_laws.specs.Access.Coming.{Comes}
+use Rattle.world_laws.specs.Access.Coming.{IsAccessing}
 use Rattle.world_laws.specs.Access.Coming.BeginsOnce.{began, to_begin}
-use Rattle.world_laws.specs.Access.Coming.Comes.{arrived, asks}
+use Rattle.world_laws.specs.Access.Coming.IsAccessing.{arrived, asks}
 use Rattle.world_laws.proofs.Access.Arriving.{none_target}
 use Rattle.world_laws.proofs.Access.Beginning.{IsBareOf}
 use Rattle.world_laws.proofs.Access.Behind.{controls_sub}
@@ -38,12 +38,12 @@ aged_like s x aged = aged_holds (λ (y : Connection). IsLike s y) (λ ms y like.
 passes_lined : {m : ℕ} {v : Actors} {one : Mobile} (ms : ℕ) (x : Connection) → LinedUp m v one x → LinedUp m v one (after_pass ms x)
 passes_lined ms x lined = record { alive = lined.alive; sits = lined.sits; led = lined.led; none_on_target = lined.none_on_target; apart = lined.apart; placed = lined.placed }
 
-passes_comes : {m : ℕ} {v : Actors} {one : Mobile} (ms : ℕ) (x : Connection) → Comes m v x one → Comes m v (after_pass ms x) one
+passes_comes : {m : ℕ} {v : Actors} {one : Mobile} (ms : ℕ) (x : Connection) → IsAccessing m v x one → IsAccessing m v (after_pass ms x) one
 passes_comes ms x (asks seat new none uncommanded) = asks seat new none uncommanded
 passes_comes ms x (arrived state seat lined begun) = arrived state seat (passes_lined ms x lined) begun
 
-aged_comes : {m : ℕ} {v : Actors} {one : Mobile} (s x : Connection) → IsAged s x → Comes m v s one → Comes m v x one
-aged_comes {m} {v} {one} s x aged comes = aged_holds (λ (y : Connection). Comes m v y one) (λ ms y c. passes_comes ms y c) s x aged comes
+aged_comes : {m : ℕ} {v : Actors} {one : Mobile} (s x : Connection) → IsAged s x → IsAccessing m v s one → IsAccessing m v x one
+aged_comes {m} {v} {one} s x aged comes = aged_holds (λ (y : Connection). IsAccessing m v y one) (λ ms y c. passes_comes ms y c) s x aged comes
 
 aged_assigned : (v : Actors) (mobile : ℕ) (s x : Connection) → IsAged s x → AreAssigned v mobile s → AreAssigned v mobile x
 aged_assigned v mobile s x aged assigned = aged_holds (λ (y : Connection). AreAssigned v mobile y) (λ ms y a. a) s x aged assigned
@@ -73,25 +73,25 @@ module _ (settings : Parameters) (done : List Event) (mobile : ℕ) (s : Connect
   turned target t items = with_turn target t (before items)
 
   pub v_controller : (target : Option Tenure) (t : Turn) (items : List RelayItem) → (turned target t items).controller ≡ t.next
-  v_controller target t items = turn-leads (λ v. v.controller ≡ t.next) target t (before items) (λ links. refl)
+  v_controller target t items = turn_leads (λ v. v.controller ≡ t.next) target t (before items) (λ links. refl)
 
   pub v_mobile : (target : Option Tenure) (t : Turn) (items : List RelayItem) (k : ℕ) → mobile_of (turned target t items) k ≡ mobile_of world k
   v_mobile target t items k = ap (λ (ms : List Mobile). find (has_number k) ms) (turn_mobiles target t.outs (record (before items) { controller = t.next }))
 
   pub v_coming : (target : Option Tenure) (t : Turn) (items : List RelayItem) (p : Place) → coming_up (turned target t items) p ≡ coming_up (before items) p
-  v_coming target t items p = turn-leads (λ v. coming_up v p ≡ coming_up (before items) p) target t (before items) (λ links. refl)
+  v_coming target t items p = turn_leads (λ v. coming_up v p ≡ coming_up (before items) p) target t (before items) (λ links. refl)
 
   pub v_initials : (target : Option Tenure) (t : Turn) (items : List RelayItem) (p : Place) → initials_up (turned target t items) p ≡ initials_up (before items) p
-  v_initials target t items p = turn-leads (λ v. initials_up v p ≡ initials_up (before items) p) target t (before items) (λ links. refl)
+  v_initials target t items p = turn_leads (λ v. initials_up v p ≡ initials_up (before items) p) target t (before items) (λ links. refl)
 
   pub v_data : (target : Option Tenure) (t : Turn) (items : List RelayItem) (p : Place) → data_up (turned target t items) p ≡ data_up (before items) p
-  v_data target t items p = turn-leads (λ v. data_up v p ≡ data_up (before items) p) target t (before items) (λ links. refl)
+  v_data target t items p = turn_leads (λ v. data_up v p ≡ data_up (before items) p) target t (before items) (λ links. refl)
 
   pub v_tenure : (target : Option Tenure) (t : Turn) (items : List RelayItem) (p : Place) → tenure_at (turned target t items) p ≡ tenure_at world p
-  v_tenure target t items p = turn-leads (λ v. tenure_at v p ≡ tenure_at world p) target t (before items) (λ links. refl)
+  v_tenure target t items p = turn_leads (λ v. tenure_at v p ≡ tenure_at world p) target t (before items) (λ links. refl)
 
   pub v_taken : (target : Option Tenure) (t : Turn) (items : List RelayItem) (n : ℕ) → taken_of (turned target t items) n ≡ taken_of world n
-  v_taken target t items n = turn-leads (λ v. taken_of v n ≡ taken_of world n) target t (before items) (λ links. refl)
+  v_taken target t items n = turn_leads (λ v. taken_of v n ≡ taken_of world n) target t (before items) (λ links. refl)
 
   -- what is on its way up is no more than before
   pub record IsLess (items : List RelayItem) : Type 0 where
@@ -114,7 +114,7 @@ module _ (settings : Parameters) (done : List Event) (mobile : ℕ) (s : Connect
   -- ---- it stays as it is
 
   pub turn_comes : (target : Option Tenure) (t : Turn) (items : List RelayItem) (one : Mobile) → IsLess items → going_down (turned target t items) at ≡ going_down world at → (s.state ≡ WaitEstablish → AreLinedUp modulus world mobile s → AreLinedUp modulus (turned target t items) mobile s)
-      → mobile_of world mobile ≡ Some one → Comes modulus world s one → Comes modulus (turned target t items) s one
+      → mobile_of world mobile ≡ Some one → IsAccessing modulus world s one → IsAccessing modulus (turned target t items) s one
   turn_comes target t items one less down lined found (asks seat new none uncommanded) =
       asks seat new (ap messages_in (v_coming target t items at) ∙ sub_nothing (subst (Sub (messages_in (coming_up (before items) at))) none less.messages)) (down ∙ uncommanded)
   turn_comes target t items one less down lined found (arrived state seat own begun) =
@@ -126,7 +126,7 @@ module _ (settings : Parameters) (done : List Event) (mobile : ℕ) (s : Connect
             began opens (let fewer = sub_length less.initials in let same = ap length (v_initials target t items at) in omega (arith, few, fewer, same))
             (let fewer = controls_sub less.later in let same = ap controls_of (v_data target t items at) in omega (arith, none, fewer, same))
 
-  pub stays_came : (target : Option Tenure) (t : Turn) (items : List RelayItem) (x : Connection) (coming : IsComing modulus world mobile s) → IsAged s x → connection_of t.next s.number ≡ Some x → Comes modulus (turned target t items) s coming.one → AreAssigned (turned target t items) mobile s → Came (IsComing modulus) modulus (turned target t items) mobile s.number
+  pub stays_came : (target : Option Tenure) (t : Turn) (items : List RelayItem) (x : Connection) (coming : IsComing modulus world mobile s) → IsAged s x → connection_of t.next s.number ≡ Some x → IsAccessing modulus (turned target t items) s coming.one → AreAssigned (turned target t items) mobile s → HasAccess (IsComing modulus) modulus (turned target t items) mobile s.number
   stays_came target t items x coming aged there comes assigned =
       let like : IsLike s x = aged_like s x aged in
       still_comes x like.number (record {
@@ -145,17 +145,17 @@ module _ (settings : Parameters) (done : List Event) (mobile : ℕ) (s : Connect
 
   -- ---- its channel was activated: its mobile is told
 
-  pub told_comes : (target : Option Tenure) (t : Turn) (items : List RelayItem) (one : Mobile) → s.state ≡ WaitActivation → IsLess items → going_down (turned target t items) at ≡ going_down world at → Comes modulus world s one → Comes modulus (turned target t items) (enter WaitEstablish s) one
+  pub told_comes : (target : Option Tenure) (t : Turn) (items : List RelayItem) (one : Mobile) → s.state ≡ WaitActivation → IsLess items → going_down (turned target t items) at ≡ going_down world at → IsAccessing modulus world s one → IsAccessing modulus (turned target t items) (enter WaitEstablish s) one
   told_comes target t items one state less down (asks seat new none uncommanded) =
       asks seat new (ap messages_in (v_coming target t items at) ∙ sub_nothing (subst (Sub (messages_in (coming_up (before items) at))) none less.messages)) (down ∙ uncommanded)
   told_comes target t items one state less down (arrived other seat own begun) = absurd (let both : WaitActivation ≡ WaitEstablish = sym state ∙ other in cc)
 
-  passes_told : {v : Actors} {one : Mobile} (ms : ℕ) (x : Connection) → Comes modulus v (enter WaitEstablish x) one → Comes modulus v (enter WaitEstablish (after_pass ms x)) one
+  passes_told : {v : Actors} {one : Mobile} (ms : ℕ) (x : Connection) → IsAccessing modulus v (enter WaitEstablish x) one → IsAccessing modulus v (enter WaitEstablish (after_pass ms x)) one
   passes_told ms x (asks seat new none uncommanded) = asks seat new none uncommanded
   passes_told ms x (arrived state seat lined begun) = arrived state seat (record { alive = lined.alive; sits = lined.sits; led = lined.led; none_on_target = lined.none_on_target; apart = lined.apart; placed = lined.placed }) begun
 
-  pub told_came : (target : Option Tenure) (t : Turn) (items : List RelayItem) (x : Connection) (coming : IsComing modulus world mobile s) → IsAged s x → connection_of t.next s.number ≡ Some (enter WaitEstablish x) → Comes modulus (turned target t items) (enter WaitEstablish s) coming.one → AreAssigned (turned target t items) mobile (enter WaitEstablish s)
-      → Came (IsComing modulus) modulus (turned target t items) mobile s.number
+  pub told_came : (target : Option Tenure) (t : Turn) (items : List RelayItem) (x : Connection) (coming : IsComing modulus world mobile s) → IsAged s x → connection_of t.next s.number ≡ Some (enter WaitEstablish x) → IsAccessing modulus (turned target t items) (enter WaitEstablish s) coming.one → AreAssigned (turned target t items) mobile (enter WaitEstablish s)
+      → HasAccess (IsComing modulus) modulus (turned target t items) mobile s.number
   told_came target t items x coming aged there comes assigned =
       let like : IsLike s x = aged_like s x aged in
       let v : Actors = turned target t items in
@@ -169,7 +169,7 @@ module _ (settings : Parameters) (done : List Event) (mobile : ℕ) (s : Connect
         asked = ap (λ (r : _). r.access) like.request ∙ coming.asked;
         one = coming.one;
         found = v_mobile target t items mobile ∙ coming.found;
-        comes = aged_holds (λ (y : Connection). Comes modulus v (enter WaitEstablish y) coming.one) (λ ms y c. passes_told ms y c) s x aged comes;
+        comes = aged_holds (λ (y : Connection). IsAccessing modulus v (enter WaitEstablish y) coming.one) (λ ms y c. passes_told ms y c) s x aged comes;
         assigned = aged_holds (λ (y : Connection). AreAssigned v mobile (enter WaitEstablish y)) (λ ms y a. a) s x aged assigned;
       })
 

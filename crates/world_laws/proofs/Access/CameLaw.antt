@@ -3,13 +3,13 @@
 use Rattle.world_laws.proofs.Prelude.{◌≡◌, ◌≢◌, ℕ, Bool, true, List, [], ◌∷◌, ◌++◌, Option, Some, None, unwrap_or, refl, sym, ap, ◌∙◌}
 use Rattle.world_laws.proofs.Prelude.{subst, arith, AllByRecursion, Channel, Place, Message, Out, SWITCH_LINK}
 use Rattle.world_laws.proofs.Prelude.{outs_of, State, WaitEstablish, Connection, is_at, Row, Acts, ActsOn, IsAged, IsBrought, brought_in}
-use Rattle.world_laws.proofs.Prelude.{kept, kept_in, ages, rests, IsThere, connection_of, outs_for, ComesInOctets, IsSent, life_acts}
+use Rattle.world_laws.proofs.Prelude.{kept, kept_in, ages, rests, IsThere, connection_of, outs_for, IsOctetStep, IsSent, life_acts}
 use Rattle.world_laws.proofs.Prelude.{life_fits, life_sends, Step, Take, Controller, Turn, place_of, step, Zero, RelayItem, AreAllowed}
 use Rattle.world_laws.proofs.Prelude.{Parameters, Event, Tenure, actors_after, actors_after_all, owner_in, handled, target_in, rsl_in}
 use Rattle.world_laws.proofs.Prelude.{all_steps, step_at, first_taken, AllSitBy, Actors, is_up, modulus_in, new_actors, LivesByTable-new}
 use Rattle.world_laws.proofs.Prelude.{FitsNone, NamesItsMobile, IsNumbered, life_names, same_Some, IsTimer, brings_time, take, tick}
-use Rattle.world_laws.proofs.Prelude.{messages_in, coming_up, initials_up, AcksAgree, CameInOctets, AreLinedUp, IsForOthers, IsOthers}
-use Rattle.world_laws.proofs.Prelude.{BringsNothing, IsComing, data_up, AreBeside, AssignsAnother, Came, ControllerBringsComing, IsBeside}
+use Rattle.world_laws.proofs.Prelude.{messages_in, coming_up, initials_up, AcksAgree, TookOctets, AreLinedUp, IsForOthers, IsOthers}
+use Rattle.world_laws.proofs.Prelude.{BringsNothing, IsComing, data_up, AreBeside, AssignsAnother, HasAccess, ControllerBringsComing, IsBeside}
 use Rattle.world_laws.proofs.Prelude.{AreForOthers, AreOneEach, still_comes, IsEarlyIn}
 use Rattle.conn_rules.specs.declared.input.Input.TheVariants as inputs
 use Rattle.controller_model.specs.LifeLaws.Acts.Acts.{goes as goes_by, opens as begins}
@@ -21,12 +21,12 @@ use Rattle.world_laws.proofs.OwnerRun.{mobiles_sit_on_theirs_new}
 use Rattle.world_laws.proofs.Standing.{connections_stand_new}
 use Rattle.world_laws.proofs.Sublists.{sub_itself}
 use Rattle.world_laws.specs.Access.Arriving.{IsKnown}
-use Rattle.world_laws.specs.Access.Requested.Came.{goes as is_gone}
+use Rattle.world_laws.specs.Access.Requested.HasAccess.{goes as is_gone}
 use Rattle.world_laws.proofs.Access.Beginning.{IsBareOf, bare_of}
 use Rattle.world_laws.proofs.Access.EarlyRows.{EarlyRow, early_row}
 use Rattle.world_laws.proofs.Access.EarlyRows.EarlyRow.{acked, asked as asks_switch, gone as row_gone}
 use Rattle.world_laws.proofs.Access.Came.{IsLess, IsLike, aged_like, behind_less, turned, v_controller}
-use Rattle.world_laws.proofs.Access.CameSteps.{Opens, acked_came, asked_came, not_time, opening_of, opens-with, quiet_came}
+use Rattle.world_laws.proofs.Access.CameSteps.{Opens, acked_came, asked_came, not_time, opening_of, opens_with_item, quiet_came}
 use Rattle.world_laws.proofs.Access.Ignored.{ignored_silent, none_of_data}
 use Rattle.world_laws.proofs.Access.ForOthers.{all_without, item_others}
 use Rattle.world_laws.proofs.Access.Numbered.{step_another}
@@ -65,7 +65,7 @@ module _ (settings : Parameters) (done : List Event) (mobile : ℕ) (s : Connect
 
   acts_came : (st : Step) (target : Option Tenure) (items : List RelayItem) (owner : Tenure → ℕ) (coming : IsComing modulus world mobile s) → AreAllowed settings → IsKnown modulus world mobile s → is_up world SWITCH_LINK ≡ true → Stepping st target items owner
       → (next : ℕ) (up : Bool) (was now : Option Connection) (put : List Message) → Acts s.number next up (brought_in world.controller s.number st) was put now → was ≡ Some s → connection_of (step world.controller st).next s.number ≡ now → outs_for s.number (step world.controller st).outs ≡ outs_of s.number put
-      → Came (IsComing modulus) modulus (after target (step world.controller st) items) mobile s.number
+      → HasAccess (IsComing modulus) modulus (after target (step world.controller st) items) mobile s.number
   acts_came st target items owner coming allowed known switch h next up was now put (rests silent is none) there leads outs =
       let same : connection_of (step world.controller st).next s.number ≡ Some s = leads ∙ is ∙ there in
       quiet_came settings done mobile s target (step world.controller st) items s coming h.less ([], refl) same (outs ∙ ap (outs_of s.number) silent) h.beside (h.still (subst (FitsNone (brought_in world.controller s.number st)) there none))
@@ -85,7 +85,7 @@ module _ (settings : Parameters) (done : List Event) (mobile : ℕ) (s : Connect
     puts : outs_for s.number (step world.controller st).outs ≡ outs_of s.number r.outs
     puts = outs ∙ ap (outs_of s.number) put_is
 
-    by : EarlyRow s1 input r → Came (IsComing modulus) modulus (after target (step world.controller st) items) mobile s.number
+    by : EarlyRow s1 input r → HasAccess (IsComing modulus) modulus (after target (step world.controller st) items) mobile s.number
     by (row_gone over) = is_gone (λ still_there. subst IsThere (ap (λ (c : Controller). connection_of c s.number) (v_controller settings done mobile s target (step world.controller st) items) ∙ own ∙ ap (λ (x : State). kept_in x r.next) over) still_there)
     by (acked state row_is) =
         acked_came settings done mobile s target (step world.controller st) items s1 coming h.less own_aged state (own ∙ ap (λ (x : Row). kept x.next) row_is) (puts ∙ ap (λ (x : Row). outs_of s.number x.outs) row_is) h.sent h.beside
@@ -94,7 +94,7 @@ module _ (settings : Parameters) (done : List Event) (mobile : ℕ) (s : Connect
         (h.opening place initial (subst (IsBrought (brought_in world.controller s.number st)) input_is brought_it) (subst (λ (c : Channel). is_at place c ≡ true) like.serving here)) switch
         (own ∙ ap (λ (x : Row). kept x.next) row_is) (puts ∙ ap (λ (x : Row). outs_of s.number x.outs) row_is) h.sent h.beside h.sits
 
-  step_came : (st : Step) (target : Option Tenure) (items : List RelayItem) (owner : Tenure → ℕ) (coming : IsComing modulus world mobile s) → AreAllowed settings → IsKnown modulus world mobile s → is_up world SWITCH_LINK ≡ true → Stepping st target items owner → Came (IsComing modulus) modulus (after target (step world.controller st) items) mobile s.number
+  step_came : (st : Step) (target : Option Tenure) (items : List RelayItem) (owner : Tenure → ℕ) (coming : IsComing modulus world mobile s) → AreAllowed settings → IsKnown modulus world mobile s → is_up world SWITCH_LINK ≡ true → Stepping st target items owner → HasAccess (IsComing modulus) modulus (after target (step world.controller st) items) mobile s.number
   step_came st target items owner coming allowed known switch h =
       let acts : ActsOn s.number world.controller st = subst (λ (c : Controller). ActsOn s.number c st) (sym (LivesByTable-new settings done)) (life_acts settings (all_steps (new_actors settings) done) st s.number coming.had.from_one) in
       acts_came st target items owner coming allowed known switch h world.controller.next_number _ (connection_of world.controller s.number) (connection_of (step world.controller st).next s.number) acts.put acts.acts coming.had.there refl acts.outs
@@ -110,10 +110,10 @@ module _ (settings : Parameters) (done : List Event) (mobile : ℕ) (s : Connect
       (step_another world.controller s.number mobile s.serving (λ m t is same. one_each m s.number t s is coming.had.there (same ∙ sym coming.asked)) st numbered sent
       (λ m least. subst (λ (c : Controller). NamesItsMobile m c st) (sym lives) (life_names settings steps st m least)))
 
-  pub sends_at : (st : Step) → AreAllowed settings → AllByRecursion ComesInOctets (all_steps (new_actors settings) done) → ComesInOctets st → AllByRecursion IsSent (step world.controller st).outs
+  pub sends_at : (st : Step) → AreAllowed settings → AllByRecursion IsOctetStep (all_steps (new_actors settings) done) → IsOctetStep st → AllByRecursion IsSent (step world.controller st).outs
   sends_at st allowed octets own = subst (λ (c : Controller). AllByRecursion IsSent (step c st).outs) (sym (LivesByTable-new settings done)) (life_sends settings (all_steps (new_actors settings) done) st allowed octets own)
 
-  sits_after : (event : Event) → AreAllowed settings → CameInOctets settings (done ++ event ∷ []) → AllSitBy (owner_in (new_actors settings) (done ++ event ∷ [])) (actors_after world event)
+  sits_after : (event : Event) → AreAllowed settings → TookOctets settings (done ++ event ∷ []) → AllSitBy (owner_in (new_actors settings) (done ++ event ∷ [])) (actors_after world event)
   sits_after event allowed octets = subst (AllSitBy (owner_in (new_actors settings) (done ++ event ∷ []))) (snoc_actors (new_actors settings) done event) (mobiles_sit_on_theirs_new settings (done ++ event ∷ []) allowed octets)
 
   -- ---- it handles an item
@@ -122,25 +122,25 @@ module _ (settings : Parameters) (done : List Event) (mobile : ℕ) (s : Connect
   unfolding event_after
   handled_is items stood = ap (λ (xs : List RelayItem). unwrap_or (handled xs world) world) stood
 
-  handle_came : AreAllowed settings → CameInOctets settings (done ++ events.Handle ∷ []) → is_up world SWITCH_LINK ≡ true → IsKnown modulus world mobile s → AcksAgree world s → AreOneEach world → IsComing modulus world mobile s → Came (IsComing modulus) modulus (actors_after world events.Handle) mobile s.number
+  handle_came : AreAllowed settings → TookOctets settings (done ++ events.Handle ∷ []) → is_up world SWITCH_LINK ≡ true → IsKnown modulus world mobile s → AcksAgree world s → AreOneEach world → IsComing modulus world mobile s → HasAccess (IsComing modulus) modulus (actors_after world events.Handle) mobile s.number
   handle_came allowed octets switch known acks one_each coming = by world.inbox refl where
-    both : AllByRecursion ComesInOctets (all_steps (new_actors settings) done ++ step_at world events.Handle)
-    both = subst (AllByRecursion ComesInOctets) (snoc_steps (new_actors settings) done events.Handle) octets
+    both : AllByRecursion IsOctetStep (all_steps (new_actors settings) done ++ step_at world events.Handle)
+    both = subst (AllByRecursion IsOctetStep) (snoc_steps (new_actors settings) done events.Handle) octets
 
-    by : (items : List RelayItem) → world.inbox ≡ items → Came (IsComing modulus) modulus (actors_after world events.Handle) mobile s.number
-    by [] stood = subst (λ (v : Actors). Came (IsComing modulus) modulus v mobile s.number) (sym (handled_is [] stood)) (still_comes s refl coming)
-    by (item ∷ items) stood = subst (λ (v : Actors). Came (IsComing modulus) modulus v mobile s.number) (sym (handled_is (item ∷ items) stood)) (step_came (Take item) target items owner coming allowed known switch stepping) where
+    by : (items : List RelayItem) → world.inbox ≡ items → HasAccess (IsComing modulus) modulus (actors_after world events.Handle) mobile s.number
+    by [] stood = subst (λ (v : Actors). HasAccess (IsComing modulus) modulus v mobile s.number) (sym (handled_is [] stood)) (still_comes s refl coming)
+    by (item ∷ items) stood = subst (λ (v : Actors). HasAccess (IsComing modulus) modulus v mobile s.number) (sym (handled_is (item ∷ items) stood)) (step_came (Take item) target items owner coming allowed known switch stepping) where
       target : Option Tenure
       target = target_in world item.source item.what
 
       owner : Tenure → ℕ
       owner = owner_in (new_actors settings) (done ++ events.Handle ∷ [])
 
-      own_octets : ComesInOctets (Take item)
-      own_octets = (subst (λ (xs : List RelayItem). AllByRecursion ComesInOctets (first_taken xs)) stood (all_right ComesInOctets (all_steps (new_actors settings) done) (step_at world events.Handle) both)).0
+      own_octets : IsOctetStep (Take item)
+      own_octets = (subst (λ (xs : List RelayItem). AllByRecursion IsOctetStep (first_taken xs)) stood (all_right IsOctetStep (all_steps (new_actors settings) done) (step_at world events.Handle) both)).0
 
       keeps_off : AreBeside target mobile s (take item world.controller).outs
-      keeps_off = beside_all (Take item) target one_each coming (sends_at (Take item) allowed (all_left ComesInOctets (all_steps (new_actors settings) done) (step_at world events.Handle) both) own_octets) (item_others settings done s item allowed (all_left ComesInOctets (all_steps (new_actors settings) done) (step_at world events.Handle) both) own_octets coming.had.from_one coming.had)
+      keeps_off = beside_all (Take item) target one_each coming (sends_at (Take item) allowed (all_left IsOctetStep (all_steps (new_actors settings) done) (step_at world events.Handle) both) own_octets) (item_others settings done s item allowed (all_left IsOctetStep (all_steps (new_actors settings) done) (step_at world events.Handle) both) own_octets coming.had.from_one coming.had)
 
       still : FitsNone (brought_in world.controller s.number (Take item)) (Some s) → AllByRecursion (IsForOthers target s) (take item world.controller).outs → s.state ≡ WaitEstablish → AreLinedUp modulus world mobile s → AreLinedUp modulus (after target (take item world.controller) items) mobile s
       still fits_none others state lined =
@@ -151,11 +151,11 @@ module _ (settings : Parameters) (done : List Event) (mobile : ℕ) (s : Connect
       stepping : Stepping (Take item) target items owner
       stepping = record {
         less = behind_less settings done mobile s item items stood;
-        sent = sends_at (Take item) allowed (all_left ComesInOctets (all_steps (new_actors settings) done) (step_at world events.Handle) both) own_octets;
+        sent = sends_at (Take item) allowed (all_left IsOctetStep (all_steps (new_actors settings) done) (step_at world events.Handle) both) own_octets;
         beside = keeps_off;
         still = still;
         aging = λ by_time. absurd (not_time world.controller s.number item by_time);
-        opening = λ place initial brought_it here. opens-with settings done mobile s item items place initial stood (opening_of world.controller s.number item place initial brought_it) here;
+        opening = λ place initial brought_it here. opens_with_item settings done mobile s item items place initial stood (opening_of world.controller s.number item place initial brought_it) here;
         sits = subst (AllSitBy owner) (handled_is (item ∷ items) stood) (sits_after events.Handle allowed octets);
       }
 
@@ -165,13 +165,13 @@ module _ (settings : Parameters) (done : List Event) (mobile : ℕ) (s : Connect
   unfolding event_after
   tick_is ms = refl
 
-  tick_came : (ms : ℕ) → AreAllowed settings → CameInOctets settings (done ++ events.Tick ms ∷ []) → is_up world SWITCH_LINK ≡ true → IsKnown modulus world mobile s → AreOneEach world → IsComing modulus world mobile s → Came (IsComing modulus) modulus (actors_after world (events.Tick ms)) mobile s.number
-  tick_came ms allowed octets switch known one_each coming = subst (λ (v : Actors). Came (IsComing modulus) modulus v mobile s.number) (sym (tick_is ms)) (step_came (Tick ms) None world.inbox owner coming allowed known switch stepping) where
+  tick_came : (ms : ℕ) → AreAllowed settings → TookOctets settings (done ++ events.Tick ms ∷ []) → is_up world SWITCH_LINK ≡ true → IsKnown modulus world mobile s → AreOneEach world → IsComing modulus world mobile s → HasAccess (IsComing modulus) modulus (actors_after world (events.Tick ms)) mobile s.number
+  tick_came ms allowed octets switch known one_each coming = subst (λ (v : Actors). HasAccess (IsComing modulus) modulus v mobile s.number) (sym (tick_is ms)) (step_came (Tick ms) None world.inbox owner coming allowed known switch stepping) where
     owner : Tenure → ℕ
     owner = owner_in (new_actors settings) (done ++ events.Tick ms ∷ [])
 
-    both : AllByRecursion ComesInOctets (all_steps (new_actors settings) done ++ step_at world (events.Tick ms))
-    both = subst (AllByRecursion ComesInOctets) (snoc_steps (new_actors settings) done (events.Tick ms)) octets
+    both : AllByRecursion IsOctetStep (all_steps (new_actors settings) done ++ step_at world (events.Tick ms))
+    both = subst (AllByRecursion IsOctetStep) (snoc_steps (new_actors settings) done (events.Tick ms)) octets
 
     ages_on : AllByRecursion (IsForOthers None s) (tick ms world.controller).outs → s.state ≡ WaitEstablish → AreLinedUp modulus world mobile s → AreLinedUp modulus (after None (tick ms world.controller) world.inbox) mobile s
     ages_on others state lined = subst (λ (v : Actors). AreLinedUp modulus v mobile s) (tick_is ms) (time_leaves_others_new settings done ms mobile s others lined)
@@ -179,8 +179,8 @@ module _ (settings : Parameters) (done : List Event) (mobile : ℕ) (s : Connect
     stepping : Stepping (Tick ms) None world.inbox owner
     stepping = record {
       less = record { messages = sub_itself (messages_in (coming_up world at)); initials = sub_itself (initials_up world at); later = sub_itself (data_up world at) };
-      sent = sends_at (Tick ms) allowed (all_left ComesInOctets (all_steps (new_actors settings) done) (step_at world (events.Tick ms)) both) tt;
-      beside = beside_all (Tick ms) None one_each coming (sends_at (Tick ms) allowed (all_left ComesInOctets (all_steps (new_actors settings) done) (step_at world (events.Tick ms)) both) tt) (all_without s (tick ms world.controller).outs);
+      sent = sends_at (Tick ms) allowed (all_left IsOctetStep (all_steps (new_actors settings) done) (step_at world (events.Tick ms)) both) tt;
+      beside = beside_all (Tick ms) None one_each coming (sends_at (Tick ms) allowed (all_left IsOctetStep (all_steps (new_actors settings) done) (step_at world (events.Tick ms)) both) tt) (all_without s (tick ms world.controller).outs);
       still = λ fits_none. ages_on;
       aging = λ by_time. ages_on;
       opening = λ place initial brought_it here. absurd (timer_not place initial brought_it);

@@ -8,12 +8,12 @@ use Rattle.world_laws.proofs.Prelude.{aged_holds, forwarded_seen, Forwarded, Tak
 use Rattle.world_laws.proofs.Prelude.{channel_state, holder, hears, place_at, place_of, sapi_of, Sapi, Zero, Three, Frame, to_be_taken}
 use Rattle.world_laws.proofs.Prelude.{RelayItem, What, Establishment, Rsl, AreAllowed, Parameters, Event, On, Tenure, actors_after_all}
 use Rattle.world_laws.proofs.Prelude.{rsl_in, AllSitBy, Actors, base_of, is_up, mobile_of, modulus_in, new_actors, outbox_of, tenure_at}
-use Rattle.world_laws.proofs.Prelude.{and-left, and-right, RrMessage, ImmediateAssignment, RrFault, OutboxEntry, Result, brings_nothing}
+use Rattle.world_laws.proofs.Prelude.{and_left, and_right, RrMessage, ImmediateAssignment, RrFault, OutboxEntry, Result, brings_nothing}
 use Rattle.world_laws.proofs.Prelude.{brings_input, brings_time, word_of, forwarded, controls_in, controls_of, messages_in, read_by}
 use Rattle.world_laws.proofs.Prelude.{read_of, brings_by, brings_if, brings_in, coming_up, made_of, of_establishment, going_down}
 use Rattle.world_laws.proofs.Prelude.{leading_by, leading_from_outbox, taken_in, taken_of, waiting_of, initial_by, initials_up, LinedUp}
 use Rattle.world_laws.proofs.Prelude.{AreLinedUp, IsForOthers, AreAssigned, Assigns, AssignsBy, AssignsIn, BeginsOnce, IsComing, AreBeside}
-use Rattle.world_laws.proofs.Prelude.{Came, IsBeside, has_requested, rr_reading, entry-out}
+use Rattle.world_laws.proofs.Prelude.{HasAccess, IsBeside, has_requested, rr_reading, entry_out}
 use Rattle.conn_messages.specs.Out.{out_of}
 use Rattle.conn_rules.specs.declared.input.Input.TheVariants as inputs
 use Rattle.world_laws.specs.LineUp.Places.{Item}
@@ -24,9 +24,9 @@ use Rattle.world_model.specs.Relay.{entry_of}
 use Rattle.world_laws.proofs.OwnTurn.{turn_waiting}
 use Rattle.world_laws.proofs.Standing.{connections_stand_new}
 use Rattle.world_laws.specs.Access.Arriving.{IsKnown}
-use Rattle.world_laws.specs.Access.Coming.{Comes}
+use Rattle.world_laws.specs.Access.Coming.{IsAccessing}
 use Rattle.world_laws.specs.Access.Coming.BeginsOnce.{began, to_begin}
-use Rattle.world_laws.specs.Access.Coming.Comes.{arrived, asks}
+use Rattle.world_laws.specs.Access.Coming.IsAccessing.{arrived, asks}
 use Rattle.world_laws.proofs.Access.Arriving.{serving_placed}
 use Rattle.world_laws.proofs.Access.Beginning.{IsBareOf, bare_of}
 use Rattle.world_laws.proofs.Access.Behind.{controls_sub}
@@ -36,7 +36,7 @@ use Rattle.world_laws.proofs.Access.Turning.{all_down, all_zero, another_assigns
 use Rattle.world_laws.proofs.Access.Turning.{own_among, own_assigns, own_leads}
 use Rattle.world_laws.proofs.Access.Came.{IsLess, IsLike, aged_like, asks_lined, before, stays_came, told_came, told_comes, turn_comes}
 use Rattle.world_laws.proofs.Access.Came.{turned, v_controller, v_initials, v_mobile, v_tenure, v_coming}
-use Rattle.world_laws.proofs.Access.Upcoming.{controls-up}
+use Rattle.world_laws.proofs.Access.Upcoming.{controls_up}
 use Rattle.world_laws.proofs.Apart.{all_both}
 
 -- ---- a frame that says an ESTABLISH INDICATION to the connection
@@ -139,11 +139,11 @@ module _ (settings : Parameters) (done : List Event) (mobile : ℕ) (s : Connect
     pub came : coming_up world at ≡ brought initial ∷ coming_up (waiting items) at
     pub one : initials_up world at ≡ initial ∷ initials_up (waiting items) at
 
-  pub opens-with : (item : RelayItem) (items : List RelayItem) (place : Place) (initial : List ℕ) → world.inbox ≡ item ∷ items → SaysOpening item place initial → is_at place s.serving ≡ true → Opens items initial
-  opens-with item items place initial stood says is =
+  pub opens_with_item : (item : RelayItem) (items : List RelayItem) (place : Place) (initial : List ℕ) → world.inbox ≡ item ∷ items → SaysOpening item place initial → is_at place s.serving ≡ true → Opens items initial
+  opens_with_item item items place initial stood says is =
       let there : is_at (place_at item.source says.establishment.channel) s.serving ≡ true = ap (λ (p : Place). is_at p s.serving) (sym says.channel) ∙ is in
-      let station : (item.source == s.serving.station) ≡ true = and-left (item.source == s.serving.station) (says.establishment.channel == s.serving.number) there in
-      let number : (says.establishment.channel == s.serving.number) ≡ true = and-right (item.source == s.serving.station) (says.establishment.channel == s.serving.number) there in
+      let station : (item.source == s.serving.station) ≡ true = and_left (item.source == s.serving.station) (says.establishment.channel == s.serving.number) there in
+      let number : (says.establishment.channel == s.serving.number) ≡ true = and_right (item.source == s.serving.station) (says.establishment.channel == s.serving.number) there in
       let brings_it : brings_in at item ≡ brought initial ∷ [] =
       ap (brings_by at item.source) says.is
       ∙ ap (λ (b : Bool). cond b (brings_if s.serving.number (rsl_in says.frame)) []) station
@@ -170,7 +170,7 @@ module _ (settings : Parameters) (done : List Event) (mobile : ℕ) (s : Connect
   -- ---- nothing is put for it
 
   pub quiet_came : (target : Option Tenure) (t : Turn) (items : List RelayItem) (x : Connection) (coming : IsComing modulus world mobile s) → IsLess settings done mobile s items → IsAged s x → connection_of t.next s.number ≡ Some x → outs_for s.number t.outs ≡ []
-      → AreBeside target mobile s t.outs → (AllByRecursion (IsForOthers target s) t.outs → s.state ≡ WaitEstablish → AreLinedUp modulus world mobile s → AreLinedUp modulus (after target t items) mobile s) → Came (IsComing modulus) modulus (after target t items) mobile s.number
+      → AreBeside target mobile s t.outs → (AllByRecursion (IsForOthers target s) t.outs → s.state ≡ WaitEstablish → AreLinedUp modulus world mobile s → AreLinedUp modulus (after target t items) mobile s) → HasAccess (IsComing modulus) modulus (after target t items) mobile s.number
   quiet_came target t items x coming less aged there none beside lined =
       let all : AllByRecursion (IsBeside target mobile s) t.outs = all_both (λ (out : Out). out.conn ≢ s.number) (λ (out : Out). out.conn ≢ s.number → IsBeside target mobile s out) (IsBeside target mobile s) t.outs (λ out other is. is other) (none_own s.number t.outs none) beside in
       let u : Actors = record (waiting items) { controller = t.next } in
@@ -189,13 +189,13 @@ module _ (settings : Parameters) (done : List Event) (mobile : ℕ) (s : Connect
       let reads = assigns_own s.number s1.serving s1.request s1.delay (subst IsSent is sent) in
       let frame : rsl_in out.frame ≡ Some reads.as_read = ap (λ (o : Out). rsl_in o.frame) is ∙ reads.reads in
       let to : out.to ≡ s1.serving.station = ap (λ (o : Out). o.to) is in (
-        λ _. ap (λ (o : Out). leading_by s.serving.number (entry_of target out).target (rsl_in o.frame)) (entry-out target out) ∙ ap (leading_by s.serving.number (entry_of target out).target) frame ∙ own_leads (command_of s1.serving s1.request s1.delay) s.serving.number (entry_of target out).target reads.as_read reads.text,
+        λ _. ap (λ (o : Out). leading_by s.serving.number (entry_of target out).target (rsl_in o.frame)) (entry_out target out) ∙ ap (leading_by s.serving.number (entry_of target out).target) frame ∙ own_leads (command_of s1.serving s1.request s1.delay) s.serving.number (entry_of target out).target reads.as_read reads.text,
         subst (AssignsBy mobile (enter WaitEstablish s) out.to) (sym frame) (subst (λ (n : ℕ). AssignsBy mobile (enter WaitEstablish s) n (Some reads.as_read)) (sym to)
             (own_assigns mobile (enter WaitEstablish s) s1.serving s1.request s1.delay reads.as_read reads.text (λ number same. (ap (place_at s1.serving.station) same ∙ ap place_of like.serving, refl)))),
       )
 
   pub acked_came : (target : Option Tenure) (t : Turn) (items : List RelayItem) (s1 : Connection) (coming : IsComing modulus world mobile s) → IsLess settings done mobile s items → IsAged s s1 → s1.state ≡ WaitActivation → connection_of t.next s.number ≡ Some (enter WaitEstablish s1)
-      → outs_for s.number t.outs ≡ outs_of s.number (immediate_assign_command s1.serving s1.request s1.delay ∷ []) → AllByRecursion IsSent t.outs → AreBeside target mobile s t.outs → Came (IsComing modulus) modulus (after target t items) mobile s.number
+      → outs_for s.number t.outs ≡ outs_of s.number (immediate_assign_command s1.serving s1.request s1.delay ∷ []) → AllByRecursion IsSent t.outs → AreBeside target mobile s t.outs → HasAccess (IsComing modulus) modulus (after target t items) mobile s.number
   acked_came target t items s1 coming less aged state there put sent beside =
       let like : IsLike s s1 = aged_like s s1 aged in
       let u : Actors = record (waiting items) { controller = t.next } in
@@ -211,7 +211,7 @@ module _ (settings : Parameters) (done : List Event) (mobile : ℕ) (s : Connect
   -- ---- it asks the switch
 
   pub asked_came : (target : Option Tenure) (t : Turn) (items : List RelayItem) (s1 : Connection) (initial : List ℕ) (owner : Tenure → ℕ) (coming : IsComing modulus world mobile s) → AreAllowed settings → IsKnown modulus world mobile s → IsLess settings done mobile s items → IsAged s s1 → s1.state ≡ WaitEstablish → Opens items initial → is_up world SWITCH_LINK ≡ true
-      → connection_of t.next s.number ≡ Some (enter WaitConfirm s1) → outs_for s.number t.outs ≡ outs_of s.number (complete_layer3 s1.serving initial ∷ []) → AllByRecursion IsSent t.outs → AreBeside target mobile s t.outs → AllSitBy owner (after target t items) → Came (IsComing modulus) modulus (after target t items) mobile s.number
+      → connection_of t.next s.number ≡ Some (enter WaitConfirm s1) → outs_for s.number t.outs ≡ outs_of s.number (complete_layer3 s1.serving initial ∷ []) → AllByRecursion IsSent t.outs → AreBeside target mobile s t.outs → AllSitBy owner (after target t items) → HasAccess (IsComing modulus) modulus (after target t items) mobile s.number
   asked_came target t items s1 initial owner coming allowed known less aged state opens_with up there put sent beside sits = by coming.comes where
     v : Actors
     v = after target t items
@@ -248,16 +248,16 @@ module _ (settings : Parameters) (done : List Event) (mobile : ℕ) (s : Connect
     untaken : taken_of world s.number ≡ []
     untaken = ap taken_in known.none_taken
 
-    by : Comes modulus world s coming.one → Came (IsComing modulus) modulus v mobile s.number
+    by : IsAccessing modulus world s coming.one → HasAccess (IsComing modulus) modulus v mobile s.number
     by (asks seat new none uncommanded) = absurd (let both : initial ∷ messages_in (coming_up v at) ≡ [] = sym (ap messages_in came) ∙ none in cc)
     by (arrived own_state seat lined begun) = once begun where
-      once : BeginsOnce world coming.one at → Came (IsComing modulus) modulus v mobile s.number
+      once : BeginsOnce world coming.one at → HasAccess (IsComing modulus) modulus v mobile s.number
       once (to_begin opens none behind) = absurd (let both : initial ∷ messages_in (coming_up v at) ≡ [] = sym (ap messages_in came) ∙ none in cc)
       once (began opens few none) =
           let none_left : initials_up (waiting items) at ≡ [] = none_longer initial (initials_up (waiting items) at) (let count = ap length opens_with.one in omega (arith, few, count)) in
           let none_up : initials_up v (place_of s1.serving) ≡ [] = ap (λ (c : Channel). initials_up v (place_of c)) like.serving ∙ v_initials settings done mobile s target t items at ∙ none_left in
           let left : controls_in (coming_up v at) + controls_of (to_be_taken coming.one.end.zero) ≡ 0 =
-          let all = ap controls_in (v_coming settings done mobile s target t items at) ∙ controls-up (waiting items) at in
+          let all = ap controls_in (v_coming settings done mobile s target t items at) ∙ controls_up (waiting items) at in
           let first = ap controls_of none_left in
           let fewer = controls_sub less.later in
           omega (arith, all, first, fewer, none) in

@@ -8,36 +8,36 @@ use Rattle.world_laws.proofs.Prelude.{to_be_taken, MobileState, AreAllowed, Para
 use Rattle.world_laws.proofs.Prelude.{Asking, On, Gone, Tenure, actors_after, actors_after_all, brought, controlled, framed}
 use Rattle.world_laws.proofs.Prelude.{hearing, remembering, signalling_brought, Actors, Link, Mobile, base_of, broken_link, has_number}
 use Rattle.world_laws.proofs.Prelude.{is_reached, is_station_up, link_of, mobile_of, modulus_in, new_actors, put_back, spot_at, tenure_at}
-use Rattle.world_laws.proofs.Prelude.{with_outbox, back-found, back-other, found-number, good-all, good-new, up-right, after-taken}
-use Rattle.world_laws.proofs.Prelude.{air_up-leads, hearing-end, hearing-opens, same_Some, Result, rr_reading, controls_of, messages_in}
+use Rattle.world_laws.proofs.Prelude.{with_outbox, back_found, back_other, number_found, good_all, good_new, up_right, after_taken}
+use Rattle.world_laws.proofs.Prelude.{air_up_leads, hearing-end, hearing-opens, same_Some, Result, rr_reading, controls_of, messages_in}
 use Rattle.world_laws.proofs.Prelude.{coming_up, going_down, taken_in, taken_of, waiting_of, IsHad, IsElsewhere, LinedUp, Sits, sits_stays}
 use Rattle.world_laws.proofs.Prelude.{sits_gone, AreLinedUp, LetsNoneGo, is_of_others, is_release, AreAssigned, Assigns, AssignsBy}
 use Rattle.world_laws.proofs.Prelude.{AssignsIn, BeginsOnce, IsComing, IsNew, behind_first}
 use Rattle.conn_rules.specs.Streams.{target_in}
-use Rattle.world_laws.proofs.LineUp.Lines.{controls-append}
+use Rattle.world_laws.proofs.LineUp.Lines.{controls_append}
 use Rattle.world_model.specs.declared.event.Event.TheVariants as events
 use Rattle.world_model.specs.Life.{event_after}
 use Rattle.world_laws.specs.Seated.Remembers.{nothing}
 use Rattle.world_laws.proofs.AirUp.{Lent, all_other, frame_lent}
 use Rattle.world_laws.proofs.Framing.{all_right}
-use Rattle.world_laws.proofs.Quiet.{down-with_base}
-use Rattle.world_laws.proofs.Spots.{set-same, tenure-with_base}
+use Rattle.world_laws.proofs.Quiet.{down_with_base}
+use Rattle.world_laws.proofs.Spots.{set-same, tenure_with_base}
 use Rattle.world_laws.proofs.Standing.{connections_stand_new}
 use Rattle.world_laws.proofs.Sublists.{Sub, sub_all, sub_length, sub_nothing}
 use Rattle.world_laws.specs.Access.Arriving.{IsKnown, OthersKeepComing}
-use Rattle.world_laws.specs.Access.Coming.{Comes}
+use Rattle.world_laws.specs.Access.Coming.{IsAccessing}
 use Rattle.world_laws.specs.Access.Coming.BeginsOnce.{began, to_begin}
-use Rattle.world_laws.specs.Access.Coming.Comes.{arrived, asks}
-use Rattle.world_laws.proofs.Access.Arriving.{none_target, serving_placed, stays-lined}
+use Rattle.world_laws.specs.Access.Coming.IsAccessing.{arrived, asks}
+use Rattle.world_laws.proofs.Access.Arriving.{none_target, serving_placed, stays_lined_up}
 use Rattle.world_laws.proofs.Access.Beginning.{bare_of, begins_lined}
 use Rattle.world_laws.proofs.Access.Behind.{GivesNoMore, controls_sub, gives_same, lent_first}
 use Rattle.world_laws.proofs.Access.Mobiles.{AllGo, Goes, IsAssigned, IsToMove, all_same, event_goes}
 use Rattle.world_laws.proofs.Access.Mobiles.Goes.{comes as gets, hears, moves, same, stays}
 use Rattle.world_laws.proofs.Access.Passes.{Passes, passes_itself}
 use Rattle.world_laws.proofs.Access.Travels.{event_passes, is_passing}
-use Rattle.world_laws.proofs.Access.Upcoming.{data_apart, data_first, data_later, data-none, data_pass, initials_apart, initials_later}
-use Rattle.world_laws.proofs.Access.Upcoming.{initials_more, initials-none, initials_pass, none_passes}
-use Rattle.world_laws.proofs.StationTakes.{waiting-taken}
+use Rattle.world_laws.proofs.Access.Upcoming.{data_apart, data_first, data_later, data_none, data_pass, initials_apart, initials_later}
+use Rattle.world_laws.proofs.Access.Upcoming.{initials_more, initials_none, initials_pass, none_passes}
+use Rattle.world_laws.proofs.StationTakes.{waiting_taken}
 use Rattle.world_laws.proofs.MobileEvents.{on_asks}
 
 -- ---- seats
@@ -45,9 +45,9 @@ use Rattle.world_laws.proofs.MobileEvents.{on_asks}
 on_gone : {tenure : Tenure} {command : Option Command} → On tenure command ≡ Gone → ⊥
 on_gone is = absurd cc
 
-abbrev tenure-in : Seat → Tenure → Tenure
-tenure-in (On tenure command) other = tenure
-tenure-in _ other = other
+abbrev tenure_in : Seat → Tenure → Tenure
+tenure_in (On tenure command) other = tenure
+tenure_in _ other = other
 
 -- where a connection has no target its mobile is on the serving channel, or gone
 sits_there : {w : Actors} {serving : Channel} {seat : Seat} → Sits w serving None seat → (seat ≡ Gone → ⊥) → seat ≡ On (tenure_at w (place_of serving)) None
@@ -88,7 +88,7 @@ goes_kept : {w v : Actors} {event : Event} {number : ℕ} {p q : Mobile} (at : P
 goes_kept at tenure at_is seat kept (same is) gone = on_gone (sym seat ∙ ap (λ (x : Mobile). x.seat) (sym is) ∙ gone)
 goes_kept at tenure at_is seat kept (stays there opens other gives) gone = on_gone (sym seat ∙ sym there ∙ gone)
 goes_kept {w} {p = p} at tenure at_is seat kept (hears other command first others there air is) gone =
-    let one : other ≡ tenure = ap (λ (x : Seat). tenure-in x tenure) (sym there ∙ seat) in
+    let one : other ≡ tenure = ap (λ (x : Seat). tenure_in x tenure) (sym there ∙ seat) in
     let stands : (spot_at w at).air ≡ first ∷ others = ap (λ (x : Place). (spot_at w x).air) (sym at_is ∙ ap (λ (t : Tenure). t.at) (sym one)) ∙ air in
     hearing_stays p first there (subst (AllByRecursion LetsNoneGo) stands kept).0 (ap (λ (x : Mobile). x.seat) (sym is) ∙ gone)
 goes_kept at tenure at_is seat kept (moves to_move opens) gone = absurd (subst IsToMove seat to_move)
@@ -119,8 +119,8 @@ assigned_to mobile s assigned a =
 pub entries_pass : {w v : Actors} (mobile : ℕ) (s : Connection) → Passes w v → AreAssigned w mobile s → AreAssigned v mobile s
 entries_pass mobile s passes assigned station = sub_all (AssignsIn mobile s station) (passes.entries station) (assigned station)
 
-up-taken : (w : Actors) (station : ℕ) (others : List OutboxEntry) (n : ℕ) → is_station_up (with_outbox station others w) n ≡ is_station_up w n
-up-taken w station others n = ap (λ (b : Bool). not (n == SWITCH_LINK) && b) (set-same (λ (link : Link). link.up) w.links broken_link station n (record (link_of w station) { outbox = others }) refl)
+up_taken : (w : Actors) (station : ℕ) (others : List OutboxEntry) (n : ℕ) → is_station_up (with_outbox station others w) n ≡ is_station_up w n
+up_taken w station others n = ap (λ (b : Bool). not (n == SWITCH_LINK) && b) (set-same (λ (link : Link). link.up) w.links broken_link station n (record (link_of w station) { outbox = others }) refl)
 
 new_after : {m : ℕ} (p q : Mobile) (seat : Seat) → q ≡ record p { seat = seat } → IsNew m p → IsNew m q
 new_after {m} p q seat is new = subst (IsNew m) (sym is) (record { opens = new.opens; goes_on = new.goes_on; no_control = new.no_control })
@@ -136,24 +136,24 @@ module _ (settings : Parameters) (done : List Event) (mobile : ℕ) (s : Connect
 
   -- it comes onto the serving channel
   arrives : (event : Event) (v : Actors) (p q : Mobile) → AreAllowed settings → IsHad world s → IsKnown modulus world mobile s → AreAssigned world mobile s → Passes world v → IsAssigned world event v mobile p q → IsNew modulus p
-      → messages_in (coming_up world (place_of s.serving)) ≡ [] → going_down world (place_of s.serving) ≡ [] → Comes modulus v s q
+      → messages_in (coming_up world (place_of s.serving)) ≡ [] → going_down world (place_of s.serving) ≡ [] → IsAccessing modulus v s q
   arrives event v p q allowed had known assigned passes a new none uncommanded =
       let own = assigned_to mobile s assigned a in
       let placed : s.serving.station ≢ SWITCH_LINK = serving_placed settings done s allowed had in
       let station : a.station ≡ s.serving.station = ap (λ (x : Place). x.station) own.0 in
-      let station_is : a.station ≢ SWITCH_LINK = (up-right a.station world a.up).0 in
+      let station_is : a.station ≢ SWITCH_LINK = (up_right a.station world a.up).0 in
       let tenure : tenure_at v (place_of s.serving) ≡ tenure_at world (place_of s.serving) = ap (λ (x : Actors). tenure_at x (place_of s.serving)) a.leads in
       let seat : q.seat ≡ On (tenure_at v (place_of s.serving)) None = ap (λ (x : Mobile). x.seat) a.after ∙ ap (λ (x : Place). On (tenure_at world x) None) own.0 ∙ ap (λ (t : Tenure). On t None) (sym tenure) in
-      let up : is_station_up v s.serving.station ≡ true = ap (λ (x : Actors). is_station_up x s.serving.station) a.leads ∙ up-taken world a.station a.others s.serving.station ∙ ap (is_station_up world) (sym station) ∙ a.up in
+      let up : is_station_up v s.serving.station ≡ true = ap (λ (x : Actors). is_station_up x s.serving.station) a.leads ∙ up_taken world a.station a.others s.serving.station ∙ ap (is_station_up world) (sym station) ∙ a.up in
       let silent : messages_in (coming_up v (place_of s.serving)) ≡ [] = none_passes (place_of s.serving) placed passes none in
       let quiet : going_down v (place_of s.serving) ≡ [] = sub_nothing (subst (Sub (going_down v (place_of s.serving))) uncommanded (passes.downs s.serving placed)) in
-      let unsaid : waiting_of v s.number ≡ [] = ap (λ (x : Actors). waiting_of x s.number) a.leads ∙ waiting-taken world a.station a.others s.number station_is ∙ known.none_waits in
+      let unsaid : waiting_of v s.number ≡ [] = ap (λ (x : Actors). waiting_of x s.number) a.leads ∙ waiting_taken world a.station a.others s.number station_is ∙ known.none_waits in
       let untaken : taken_of v s.number ≡ [] = ap (λ (x : Actors). taken_of x s.number) a.leads ∙ ap taken_in known.none_taken in
       let fresh : IsNew modulus q = new_after p q (On (tenure_at world (place_at a.station a.channel.channel.0)) None) a.after new in
       arrived own.1 seat (begins_lined v q s own.1 (bare_of s own.1 (connections_stand_new settings done s.number s had.there)) placed seat fresh up silent quiet unsaid untaken) (to_begin fresh.opens silent fresh.no_control)
 
   asks_goes : (event : Event) (v : Actors) (p q : Mobile) → AreAllowed settings → IsHad world s → IsKnown modulus world mobile s → AreAssigned world mobile s → Passes world v → Goes world event v mobile p q → p.seat ≡ Asking → IsNew modulus p
-      → messages_in (coming_up world (place_of s.serving)) ≡ [] → going_down world (place_of s.serving) ≡ [] → Comes modulus v s q
+      → messages_in (coming_up world (place_of s.serving)) ≡ [] → going_down world (place_of s.serving) ≡ [] → IsAccessing modulus v s q
   asks_goes event v p q allowed had known assigned passes (same is) seat new none uncommanded =
       let placed : s.serving.station ≢ SWITCH_LINK = serving_placed settings done s allowed had in
       asks (ap (λ (x : Mobile). x.seat) is ∙ seat) (subst (IsNew modulus) (sym is) new) (none_passes (place_of s.serving) placed passes none) (sub_nothing (subst (Sub (going_down v (place_of s.serving))) uncommanded (passes.downs s.serving placed)))
@@ -164,7 +164,7 @@ module _ (settings : Parameters) (done : List Event) (mobile : ℕ) (s : Connect
 
   -- on its channel
   there_goes : (event : Event) (v : Actors) (p q : Mobile) → AreAllowed settings → IsHad world s → IsKnown modulus world mobile s → Passes world v → Goes world event v mobile p q → mobile_of v mobile ≡ Some q → AreLinedUp modulus v mobile s → s.state ≡ WaitEstablish
-      → p.seat ≡ On (tenure_at world (place_of s.serving)) None → BeginsOnce world p (place_of s.serving) → Comes modulus v s q
+      → p.seat ≡ On (tenure_at world (place_of s.serving)) None → BeginsOnce world p (place_of s.serving) → IsAccessing modulus v s q
   there_goes event v p q allowed had known passes goes found lined state seat begins =
       let placed : s.serving.station ≢ SWITCH_LINK = serving_placed settings done s allowed had in
       let own : LinedUp modulus v q s = subst (λ (x : Mobile). LinedUp modulus v x s) (same_Some _ _ (sym lined.found ∙ found)) lined.lined in
@@ -172,7 +172,7 @@ module _ (settings : Parameters) (done : List Event) (mobile : ℕ) (s : Connect
       arrived state (sits_there sits (goes_kept (place_of s.serving) (tenure_at world (place_of s.serving)) refl seat known.kept goes)) own (begins_passes (place_of s.serving) placed (goes_opens seat goes) (goes_gives seat goes) passes begins)
 
   passing_comes : (event : Event) (v : Actors) (p q : Mobile) → AreAllowed settings → IsHad world s → IsKnown modulus world mobile s → AreAssigned world mobile s → Passes world v → Goes world event v mobile p q → mobile_of v mobile ≡ Some q
-      → (s.state ≡ WaitEstablish → AreLinedUp modulus world mobile s → AreLinedUp modulus v mobile s) → mobile_of world mobile ≡ Some p → Comes modulus world s p → Comes modulus v s q
+      → (s.state ≡ WaitEstablish → AreLinedUp modulus world mobile s → AreLinedUp modulus v mobile s) → mobile_of world mobile ≡ Some p → IsAccessing modulus world s p → IsAccessing modulus v s q
   passing_comes event v p q allowed had known assigned passes goes found stays_lined there (asks seat new none uncommanded) = asks_goes event v p q allowed had known assigned passes goes seat new none uncommanded
   passing_comes event v p q allowed had known assigned passes goes found stays_lined there (arrived state seat lined begins) =
       there_goes event v p q allowed had known passes goes found (stays_lined state (record { one = p; found = there; lined = lined })) state seat begins
@@ -180,8 +180,8 @@ module _ (settings : Parameters) (done : List Event) (mobile : ℕ) (s : Connect
   pub keeps_passing : (event : Event) → is_passing event ≡ true → is_of_others event ≡ true → AreAllowed settings → IsKnown modulus world mobile s → IsComing modulus world mobile s → IsComing modulus (actors_after world event) mobile s
   keeps_passing event passing of_others allowed known coming =
       let v : Actors = actors_after world event in
-      let passes : Passes world v = after-taken (Passes world) (event_after world event) world (event_passes world event passing (good-all (new_actors settings) done (good-new settings))) (passes_itself world) in
-      let all : AllGo world event v = after-taken (AllGo world event) (event_after world event) world (event_goes world event passing) (all_same world event world refl) in
+      let passes : Passes world v = after_taken (Passes world) (event_after world event) world (event_passes world event passing (good_all (new_actors settings) done (good_new settings))) (passes_itself world) in
+      let all : AllGo world event v = after_taken (AllGo world event) (event_after world event) world (event_goes world event passing) (all_same world event world refl) in
       let one = all.each mobile coming.one coming.found in
       record {
         had = record { there = ap (λ (c : Controller). connection_of c s.number) passes.controller ∙ coming.had.there; is_open = coming.had.is_open; from_one = coming.had.from_one };
@@ -189,14 +189,14 @@ module _ (settings : Parameters) (done : List Event) (mobile : ℕ) (s : Connect
         asked = coming.asked;
         one = one.0;
         found = one.1;
-        comes = passing_comes event v coming.one one.0 allowed coming.had known coming.assigned passes one.2 one.1 (λ state lined. stays-lined settings done mobile s event of_others state allowed coming.had known lined) coming.found coming.comes;
+        comes = passing_comes event v coming.one one.0 allowed coming.had known coming.assigned passes one.2 one.1 (λ state lined. stays_lined_up settings done mobile s event of_others state allowed coming.had known lined) coming.found coming.comes;
         assigned = entries_pass mobile s passes coming.assigned;
       }
 
   -- ---- a frame of SAPI 0
 
   sent_elsewhere : (p : Mobile) (tenure : Tenure) (frame : List ℕ) (one : Mobile) → AreAllowed settings → IsHad world s → is_reached world tenure ≡ true → is_at tenure.at s.serving ≡ false → mobile_of (brought world p tenure.at Zero frame) mobile ≡ Some one
-      → (AreLinedUp modulus (brought world p tenure.at Zero frame) mobile s) ⊎ (one.seat ≡ Asking) → Comes modulus world s one → Comes modulus (brought world p tenure.at Zero frame) s one
+      → (AreLinedUp modulus (brought world p tenure.at Zero frame) mobile s) ⊎ (one.seat ≡ Asking) → IsAccessing modulus world s one → IsAccessing modulus (brought world p tenure.at Zero frame) s one
   sent_elsewhere p tenure frame one allowed had reached apart found either comes = by either comes where
     v : Actors
     v = brought world p tenure.at Zero frame
@@ -208,10 +208,10 @@ module _ (settings : Parameters) (done : List Event) (mobile : ℕ) (s : Connect
     came = (all_other world p tenure frame (s.serving ∷ []) reached (placed, tt) (apart, tt)).0
 
     down : going_down v (place_of s.serving) ≡ going_down world (place_of s.serving)
-    down = down-with_base world tenure.at.station (signalling_brought (base_of world tenure.at.station) tenure.at.number p.opens frame) (place_of s.serving)
+    down = down_with_base world tenure.at.station (signalling_brought (base_of world tenure.at.station) tenure.at.number p.opens frame) (place_of s.serving)
 
     here : tenure_at v (place_of s.serving) ≡ tenure_at world (place_of s.serving)
-    here = tenure-with_base world tenure.at.station (signalling_brought (base_of world tenure.at.station) tenure.at.number p.opens frame) (place_of s.serving)
+    here = tenure_with_base world tenure.at.station (signalling_brought (base_of world tenure.at.station) tenure.at.number p.opens frame) (place_of s.serving)
 
     begins : BeginsOnce world one (place_of s.serving) → BeginsOnce v one (place_of s.serving)
     begins (to_begin opens none behind) = to_begin opens (ap messages_in came ∙ none) behind
@@ -219,18 +219,18 @@ module _ (settings : Parameters) (done : List Event) (mobile : ℕ) (s : Connect
         began opens (let less = sub_length (initials_apart world p tenure frame s.serving reached placed apart) in omega (arith, less, few))
         (let less = controls_sub (data_apart world p tenure frame s.serving reached placed apart) in omega (arith, less, none))
 
-    by : (AreLinedUp modulus v mobile s) ⊎ (one.seat ≡ Asking) → Comes modulus world s one → Comes modulus v s one
+    by : (AreLinedUp modulus v mobile s) ⊎ (one.seat ≡ Asking) → IsAccessing modulus world s one → IsAccessing modulus v s one
     by either (asks seat new none uncommanded) = asks seat new (ap messages_in came ∙ none) (down ∙ uncommanded)
     by (inr asking) (arrived state seat lined once) = absurd (on_asks (sym seat ∙ asking))
     by (inl lined2) (arrived state seat lined once) =
         arrived state (seat ∙ ap (λ (t : Tenure). On t None) (sym here)) (subst (λ (x : Mobile). LinedUp modulus v x s) (same_Some _ _ (sym lined2.found ∙ found)) lined2.lined) (begins once)
 
   sent_there : (tenure : Tenure) (command : Option Command) (frame : List ℕ) (one : Mobile) → one.seat ≡ On tenure command → Lent one.end frame → mobile_of (brought world one tenure.at Zero frame) mobile ≡ Some (record (framed one Zero) { opens = false })
-      → AreLinedUp modulus (brought world one tenure.at Zero frame) mobile s → Comes modulus world s one → Comes modulus (brought world one tenure.at Zero frame) s (record (framed one Zero) { opens = false })
+      → AreLinedUp modulus (brought world one tenure.at Zero frame) mobile s → IsAccessing modulus world s one → IsAccessing modulus (brought world one tenure.at Zero frame) s (record (framed one Zero) { opens = false })
   sent_there tenure command frame one sits lent found lined2 (asks seat new none uncommanded) = absurd (on_asks (sym sits ∙ seat))
   sent_there tenure command frame one sits lent found lined2 (arrived state seat lined once) =
       arrived state
-      (seat ∙ ap (λ (t : Tenure). On t None) (sym (tenure-with_base world tenure.at.station (signalling_brought (base_of world tenure.at.station) tenure.at.number one.opens frame) (place_of s.serving))))
+      (seat ∙ ap (λ (t : Tenure). On t None) (sym (tenure_with_base world tenure.at.station (signalling_brought (base_of world tenure.at.station) tenure.at.number one.opens frame) (place_of s.serving))))
       (subst (λ (x : Mobile). LinedUp modulus v x s) (same_Some _ _ (sym lined2.found ∙ found)) lined2.lined) (begins once) where
         v : Actors
         v = brought world one tenure.at Zero frame
@@ -243,16 +243,16 @@ module _ (settings : Parameters) (done : List Event) (mobile : ℕ) (s : Connect
 
         begins : BeginsOnce world one (place_of s.serving) → BeginsOnce v (record (framed one Zero) { opens = false }) (place_of s.serving)
         begins (to_begin opens none behind) =
-            began refl (let more = initials_more world one tenure frame (place_of s.serving) in let nothing_yet = ap length (initials-none world (place_of s.serving) none) in omega (arith, more, nothing_yet))
-            (let less = controls_sub (data_first world one tenure frame (place_of s.serving) opens) in let nothing_yet = ap controls_of (data-none world (place_of s.serving) none) in let counts = ap controls_of left in let first = ap (λ (xs : List (List ℕ)). controls_of (behind_first xs)) taken in
+            began refl (let more = initials_more world one tenure frame (place_of s.serving) in let nothing_yet = ap length (initials_none world (place_of s.serving) none) in omega (arith, more, nothing_yet))
+            (let less = controls_sub (data_first world one tenure frame (place_of s.serving) opens) in let nothing_yet = ap controls_of (data_none world (place_of s.serving) none) in let counts = ap controls_of left in let first = ap (λ (xs : List (List ℕ)). controls_of (behind_first xs)) taken in
             omega (arith, less, nothing_yet, counts, first, behind))
         begins (began opens few none) =
             began refl (let less = sub_length (initials_later world one tenure frame (place_of s.serving) opens) in omega (arith, less, few))
             (let less = data_later world one tenure frame (place_of s.serving) in let counts = ap controls_of left in let all = ap controls_of taken in
-            let sum : controls_of (frame ∷ to_be_taken (after_lending one.end.zero)) ≡ controls_of (frame ∷ []) + controls_of (to_be_taken (after_lending one.end.zero)) = controls-append (frame ∷ []) (to_be_taken (after_lending one.end.zero)) in
+            let sum : controls_of (frame ∷ to_be_taken (after_lending one.end.zero)) ≡ controls_of (frame ∷ []) + controls_of (to_be_taken (after_lending one.end.zero)) = controls_append (frame ∷ []) (to_be_taken (after_lending one.end.zero)) in
             omega (arith, less, counts, all, sum, none))
 
-  or_asks : (v : Actors) (one : Mobile) → mobile_of world mobile ≡ Some one → (s.state ≡ WaitEstablish → AreLinedUp modulus world mobile s → AreLinedUp modulus v mobile s) → Comes modulus world s one → (AreLinedUp modulus v mobile s) ⊎ (one.seat ≡ Asking)
+  or_asks : (v : Actors) (one : Mobile) → mobile_of world mobile ≡ Some one → (s.state ≡ WaitEstablish → AreLinedUp modulus world mobile s → AreLinedUp modulus v mobile s) → IsAccessing modulus world s one → (AreLinedUp modulus v mobile s) ⊎ (one.seat ≡ Asking)
   or_asks v one found stays_lined (asks seat new none uncommanded) = inr seat
   or_asks v one found stays_lined (arrived state seat lined once) = inl (stays_lined state (record { one = one; found = found; lined = lined }))
 
@@ -266,13 +266,13 @@ module _ (settings : Parameters) (done : List Event) (mobile : ℕ) (s : Connect
     q : Mobile
     q = record (framed p Zero) { opens = false }
 
-    rest : (one : Mobile) → mobile_of v mobile ≡ Some one → Comes modulus v s one → IsComing modulus v mobile s
+    rest : (one : Mobile) → mobile_of v mobile ≡ Some one → IsAccessing modulus v s one → IsComing modulus v mobile s
     rest one found comes = record { had = record { there = coming.had.there; is_open = coming.had.is_open; from_one = coming.had.from_one }; early = coming.early; asked = coming.asked; one = one; found = found; comes = comes; assigned = λ station. coming.assigned station }
 
     q_number : q.number ≡ number
-    q_number = found-number number world.mobiles p acts
+    q_number = number_found number world.mobiles p acts
 
-    own_comes : mobile_of v mobile ≡ Some q → Comes modulus world s p → (AreLinedUp modulus v mobile s) ⊎ (p.seat ≡ Asking) → Comes modulus v s q
+    own_comes : mobile_of v mobile ≡ Some q → IsAccessing modulus world s p → (AreLinedUp modulus v mobile s) ⊎ (p.seat ≡ Asking) → IsAccessing modulus v s q
     own_comes found comes (inl lined) = sent_there tenure command frame p sits lent found lined comes
     own_comes found comes (inr asking) = absurd (on_asks (sym sits ∙ asking))
 
@@ -280,12 +280,12 @@ module _ (settings : Parameters) (done : List Event) (mobile : ℕ) (s : Connect
     by_number true hit =
         let is : number ≡ mobile = eqb-true number mobile hit in
         let p_is : p ≡ coming.one = same_Some _ _ (sym acts ∙ ap (mobile_of world) is ∙ coming.found) in
-        let found : mobile_of v mobile ≡ Some q = ap (λ (n : ℕ). find (has_number n) (put_back q world.mobiles)) (sym is ∙ sym q_number) ∙ back-found q world.mobiles p (ap (λ (n : ℕ). find (has_number n) world.mobiles) q_number ∙ acts) in
-        let comes : Comes modulus world s p = subst (Comes modulus world s) (sym p_is) coming.comes in
+        let found : mobile_of v mobile ≡ Some q = ap (λ (n : ℕ). find (has_number n) (put_back q world.mobiles)) (sym is ∙ sym q_number) ∙ back_found q world.mobiles p (ap (λ (n : ℕ). find (has_number n) world.mobiles) q_number ∙ acts) in
+        let comes : IsAccessing modulus world s p = subst (IsAccessing modulus world s) (sym p_is) coming.comes in
         rest q found (own_comes found comes (or_asks v p (ap (mobile_of world) (sym is) ∙ acts) stays_lined comes))
     by_number false miss =
         let differs : number ≢ mobile = eqb-false number mobile miss in
-        let found : mobile_of v mobile ≡ Some coming.one = back-other q world.mobiles mobile (λ is. differs (sym q_number ∙ is)) ∙ coming.found in
+        let found : mobile_of v mobile ≡ Some coming.one = back_other q world.mobiles mobile (λ is. differs (sym q_number ∙ is)) ∙ coming.found in
         let elsewhere : IsElsewhere (s.serving ∷ target_in s.state) tenure.at = all_right (λ c. is_at tenure.at c ≡ false) (undone s.draining) (s.serving ∷ target_in s.state) (known.alone number p tenure command differs acts sits reached) in
         rest coming.one found (sent_elsewhere p tenure frame coming.one allowed coming.had reached elsewhere.0 found (or_asks v coming.one coming.found stays_lined coming.comes) coming.comes)
 
@@ -294,8 +294,8 @@ module _ (settings : Parameters) (done : List Event) (mobile : ℕ) (s : Connect
   keeps_sent number allowed known coming =
       let event : Event = events.AirUp number Zero in
       let P : Actors → Type 0 = λ v. (s.state ≡ WaitEstablish → AreLinedUp modulus world mobile s → AreLinedUp modulus v mobile s) → IsComing modulus v mobile s in
-      after-taken P (event_after world event) world (air_up-leads P world number Zero (λ p tenure command frame acts sits lent reached. sent_comes number p tenure command frame acts sits (frame_lent p.end frame lent) reached allowed known coming)) (λ _. coming)
-      (λ state lined. stays-lined settings done mobile s event refl state allowed coming.had known lined)
+      after_taken P (event_after world event) world (air_up_leads P world number Zero (λ p tenure command frame acts sits lent reached. sent_comes number p tenure command frame acts sits (frame_lent p.end frame lent) reached allowed known coming)) (λ _. coming)
+      (λ state lined. stays_lined_up settings done mobile s event refl state allowed coming.had known lined)
 
 pub others_keep_coming_new : (settings : Parameters) (done : List Event) (event : Event) → OthersKeepComing settings done event
 others_keep_coming_new settings done (events.AirUp number Zero) mobile s of_others allowed known coming = keeps_sent settings done mobile s number allowed known coming

@@ -2,12 +2,12 @@
 -- connection's.
 use Rattle.world_laws.proofs.Prelude.{◌≡◌, ◌≢◌, ℕ, zero, suc, ◌+◌, ◌≤◌, ◌⊎◌, nat_eq, Bool, true, false, List, [], ◌∷◌, option_map, Option}
 use Rattle.world_laws.proofs.Prelude.{Some, None, refl, sym, ap, ◌∙◌, subst, arith, inl, inr, AllByRecursion, eqb-true, eqb-false}
-use Rattle.world_laws.proofs.Prelude.{Message, Out, outs_of, Connection, connection_of, IsNumbered, ComesInOctets, IsOfOctets, conn_of}
+use Rattle.world_laws.proofs.Prelude.{Message, Out, outs_of, Connection, connection_of, IsNumbered, IsOctetStep, IsOfOctets, conn_of}
 use Rattle.world_laws.proofs.Prelude.{life_fits, Step, Take, Controller, Entry, hears, step, concerned, Frame, AreOctets, RelayItem, What}
 use Rattle.world_laws.proofs.Prelude.{AreAllowed, Parameters, Event, Tenure, actors_after_all, target_in, rsl_in, all_steps, Actors}
 use Rattle.world_laws.proofs.Prelude.{new_actors, LivesByTable-new, frame_leaves, frame_silent, PassesBy, frame_passes, life, word_of}
 use Rattle.world_laws.proofs.Prelude.{leading_by, leading_from_outbox, commanded_target, IsHad, commanded_channels, IsForOthers}
-use Rattle.world_laws.proofs.Prelude.{AreForOthers, entry-out}
+use Rattle.world_laws.proofs.Prelude.{AreForOthers, entry_out}
 use Rattle.controller_model.specs.Life.{take}
 use Rattle.ruled_relay.specs.declared.item.What.TheVariants as whats
 use Rattle.world_model.specs.Relay.{entry_of}
@@ -22,7 +22,7 @@ use Rattle.world_laws.proofs.References.Right.{other_carries}
 
 -- no message of a station
 leads_nowhere : (channel : ℕ) (target : Option Tenure) (out : Out) → rsl_in out.frame ≡ None → leading_from_outbox channel (entry_of target out) ≡ []
-leads_nowhere channel target out none = ap (λ (o : Out). leading_by channel (entry_of target out).target (rsl_in o.frame)) (entry-out target out) ∙ ap (leading_by channel (entry_of target out).target) none
+leads_nowhere channel target out none = ap (λ (o : Out). leading_by channel (entry_of target out).target (rsl_in o.frame)) (entry_out target out) ∙ ap (leading_by channel (entry_of target out).target) none
 
 without_target : (s : Connection) (out : Out) → out.conn ≢ s.number → IsForOthers None s out
 without_target s out differs = record {
@@ -68,7 +68,7 @@ module _ (settings : Parameters) (done : List Event) (s : Connection) where
   steps = all_steps (new_actors settings) done
 
   -- a frame
-  frame_others : (source : ℕ) (frame : Frame) → AreAllowed settings → AllByRecursion ComesInOctets steps → AreOctets frame.body → 1 ≤ s.number → IsHad world s
+  frame_others : (source : ℕ) (frame : Frame) → AreAllowed settings → AllByRecursion IsOctetStep steps → AreOctets frame.body → 1 ≤ s.number → IsHad world s
       → (o : Option ℕ) → concerned world.controller (word_of source frame) ≡ o → AreForOthers (target_in world source (whats.Frame frame)) s (step world.controller (Take (record { source = source; what = whats.Frame frame }))).outs
   unfolding take
   frame_others source frame allowed octets own least had o is = by o is where
@@ -97,7 +97,7 @@ module _ (settings : Parameters) (done : List Event) (s : Connection) where
           subst (AreForOthers (target_in world source (whats.Frame frame)) s) (sym (ap (λ (c : Controller). (step c (Take item)).outs) lives ∙ passes.outs)) (own_alone (target_in world source (whats.Frame frame)) s passes.put)
 
   -- whatever comes
-  pub item_others : (item : RelayItem) → AreAllowed settings → AllByRecursion ComesInOctets steps → IsOfOctets item.what → 1 ≤ s.number → IsHad world s → AreForOthers (target_in world item.source item.what) s (take item world.controller).outs
+  pub item_others : (item : RelayItem) → AreAllowed settings → AllByRecursion IsOctetStep steps → IsOfOctets item.what → 1 ≤ s.number → IsHad world s → AreForOthers (target_in world item.source item.what) s (take item world.controller).outs
   item_others item allowed octets own least had = by item.what refl own where
     by : (what : What) → item.what ≡ what → IsOfOctets what → AreForOthers (target_in world item.source item.what) s (take item world.controller).outs
     by whats.Down is own = subst (λ (x : What). AreForOthers (target_in world item.source x) s (take item world.controller).outs) (sym is) (all_without s (take item world.controller).outs)

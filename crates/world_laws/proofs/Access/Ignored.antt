@@ -7,7 +7,7 @@ use Rattle.world_laws.proofs.Prelude.{is_at, Row, undone, Brought, brought_by, b
 use Rattle.world_laws.proofs.Prelude.{OnChannel, Controller, holder, hears, place_of, Zero, Frame, RelayItem, What, Rsl, AreAllowed}
 use Rattle.world_laws.proofs.Prelude.{Parameters, Event, actors_after_all, rsl_in, all_steps, Actors, Mobile, base_of, new_actors}
 use Rattle.world_laws.proofs.Prelude.{LivesByTable-new, FitsNone, Owns, OwnsOpen, life_owns, roles_of, target_channels, dropping, access}
-use Rattle.world_laws.proofs.Prelude.{on_dtap, on_establish_indication, row_if, is_control, acknowledgements, IsKnownItem, known-inbox}
+use Rattle.world_laws.proofs.Prelude.{on_dtap, on_establish_indication, row_if, is_control, acknowledgements, IsKnownItem, known_inbox}
 use Rattle.world_laws.proofs.Prelude.{brings_nothing, brings_input, life, word_of, messages_up, read_by, read_of, NoneReleases, brings_if}
 use Rattle.world_laws.proofs.Prelude.{brings_in, brings_by, IsHad, MissesOf, controls_of, IsKnownWhat, AcksAgree, BeginsOnce, data_by}
 use Rattle.world_laws.proofs.Prelude.{data_up}
@@ -20,11 +20,11 @@ use Rattle.world_laws.proofs.Standing.{connections_stand_new}
 use Rattle.world_laws.proofs.Access.Arriving.{serving_placed}
 use Rattle.world_laws.proofs.Access.Beginning.{bare_of}
 use Rattle.world_laws.proofs.LineUp.Lines.{controls_first}
-use Rattle.world_laws.specs.Access.Coming.{Comes}
+use Rattle.world_laws.specs.Access.Coming.{IsAccessing}
 use Rattle.world_laws.specs.Access.Coming.BeginsOnce.{began, to_begin}
-use Rattle.world_laws.specs.Access.Coming.Comes.{arrived, asks}
+use Rattle.world_laws.specs.Access.Coming.IsAccessing.{arrived, asks}
 use Rattle.world_laws.proofs.Access.Silent.{FirstBrings, first_brings, releases_not}
-use Rattle.world_laws.proofs.Access.Upcoming.{data-none}
+use Rattle.world_laws.proofs.Access.Upcoming.{data_none}
 use Rattle.world_laws.proofs.Access.Silent.FirstBrings.{brings_none, control, ends, opening, text}
 
 row_there : (b : Bool) (x : Row) → b ≡ true → row_if b x ≡ None → ⊥
@@ -32,11 +32,11 @@ row_there true x is none = absurd cc
 row_there false x is none = absurd cc
 
 -- no DATA INDICATION brings one of radio resource management
-pub none_of_data : {m : ℕ} {w : Actors} {s : Connection} {p : Mobile} → Comes m w s p → controls_of (data_up w (place_of s.serving)) ≡ 0
-none_of_data {w = w} {s} (asks seat new none uncommanded) = ap controls_of (data-none w (place_of s.serving) none)
+pub none_of_data : {m : ℕ} {w : Actors} {s : Connection} {p : Mobile} → IsAccessing m w s p → controls_of (data_up w (place_of s.serving)) ≡ 0
+none_of_data {w = w} {s} (asks seat new none uncommanded) = ap controls_of (data_none w (place_of s.serving) none)
 none_of_data {w = w} {s} (arrived state seat lined begun) = by begun where
   by : {p : Mobile} → BeginsOnce w p (place_of s.serving) → controls_of (data_up w (place_of s.serving)) ≡ 0
-  by (to_begin opens none behind) = ap controls_of (data-none w (place_of s.serving) none)
+  by (to_begin opens none behind) = ap controls_of (data_none w (place_of s.serving) none)
   by (began opens few none) = omega (arith, none)
 
 module _ (settings : Parameters) (done : List Event) (mobile : ℕ) (s : Connection) where
@@ -109,7 +109,7 @@ module _ (settings : Parameters) (done : List Event) (mobile : ℕ) (s : Connect
     draining = (bare_of s state (connections_stand_new settings done s.number s had.there)).draining
 
     known : IsKnownItem item
-    known = (subst (AllByRecursion IsKnownItem) stood (known-inbox settings done)).0
+    known = (subst (AllByRecursion IsKnownItem) stood (known_inbox settings done)).0
 
     misses : (frame : Frame) (input : Input) → item.what ≡ whats.Frame frame → item.source ≡ at.station → word_of item.source frame ≡ OnChannel at input → MissesOf input (Some s)
     misses frame input what_is station word = subst (λ (b : Brought). FitsNone b (Some s)) (comes_to item frame input allowed had draining what_is station word) fits_none

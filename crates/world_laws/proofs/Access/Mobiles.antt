@@ -8,11 +8,11 @@ use Rattle.world_laws.proofs.Prelude.{after_queue, refusal_of_send, is_channel, 
 use Rattle.world_laws.proofs.Prelude.{Seat, Asking, On, Moving, Tenure, complete, connected, failure, framed, hearing, may_send}
 use Rattle.world_laws.proofs.Prelude.{sent_by, activated, activated_unless, rsl_in, took, sccp_in, Actors, Mobile, base_of, has_number}
 use Rattle.world_laws.proofs.Prelude.{is_active_at, is_reached, is_station_up, mobile_of, outbox_of, put_back, spot_at, tenure_at}
-use Rattle.world_laws.proofs.Prelude.{with_mobile, with_outbox, with_spot, back-found, back-other, found-number, air_down-leads}
-use Rattle.world_laws.proofs.Prelude.{air_down_lost-leads, air_up-leads, arrive-leads, base_takes-leads, broken-leads, by_mobile-leads}
-use Rattle.world_laws.proofs.Prelude.{connect-leads, does-leads, move-leads, only_if-leads, push-leads, report-leads, return-leads}
-use Rattle.world_laws.proofs.Prelude.{switch_takes-leads, switch_took-leads, touch-leads, unless_last-leads, hearing-number, same_Some}
-use Rattle.world_laws.proofs.Prelude.{and-right, and-left, found-front, Result, rr_reading, assigned, assigned_from, assigned_to}
+use Rattle.world_laws.proofs.Prelude.{with_mobile, with_outbox, with_spot, back_found, back_other, number_found, air_down_leads}
+use Rattle.world_laws.proofs.Prelude.{air_down_lost_leads, air_up_leads, arrive_leads, base_takes_leads, broken_leads, by_mobile-leads}
+use Rattle.world_laws.proofs.Prelude.{connect_leads, does_leads, move_leads, only_if-leads, push_leads, report-leads, return_leads}
+use Rattle.world_laws.proofs.Prelude.{switch_takes_leads, switch_took-leads, touch_leads, unless_last_leads, hearing-number, same_Some}
+use Rattle.world_laws.proofs.Prelude.{and_right, and_left, found_front, Result, rr_reading, assigned, assigned_from, assigned_to}
 use Rattle.mobile_end.specs.Mobile.{is_acknowledged}
 use Rattle.rsl_codec.specs.declared.common_channel.ImmediateAssignment.{ImmediateAssignment as AssignCommand}
 use Rattle.rsl_codec.specs.declared.rsl.Rsl.TheVariants as rsl
@@ -69,18 +69,18 @@ all_same w event v is = record { each = λ number p found. (p, ap (λ (ms : List
 one_goes : (w u : Actors) (event : Event) (number : ℕ) (before q : Mobile) → mobile_of w number ≡ Some before → u.mobiles ≡ w.mobiles → q.number ≡ before.number → Goes w event (with_mobile q u) number before q → AllGo w event (with_mobile q u)
 one_goes w u event number before q acts is same_number goes = record { each = λ k p found. by k p found (nat_eq number k) refl } where
   own_number : q.number ≡ number
-  own_number = same_number ∙ found-number number w.mobiles before acts
+  own_number = same_number ∙ number_found number w.mobiles before acts
 
   by : (k : ℕ) (p : Mobile) → mobile_of w k ≡ Some p → (b : Bool) → nat_eq number k ≡ b → (x : Mobile) × (mobile_of (with_mobile q u) k ≡ Some x) × Goes w event (with_mobile q u) k p x
   by k p found true hit =
       let k_is : number ≡ k = eqb-true number k hit in
       let p_is : before ≡ p = same_Some _ _ (sym acts ∙ ap (mobile_of w) k_is ∙ found) in (
         q,
-        ap (λ (n : ℕ). find (has_number n) (put_back q u.mobiles)) (sym k_is ∙ sym own_number) ∙ back-found q u.mobiles before (ap (λ (ms : List Mobile). find (has_number q.number) ms) is ∙ ap (λ (n : ℕ). find (has_number n) w.mobiles) own_number ∙ acts),
+        ap (λ (n : ℕ). find (has_number n) (put_back q u.mobiles)) (sym k_is ∙ sym own_number) ∙ back_found q u.mobiles before (ap (λ (ms : List Mobile). find (has_number q.number) ms) is ∙ ap (λ (n : ℕ). find (has_number n) w.mobiles) own_number ∙ acts),
         subst (λ (x : Mobile). Goes w event (with_mobile q u) k x q) p_is (subst (λ (n : ℕ). Goes w event (with_mobile q u) n before q) k_is goes),
       )
   by k p found false miss =
-      (p, back-other q u.mobiles k (λ is_k. eqb-false number k miss (sym own_number ∙ is_k)) ∙ ap (λ (ms : List Mobile). find (has_number k) ms) is ∙ found, same refl)
+      (p, back_other q u.mobiles k (λ is_k. eqb-false number k miss (sym own_number ∙ is_k)) ∙ ap (λ (ms : List Mobile). find (has_number k) ms) is ∙ found, same refl)
 
 -- ---- each event
 
@@ -90,7 +90,7 @@ not_asking is other asks = other (sym is ∙ asks)
 -- a new one stands behind the others
 connect_goes : (w : Actors) (event : Event) (u : Actors) (new : Mobile) → u.mobiles ≡ w.mobiles ++ new ∷ [] → AllGo w event u
 connect_goes w event u new is = record {
-  each = λ number p found. (p, ap (λ (ms : List Mobile). find (has_number number) ms) is ∙ found-front number p w.mobiles (new ∷ []) found, same refl);
+  each = λ number p found. (p, ap (λ (ms : List Mobile). find (has_number number) ms) is ∙ found_front number p w.mobiles (new ∷ []) found, same refl);
 }
 
 can_send : (seat : Seat) → may_send seat ≡ true → seat ≡ Asking → ⊥
@@ -166,7 +166,7 @@ takes_go w station first others up stood = by_message (rsl_in first.out.frame) r
   by_reading command reads _ says = quiet u refl
 
   by_message : (o : Option Rsl) → rsl_in first.out.frame ≡ o → OfTaken (AllGo w event) (took station first.target o u)
-  by_message (Some (rsl.ChannelActivation a)) is = unless_last-leads (AllGo w event) ((spot_at u (place_at station a.channel)).tenure == MAX_TENURE) (activated (place_at station a.channel) u) (activating a.channel (refusal_of_activate (base_of u station) a.channel))
+  by_message (Some (rsl.ChannelActivation a)) is = unless_last_leads (AllGo w event) ((spot_at u (place_at station a.channel)).tenure == MAX_TENURE) (activated (place_at station a.channel) u) (activating a.channel (refusal_of_activate (base_of u station) a.channel))
   by_message (Some (rsl.ImmediateAssignCommand i)) is = by_reading i is (rr_reading i.information) refl
   by_message (Some (rsl.DataRequest d)) is = airing (is_active_at u (place_at station d.channel)) (with_spot (place_at station d.channel) (record (spot_at u (place_at station d.channel)) { air = (spot_at u (place_at station d.channel)).air ++ record { message = d.l3; target = first.target } ∷ [] }) u) refl
   by_message (Some (rsl.EstablishRequest l)) is = quiet _ refl
@@ -177,20 +177,20 @@ pub event_goes : (w : Actors) (event : Event) → is_passing event ≡ true → 
 unfolding event_after FromAir
 event_goes w (events.Upper number sapi message) is = by_mobile-leads (AllGo w (events.Upper number sapi message)) w number (sent_by w sapi message) (λ p found.
     only_if-leads (AllGo w (events.Upper number sapi message)) (may_send p.seat && is_none (refusal_of_send p.end sapi message)) (with_mobile (record p { end = after_queue p.end sapi message }) w)
-    (λ may. one_goes w w (events.Upper number sapi message) number p (record p { end = after_queue p.end sapi message }) found refl refl (stays refl refl (can_send p.seat (and-left (may_send p.seat) (is_none (refusal_of_send p.end sapi message)) may)) (queue_gives p.end sapi message (and-right (may_send p.seat) (is_none (refusal_of_send p.end sapi message)) may)))))
-event_goes w (events.Connect number station initial accepts) is = connect-leads (AllGo w _) w number station initial accepts (λ may. connect_goes w _ _ (connected w.modulus number initial accepts) refl)
-event_goes w (events.AirUp number Three) is = air_up-leads (AllGo w _) w number Three (λ p tenure command frame found seat lent reached. one_goes w _ _ number p (framed p Three) found refl refl (stays refl refl (not_asking seat on_asks) (frame_gives p.end)))
+    (λ may. one_goes w w (events.Upper number sapi message) number p (record p { end = after_queue p.end sapi message }) found refl refl (stays refl refl (can_send p.seat (and_left (may_send p.seat) (is_none (refusal_of_send p.end sapi message)) may)) (queue_gives p.end sapi message (and_right (may_send p.seat) (is_none (refusal_of_send p.end sapi message)) may)))))
+event_goes w (events.Connect number station initial accepts) is = connect_leads (AllGo w _) w number station initial accepts (λ may. connect_goes w _ _ (connected w.modulus number initial accepts) refl)
+event_goes w (events.AirUp number Three) is = air_up_leads (AllGo w _) w number Three (λ p tenure command frame found seat lent reached. one_goes w _ _ number p (framed p Three) found refl refl (stays refl refl (not_asking seat on_asks) (frame_gives p.end)))
 event_goes w (events.AirAck number sapi) is = by_mobile-leads (AllGo w _) w number (λ p. acknowledged w sapi p p.seat) (λ p found. acks_go w (events.AirAck number sapi) number sapi p found)
-event_goes w (events.AirDown number) is = air_down-leads (AllGo w _) w number (λ p tenure command found seat reached first others air. one_goes w _ _ number p (hearing p first) found refl (hearing-number p first) (hears tenure command first others seat air refl))
-event_goes w (events.AirDownLost number) is = air_down_lost-leads (AllGo w _) w number (λ p tenure command found seat reached first others air. one_goes w _ _ number p p found refl refl (same refl))
-event_goes w (events.Move number) is = move-leads (AllGo w _) w number (λ p tenure command found seat reached. one_goes w _ _ number p (record p { end = after_leave p.end; seat = Moving tenure command; opens = false }) found refl refl (moves (moves_where p.seat seat) (inr refl)))
-event_goes w (events.Touch number) is = touch-leads (AllGo w _) w number (λ command reached. all_same w _ _ refl)
-event_goes w (events.Arrive number) is = arrive-leads (AllGo w _) w number (λ p from command found seat reached. one_goes w _ _ number p (record p { end = after_arrival p.end (complete command.change); seat = On command.target None }) found refl refl (moves (moving_where p.seat seat) (inl refl)))
-event_goes w (events.Return number) is = return-leads (AllGo w _) w number (λ p from command found seat reached. one_goes w _ _ number p (record p { end = after_arrival p.end (failure command.change); seat = On from None }) found refl refl (moves (moving_where p.seat seat) (inl refl)))
-event_goes w (events.BaseTakes station) is = base_takes-leads (AllGo w _) w station (λ first others up stood. takes_go w station first others up stood)
-event_goes w (events.BasePush source) is = push-leads (AllGo w _) w source (λ first others. all_same w _ _ refl) (λ message first. all_same w _ _ refl)
-event_goes w events.SwitchTakes is = switch_takes-leads (AllGo w _) w (λ first others up stood. switch_took-leads (AllGo w _) (with_outbox SWITCH_LINK others w) (sccp_in first.out.frame) (all_same w _ _ refl) (λ next made. all_same w _ _ refl))
-event_goes w (events.SwitchDoes action) is = does-leads (AllGo w _) w action (λ next made. all_same w _ _ refl)
-event_goes w (events.BaseDown source) is = broken-leads (AllGo w _) w source (λ up switch. all_same w _ _ refl) (λ up station. all_same w _ _ refl)
+event_goes w (events.AirDown number) is = air_down_leads (AllGo w _) w number (λ p tenure command found seat reached first others air. one_goes w _ _ number p (hearing p first) found refl (hearing-number p first) (hears tenure command first others seat air refl))
+event_goes w (events.AirDownLost number) is = air_down_lost_leads (AllGo w _) w number (λ p tenure command found seat reached first others air. one_goes w _ _ number p p found refl refl (same refl))
+event_goes w (events.Move number) is = move_leads (AllGo w _) w number (λ p tenure command found seat reached. one_goes w _ _ number p (record p { end = after_leave p.end; seat = Moving tenure command; opens = false }) found refl refl (moves (moves_where p.seat seat) (inr refl)))
+event_goes w (events.Touch number) is = touch_leads (AllGo w _) w number (λ command reached. all_same w _ _ refl)
+event_goes w (events.Arrive number) is = arrive_leads (AllGo w _) w number (λ p from command found seat reached. one_goes w _ _ number p (record p { end = after_arrival p.end (complete command.change); seat = On command.target None }) found refl refl (moves (moving_where p.seat seat) (inl refl)))
+event_goes w (events.Return number) is = return_leads (AllGo w _) w number (λ p from command found seat reached. one_goes w _ _ number p (record p { end = after_arrival p.end (failure command.change); seat = On from None }) found refl refl (moves (moving_where p.seat seat) (inl refl)))
+event_goes w (events.BaseTakes station) is = base_takes_leads (AllGo w _) w station (λ first others up stood. takes_go w station first others up stood)
+event_goes w (events.BasePush source) is = push_leads (AllGo w _) w source (λ first others. all_same w _ _ refl) (λ message first. all_same w _ _ refl)
+event_goes w events.SwitchTakes is = switch_takes_leads (AllGo w _) w (λ first others up stood. switch_took-leads (AllGo w _) (with_outbox SWITCH_LINK others w) (sccp_in first.out.frame) (all_same w _ _ refl) (λ next made. all_same w _ _ refl))
+event_goes w (events.SwitchDoes action) is = does_leads (AllGo w _) w action (λ next made. all_same w _ _ refl)
+event_goes w (events.BaseDown source) is = broken_leads (AllGo w _) w source (λ up switch. all_same w _ _ refl) (λ up station. all_same w _ _ refl)
 event_goes w (events.Report number report) is = report-leads (AllGo w _) w number report (λ tenure reached. all_same w _ _ refl)
 event_goes w _ is = absurd cc

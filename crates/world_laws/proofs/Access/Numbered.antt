@@ -8,7 +8,7 @@ use Rattle.world_laws.proofs.Prelude.{access_channel, Controller, Entry, Turn, c
 use Rattle.world_laws.proofs.Prelude.{with_down, all_aged, break_of, by_fitting, concerning, concerning_too, entry_at, expiry, given}
 use Rattle.world_laws.proofs.Prelude.{measured, measures, may_open, on_decision, on_expiry, on_freed, on_report, on_what, on_word, row_in}
 use Rattle.world_laws.proofs.Prelude.{step, timed, rr_text, Decision, Stay, What, Rsl, RequestReference, rsl_text, rsl_in, same_Some}
-use Rattle.world_laws.proofs.Prelude.{NamesOf, told, word_of, rr_reading, AssignsAnother, NamesAnother}
+use Rattle.world_laws.proofs.Prelude.{NamesOf, with_own_input, word_of, rr_reading, AssignsAnother, NamesAnother}
 use Rattle.conn_messages.specs.Out.{out_of}
 use Rattle.controller_model.specs.declared.step.Step.TheVariants.{Tick}
 use Rattle.controller_model.specs.Controller.{has_number}
@@ -20,7 +20,7 @@ use Rattle.rsl_codec.specs.declared.common_channel.ImmediateAssignment.{Immediat
 use Rattle.rsl_codec.specs.declared.rsl.Rsl.TheVariants as rsl
 use Rattle.world_laws.proofs.OrderTexts.{assignment_back, read_of}
 use Rattle.world_laws.proofs.Access.Turning.{own_among}
-use Rattle.world_laws.proofs.OrderNames.{information-in, assignment_read}
+use Rattle.world_laws.proofs.OrderNames.{information_in, assignment_read}
 use Rattle.world_laws.proofs.References.Numbered.{aged_above}
 
 -- ---- each output is of a connection, or no message of a station
@@ -101,7 +101,7 @@ each_from : (f : Controller → Entry → Turn) → ((c : Controller) (e : Entry
 each_from f from c [] all = tt
 each_from f from c (x ∷ xs) all = append_all (f c x).outs (each f (f c x).next xs).outs (from c x (let above = all.0 in omega (arith, above))) (each_from f from (f c x).next xs all.1)
 
-told_from : (input : Input) (c : Controller) (e : Entry) → 1 ≤ e.connection.number → AllByRecursion IsFrom (told input c e).outs
+told_from : (input : Input) (c : Controller) (e : Entry) → 1 ≤ e.connection.number → AllByRecursion IsFrom (with_own_input input c e).outs
 told_from input c e least = from_row (turn [] c) e _ c least tt
 
 timed_from : (c : Controller) (e : Entry) → 1 ≤ e.connection.number → AllByRecursion IsFrom (timed c e).outs
@@ -113,7 +113,7 @@ timed_from c e least = by (expiry c.settings.timers e.connection) where
 item_from : (b : Bool) (source : ℕ) (what : What) (c : Controller) → IsNumbered c → AllByRecursion IsFrom (on_what b source what c).outs
 item_from false source what c numbered = tt
 item_from true source (whats.Frame frame) c numbered = word_from source (word_of source frame) c numbered
-item_from true source whats.Down c numbered = each_from (told (break_of source)) (told_from (break_of source)) (with_down source c) c.entries numbered.above
+item_from true source whats.Down c numbered = each_from (with_own_input (break_of source)) (told_from (break_of source)) (with_down source c) c.entries numbered.above
 
 pub step_from : (c : Controller) (st : Step) → IsNumbered c → AllByRecursion IsFrom (step c st).outs
 unfolding take tick
@@ -135,7 +135,7 @@ all_names (Some t) put names = names
 other_named : (mobile : ℕ) (c : Channel) (request : RequestReference) (station : ℕ) (i : Assignment) (information : List ℕ) → i.information ≡ information → Names c request (Station station (rsl.ImmediateAssignCommand i)) → request.access ≢ mobile → NamesAnother mobile (rr_reading information)
 other_named mobile c request station i information same names differs =
     let read = assignment_read c request names.0 in
-    let is : information ≡ rr_text (immediate_assignment c request names.0) = sym same ∙ ap information-in names.1 in
+    let is : information ≡ rr_text (immediate_assignment c request names.0) = sym same ∙ ap information_in names.1 in
     subst (NamesAnother mobile) (sym (ap rr_reading is ∙ read.reads)) (λ named. differs (sym read.access ∙ named))
 
 -- a connection of this mobile has this number alone

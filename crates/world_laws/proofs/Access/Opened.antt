@@ -2,12 +2,12 @@
 use Rattle.world_laws.proofs.Prelude.{◌≡◌, ◌≢◌, ℕ, ◌≤◌, nat_eq, Bool, true, false, List, [], ◌∷◌, find, Option, Some, None, refl, sym, ap}
 use Rattle.world_laws.proofs.Prelude.{◌∙◌, subst, inl, inr, AllByRecursion, flat_map, eqb-true, eqb-false, Channel, Place, Message}
 use Rattle.world_laws.proofs.Prelude.{SWITCH_LINK, State, Removed, Connection}
-use Rattle.world_laws.proofs.Prelude.{Stands, IsOpen, used_channels, Acts, ActsOn, Brought, kept_in, ages, goes, rests, connection_of}
+use Rattle.world_laws.proofs.Prelude.{IsValid, IsOpen, used_channels, Acts, ActsOn, Brought, kept_in, ages, goes, rests, connection_of}
 use Rattle.world_laws.proofs.Prelude.{aged_holds, pass_stands, life_acts, Step, Take, Controller, Turn, place_of, step, Zero, Item}
 use Rattle.world_laws.proofs.Prelude.{Parameters, Event, Command, On, Tenure, actors_after, actors_after_all, brought, framed, target_in}
 use Rattle.world_laws.proofs.Prelude.{with_turn, all_steps, Actors, Mobile, base_of, has_number, is_reached, mobile_of, new_actors}
-use Rattle.world_laws.proofs.Prelude.{put_back, back-found, back-other, found-number, good-all, good-new, after-taken, air_up-leads}
-use Rattle.world_laws.proofs.Prelude.{handle-leads, turn-leads, LivesByTable-new, hearing-opens, same_Some, life, take, tick, messages_in}
+use Rattle.world_laws.proofs.Prelude.{put_back, back_found, back_other, number_found, good_all, good_new, after_taken, air_up_leads}
+use Rattle.world_laws.proofs.Prelude.{handle_leads, turn_leads, LivesByTable-new, hearing-opens, same_Some, life, take, tick, messages_in}
 use Rattle.world_laws.proofs.Prelude.{read_of, coming_up, awaited_in, HasOpened, initial_by, initials_up, IsAlone, IsElsewhere}
 use Rattle.controller_model.specs.LifeLaws.Acts.Acts.{opens as begins}
 use Rattle.controller_model.specs.declared.step.Step.TheVariants.{Tick}
@@ -22,7 +22,7 @@ use Rattle.world_laws.proofs.Access.Mobiles.Goes.{comes as gets, hears, moves, s
 use Rattle.world_laws.proofs.Access.Passes.{Passes, passes_itself}
 use Rattle.world_laws.proofs.Access.RowChannels.{row_uses}
 use Rattle.world_laws.proofs.Access.Travels.{event_passes, is_passing}
-use Rattle.world_laws.proofs.Access.Upcoming.{initials_apart, initials_later, initials-none, initials_pass}
+use Rattle.world_laws.proofs.Access.Upcoming.{initials_apart, initials_later, initials_none, initials_pass}
 use Rattle.world_laws.proofs.Handling.Finishing.{controller-is}
 
 -- ---- the mobile sent its initial message
@@ -51,7 +51,7 @@ NoneJoins w v = (at : Place) → at.station ≢ SWITCH_LINK → Sub (initials_up
 
 -- what a turn of the controller leaves
 turned : (target : Option Tenure) (t : Turn) (u : Actors) (at : Place) → initials_up (with_turn target t u) at ≡ initials_up u at
-turned target t u at = turn-leads (λ v. initials_up v at ≡ initials_up u at) target t u (λ links. refl)
+turned target t u at = turn_leads (λ v. initials_up v at ≡ initials_up u at) target t u (λ links. refl)
 
 behind_first : (w : Actors) (item : Item) (items : List Item) (at : Place) → w.inbox ≡ item ∷ items → Sub (initials_up (record w { inbox = items }) at) (initials_up w at)
 behind_first w item items at stood =
@@ -66,7 +66,7 @@ module _ (settings : Parameters) (done : List Event) (mobile : ℕ) (s next : Co
   -- ---- which channels it uses then
 
   module _ (P : Channel → Type 0) where
-    next_uses : (number after_all : ℕ) (up : Bool) (brought_it : Brought) (put : List Message) (before after : Option Connection) → Acts number after_all up brought_it before put after → before ≡ Some s → Stands s → after ≡ Some next → IsOpen next.state
+    next_uses : (number after_all : ℕ) (up : Bool) (brought_it : Brought) (put : List Message) (before after : Option Connection) → Acts number after_all up brought_it before put after → before ≡ Some s → IsValid s → after ≡ Some next → IsOpen next.state
         → AllByRecursion P (used_channels s) → AllByRecursion P (awaited_in next.state) → AllByRecursion P (used_channels next)
     next_uses number after_all up brought_it put before after (rests silent is none) was stands now stays_open all new = subst (λ (x : Connection). AllByRecursion P (used_channels x)) (same_Some _ _ (sym was ∙ sym is ∙ now)) all
     next_uses number after_all up brought_it put before after (ages old s2 by_time is aged silent is2) was stands now stays_open all new =
@@ -75,7 +75,7 @@ module _ (settings : Parameters) (done : List Event) (mobile : ℕ) (s next : Co
     next_uses number after_all up brought_it put before after (goes old s1 input offer r is aged by fits put_is is2) was stands now stays_open all new =
         let same_old : s ≡ old = same_Some _ _ (sym was ∙ is) in
         let own : AllByRecursion P (used_channels s1) = aged_holds (λ (x : Connection). AllByRecursion P (used_channels x)) (λ ms x holds. holds) old s1 aged (subst (λ (x : Connection). AllByRecursion P (used_channels x)) same_old all) in
-        let stands1 : Stands s1 = aged_holds Stands (λ ms x holds. pass_stands ms x holds) old s1 aged (subst Stands same_old stands) in
+        let stands1 : IsValid s1 = aged_holds IsValid (λ ms x holds. pass_stands ms x holds) old s1 aged (subst IsValid same_old stands) in
         let next_is : r.next ≡ next = kept_is r.next.state r.next (sym is2 ∙ now) in
         subst (λ (x : Connection). AllByRecursion P (used_channels x)) next_is
         (row_uses P s1 input offer r stands1 fits (subst (λ (x : Connection). IsOpen x.state) (sym next_is) stays_open) own (subst (λ (x : Connection). AllByRecursion P (awaited_in x.state)) (sym next_is) new)) where
@@ -105,7 +105,7 @@ module _ (settings : Parameters) (done : List Event) (mobile : ℕ) (s next : Co
 
   awaited_none : (v : Actors) (cs : List Channel) → AllByRecursion (λ c. messages_in (coming_up v (place_of c)) ≡ []) cs → AllByRecursion (λ c. initials_up v (place_of c) ≡ []) cs
   awaited_none v [] all = tt
-  awaited_none v (c ∷ cs) all = (initials-none v (place_of c) all.0, awaited_none v cs all.1)
+  awaited_none v (c ∷ cs) all = (initials_none v (place_of c) all.0, awaited_none v cs all.1)
 
   -- of a mobile that sent its initial message
   sent_none : (number : ℕ) (p : Mobile) (tenure : Tenure) (command : Option Command) (frame : List ℕ) (one : Mobile) → mobile_of world number ≡ Some p → p.seat ≡ On tenure command → is_reached world tenure ≡ true → mobile_of world mobile ≡ Some one → one.opens ≡ false → IsAlone world mobile s
@@ -115,7 +115,7 @@ module _ (settings : Parameters) (done : List Event) (mobile : ℕ) (s next : Co
     v = brought world p tenure.at Zero frame
 
     q_number : (record (framed p Zero) { opens = false }).number ≡ number
-    q_number = found-number number world.mobiles p acts
+    q_number = number_found number world.mobiles p acts
 
     own : p.opens ≡ false → (cs : List Channel) → NoneJoin world v cs
     own is [] = tt
@@ -132,14 +132,14 @@ module _ (settings : Parameters) (done : List Event) (mobile : ℕ) (s next : Co
           own (ap (λ (x : Mobile). x.opens) p_is ∙ sent) (used_channels s),
           record {
             one = record (framed p Zero) { opens = false };
-            found = ap (λ (n : ℕ). find (has_number n) (put_back (record (framed p Zero) { opens = false }) world.mobiles)) (sym is ∙ sym q_number) ∙ back-found (record (framed p Zero) { opens = false }) world.mobiles p (ap (λ (n : ℕ). find (has_number n) world.mobiles) q_number ∙ acts);
+            found = ap (λ (n : ℕ). find (has_number n) (put_back (record (framed p Zero) { opens = false }) world.mobiles)) (sym is ∙ sym q_number) ∙ back_found (record (framed p Zero) { opens = false }) world.mobiles p (ap (λ (n : ℕ). find (has_number n) world.mobiles) q_number ∙ acts);
             sent = refl;
           },
         )
     by false miss =
         let differs : number ≢ mobile = eqb-false number mobile miss in (
           elsewhere (used_channels s) (alone number p tenure command differs acts sits reached) placed,
-          record { one = one; found = back-other (record (framed p Zero) { opens = false }) world.mobiles mobile (λ is. differs (sym q_number ∙ is)) ∙ found; sent = sent },
+          record { one = one; found = back_other (record (framed p Zero) { opens = false }) world.mobiles mobile (λ is. differs (sym q_number ∙ is)) ∙ found; sent = sent },
         )
 
   opened_of : (v : Actors) (one : Mobile) → mobile_of v mobile ≡ Some one → HasSent v mobile → AllByRecursion (λ c. initials_up v (place_of c) ≡ []) (used_channels next) → HasOpened v one next
@@ -154,8 +154,8 @@ module _ (settings : Parameters) (done : List Event) (mobile : ℕ) (s next : Co
       → HasSent (actors_after world event) mobile × AllByRecursion (λ c. initials_up (actors_after world event) (place_of c) ≡ []) (used_channels next)
   passing_opened event passing one found sent there now placed none =
       let v : Actors = actors_after world event in
-      let passes : Passes world v = after-taken (Passes world) (event_after world event) world (event_passes world event passing (good-all (new_actors settings) done (good-new settings))) (passes_itself world) in
-      let all : AllGo world event v = after-taken (AllGo world event) (event_after world event) world (event_goes world event passing) (all_same world event world refl) in
+      let passes : Passes world v = after_taken (Passes world) (event_after world event) world (event_passes world event passing (good_all (new_actors settings) done (good_new settings))) (passes_itself world) in
+      let all : AllGo world event v = after_taken (AllGo world event) (event_after world event) world (event_goes world event passing) (all_same world event world refl) in
       let each = all.each mobile one found in
       let is : s ≡ next = as_it_was v passes.controller there now in (
         record { one = each.0; found = each.1; sent = goes_sent sent each.2 },
@@ -170,7 +170,7 @@ module _ (settings : Parameters) (done : List Event) (mobile : ℕ) (s next : Co
   unfolding event_after
   sent_opened number one found sent there alone placed none =
       let still : Opens world = λ now. (record { one = one; found = found; sent = sent }, subst (λ (x : Connection). AllByRecursion (λ c. initials_up world (place_of c) ≡ []) (used_channels x)) (as_it_was world refl there now) none) in
-      after-taken Opens (event_after world (events.AirUp number Zero)) world (air_up-leads Opens world number Zero (λ p tenure command frame acts sits lent reached. λ now.
+      after_taken Opens (event_after world (events.AirUp number Zero)) world (air_up_leads Opens world number Zero (λ p tenure command frame acts sits lent reached. λ now.
       let v : Actors = brought world p tenure.at Zero frame in
       let both = sent_none number p tenure command frame one acts sits reached found sent alone placed in
       (both.1, subst (λ (x : Connection). AllByRecursion (λ c. initials_up v (place_of c) ≡ []) (used_channels x)) (as_it_was v refl there now) (fewer v (used_channels s) both.0 none)))) still
@@ -192,7 +192,7 @@ module _ (settings : Parameters) (done : List Event) (mobile : ℕ) (s next : Co
   unfolding event_after
   handle_opened one found sent there from_one none placed =
       let still : Handles world = λ new now stays_open. (record { one = one; found = found; sent = sent }, subst (λ (x : Connection). AllByRecursion (λ c. initials_up world (place_of c) ≡ []) (used_channels x)) (as_it_was world refl there now) none) in
-      after-taken Handles (event_after world events.Handle) world (handle-leads Handles world (λ item items stood. λ new now stays_open.
+      after_taken Handles (event_after world events.Handle) world (handle_leads Handles world (λ item items stood. λ new now stays_open.
       let target : Option Tenure = target_in world item.source item.what in
       let t : Turn = take item world.controller in
       let u : Actors = record world { inbox = items } in

@@ -7,18 +7,18 @@ use Rattle.world_laws.proofs.Prelude.{Sccp, Channel, Place, SWITCH_LINK, place_o
 use Rattle.world_laws.proofs.Prelude.{Rsl, rsl_reading, rsl_text, AirMessage, OutboxEntry, after_base_push, pushed_by_station}
 use Rattle.world_laws.proofs.Prelude.{pushed_by_switch, station_item, switch_item, with_item, Actors, Link, Mobile, Spot, base_of}
 use Rattle.world_laws.proofs.Prelude.{broken_link, link_of, no_station, outbox_of, spot_at, station_of, with_base, with_link, with_outbox}
-use Rattle.world_laws.proofs.Prelude.{with_spot, Good, end-of, base-elsewhere, base-with_spot, AllByRecursion-append, ne_eqb, Result}
+use Rattle.world_laws.proofs.Prelude.{with_spot, Good, end_of, base-elsewhere, base_with_spot, AllByRecursion-append, ne_eqb, Result}
 use Rattle.world_laws.proofs.Prelude.{messages_in, messages_up, read_of, brings, going_down, leading_from_air, leading_from_outbox}
 use Rattle.world_model.specs.World.{Station}
 use Rattle.world_model.proofs.Leads.{OfTaken}
-use Rattle.world_laws.proofs.Quiet.{down-with_base}
+use Rattle.world_laws.proofs.Quiet.{down_with_base}
 use Rattle.world_laws.proofs.Sublists.{Sub, set_related, sub_append, sub_flat_map, sub_front, sub_itself, sub_trans}
 use Rattle.world_laws.proofs.Sublists.Sub.{drops}
 use Rattle.world_laws.proofs.BesideRelay.{first_read}
 use Rattle.world_laws.proofs.StationTakes.{spot_related, LeadsLess}
 use Rattle.world_laws.proofs.Targets.Calm.{first_and_behind}
 use Rattle.world_laws.proofs.Acknowledged.{of_other}
-use Rattle.world_laws.proofs.Projecting.{base-pushed}
+use Rattle.world_laws.proofs.Projecting.{base_pushed}
 
 -- ---- what passes
 
@@ -72,7 +72,7 @@ passes_told u station base more plain told = record {
         (sub_append (sub_itself (flat_map (read_of n) u.inbox))
         (set_related (λ (a b : Station). Sub a.base.messages (b.base.messages ++ more)) (λ x. sub_front x.base.messages more) u.stations no_station (station - 1) (n - 1) (record (station_of u station) { base = base }) told)),
   );
-  downs = λ c is. subst (λ (xs : List AirMessage). Sub xs (going_down u (place_of c))) (sym (down-with_base u station base (place_of c))) (sub_itself (going_down u (place_of c)));
+  downs = λ c is. subst (λ (xs : List AirMessage). Sub xs (going_down u (place_of c))) (sym (down_with_base u station base (place_of c))) (sub_itself (going_down u (place_of c)));
   entries = λ n. sub_itself (outbox_of u n);
   controller = refl;
 }
@@ -80,7 +80,7 @@ passes_told u station base more plain told = record {
 -- ---- a channel changes, where no more leads anywhere
 
 pub ups_spot : (u : Actors) (at : Place) (spot : Spot) (n : ℕ) → messages_up (with_spot at spot u) n ≡ messages_up u n
-ups_spot u at spot n = ap (λ (b : BaseState). flat_map (read_of n) u.inbox ++ b.messages) (base-with_spot at spot u n)
+ups_spot u at spot n = ap (λ (b : BaseState). flat_map (read_of n) u.inbox ++ b.messages) (base_with_spot at spot u n)
 
 pub passes_spot : (u : Actors) (at : Place) (spot : Spot) → LeadsLess spot (spot_at u at) → Passes u (with_spot at spot u)
 passes_spot u at spot less = record {
@@ -139,7 +139,7 @@ pushed_same w source n message n_is source_is first read =
         | inl here ↦
             ap (λ (xs : List Rsl). xs ++ (base_of v n).messages) (item ∙ ap (λ (b : Bool). cond b (message ∷ []) []) here)
             ∙ ap (λ (k : ℕ). message ∷ (base_of v k).messages) (sym (eqb-true source n here))
-            ∙ ap (λ (b : BaseState). message ∷ b.messages) (base-pushed w source message first)
+            ∙ ap (λ (b : BaseState). message ∷ b.messages) (base_pushed w source message first)
             ∙ sym (first_and_behind (base_of w source).messages message first)
             ∙ ap (λ (k : ℕ). (base_of w k).messages) (eqb-true source n here)
         | inr other ↦
@@ -150,7 +150,7 @@ pushed_same w source n message n_is source_is first read =
 passes_pushed : (w : Actors) (source : ℕ) (message : Rsl) → source ≢ SWITCH_LINK → first_message (base_of w source) ≡ Some message → rsl_reading (rsl_text message) ≡ Ok message → Passes w (with_item (station_item source message) (with_base source (after_next (base_of w source)) w))
 passes_pushed w source message source_is first read = record {
   ups = λ n is. ([], tt, sub_more (subst (λ (xs : List Rsl). Sub xs (messages_up w n)) (sym (pushed_same w source n message is source_is first read)) (sub_itself (messages_up w n))));
-  downs = λ c is. subst (λ (xs : List AirMessage). Sub xs (going_down w (place_of c))) (sym (down-with_base w source (after_next (base_of w source)) (place_of c))) (sub_itself (going_down w (place_of c)));
+  downs = λ c is. subst (λ (xs : List AirMessage). Sub xs (going_down w (place_of c))) (sym (down_with_base w source (after_next (base_of w source)) (place_of c))) (sub_itself (going_down w (place_of c)));
   entries = λ n. sub_itself (outbox_of w n);
   controller = refl;
 }
@@ -164,7 +164,7 @@ push_passes w source good = by_source (nat_eq source SWITCH_LINK) refl where
 
   of_station : source ≢ SWITCH_LINK → (o : Option Rsl) → first_message (base_of w source) ≡ o → OfTaken (Passes w) (pushed_by_station source o w)
   of_station is None first = tt
-  of_station is (Some message) first = passes_pushed w source message is first (first_read (base_of w source).messages message (end-of w source good).made first)
+  of_station is (Some message) first = passes_pushed w source message is first (first_read (base_of w source).messages message (end_of w source good).made first)
 
   by_source : (b : Bool) → nat_eq source SWITCH_LINK ≡ b → OfTaken (Passes w) (if b then pushed_by_switch w.switch_made w else pushed_by_station source (first_message (base_of w source)) w)
   by_source true is = of_switch w.switch_made

@@ -3,8 +3,8 @@
 use Rattle.world_laws.proofs.Prelude.{◌≡◌, ℕ, ◌+◌, Bool, true, false, List, [], ◌∷◌, ◌++◌, refl, sym, ap, ◌∙◌, append_assoc, arith}
 use Rattle.world_laws.proofs.Prelude.{WaitConfirm, WaitEstablish, to_be_taken, DataLinkState, Alive, remains, controls_in, controls_of}
 use Rattle.world_laws.proofs.Prelude.{flow, fresh, messages_in, on_serving, assembled}
-use Rattle.world_laws.specs.LineUp.Alive.{Stands}
-use Rattle.world_laws.specs.LineUp.Alive.Stands.{rests}
+use Rattle.world_laws.specs.LineUp.Alive.{ChangePhase}
+use Rattle.world_laws.specs.LineUp.Alive.ChangePhase.{rests}
 use Rattle.world_laws.specs.LineUp.Places.{Item, Tenure}
 use Rattle.world_laws.specs.LineUp.Places.Item.{brought}
 use Rattle.world_laws.proofs.LineUp.Following.{follows_line}
@@ -15,7 +15,7 @@ abbrev pub of_items : List Item → Bool → Tenure
 of_items items lost = record { hold = []; items = items; is_lost = lost; is_done = false }
 
 -- nothing changes, and nothing of radio resource management is left behind the initial message
-stands_bare : {serving link : ℕ} → serving + link ≡ 0 → Stands false false 0 on_serving serving 0 0 link
+stands_bare : {serving link : ℕ} → serving + link ≡ 0 → ChangePhase false false 0 on_serving serving 0 0 link
 stands_bare left = rests remains (omega (arith, left))
 
 pub requests_alive : {m : ℕ} (sent : List (List ℕ)) (link : DataLinkState) (initial : List ℕ) (items : List Item) (lost : Bool) → controls_in items + controls_of (to_be_taken link) ≡ 0

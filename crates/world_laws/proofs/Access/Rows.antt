@@ -4,6 +4,7 @@ use Rattle.world_laws.proofs.Prelude.{place_at, usual_settings, Zero, Three, Emp
 use Rattle.world_laws.proofs.Prelude.{BasePush, BaseTakes, Connect, Handle, Upper, connected, station_item, Actors, Mobile, World}
 use Rattle.world_laws.proofs.Prelude.{mobile_of, new_actors, new_world, after_all, is_release, messages_in, coming_up, initial_by}
 use Rattle.world_laws.proofs.Prelude.{initials_up, BeginsOnce, IsNew, behind_first, data_by, data_up, IsEarlyIn}
+use Rattle.octets.proofs.Hex.{hex}
 use Rattle.dtap_codec.specs.RrReading.{cause_at, rr_reading, typed_at}
 use Rattle.dtap_codec.specs.RrType.{rr_type}
 use Rattle.octets.specs.Front.{octet_at}
@@ -13,17 +14,17 @@ use Rattle.world_laws.specs.Access.Coming.BeginsOnce.{began, to_begin}
 use Rattle.world_laws.proofs.Usual.{paging_response, service_request}
 
 -- CHANNEL RELEASE with a cause
-a_release : is_release (rr_reading (0x06 ∷ 0x0d ∷ 0x00 ∷ [])) ≡ true
+a_release : is_release (rr_reading (hex "06 0d 00")) ≡ true
 unfolding rr_reading typed_at rr_type cause_at octet_at
 a_release = refl
 
 -- without one it is none
-a_short_one : is_release (rr_reading (0x06 ∷ 0x0d ∷ [])) ≡ false
+a_short_one : is_release (rr_reading (hex "06 0d")) ≡ false
 unfolding rr_reading typed_at rr_type cause_at octet_at
 a_short_one = refl
 
 -- a text of call control
-a_text : is_release (rr_reading (0x03 ∷ 0x0d ∷ 0x00 ∷ [])) ≡ false
+a_text : is_release (rr_reading (hex "03 0d 00")) ≡ false
 unfolding rr_reading typed_at rr_type cause_at octet_at
 a_text = refl
 
@@ -52,10 +53,10 @@ begins_with_it = record { opens = refl; goes_on = record { now = over 0; anew = 
 abbrev with_two : List ℕ → List ℕ → Mobile
 with_two first second = record called { end = record called.end { zero = record { waiting = first ∷ second ∷ []; air = Empty } } }
 
-begins_and_goes_on : IsNew 4 (with_two paging_response (0x09 ∷ 0x01 ∷ []))
+begins_and_goes_on : IsNew 4 (with_two paging_response (hex "09 01"))
 begins_and_goes_on = record { opens = refl; goes_on = record { now = over 0; anew = over 0 }; no_control = refl }
 
-begins_with_another : IsNew 4 (with_two (0x09 ∷ 0x01 ∷ []) paging_response) → ⊥
+begins_with_another : IsNew 4 (with_two (hex "09 01") paging_response) → ⊥
 begins_with_another new = let none = new.no_control in cc
 
 begins_with_two : IsNew 4 (with_two paging_response paging_response) → ⊥

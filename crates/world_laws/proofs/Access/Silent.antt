@@ -10,8 +10,8 @@ use Rattle.world_laws.specs.LineUp.Places.Item.{brought}
 use Rattle.ruled_relay.specs.declared.item.What.TheVariants as whats
 use Rattle.rsl_codec.specs.declared.radio_link.Data.{Data}
 use Rattle.rsl_codec.specs.declared.rsl.Rsl.TheVariants as rsl
-use Rattle.world_laws.proofs.OrderHeard.{read_known, word-known}
-use Rattle.world_laws.proofs.OwnFrame.{control-or}
+use Rattle.world_laws.proofs.OrderHeard.{read_known, word_known}
+use Rattle.world_laws.proofs.OwnFrame.{control_or}
 
 pub data FirstBrings (at : Place) (source : ℕ) (frame : Frame) (xs : List Item) : Type 0 where
   brings_none : xs ≡ [] → FirstBrings at source frame xs
@@ -54,7 +54,7 @@ data_first at source frame xs d station read word is = by (nat_eq d.channel at.n
       ∙ ap (λ (o : Option Sapi). of_sapi (place_at source d.channel) o (λ s. inputs.Dtap (place_at source d.channel) s d.l3)) link
       ∙ ap (λ (p : Place). OnChannel p (inputs.Dtap p Zero d.l3)) (same_place at source d.channel station number)) station
   by_kind false other link number items =
-      control d.l3 d (control-or d.l3 ∙ ap not other) read station
+      control d.l3 d (control_or d.l3 ∙ ap not other) read station
       (ap (λ (b : Bool). cond b (messages_in (of_main (sapi_of d.link) d.l3)) []) number ∙ ap (λ (o : Option Sapi). messages_in (of_main o d.l3)) link)
 
   by_link : (sapi : Option Sapi) → sapi_of d.link ≡ sapi → (d.channel == at.number) ≡ true → xs ≡ of_main sapi d.l3 → FirstBrings at source frame xs
@@ -84,7 +84,7 @@ first_brings at source m at_is reads = by (nat_eq source at.station) refl where
   by false miss = brings_none (ap (λ (b : Bool). if b then brings_if at.number (rsl_in (frame_of m)) else []) miss)
   by true hit =
       let station : source ≡ at.station = eqb-true source at.station hit in
-      message_first at source (frame_of m) (brings_by at source (whats.Frame (frame_of m))) m station (read_known m reads) (word-known source m (λ is. at_is (sym station ∙ is)) reads)
+      message_first at source (frame_of m) (brings_by at source (whats.Frame (frame_of m))) m station (read_known m reads) (word_known source m (λ is. at_is (sym station ∙ is)) reads)
       (ap (λ (b : Bool). if b then brings_if at.number (rsl_in (frame_of m)) else []) hit ∙ ap (brings_if at.number) (read_known m reads))
 
 -- ---- what is against it

@@ -8,10 +8,10 @@ use Rattle.world_laws.proofs.Prelude.{MAIN_LINK_SAPI_3, SACCH_SAPI_3, Rsl, Event
 use Rattle.world_laws.proofs.Prelude.{connected, handover_detection, measurement_result, short_message_brought, with_item, accepts}
 use Rattle.world_laws.proofs.Prelude.{activated, activated_unless, answered, link_answer, mobile_on, new_tenure, rsl_in, took, sccp_in}
 use Rattle.world_laws.proofs.Prelude.{Actors, Mobile, Spot, base_of, broken_link, is_active_at, is_station_up, outbox_of, spot_at}
-use Rattle.world_laws.proofs.Prelude.{tenure_at, with_base, with_link, with_outbox, with_spot, Good, air_ack-leads, air_down-leads}
-use Rattle.world_laws.proofs.Prelude.{air_down_lost-leads, air_up-leads, arrive-leads, assigned-leads, base_takes-leads, broken-leads}
-use Rattle.world_laws.proofs.Prelude.{connect-leads, does-leads, move-leads, report-leads, return-leads, switch_takes-leads}
-use Rattle.world_laws.proofs.Prelude.{switch_took-leads, touch-leads, unless_last-leads, upper-leads, spot-with_base, rr_reading}
+use Rattle.world_laws.proofs.Prelude.{tenure_at, with_base, with_link, with_outbox, with_spot, Good, air_ack_leads, air_down_leads}
+use Rattle.world_laws.proofs.Prelude.{air_down_lost_leads, air_up_leads, arrive_leads, assigned-leads, base_takes_leads, broken_leads}
+use Rattle.world_laws.proofs.Prelude.{connect_leads, does_leads, move_leads, report-leads, return_leads, switch_takes_leads}
+use Rattle.world_laws.proofs.Prelude.{switch_took-leads, touch_leads, unless_last_leads, upper_leads, spot_with_base, rr_reading}
 use Rattle.world_laws.proofs.Prelude.{messages_in, of_main, leading, leading_by, leading_from_air, leading_from_outbox, messages_up}
 use Rattle.world_laws.specs.LineUp.Places.{Item as Brought}
 use Rattle.ruled_relay.specs.declared.item.What.TheVariants as whats
@@ -51,7 +51,7 @@ plain_released channel other = by (channel == other) where
 -- a frame of SAPI 3
 passes_short_message : (w : Actors) (at : Place) (up : Bool) (frame : List ℕ) → Passes w (with_spot at (record (spot_at w at) { sapi_three_up = true }) (with_base at.station (short_message_brought (base_of w at.station) at.number up frame) w))
 passes_short_message w at up frame = passes_then (telling up) (passes_spot (with_base at.station (short_message_brought base at.number up frame) w) at (record (spot_at w at) { sapi_three_up = true })
-    (subst (λ (x : Spot). Sub (flat_map leading_from_air (spot_at w at).air) (flat_map leading_from_air x.air)) (sym (spot-with_base at.station (short_message_brought base at.number up frame) w at)) (sub_itself (flat_map leading_from_air (spot_at w at).air)))) where
+    (subst (λ (x : Spot). Sub (flat_map leading_from_air (spot_at w at).air) (flat_map leading_from_air x.air)) (sym (spot_with_base at.station (short_message_brought base at.number up frame) w at)) (sub_itself (flat_map leading_from_air (spot_at w at).air)))) where
       base : BaseState
       base = base_of w at.station
 
@@ -120,7 +120,7 @@ takes_passes w station first others up stood = by_message (rsl_in first.out.fram
   airing channel message leads false = taken
 
   by_message : (o : Option Rsl) → rsl_in first.out.frame ≡ o → OfTaken (Passes w) (took station first.target o u)
-  by_message (Some (rsl.ChannelActivation a)) is = unless_last-leads (Passes w) ((spot_at u (place_at station a.channel)).tenure == MAX_TENURE) (activated (place_at station a.channel) u) (activating a.channel (refusal_of_activate (base_of u station) a.channel) refl)
+  by_message (Some (rsl.ChannelActivation a)) is = unless_last_leads (Passes w) ((spot_at u (place_at station a.channel)).tenure == MAX_TENURE) (activated (place_at station a.channel) u) (activating a.channel (refusal_of_activate (base_of u station) a.channel) refl)
   by_message (Some (rsl.ImmediateAssignCommand i)) is = assigned-leads (Passes w) station u (rr_reading i.information) taken (λ q number channel acts asking. passes_mobiles _ taken)
   by_message (Some (rsl.DataRequest d)) is = airing d.channel d.l3
       (λ n same. ap (leading_by n first.target) is ∙ ap (λ (b : Bool). cond b (leading d.l3 first.target) []) same) (is_active_at u (place_at station d.channel))
@@ -152,22 +152,22 @@ heard_passes w mobiles at first others is =
 
 pub event_passes : (w : Actors) (event : Event) → is_passing event ≡ true → Good w → OfTaken (Passes w) (event_after w event)
 unfolding event_after FromAir
-event_passes w (events.Upper number sapi message) is good = upper-leads (Passes w) w number sapi message (λ p found. passes_mobiles _ (passes_itself w))
-event_passes w (events.Connect number station initial accepts) is good = connect-leads (Passes w) w number station initial accepts (λ may. passes_then (passes_mobiles (w.mobiles ++ connected w.modulus number initial accepts ∷ []) (passes_itself w)) (passes_tell (record w { mobiles = w.mobiles ++ connected w.modulus number initial accepts ∷ [] }) station (channel_required number) (λ other. refl)))
-event_passes w (events.AirUp number Three) is good = air_up-leads (Passes w) w number Three (λ p tenure command frame found seat lent reached. passes_mobiles _ (passes_short_message w tenure.at (spot_at w tenure.at).sapi_three_up frame))
-event_passes w (events.AirAck number sapi) is good = air_ack-leads (Passes w) w number sapi (λ p found. passes_mobiles _ (passes_itself w))
-event_passes w (events.AirDown number) is good = air_down-leads (Passes w) w number (λ p tenure command found seat reached first others air. heard_passes w _ tenure.at first others air)
-event_passes w (events.AirDownLost number) is good = air_down_lost-leads (Passes w) w number (λ p tenure command found seat reached first others air. heard_passes w _ tenure.at first others air)
-event_passes w (events.Move number) is good = move-leads (Passes w) w number (λ p tenure command found seat reached. passes_mobiles _ (passes_spot w tenure.at (record (spot_at w tenure.at) { air = []; sapi_three_up = false }) (sub_none _)))
-event_passes w (events.Touch number) is good = touch-leads (Passes w) w number (λ command reached. passes_tell w command.target.at.station (handover_detection command.target.at.number) (λ other. refl))
-event_passes w (events.Arrive number) is good = arrive-leads (Passes w) w number (λ p from command found seat reached. passes_mobiles _ (passes_tell w command.target.at.station (establish_indication command.target.at.number Zero None) (plain_established command.target.at.number Zero)))
-event_passes w (events.Return number) is good = return-leads (Passes w) w number (λ p from command found seat reached. passes_mobiles _ (passes_tell w from.at.station (establish_indication from.at.number Zero None) (plain_established from.at.number Zero)))
-event_passes w (events.BaseTakes station) is good = base_takes-leads (Passes w) w station (λ first others up stood. takes_passes w station first others up stood)
+event_passes w (events.Upper number sapi message) is good = upper_leads (Passes w) w number sapi message (λ p found. passes_mobiles _ (passes_itself w))
+event_passes w (events.Connect number station initial accepts) is good = connect_leads (Passes w) w number station initial accepts (λ may. passes_then (passes_mobiles (w.mobiles ++ connected w.modulus number initial accepts ∷ []) (passes_itself w)) (passes_tell (record w { mobiles = w.mobiles ++ connected w.modulus number initial accepts ∷ [] }) station (channel_required number) (λ other. refl)))
+event_passes w (events.AirUp number Three) is good = air_up_leads (Passes w) w number Three (λ p tenure command frame found seat lent reached. passes_mobiles _ (passes_short_message w tenure.at (spot_at w tenure.at).sapi_three_up frame))
+event_passes w (events.AirAck number sapi) is good = air_ack_leads (Passes w) w number sapi (λ p found. passes_mobiles _ (passes_itself w))
+event_passes w (events.AirDown number) is good = air_down_leads (Passes w) w number (λ p tenure command found seat reached first others air. heard_passes w _ tenure.at first others air)
+event_passes w (events.AirDownLost number) is good = air_down_lost_leads (Passes w) w number (λ p tenure command found seat reached first others air. heard_passes w _ tenure.at first others air)
+event_passes w (events.Move number) is good = move_leads (Passes w) w number (λ p tenure command found seat reached. passes_mobiles _ (passes_spot w tenure.at (record (spot_at w tenure.at) { air = []; sapi_three_up = false }) (sub_none _)))
+event_passes w (events.Touch number) is good = touch_leads (Passes w) w number (λ command reached. passes_tell w command.target.at.station (handover_detection command.target.at.number) (λ other. refl))
+event_passes w (events.Arrive number) is good = arrive_leads (Passes w) w number (λ p from command found seat reached. passes_mobiles _ (passes_tell w command.target.at.station (establish_indication command.target.at.number Zero None) (plain_established command.target.at.number Zero)))
+event_passes w (events.Return number) is good = return_leads (Passes w) w number (λ p from command found seat reached. passes_mobiles _ (passes_tell w from.at.station (establish_indication from.at.number Zero None) (plain_established from.at.number Zero)))
+event_passes w (events.BaseTakes station) is good = base_takes_leads (Passes w) w station (λ first others up stood. takes_passes w station first others up stood)
 event_passes w (events.BasePush source) is good = push_passes w source good
-event_passes w events.SwitchTakes is good = switch_takes-leads (Passes w) w (λ first others up stood.
+event_passes w events.SwitchTakes is good = switch_takes_leads (Passes w) w (λ first others up stood.
     switch_took-leads (Passes w) (with_outbox SWITCH_LINK others w) (sccp_in first.out.frame) (passes_first w SWITCH_LINK first others stood) (λ next made. passes_switch next made (passes_first w SWITCH_LINK first others stood)))
-event_passes w (events.SwitchDoes action) is good = does-leads (Passes w) w action (λ next made. passes_switch next made (passes_itself w))
-event_passes w (events.BaseDown source) is good = broken-leads (Passes w) w source
+event_passes w (events.SwitchDoes action) is good = does_leads (Passes w) w action (λ next made. passes_switch next made (passes_itself w))
+event_passes w (events.BaseDown source) is good = broken_leads (Passes w) w source
     (λ up switch. passes_then (passes_switch w.switch [] (passes_link w source broken_link (sub_none _))) (passes_item (record (with_link source broken_link w) { switch_made = [] }) (record { source = source; what = whats.Down }) (λ n is. refl)))
     (λ up station. passes_broken w source)
 event_passes w (events.Report number report) is good = report-leads (Passes w) w number report (λ tenure reached.

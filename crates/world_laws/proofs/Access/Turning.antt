@@ -6,12 +6,12 @@ use Rattle.world_laws.proofs.Prelude.{Connection, outs_for, IsSent, Forwarded, p
 use Rattle.world_laws.proofs.Prelude.{ImmediateAssignment, RrFault, Sapi, Zero, Three, rr_text, Rsl, RequestReference, rsl_text, Tenure}
 use Rattle.world_laws.proofs.Prelude.{to_link, joined_by, rsl_in, Actors, is_up, outbox_of, with_outbox, all_join, AllByRecursion-append}
 use Rattle.world_laws.proofs.Prelude.{Result, is_same_sapi, rr_reading, PCH_AND_AGCH, going_down, leading_by, leading_from_outbox}
-use Rattle.world_laws.proofs.Prelude.{AreAssigned, Assigns, AssignsBy, AssignsIn, AssignsAnother, NamesAnother, entry-out}
+use Rattle.world_laws.proofs.Prelude.{AreAssigned, Assigns, AssignsBy, AssignsIn, AssignsAnother, NamesAnother, entry_out}
 use Rattle.conn_messages.specs.Out.{out_of}
 use Rattle.rsl_codec.specs.declared.common_channel.ImmediateAssignment.{ImmediateAssignment as Assignment}
 use Rattle.rsl_codec.specs.declared.rsl.Rsl.TheVariants as rsl
 use Rattle.world_model.specs.Relay.{entry_of}
-use Rattle.world_laws.proofs.Others.{down-joined}
+use Rattle.world_laws.proofs.Others.{down_joined}
 use Rattle.world_laws.proofs.OrderTexts.{assignment_apart, assignment_back, read_of}
 use Rattle.world_laws.proofs.OrderNames.{assignment_read}
 
@@ -53,7 +53,7 @@ pub all_down : (target : Option Tenure) (c : Channel) (outs : List Out) (u : Act
 all_down target c [] u all = refl
 all_down target c (out ∷ outs) u all = all_down target c outs (joined_by target u out) all.1 ∙ by (is_up u out.to) where
   by : (b : Bool) → going_down (if b then with_outbox out.to (outbox_of u out.to ++ entry_of target out ∷ []) u else u) (place_of c) ≡ going_down u (place_of c)
-  by true = down-joined u target out c all.0
+  by true = down_joined u target out c all.0
   by false = refl
 
 linked : (mobile : ℕ) (next : Connection) (target : Option Tenure) (n : ℕ) (outs : List Out) → AllByRecursion (λ out. AssignsBy mobile next out.to (rsl_in out.frame)) outs → AllByRecursion (AssignsIn mobile next n) (to_link n (map (entry_of target) outs))
@@ -62,7 +62,7 @@ linked mobile next target n (out ∷ outs) all = by (nat_eq (entry_of target out
   by : (b : Bool) → nat_eq (entry_of target out).out.to n ≡ b → AllByRecursion (AssignsIn mobile next n) (to_link n (map (entry_of target) outs)) → AllByRecursion (AssignsIn mobile next n) (cond b (entry_of target out ∷ to_link n (map (entry_of target) outs)) (to_link n (map (entry_of target) outs)))
   by false miss others = others
   by true hit others =
-      (subst (λ (o : Out). AssignsBy mobile next n (rsl_in o.frame)) (sym (entry-out target out)) (subst (λ (k : ℕ). AssignsBy mobile next k (rsl_in out.frame)) (ap (λ (o : Out). o.to) (sym (entry-out target out)) ∙ eqb-true (entry_of target out).out.to n hit) all.0), others)
+      (subst (λ (o : Out). AssignsBy mobile next n (rsl_in o.frame)) (sym (entry_out target out)) (subst (λ (k : ℕ). AssignsBy mobile next k (rsl_in out.frame)) (ap (λ (o : Out). o.to) (sym (entry_out target out)) ∙ eqb-true (entry_of target out).out.to n hit) all.0), others)
 
 pub assigned_turn : (mobile : ℕ) (next : Connection) (target : Option Tenure) (outs : List Out) (u : Actors) → AreAssigned u mobile next → AllByRecursion (λ out. AssignsBy mobile next out.to (rsl_in out.frame)) outs → AreAssigned (fold (joined_by target) u outs) mobile next
 assigned_turn mobile next target outs u assigned all station =

@@ -4,16 +4,16 @@ use Rattle.world_laws.proofs.Prelude.{◌++◌, length, Some, refl, sym, ap, ◌
 use Rattle.world_laws.proofs.Prelude.{length-append, AllByRecursion, flat_map, eqb-false, flat_map-append, append-nil, Channel, Place}
 use Rattle.world_laws.proofs.Prelude.{SWITCH_LINK, is_at, place_of, sapi_of, Zero, BaseState, data_indication, establish_indication}
 use Rattle.world_laws.proofs.Prelude.{Rsl, Tenure, brought, signalling_brought, Actors, Mobile, base_of, is_reached}
-use Rattle.world_laws.proofs.Prelude.{no_station, station_of, base-elsewhere, reached-up, up-right, controls_in, controls_of, messages_in}
+use Rattle.world_laws.proofs.Prelude.{no_station, station_of, base-elsewhere, reached_up, up_right, controls_in, controls_of, messages_in}
 use Rattle.world_laws.proofs.Prelude.{released, messages_up, read_of, brings, coming_up, of_establishment, of_main, initial_by, initials_up}
 use Rattle.world_laws.proofs.Prelude.{data_by, data_up}
-use Rattle.world_laws.proofs.LineUp.Lines.{controls-append, messages_in-append}
+use Rattle.world_laws.proofs.LineUp.Lines.{controls_append, messages_in-append}
 use Rattle.rsl_codec.specs.declared.rsl.Rsl.TheVariants as rsl
 use Rattle.world_model.specs.World.{Station}
 use Rattle.world_laws.proofs.Sublists.{Sub, set_related, sub_append, sub_flat_map, sub_front, sub_itself, sub_length, sub_none, sub_nothing}
 use Rattle.world_laws.proofs.Access.Behind.{controls_sub}
 use Rattle.world_laws.proofs.Access.Passes.{IsPlain, Passes}
-use Rattle.world_laws.proofs.Acknowledged.{coming-read}
+use Rattle.world_laws.proofs.Acknowledged.{coming_read}
 
 -- ---- what comes of a channel is what a station's messages bring
 
@@ -26,8 +26,8 @@ all_messages : (channel : ℕ) (ms : List Rsl) → messages_in (flat_map (brings
 all_messages channel [] = refl
 all_messages channel (m ∷ ms) = messages_in-append (brings channel m) (flat_map (brings channel) ms) ∙ ap (λ (xs : List (List ℕ)). messages_in (brings channel m) ++ xs) (all_messages channel ms)
 
-pub messages-read : (w : Actors) (at : Place) → messages_in (coming_up w at) ≡ flat_map (messages_by at.number) (messages_up w at.station)
-messages-read w at = ap messages_in (coming-read w at) ∙ all_messages at.number (messages_up w at.station)
+pub messages_read : (w : Actors) (at : Place) → messages_in (coming_up w at) ≡ flat_map (messages_by at.number) (messages_up w at.station)
+messages_read w at = ap messages_in (coming_read w at) ∙ all_messages at.number (messages_up w at.station)
 
 -- an initial message is one of them
 initial_or : (channel : ℕ) (m : Rsl) → Sub (initial_by channel m) (messages_by channel m)
@@ -56,45 +56,45 @@ all_part : (f : ℕ → Rsl → List (List ℕ)) → IsPart f → (channel : ℕ
 all_part f part channel [] = sub_none []
 all_part f part channel (m ∷ ms) = sub_append (part channel m) (all_part f part channel ms)
 
-part-none : (f : ℕ → Rsl → List (List ℕ)) → IsPart f → (w : Actors) (at : Place) → messages_in (coming_up w at) ≡ [] → part_up f w at ≡ []
-part-none f part w at none = sub_nothing (subst (Sub (part_up f w at)) (sym (messages-read w at) ∙ none) (all_part f part at.number (messages_up w at.station)))
+part_none : (f : ℕ → Rsl → List (List ℕ)) → IsPart f → (w : Actors) (at : Place) → messages_in (coming_up w at) ≡ [] → part_up f w at ≡ []
+part_none f part w at none = sub_nothing (subst (Sub (part_up f w at)) (sym (messages_read w at) ∙ none) (all_part f part at.number (messages_up w at.station)))
 
-pub initials-none : (w : Actors) (at : Place) → messages_in (coming_up w at) ≡ [] → initials_up w at ≡ []
-initials-none w at none = part-none initial_by initial_or w at none
+pub initials_none : (w : Actors) (at : Place) → messages_in (coming_up w at) ≡ [] → initials_up w at ≡ []
+initials_none w at none = part_none initial_by initial_or w at none
 
-pub data-none : (w : Actors) (at : Place) → messages_in (coming_up w at) ≡ [] → data_up w at ≡ []
-data-none w at none = part-none data_by data_or w at none
+pub data_none : (w : Actors) (at : Place) → messages_in (coming_up w at) ≡ [] → data_up w at ≡ []
+data_none w at none = part_none data_by data_or w at none
 
 -- ---- those of radio resource management
 
 -- each is an initial message, or a DATA INDICATION brings it
-controls-of-one : (channel : ℕ) (m : Rsl) → controls_of (messages_by channel m) ≡ controls_of (initial_by channel m) + controls_of (data_by channel m)
-controls-of-one channel (rsl.EstablishIndication e) = by (e.channel == channel) where
+controls_of_one : (channel : ℕ) (m : Rsl) → controls_of (messages_by channel m) ≡ controls_of (initial_by channel m) + controls_of (data_by channel m)
+controls_of_one channel (rsl.EstablishIndication e) = by (e.channel == channel) where
   by : (b : Bool) → controls_of (messages_in (if b then of_establishment (sapi_of e.link) e.l3 else [])) ≡ controls_of (if b then messages_in (of_establishment (sapi_of e.link) e.l3) else []) + 0
   by true = omega arith
   by false = refl
-controls-of-one channel (rsl.DataIndication d) = by (d.channel == channel) where
+controls_of_one channel (rsl.DataIndication d) = by (d.channel == channel) where
   by : (b : Bool) → controls_of (messages_in (if b then of_main (sapi_of d.link) d.l3 else [])) ≡ 0 + controls_of (if b then messages_in (of_main (sapi_of d.link) d.l3) else [])
   by true = omega arith
   by false = refl
-controls-of-one channel (rsl.RfChannelReleaseAck number) = by (number == channel) where
+controls_of_one channel (rsl.RfChannelReleaseAck number) = by (number == channel) where
   by : (b : Bool) → controls_of (messages_in (if b then released ∷ [] else [])) ≡ 0
   by true = refl
   by false = refl
-controls-of-one channel m = refl
+controls_of_one channel m = refl
 
-controls-of-all : (channel : ℕ) (ms : List Rsl) → controls_of (flat_map (messages_by channel) ms) ≡ controls_of (flat_map (initial_by channel) ms) + controls_of (flat_map (data_by channel) ms)
-controls-of-all channel [] = refl
-controls-of-all channel (m ∷ ms) =
-    let one = controls-of-one channel m in
-    let others = controls-of-all channel ms in
-    let a = controls-append (messages_by channel m) (flat_map (messages_by channel) ms) in
-    let b = controls-append (initial_by channel m) (flat_map (initial_by channel) ms) in
-    let c = controls-append (data_by channel m) (flat_map (data_by channel) ms) in
+controls_of_all : (channel : ℕ) (ms : List Rsl) → controls_of (flat_map (messages_by channel) ms) ≡ controls_of (flat_map (initial_by channel) ms) + controls_of (flat_map (data_by channel) ms)
+controls_of_all channel [] = refl
+controls_of_all channel (m ∷ ms) =
+    let one = controls_of_one channel m in
+    let others = controls_of_all channel ms in
+    let a = controls_append (messages_by channel m) (flat_map (messages_by channel) ms) in
+    let b = controls_append (initial_by channel m) (flat_map (initial_by channel) ms) in
+    let c = controls_append (data_by channel m) (flat_map (data_by channel) ms) in
     omega (arith, one, others, a, b, c)
 
-pub controls-up : (w : Actors) (at : Place) → controls_in (coming_up w at) ≡ controls_of (initials_up w at) + controls_of (data_up w at)
-controls-up w at = ap controls_of (messages-read w at) ∙ controls-of-all at.number (messages_up w at.station)
+pub controls_up : (w : Actors) (at : Place) → controls_in (coming_up w at) ≡ controls_of (initials_up w at) + controls_of (data_up w at)
+controls_up w at = ap controls_of (messages_read w at) ∙ controls_of_all at.number (messages_up w at.station)
 
 -- ---- where something passes
 
@@ -105,9 +105,9 @@ none_plain channel (m ∷ ms) all = ap (λ (xs : List (List ℕ)). xs ++ flat_ma
 pub messages_pass : {w v : Actors} (at : Place) → at.station ≢ SWITCH_LINK → Passes w v → Sub (messages_in (coming_up v at)) (messages_in (coming_up w at))
 messages_pass {w} {v} at is passes =
     let a = passes.ups at.station is in
-    subst (λ (xs : List (List ℕ)). Sub xs (messages_in (coming_up w at))) (sym (messages-read v at))
+    subst (λ (xs : List (List ℕ)). Sub xs (messages_in (coming_up w at))) (sym (messages_read v at))
     (subst (Sub (flat_map (messages_by at.number) (messages_up v at.station)))
-    (flat_map-append (messages_by at.number) (messages_up w at.station) a.0 ∙ ap (λ (xs : List (List ℕ)). flat_map (messages_by at.number) (messages_up w at.station) ++ xs) (none_plain at.number a.0 a.1) ∙ append-nil (flat_map (messages_by at.number) (messages_up w at.station)) ∙ sym (messages-read w at))
+    (flat_map-append (messages_by at.number) (messages_up w at.station) a.0 ∙ ap (λ (xs : List (List ℕ)). flat_map (messages_by at.number) (messages_up w at.station) ++ xs) (none_plain at.number a.0 a.1) ∙ append-nil (flat_map (messages_by at.number) (messages_up w at.station)) ∙ sym (messages_read w at))
     (sub_flat_map (messages_by at.number) a.2))
 
 pub none_passes : {w v : Actors} (at : Place) → at.station ≢ SWITCH_LINK → Passes w v → messages_in (coming_up w at) ≡ [] → messages_in (coming_up v at) ≡ []
@@ -146,8 +146,8 @@ sent_ups w p tenure frame n =
     (set_related (λ (a b : Station). Sub a.base.messages (b.base.messages ++ told_of p tenure.at.number frame ∷ [])) (λ x. sub_front x.base.messages (told_of p tenure.at.number frame ∷ [])) w.stations no_station (tenure.at.station - 1) (n - 1) (record (station_of w tenure.at.station) { base = signalling_brought (base_of w tenure.at.station) tenure.at.number p.opens frame })
     (subst (λ (xs : List Rsl). Sub xs ((base_of w tenure.at.station).messages ++ told_of p tenure.at.number frame ∷ [])) (sym (told_base (base_of w tenure.at.station) tenure.at.number frame p.opens)) (sub_itself ((base_of w tenure.at.station).messages ++ told_of p tenure.at.number frame ∷ [])))))
 
-initial-apart : (p : Mobile) (channel other : ℕ) (frame : List ℕ) → (channel == other) ≡ false → initial_by other (told_of p channel frame) ≡ []
-initial-apart p channel other frame apart = by p.opens where
+initial_apart : (p : Mobile) (channel other : ℕ) (frame : List ℕ) → (channel == other) ≡ false → initial_by other (told_of p channel frame) ≡ []
+initial_apart p channel other frame apart = by p.opens where
   by : (b : Bool) → initial_by other (if b then establish_indication channel Zero (Some frame) else data_indication channel Zero frame) ≡ []
   by true = ap (λ (b : Bool). cond b (frame ∷ []) []) apart
   by false = refl
@@ -163,18 +163,18 @@ initial_few p channel other frame = by p.opens (channel == other) refl where
   by false c is = omega arith
 
 -- of a mobile that sent its initial message
-initial-later : (p : Mobile) (channel other : ℕ) (frame : List ℕ) → p.opens ≡ false → initial_by other (told_of p channel frame) ≡ []
-initial-later p channel other frame sent = ap (λ (b : Bool). initial_by other (if b then establish_indication channel Zero (Some frame) else data_indication channel Zero frame)) sent
+initial_later : (p : Mobile) (channel other : ℕ) (frame : List ℕ) → p.opens ≡ false → initial_by other (told_of p channel frame) ≡ []
+initial_later p channel other frame sent = ap (λ (b : Bool). initial_by other (if b then establish_indication channel Zero (Some frame) else data_indication channel Zero frame)) sent
 
-data-apart-one : (p : Mobile) (channel other : ℕ) (frame : List ℕ) → (channel == other) ≡ false → data_by other (told_of p channel frame) ≡ []
-data-apart-one p channel other frame apart = by p.opens where
+data_apart_one : (p : Mobile) (channel other : ℕ) (frame : List ℕ) → (channel == other) ≡ false → data_by other (told_of p channel frame) ≡ []
+data_apart_one p channel other frame apart = by p.opens where
   by : (b : Bool) → data_by other (if b then establish_indication channel Zero (Some frame) else data_indication channel Zero frame) ≡ []
   by true = refl
   by false = ap (λ (b : Bool). cond b (frame ∷ []) []) apart
 
 -- of a mobile that is still to send it
-data-opening : (p : Mobile) (channel other : ℕ) (frame : List ℕ) → p.opens ≡ true → data_by other (told_of p channel frame) ≡ []
-data-opening p channel other frame opens = ap (λ (b : Bool). data_by other (if b then establish_indication channel Zero (Some frame) else data_indication channel Zero frame)) opens
+data_opening : (p : Mobile) (channel other : ℕ) (frame : List ℕ) → p.opens ≡ true → data_by other (told_of p channel frame) ≡ []
+data_opening p channel other frame opens = ap (λ (b : Bool). data_by other (if b then establish_indication channel Zero (Some frame) else data_indication channel Zero frame)) opens
 
 data_few : (p : Mobile) (channel other : ℕ) (frame : List ℕ) → controls_of (data_by other (told_of p channel frame)) ≤ controls_of (frame ∷ [])
 data_few p channel other frame = by p.opens where
@@ -201,14 +201,14 @@ part_apart f w p tenure frame c reached c_is apart brings_none = by_both (nat_eq
       (sub_flat_map (f c.number) (sent_ups w p tenure frame c.station))
   by_both false miss =
       subst (λ (b : BaseState). Sub (flat_map (f c.number) (flat_map (read_of c.station) w.inbox ++ b.messages)) (part_up f w (place_of c)))
-      (sym (base-elsewhere w c.station tenure.at.station (signalling_brought (base_of w tenure.at.station) tenure.at.number p.opens frame) c_is (up-right tenure.at.station w (reached-up w tenure reached).0).0 (λ is. eqb-false tenure.at.station c.station miss (sym is))))
+      (sym (base-elsewhere w c.station tenure.at.station (signalling_brought (base_of w tenure.at.station) tenure.at.number p.opens frame) c_is (up_right tenure.at.station w (reached_up w tenure reached).0).0 (λ is. eqb-false tenure.at.station c.station miss (sym is))))
       (sub_itself (part_up f w (place_of c)))
 
 pub initials_apart : (w : Actors) (p : Mobile) (tenure : Tenure) (frame : List ℕ) (c : Channel) → is_reached w tenure ≡ true → c.station ≢ SWITCH_LINK → is_at tenure.at c ≡ false → Sub (initials_up (brought w p tenure.at Zero frame) (place_of c)) (initials_up w (place_of c))
-initials_apart w p tenure frame c reached c_is apart = part_apart initial_by w p tenure frame c reached c_is apart (initial-apart p tenure.at.number c.number frame)
+initials_apart w p tenure frame c reached c_is apart = part_apart initial_by w p tenure frame c reached c_is apart (initial_apart p tenure.at.number c.number frame)
 
 pub data_apart : (w : Actors) (p : Mobile) (tenure : Tenure) (frame : List ℕ) (c : Channel) → is_reached w tenure ≡ true → c.station ≢ SWITCH_LINK → is_at tenure.at c ≡ false → Sub (data_up (brought w p tenure.at Zero frame) (place_of c)) (data_up w (place_of c))
-data_apart w p tenure frame c reached c_is apart = part_apart data_by w p tenure frame c reached c_is apart (data-apart-one p tenure.at.number c.number frame)
+data_apart w p tenure frame c reached c_is apart = part_apart data_by w p tenure frame c reached c_is apart (data_apart_one p tenure.at.number c.number frame)
 
 -- one more at most, where the mobile sent none
 pub initials_more : (w : Actors) (p : Mobile) (tenure : Tenure) (frame : List ℕ) (at : Place) → length (initials_up (brought w p tenure.at Zero frame) at) ≤ length (initials_up w at) + 1
@@ -224,7 +224,7 @@ initials_more w p tenure frame at =
 pub initials_later : (w : Actors) (p : Mobile) (tenure : Tenure) (frame : List ℕ) (at : Place) → p.opens ≡ false → Sub (initials_up (brought w p tenure.at Zero frame) at) (initials_up w at)
 initials_later w p tenure frame at sent =
     subst (Sub (initials_up (brought w p tenure.at Zero frame) at))
-    (flat_map-append (initial_by at.number) (messages_up w at.station) (told_of p tenure.at.number frame ∷ []) ∙ ap (λ (xs : List (List ℕ)). initials_up w at ++ (xs ++ [])) (initial-later p tenure.at.number at.number frame sent) ∙ append-nil (initials_up w at))
+    (flat_map-append (initial_by at.number) (messages_up w at.station) (told_of p tenure.at.number frame ∷ []) ∙ ap (λ (xs : List (List ℕ)). initials_up w at ++ (xs ++ [])) (initial_later p tenure.at.number at.number frame sent) ∙ append-nil (initials_up w at))
     (sub_flat_map (initial_by at.number) (sent_ups w p tenure frame at.station))
 
 -- ---- what it brings that isn't initial
@@ -236,13 +236,13 @@ data_sent w p tenure frame at =
 -- an initial message joins no others
 pub data_first : (w : Actors) (p : Mobile) (tenure : Tenure) (frame : List ℕ) (at : Place) → p.opens ≡ true → Sub (data_up (brought w p tenure.at Zero frame) at) (data_up w at)
 data_first w p tenure frame at opens =
-    subst (Sub (data_up (brought w p tenure.at Zero frame) at)) (ap (λ (xs : List (List ℕ)). data_up w at ++ (xs ++ [])) (data-opening p tenure.at.number at.number frame opens) ∙ append-nil (data_up w at)) (data_sent w p tenure frame at)
+    subst (Sub (data_up (brought w p tenure.at Zero frame) at)) (ap (λ (xs : List (List ℕ)). data_up w at ++ (xs ++ [])) (data_opening p tenure.at.number at.number frame opens) ∙ append-nil (data_up w at)) (data_sent w p tenure frame at)
 
 -- another message joins them
 pub data_later : (w : Actors) (p : Mobile) (tenure : Tenure) (frame : List ℕ) (at : Place) → controls_of (data_up (brought w p tenure.at Zero frame) at) ≤ controls_of (data_up w at) + controls_of (frame ∷ [])
 data_later w p tenure frame at =
     let all = controls_sub (data_sent w p tenure frame at) in
-    let sum = controls-append (data_up w at) (data_by at.number (told_of p tenure.at.number frame) ++ []) in
+    let sum = controls_append (data_up w at) (data_by at.number (told_of p tenure.at.number frame) ++ []) in
     let last = ap controls_of (append-nil (data_by at.number (told_of p tenure.at.number frame))) in
     let few = data_few p tenure.at.number at.number frame in
     omega (arith, all, sum, last, few)

@@ -4,7 +4,7 @@ use Rattle.world_laws.proofs.Prelude.{◌≡◌, ◌≢◌, ℕ, ◌≤◌, Bool
 use Rattle.world_laws.proofs.Prelude.{Place, Connection, roles_of, IsOpen, connection_of, Owns, OwnsOpen, AreUsed}
 use Rattle.world_laws.proofs.Prelude.{life_owns, life_ready, life_uses, Ready, Free, Controller, channel_state, hears, place_at}
 use Rattle.world_laws.proofs.Prelude.{AreAllowed, Parameters, Event, Tenure, actors_after, actors_after_all, owner_in, all_steps, Actors}
-use Rattle.world_laws.proofs.Prelude.{new_actors, LivesByTable-new, Right, right-step, right-new, CameInOctets}
+use Rattle.world_laws.proofs.Prelude.{new_actors, LivesByTable-new, Right, right_step, right_new, TookOctets}
 use Rattle.world_model.proofs.OwnerRuns.{ServesThrough}
 use Rattle.world_laws.proofs.OwnerRun.{life-settings, serves_through, within_settings, not_zero}
 use Rattle.world_laws.proofs.Events.{world}
@@ -14,12 +14,12 @@ use Rattle.world_laws.proofs.Events.{world}
 right_all : (settings : Parameters) (owner : Tenure → ℕ) (w : Actors) (events : List Event) → ServesThrough settings owner w events → Right settings owner w events → Right settings owner (actors_after_all w events) []
 unfolding ServesThrough
 right_all settings owner w [] serves right = right
-right_all settings owner w (event ∷ events) serves right = right_all settings owner (actors_after w event) events serves.1 (right-step settings owner w event events (serves.0 right.agree) right)
+right_all settings owner w (event ∷ events) serves right = right_all settings owner (actors_after w event) events serves.1 (right_step settings owner w event events (serves.0 right.agree) right)
 
 -- After any events each channel of each station agrees with the ownership of the run.
-pub agreed : (settings : Parameters) (events : List Event) → AreAllowed settings → CameInOctets settings events → Right settings (owner_in (new_actors settings) events) (world settings events) []
+pub agreed : (settings : Parameters) (events : List Event) → AreAllowed settings → TookOctets settings events → Right settings (owner_in (new_actors settings) events) (world settings events) []
 agreed settings events allowed octets =
-    right_all settings (owner_in (new_actors settings) events) (new_actors settings) events (serves_through settings (owner_in (new_actors settings) events) [] events (new_actors settings) refl allowed tt octets) (right-new settings events)
+    right_all settings (owner_in (new_actors settings) events) (new_actors settings) events (serves_through settings (owner_in (new_actors settings) events) [] events (new_actors settings) refl allowed tt octets) (right_new settings events)
 
 -- ---- the controller of the world
 

@@ -1,10 +1,10 @@
 -- Which channels a row begins: those whose ACTIVATION ACK the input is.
 use Rattle.world_laws.proofs.Prelude.{◌≡◌, ◌⊎◌, ℕ, Bool, true, false, ◌&&◌, not, if◌then◌else◌, List, [], ◌∷◌, Option, Some, None, refl}
 use Rattle.world_laws.proofs.Prelude.{sym, ap, ◌∙◌, subst, inl, inr, cases_Bool, AllByRecursion, Channel, Place, Input, Changing, State}
-use Rattle.world_laws.proofs.Prelude.{WaitActivation, Live, Closed, Removed, Target, Connection, drain_at, is_at, ChangesRoles, GoesOn}
+use Rattle.world_laws.proofs.Prelude.{WaitActivation, Live, Closed, Removed, Target, Connection, drain_at, is_at, ChangesRoles, RemainsOpen}
 use Rattle.world_laws.proofs.Prelude.{Roles, TargetRole, after_step, awaits_at, changes_by, commanded, is_target_at, leaves_at, roles_of}
 use Rattle.world_laws.proofs.Prelude.{step_by, target_channels, target_role, with_target, goes_on, ends, had_ended, stays, commands}
-use Rattle.world_laws.proofs.Prelude.{completes, goes_back, Stands, Row, IsOpen, on_activation_ack, on_activation_nack}
+use Rattle.world_laws.proofs.Prelude.{completes, goes_back, IsValid, Row, IsOpen, on_activation_ack, on_activation_nack}
 use Rattle.world_laws.proofs.Prelude.{on_establish_indication, on_establish_confirm, on_release_indication, on_error_indication}
 use Rattle.world_laws.proofs.Prelude.{on_connection_failure, on_dtap, on_complete, on_failure, on_release_ack, on_move, on_confirm}
 use Rattle.world_laws.proofs.Prelude.{on_refused, on_released, on_downlink, on_assignment_request, on_cipher_mode_command, on_clear_command}
@@ -139,31 +139,31 @@ first_row s (inputs.StationDown station) offer = on_station_down WaitActivation 
 first_row s inputs.SwitchDown offer = on_switch_down WaitActivation s
 first_row s _ offer = None
 
-row-first : (s : Connection) (input : Input) (offer : Option Channel) → s.state ≡ WaitActivation → row_of s input offer ≡ first_row s input offer
+row_first : (s : Connection) (input : Input) (offer : Option Channel) → s.state ≡ WaitActivation → row_of s input offer ≡ first_row s input offer
 unfolding row_of first_row
-row-first s (inputs.ActivationAck at) offer is = ap (λ (state : State). on_activation_ack state s at) is
-row-first s (inputs.ActivationNack at) offer is = ap (λ (state : State). on_activation_nack state s at offer) is
-row-first s (inputs.EstablishIndication at sapi message) offer is = ap (λ (state : State). on_establish_indication state s at sapi message) is
-row-first s (inputs.EstablishConfirm at sapi) offer is = ap (λ (state : State). on_establish_confirm state s at sapi) is
-row-first s (inputs.ReleaseIndication at sapi) offer is = ap (λ (state : State). on_release_indication state s at sapi) is
-row-first s (inputs.ErrorIndication at sapi) offer is = ap (λ (state : State). on_error_indication state s at sapi) is
-row-first s (inputs.ConnectionFailure at) offer is = ap (λ (state : State). on_connection_failure state s at) is
-row-first s (inputs.Dtap at sapi message) offer is = ap (λ (state : State). on_dtap state s at sapi message) is
-row-first s (inputs.Complete at change cause) offer is = ap (λ (state : State). on_complete state s at change cause.0 offer) is
-row-first s (inputs.Failure at change cause) offer is = ap (λ (state : State). on_failure state s at change cause.0 offer) is
-row-first s (inputs.ReleaseAck at) offer is = ap (λ (state : State). on_release_ack state s at offer) is
-row-first s inputs.Move offer is = ap (λ (state : State). on_move state s offer) is
-row-first s (inputs.ConnectionConfirm source) offer is = ap (λ (state : State). on_confirm state s source) is
-row-first s inputs.ConnectionRefused offer is = ap (λ (state : State). on_refused state s) is
-row-first s (inputs.Released source) offer is = ap (λ (state : State). on_released state s source) is
-row-first s (inputs.Downlink sapi message) offer is = ap (λ (state : State). on_downlink state s sapi message) is
-row-first s (inputs.AssignmentRequest is_speech) offer is = ap (λ (state : State). on_assignment_request state s is_speech offer) is
-row-first s inputs.CipherModeCommand offer is = ap (λ (state : State). on_cipher_mode_command state s) is
-row-first s inputs.ClearCommand offer is = ap (λ (state : State). on_clear_command state s) is
-row-first s inputs.Expiry offer is = ap (λ (state : State). on_expiry state s) is
-row-first s inputs.DrainExpiry offer is = ap (λ (state : State). on_drain_expiry state s) is
-row-first s (inputs.StationDown station) offer is = ap (λ (state : State). on_station_down state s station) is
-row-first s inputs.SwitchDown offer is = ap (λ (state : State). on_switch_down state s) is
+row_first s (inputs.ActivationAck at) offer is = ap (λ (state : State). on_activation_ack state s at) is
+row_first s (inputs.ActivationNack at) offer is = ap (λ (state : State). on_activation_nack state s at offer) is
+row_first s (inputs.EstablishIndication at sapi message) offer is = ap (λ (state : State). on_establish_indication state s at sapi message) is
+row_first s (inputs.EstablishConfirm at sapi) offer is = ap (λ (state : State). on_establish_confirm state s at sapi) is
+row_first s (inputs.ReleaseIndication at sapi) offer is = ap (λ (state : State). on_release_indication state s at sapi) is
+row_first s (inputs.ErrorIndication at sapi) offer is = ap (λ (state : State). on_error_indication state s at sapi) is
+row_first s (inputs.ConnectionFailure at) offer is = ap (λ (state : State). on_connection_failure state s at) is
+row_first s (inputs.Dtap at sapi message) offer is = ap (λ (state : State). on_dtap state s at sapi message) is
+row_first s (inputs.Complete at change cause) offer is = ap (λ (state : State). on_complete state s at change cause.0 offer) is
+row_first s (inputs.Failure at change cause) offer is = ap (λ (state : State). on_failure state s at change cause.0 offer) is
+row_first s (inputs.ReleaseAck at) offer is = ap (λ (state : State). on_release_ack state s at offer) is
+row_first s inputs.Move offer is = ap (λ (state : State). on_move state s offer) is
+row_first s (inputs.ConnectionConfirm source) offer is = ap (λ (state : State). on_confirm state s source) is
+row_first s inputs.ConnectionRefused offer is = ap (λ (state : State). on_refused state s) is
+row_first s (inputs.Released source) offer is = ap (λ (state : State). on_released state s source) is
+row_first s (inputs.Downlink sapi message) offer is = ap (λ (state : State). on_downlink state s sapi message) is
+row_first s (inputs.AssignmentRequest is_speech) offer is = ap (λ (state : State). on_assignment_request state s is_speech offer) is
+row_first s inputs.CipherModeCommand offer is = ap (λ (state : State). on_cipher_mode_command state s) is
+row_first s inputs.ClearCommand offer is = ap (λ (state : State). on_clear_command state s) is
+row_first s inputs.Expiry offer is = ap (λ (state : State). on_expiry state s) is
+row_first s inputs.DrainExpiry offer is = ap (λ (state : State). on_drain_expiry state s) is
+row_first s (inputs.StationDown station) offer is = ap (λ (state : State). on_station_down state s station) is
+row_first s inputs.SwitchDown offer is = ap (λ (state : State). on_switch_down state s) is
 
 first_by : (Q P : Channel → Type 0) (s : Connection) (input : Input) (offer : Option Channel) (r : Row) → first_row s input offer ≡ Some r → IsOpen r.next.state → IsAckOf input Q P → Q s.serving → P s.serving
 unfolding first_row
@@ -181,13 +181,13 @@ unfolding IsFirst
 first_or WaitActivation = inl refl
 first_or _ = inr (λ first. first)
 
-pub row_begun : (Q P : Channel → Type 0) (s : Connection) (input : Input) (offer : Option Channel) (r : Row) → Stands s → row_of s input offer ≡ Some r → IsAckOf input Q P → (IsOpen s.state → AllByRecursion Q (s.serving ∷ target_channels (target_role s.state))) → AllByRecursion P (begun_in s.state s.serving) → AllByRecursion P (begun_in r.next.state r.next.serving)
+pub row_begun : (Q P : Channel → Type 0) (s : Connection) (input : Input) (offer : Option Channel) (r : Row) → IsValid s → row_of s input offer ≡ Some r → IsAckOf input Q P → (IsOpen s.state → AllByRecursion Q (s.serving ∷ target_channels (target_role s.state))) → AllByRecursion P (begun_in s.state s.serving) → AllByRecursion P (begun_in r.next.state r.next.serving)
 unfolding commanded_of
 row_begun Q P s input offer r stands fits acks used begun = by (changes_of s input offer r stands fits) where
   before : IsOpen s.state → IsOpen r.next.state → Begins P (roles_of s)
   before opened still = elim (first_or s.state) [
     | inl first ↦ record {
-      serving = first_by Q P s input offer r (sym (row-first s input offer first) ∙ fits) still acks (used opened).0;
+      serving = first_by Q P s input offer r (sym (row_first s input offer first) ∙ fits) still acks (used opened).0;
       target = subst (λ (state : State). AllByRecursion P (commanded_of (target_role state))) (sym first) tt;
     }
     | inr later ↦
@@ -195,7 +195,7 @@ row_begun Q P s input offer r stands fits acks used begun = by (changes_of s inp
         record { serving = both.0; target = both.1 }
   ]
 
-  after : IsOpen s.state → IsOpen r.next.state → GoesOn (step_by input (roles_of s)) (roles_of s) s.down input offer r → Begins P (roles_of r.next)
+  after : IsOpen s.state → IsOpen r.next.state → RemainsOpen (step_by input (roles_of s)) (roles_of s) s.down input offer r → Begins P (roles_of r.next)
   after opened still on = subst (Begins P) (sym on.roles) (with_begins P on.begun (after_step (step_by input (roles_of s)) (roles_of s)) (step_begins Q P input (roles_of s) acks (used opened).1 (before opened still)))
 
   by : ChangesRoles s input offer r → AllByRecursion P (begun_in r.next.state r.next.serving)

@@ -3,15 +3,15 @@
 use Rattle.world_laws.proofs.Prelude.{◌≡◌, ◌≢◌, ℕ, ◌≤◌, true, unwrap_or, List, [], ◌∷◌, ◌++◌, length, Option, Some, None, refl, sym, ap}
 use Rattle.world_laws.proofs.Prelude.{◌∙◌, subst, AllByRecursion, Channel, Place, Message, SWITCH_LINK, Input, State}
 use Rattle.world_laws.proofs.Prelude.{WaitEstablish, WaitConfirm, Live, Removed, Connection, new_connection, target_channels}
-use Rattle.world_laws.proofs.Prelude.{target_role, Stands, IsOpen, Acts, ActsOn, IsBrought, brought_in, kept_in, rests, ages, opens, goes}
-use Rattle.world_laws.proofs.Prelude.{connection_of, ComesInOctets, aged_holds, pass_stands, life_acts, Free, InUse, Step, Controller}
+use Rattle.world_laws.proofs.Prelude.{target_role, IsValid, IsOpen, Acts, ActsOn, IsBrought, brought_in, kept_in, rests, ages, opens, goes}
+use Rattle.world_laws.proofs.Prelude.{connection_of, IsOctetStep, aged_holds, pass_stands, life_acts, Free, InUse, Step, Controller}
 use Rattle.world_laws.proofs.Prelude.{channel_state, hears, place_at, place_of, step, Item, Rsl, AreAllowed, Parameters, Event, BaseTakes}
 use Rattle.world_laws.proofs.Prelude.{Handle, Tenure, actors_after, actors_after_all, AllAgree, acknowledged_in, is_in_use, to_come}
 use Rattle.world_laws.proofs.Prelude.{owner_in, acknowledgements, due, handled, target_in, with_turn, all_steps, step_at, Actors, base_of}
-use Rattle.world_laws.proofs.Prelude.{is_active_at, is_station_up, is_up, new_actors, outbox_of, up-right, LivesByTable-new, Rests}
-use Rattle.world_laws.proofs.Prelude.{beside-rests, IsKnownItem, known-inbox, Right, handle-turned, heard_of, kinds, there-of}
-use Rattle.world_laws.proofs.Prelude.{tick-turned, beside-step, Serves, Turned, Both-empty, place-is, same_Some, kept-controller, take}
-use Rattle.world_laws.proofs.Prelude.{takes-rests, is_beside, CameInOctets, IsHad, commanded_target, IsRequested, AreActiveAt}
+use Rattle.world_laws.proofs.Prelude.{is_active_at, is_station_up, is_up, new_actors, outbox_of, up_right, LivesByTable-new, Rests}
+use Rattle.world_laws.proofs.Prelude.{beside_rests, IsKnownItem, known_inbox, Right, handle_turned, heard_of, kinds, there_of}
+use Rattle.world_laws.proofs.Prelude.{tick-turned, beside_step, Serves, Turned, both_empty, place-is, same_Some, kept_controller, take}
+use Rattle.world_laws.proofs.Prelude.{takes_rests, is_beside, TookOctets, IsHad, commanded_target, IsRequested, AreActiveAt}
 use Rattle.world_laws.proofs.Prelude.{commanded_channels}
 use Rattle.conn_rules.specs.declared.input.Input.TheVariants as inputs
 use Rattle.controller_model.specs.declared.step.Step.TheVariants as steps
@@ -125,7 +125,7 @@ module _ (settings : Parameters) (done : List Event) (event : Event) (v : Actors
   by_acts begun number x put from_one there (goes old y input offer r before aged brought fits put_is after) =
       let is : r.next ≡ x = kept_some r.next.state r.next x (sym after ∙ ap (λ (d : Controller). connection_of d number) (sym next_is) ∙ there) in
       finish number x there (subst (λ (z : Connection). AllByRecursion (Silent number) (begun_in z.state z.serving)) is
-      (row_begun (InUseAt c number) (Silent number) y input offer r (aged_holds Stands pass_stands old y aged (connections_stand_new settings done number old before)) fits (begins number input brought)
+      (row_begun (InUseAt c number) (Silent number) y input offer r (aged_holds IsValid pass_stands old y aged (connections_stand_new settings done number old before)) fits (begins number input brought)
       (aged_holds (λ z. IsOpen z.state → AllByRecursion (InUseAt c number) (z.serving ∷ target_channels (target_role z.state))) (λ ms z all. all) old y aged (owned number old before))
       (aged_holds (λ z. AllByRecursion (Silent number) (begun_in z.state z.serving)) (λ ms z all. all) old y aged (keep_all begun number old from_one before))))
     where
@@ -140,7 +140,7 @@ module _ (settings : Parameters) (done : List Event) (event : Event) (v : Actors
 
 -- ---- each event
 
-module _ (settings : Parameters) (done : List Event) (allowed : AreAllowed settings) (octets : CameInOctets settings done) (begun : AllBegun (world settings done)) where
+module _ (settings : Parameters) (done : List Event) (allowed : AreAllowed settings) (octets : TookOctets settings done) (begun : AllBegun (world settings done)) where
   abbrev now : Actors
   now = world settings done
 
@@ -157,16 +157,16 @@ module _ (settings : Parameters) (done : List Event) (allowed : AreAllowed setti
       all_both (λ y. to_come now (place_of y) ≡ []) (InUseAt now.controller number) (λ y. to_come (actors_after now e) (place_of y) ≡ []) (begun_in x.state x.serving)
       (λ y none used.
       let placed = used_placed settings done allowed (place_of y) number used in
-      rests_silent (place_of y) now e (there-of settings own_of now [] (place_of y) right placed.least placed.most) right.good (quiet (place_of y) placed.least placed.most) none)
+      rests_silent (place_of y) now e (there_of settings own_of now [] (place_of y) right placed.least placed.most) right.good (quiet (place_of y) placed.least placed.most) none)
       (begun number x from_one there_now) (begun_in_use settings done allowed number x there_now)
 
   beside : (e : Event) → is_beside e ≡ true → AllBegun (actors_after now e)
-  beside e is = resting e (beside-step now e is).controller (λ at least most. beside-rests at now e is (there-of settings own_of now [] at right least most))
+  beside e is = resting e (beside_step now e is).controller (λ at least most. beside_rests at now e is (there_of settings own_of now [] at right least most))
 
   takes : (station : ℕ) → AllBegun (actors_after now (BaseTakes station))
-  takes station = resting (BaseTakes station) (kept-controller now station) (λ at least most. takes-rests own_of at now station (there-of settings own_of now [] at right least most) right.spots (right.agree at least most))
+  takes station = resting (BaseTakes station) (kept_controller now station) (λ at least most. takes_rests own_of at now station (there_of settings own_of now [] at right least most) right.spots (right.agree at least most))
 
-  ticks : (ms : ℕ) → AllByRecursion ComesInOctets (step_at now (events.Tick ms)) → AllBegun (actors_after now (events.Tick ms))
+  ticks : (ms : ℕ) → AllByRecursion IsOctetStep (step_at now (events.Tick ms)) → AllBegun (actors_after now (events.Tick ms))
   unfolding ServesAt event_after
   ticks ms came =
       stepping_begun settings done (events.Tick ms) (actors_after now (events.Tick ms)) (sym (snoc_actors (new_actors settings) done (events.Tick ms))) allowed own_of right.agree (steps.Tick ms) (λ at. [])
@@ -177,7 +177,7 @@ module _ (settings : Parameters) (done : List Event) (allowed : AreAllowed setti
         acks = λ number at brought. absurd brought;
       }) begun
 
-  handles : AllByRecursion ComesInOctets (step_at now Handle) → AllBegun (actors_after now Handle)
+  handles : AllByRecursion IsOctetStep (step_at now Handle) → AllBegun (actors_after now Handle)
   unfolding ServesAt event_after
   handles came = by now.inbox refl where
     by : (items : List Item) → now.inbox ≡ items → AllBegun (actors_after now Handle)
@@ -185,34 +185,34 @@ module _ (settings : Parameters) (done : List Event) (allowed : AreAllowed setti
     by (item ∷ items) is =
         let v : Actors = with_turn (target_in now item.source item.what) (take item now.controller) (record now { inbox = items }) in
         let same : actors_after now Handle ≡ v = ap (λ (all : List Item). unwrap_or (handled all now) now) is in
-        let known : AllByRecursion IsKnownItem (item ∷ items) = subst (AllByRecursion IsKnownItem) is (known-inbox settings done) in
+        let known : AllByRecursion IsKnownItem (item ∷ items) = subst (AllByRecursion IsKnownItem) is (known_inbox settings done) in
         subst AllBegun (sym same)
         (stepping_begun settings done Handle v (sym same ∙ sym (snoc_actors (new_actors settings) done Handle)) allowed own_of right.agree (steps.Take item) (λ at. heard_of at item)
         (record {
           target = target_in now item.source item.what;
-          turned = λ at. handle-turned now at item items is;
+          turned = λ at. handle_turned now at item items is;
           serves = serves_event settings own_of done now Handle refl allowed octets came right.agree item items is;
           acks = λ number at brought. ack_heard now now.controller number item at (used_at settings done allowed) known.0 brought;
         }) begun)
 
-  event_begun : (e : Event) → AllByRecursion ComesInOctets (step_at now e) → AllBegun (actors_after now e)
-  event_begun = kinds (λ e. AllByRecursion ComesInOctets (step_at now e) → AllBegun (actors_after now e)) (λ e is came. beside e is) handles ticks (λ station came. takes station)
+  event_begun : (e : Event) → AllByRecursion IsOctetStep (step_at now e) → AllBegun (actors_after now e)
+  event_begun = kinds (λ e. AllByRecursion IsOctetStep (step_at now e) → AllBegun (actors_after now e)) (λ e is came. beside e is) handles ticks (λ station came. takes station)
 
 -- ---- over all events
 
-begun_all : (settings : Parameters) (done rest : List Event) (w : Actors) → w ≡ world settings done → AreAllowed settings → CameInOctets settings done → AllByRecursion ComesInOctets (all_steps w rest) → AllBegun w → AllBegun (actors_after_all w rest)
+begun_all : (settings : Parameters) (done rest : List Event) (w : Actors) → w ≡ world settings done → AreAllowed settings → TookOctets settings done → AllByRecursion IsOctetStep (all_steps w rest) → AllBegun w → AllBegun (actors_after_all w rest)
 begun_all settings done [] w is allowed octets later begun = begun
 begun_all settings done (event ∷ rest) w is allowed octets later begun =
-    let own : AllByRecursion ComesInOctets (step_at (world settings done) event) = subst (λ (u : Actors). AllByRecursion ComesInOctets (step_at u event)) is (all_left ComesInOctets (step_at w event) (all_steps (actors_after w event) rest) later) in
+    let own : AllByRecursion IsOctetStep (step_at (world settings done) event) = subst (λ (u : Actors). AllByRecursion IsOctetStep (step_at u event)) is (all_left IsOctetStep (step_at w event) (all_steps (actors_after w event) rest) later) in
     let next : AllBegun (actors_after w event) = subst (λ (u : Actors). AllBegun (actors_after u event)) (sym is) (event_begun settings done allowed octets (subst AllBegun is begun) event own) in
     begun_all settings (done ++ event ∷ []) rest (actors_after w event) (ap (λ (u : Actors). actors_after u event) is ∙ sym (snoc_actors (new_actors settings) done event)) allowed
-    (snoc_steps ComesInOctets (new_actors settings) done event octets own) (all_right ComesInOctets (step_at w event) (all_steps (actors_after w event) rest) later) next
+    (snoc_steps IsOctetStep (new_actors settings) done event octets own) (all_right IsOctetStep (step_at w event) (all_steps (actors_after w event) rest) later) next
 
 begun_new : (settings : Parameters) → AllBegun (new_actors settings)
 unfolding AllBegun
 begun_new settings number x from_one there = absurd cc
 
-begun_at : (settings : Parameters) (events : List Event) → AreAllowed settings → CameInOctets settings events → AllBegun (world settings events)
+begun_at : (settings : Parameters) (events : List Event) → AreAllowed settings → TookOctets settings events → AllBegun (world settings events)
 begun_at settings events allowed octets = begun_all settings [] events (new_actors settings) refl allowed tt octets (begun_new settings)
 
 pub begun_is_taken_new : (settings : Parameters) (events : List Event) → BegunIsTaken settings events
@@ -221,14 +221,14 @@ begun_is_taken_new settings events s allowed octets had = begun_at settings even
 
 -- ---- so it is active
 
-begun_active : (settings : Parameters) (events : List Event) → AreAllowed settings → CameInOctets settings events → (at : Place) (number : ℕ) → channel_state (world settings events).controller at ≡ InUse number → is_up (world settings events) at.station ≡ true
+begun_active : (settings : Parameters) (events : List Event) → AreAllowed settings → TookOctets settings events → (at : Place) (number : ℕ) → channel_state (world settings events).controller at ≡ InUse number → is_up (world settings events) at.station ≡ true
     → to_come (world settings events) at ≡ [] → is_active_at (world settings events) at ≡ true
 begun_active settings events allowed octets at number used up silent =
     let w : Actors = world settings events in
     let placed = used_placed settings events allowed at number used in
     let way = ((agreed settings events allowed octets).agree at placed.least placed.most).way placed.hearing in
     let waits : List Rsl = due at.number (is_active_at w at) (outbox_of w at.station) in
-    let none : waits ≡ [] = (Both-empty (acknowledgements at.number (base_of w at.station).messages) waits (sym (Both-empty (acknowledged_in at w.inbox) (acknowledgements at.number (base_of w at.station).messages ++ waits) (sym silent)).1)).1 in
+    let none : waits ≡ [] = (both_empty (acknowledgements at.number (base_of w at.station).messages) waits (sym (both_empty (acknowledged_in at w.inbox) (acknowledgements at.number (base_of w at.station).messages ++ waits) (sym silent)).1)).1 in
     sym (still_all at.number (is_active_at w at) (outbox_of w at.station) none) ∙ way.active up ∙ ap is_in_use used
 
 -- it began on the serving channel, and on the target of the command
@@ -240,14 +240,14 @@ requested_began WaitConfirm serving requested = refl
 requested_began (Live reference stage) serving requested = refl
 requested_began _ serving requested = absurd requested
 
-began_active : (settings : Parameters) (events : List Event) (station : ℕ) (s : Connection) → AreAllowed settings → CameInOctets settings events → IsHad (world settings events) s → BothBegan s.serving s.state
+began_active : (settings : Parameters) (events : List Event) (station : ℕ) (s : Connection) → AreAllowed settings → TookOctets settings events → IsHad (world settings events) s → BothBegan s.serving s.state
     → is_station_up (world settings events) station ≡ true → AreActiveAt station (world settings events) s
 unfolding InUseAt
 began_active settings events station s allowed octets had began up =
     let w : Actors = world settings events in
     subst (AllByRecursion (λ y. y.station ≡ station → is_active_at w (place_of y) ≡ true)) began
     (all_both (λ y. to_come w (place_of y) ≡ []) (InUseAt w.controller s.number) (λ y. y.station ≡ station → is_active_at w (place_of y) ≡ true) (begun_in s.state s.serving)
-    (λ y none used here. begun_active settings events allowed octets (place_of y) s.number used (ap (is_up w) here ∙ (up-right station w up).1) none)
+    (λ y none used here. begun_active settings events allowed octets (place_of y) s.number used (ap (is_up w) here ∙ (up_right station w up).1) none)
     (begun_is_taken_new settings events s allowed octets had) (begun_in_use settings events allowed s.number s had.there))
 
 pub served_are_active_new : (settings : Parameters) (events : List Event) → ServedAreActive settings events

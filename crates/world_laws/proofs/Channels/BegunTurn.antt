@@ -7,17 +7,17 @@ use Rattle.world_laws.proofs.Prelude.{channel_state, holder, hears, place_at, rs
 use Rattle.world_laws.proofs.Prelude.{What, ActivationAck, Rsl, Event, OutboxEntry, Tenure, actors_after, Agrees, acknowledged_in}
 use Rattle.world_laws.proofs.Prelude.{active_behind, tenure_behind, is_in_use, to_come, begins, acknowledgements, due, taken}
 use Rattle.world_laws.proofs.Prelude.{acknowledged_tenure, rsl_in, Actors, Link, base_of, is_active_at, is_up, outbox_of, tenure_at, Good}
-use Rattle.world_laws.proofs.Prelude.{Rests, IsKnownItem, heard_of, Serves, Turned, hear, Both-empty, outbox-step, OutboxStep, breaks}
-use Rattle.world_laws.proofs.Prelude.{acks-append, pipe-step, PipeStep, flows, stops, same_Some, IsFrom, IsOfSwitch, word_of, Comes}
-use Rattle.world_laws.proofs.Prelude.{one-at-most, goes-put, due-append}
+use Rattle.world_laws.proofs.Prelude.{Rests, IsKnownItem, heard_of, Serves, Turned, hear, both_empty, outbox-step, OutboxStep, breaks}
+use Rattle.world_laws.proofs.Prelude.{acks_append, pipe-step, PipeStep, flows, stops, same_Some, IsFrom, IsOfSwitch, word_of, IsOwed}
+use Rattle.world_laws.proofs.Prelude.{one_at_most, goes_put, due-append}
 use Rattle.conn_rules.specs.declared.input.Input.TheVariants as inputs
 use Rattle.controller_model.specs.LifeLaws.Acts.Brought.{comes as comes_in, nothing as none_in}
 use Rattle.ruled_relay.specs.declared.item.What.TheVariants as whats
 use Rattle.rsl_codec.specs.declared.rsl.Rsl.TheVariants as rsl
 use Rattle.world_model.specs.Honest.{given}
-use Rattle.world_model.proofs.OwnerEvents.{IsThere, came, nothing-put}
+use Rattle.world_model.proofs.OwnerEvents.{IsThere, came, nothing_put}
 use Rattle.world_model.proofs.Outboxes.Step.{goes}
-use Rattle.world_laws.proofs.OrderHeard.{read_known, word-known}
+use Rattle.world_laws.proofs.OrderHeard.{read_known, word_known}
 use Rattle.world_laws.proofs.OwnFrame.{SaysWord, message_says}
 
 -- ---- an event at which the controller does nothing
@@ -47,10 +47,10 @@ rests_silent at w event there good rests silent = by (outbox-step n w event) (pi
   waits = due k (is_active_at w at) (outbox_of w n)
 
   first : before ≡ []
-  first = (Both-empty before (made ++ waits) (sym silent)).0
+  first = (both_empty before (made ++ waits) (sym silent)).0
 
   second : made ≡ []
-  second = (Both-empty made waits (sym (Both-empty before (made ++ waits) (sym silent)).1)).0
+  second = (both_empty made waits (sym (both_empty before (made ++ waits) (sym silent)).1)).0
 
   -- what was given and made, before what is due
   grouped : (rest : List Rsl) → acknowledged_in at v.inbox ++ (acknowledgements k (base_of v n).messages ++ rest) ≡ before ++ (acknowledgements k (given n w event ++ (base_of v n).messages) ++ rest)
@@ -58,7 +58,7 @@ rests_silent at w event there good rests silent = by (outbox-step n w event) (pi
       ap (λ (xs : List Rsl). xs ++ (acknowledgements k (base_of v n).messages ++ rest)) (came at w event there.station rests.pops good)
       ∙ append_assoc before gave (acknowledgements k (base_of v n).messages ++ rest)
       ∙ ap (λ (xs : List Rsl). before ++ xs) (sym (append_assoc gave (acknowledgements k (base_of v n).messages) rest)
-      ∙ ap (λ (xs : List Rsl). xs ++ rest) (sym (acks-append k (given n w event) (base_of v n).messages)))
+      ∙ ap (λ (xs : List Rsl). xs ++ rest) (sym (acks_append k (given n w event) (base_of v n).messages)))
 
   by : OutboxStep n w event v → PipeStep n k w event v → to_come v at ≡ []
   by (goes up all) (flows acks active) =
@@ -70,7 +70,7 @@ rests_silent at w event there good rests silent = by (outbox-step n w event) (pi
       ∙ ap (due k (is_active_at w at)) (sym outbox)))
       ∙ silent where
         outbox : outbox_of w n ≡ taken n w event ++ outbox_of v n
-        outbox = sym (append-nil (outbox_of w n)) ∙ ap (λ (entries : List OutboxEntry). outbox_of w n ++ entries) (sym (nothing-put n w event rests.outputs)) ∙ all
+        outbox = sym (append-nil (outbox_of w n)) ∙ ap (λ (entries : List OutboxEntry). outbox_of w n ++ entries) (sym (nothing_put n w event rests.outputs)) ∙ all
   by (breaks broken nothing nobody) (flows acks active) =
       ap (λ (l : Link). acknowledged_in at v.inbox ++ (acknowledgements k (base_of v n).messages ++ due k (is_active_at v at) l.outbox)) broken
       ∙ grouped []
@@ -114,27 +114,27 @@ module _ (owner : Tenure → ℕ) (w v : Actors) (at : Place) (target : Option T
     by false down = ap (due at.number (active_behind w at)) (turned.down down)
     by true up =
         let heard_state : hear heard (channel_state w.controller at) ≡ InUse number = hear-used heard (channel_state w.controller at) number used in
-        let puts = goes-put owner at target (tenure_behind w at).number (serves.goes hearing) (serves.fits hearing up) (active_behind w at)
+        let puts = goes_put owner at target (tenure_behind w at).number (serves.goes hearing) (serves.fits hearing up) (active_behind w at)
         ((agrees.way (serves.hearing hearing)).active up ∙ ap (λ (s : ChannelState). is_in_use s) (used ∙ sym heard_state)) in
         let one : List Rsl = activation_ack at.number ∷ [] in
-        let all = puts.works.comes one (subst (λ (s : ChannelState). Comes at.number s one) (sym heard_state) begins) in
+        let all = puts.works.comes one (subst (λ (s : ChannelState). IsOwed at.number s one) (sym heard_state) begins) in
         ap (due at.number (active_behind w at)) (turned.joins up)
-        ∙ one-at-most at.number number (channel_state t.next at) _ one _ all still refl (λ is. absurd cc)
+        ∙ one_at_most at.number number (channel_state t.next at) _ one _ all still refl (λ is. absurd cc)
 
   turn_silent : (number : ℕ) → channel_state w.controller at ≡ InUse number → channel_state t.next at ≡ InUse number → hears t.next at.station ≡ true → rest_of w v at ≡ [] → to_come v at ≡ []
   turn_silent number used still hearing none = comes_then ∙ ap (λ (xs : List Rsl). xs ++ due at.number (active_behind w at) turned.entries) none ∙ none_due number used still hearing
 
   -- where nothing was to come, nothing is to come
   pub turn_kept : (number : ℕ) → channel_state w.controller at ≡ InUse number → channel_state t.next at ≡ InUse number → hears t.next at.station ≡ true → to_come w at ≡ [] → to_come v at ≡ []
-  turn_kept number used still hearing silent = turn_silent number used still hearing (Both-empty heard (rest_of w v at) (sym silent ∙ came_first)).1
+  turn_kept number used still hearing silent = turn_silent number used still hearing (both_empty heard (rest_of w v at) (sym silent ∙ came_first)).1
 
   -- nor where an acknowledgement is taken
   pub turn_begins : (number : ℕ) → channel_state w.controller at ≡ InUse number → channel_state t.next at ≡ InUse number → hears t.next at.station ≡ true → heard ≢ [] → to_come v at ≡ []
   turn_begins number used still hearing some =
       let way = agrees.way (serves.hearing hearing) in
       let none : rest_of w v at ++ way.lost ≡ [] =
-      one-at-most at.number number (channel_state w.controller at) (to_come w at ++ way.lost) heard (rest_of w v at ++ way.lost) way.comes used (ap (λ (xs : List Rsl). xs ++ way.lost) came_first ∙ append_assoc heard (rest_of w v at) way.lost) some in
-      turn_silent number used still hearing (Both-empty (rest_of w v at) way.lost (sym none)).0
+      one_at_most at.number number (channel_state w.controller at) (to_come w at ++ way.lost) heard (rest_of w v at ++ way.lost) way.comes used (ap (λ (xs : List Rsl). xs ++ way.lost) came_first ∙ append_assoc heard (rest_of w v at) way.lost) some in
+      turn_silent number used still hearing (both_empty (rest_of w v at) way.lost (sym none)).0
 
 -- ---- an ACTIVATION ACK that comes to a connection is heard of its channel
 
@@ -196,7 +196,7 @@ item_acks w c number source (whats.Frame frame) at used known true brought none 
     let from : IsFrom source (OnChannel acks.on (inputs.ActivationAck at)) = subst (IsFrom source) acks.is (word_from source frame) in
     let station : source ≢ SWITCH_LINK = λ switch. acks.busy (ap (λ (k : ℕ). channel_state c (place_at k acks.on.number)) (from.0 ∙ switch) ∙ used.switch acks.on.number) in
     let (m, is, read, no_nack) = known.station station in
-    let word : word_of source frame ≡ rsl_word source m = ap (word_of source) is ∙ word-known source m station read in
+    let word : word_of source frame ≡ rsl_word source m = ap (word_of source) is ∙ word_known source m station read in
     known_acks w source frame m acks.on at station (ap rsl_in is ∙ read_known m read) word acks.is none
 
 pub ack_heard : (w : Actors) (c : Controller) (number : ℕ) (item : Item) (at : Place) → AreUsed c → IsKnownItem item → IsBrought (brought_in c number (Take item)) (inputs.ActivationAck at) → heard_of at item ≢ []

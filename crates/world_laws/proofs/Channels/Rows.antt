@@ -4,6 +4,7 @@ use Rattle.world_laws.proofs.Prelude.{WaitActivation, WaitEstablish, WaitConfirm
 use Rattle.world_laws.proofs.Prelude.{place_at, Zero, RfChannelReleaseAck, Connect, Upper, AirUp, AirDown, Move, Arrive, BaseTakes}
 use Rattle.world_laws.proofs.Prelude.{BasePush, Handle, SwitchDoes, Assign, actors_after_all, Actors, opened, after_all}
 use Rattle.world_laws.proofs.Prelude.{acknowledgements_up, AcksAgree, AreActiveAt, ChannelsEnd, IsSilent}
+use Rattle.octets.proofs.Hex.{hex}
 use Rattle.world_model.proofs.Worlds.{on_literals}
 use Rattle.world_laws.specs.Channels.Begun.{HasBegun, begun_in}
 use Rattle.world_laws.proofs.Usual.{channel, to_0a, begin}
@@ -34,7 +35,7 @@ none_any_more = (refl, refl)
 
 -- the activation of channel 41 waits for the station
 asked : Actors
-asked = actors_after_all begin (Connect 7 1 (0x05 ∷ 0x24 ∷ 0x71 ∷ []) true ∷ BasePush 1 ∷ Handle ∷ [])
+asked = actors_after_all begin (Connect 7 1 (hex "05 24 71") true ∷ BasePush 1 ∷ Handle ∷ [])
 
 -- its acknowledgement stands in the inbox
 acknowledged : Actors
@@ -89,7 +90,7 @@ target_not_active = (((λ is. refl), tt), λ active. (let is = active.1.0 refl i
 
 draining : Actors
 draining = (after_all opened (
-    Upper 1 Zero (0x03 ∷ 0x05 ∷ []) ∷ AirUp 1 Zero ∷ SwitchDoes (Assign 1) ∷ BasePush 0 ∷ Handle ∷ BaseTakes 1 ∷ BasePush 1 ∷ Handle ∷ BasePush 1 ∷ Handle ∷ BaseTakes 1 ∷ AirDown 1 ∷ Move 1 ∷ Arrive 1 ∷ AirUp 1 Zero ∷ BasePush 1 ∷ Handle
+    Upper 1 Zero (hex "03 05") ∷ AirUp 1 Zero ∷ SwitchDoes (Assign 1) ∷ BasePush 0 ∷ Handle ∷ BaseTakes 1 ∷ BasePush 1 ∷ Handle ∷ BasePush 1 ∷ Handle ∷ BaseTakes 1 ∷ AirDown 1 ∷ Move 1 ∷ Arrive 1 ∷ AirUp 1 Zero ∷ BasePush 1 ∷ Handle
     ∷ BasePush 1 ∷ Handle ∷ BaseTakes 1 ∷ BasePush 1 ∷ [])).actors
 
 -- the connection on channel 0A, whose old one is 41, or the other way round

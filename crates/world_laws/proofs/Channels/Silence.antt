@@ -1,24 +1,24 @@
 -- Nothing is on its way up of a channel that the controller has as free.
 use Rattle.world_laws.proofs.Prelude.{◌≡◌, ◌≢◌, ◌⊎◌, inl, inr, ℕ, ◌≤◌, Bool, true, false, unwrap_or, List, [], ◌∷◌, ◌++◌, length, Option}
 use Rattle.world_laws.proofs.Prelude.{None, refl, sym, ap, ◌∙◌, subst, append_assoc, arith, eq-eqb, flat_map-append, append-nil}
-use Rattle.world_laws.proofs.Prelude.{AllByRecursion, flat_map, Place, SWITCH_LINK, ComesInOctets, ChannelState, Free, InUse}
+use Rattle.world_laws.proofs.Prelude.{AllByRecursion, flat_map, Place, SWITCH_LINK, IsOctetStep, ChannelState, Free, InUse}
 use Rattle.world_laws.proofs.Prelude.{Releasing, Controller, Turn, channel_state, hears, Tenures, tenure_brings, apart, Item, Rsl}
 use Rattle.world_laws.proofs.Prelude.{AreAllowed, Parameters, Event, BaseTakes, Handle, Tenure, actors_after, actors_after_all, Agrees}
 use Rattle.world_laws.proofs.Prelude.{acknowledged_in, to_come, owner_in, acknowledgements, due, all_popped, first_of, handled, target_in}
-use Rattle.world_laws.proofs.Prelude.{with_turn, all_steps, step_at, Actors, base_of, is_active_at, new_actors, outbox_of, beside-rests}
-use Rattle.world_laws.proofs.Prelude.{Right, handle-turned, heard_of, kinds, there-of, kept-controller}
-use Rattle.world_laws.proofs.Prelude.{tick-turned, beside-step, IsOne, Serves, Turned, hear, Both-empty, acks-append, free≢use, take, tick}
-use Rattle.world_laws.proofs.Prelude.{Comes, popped, AreHonest-new, is_beside, acknowledgements_taken, messages_up, read_of, coming_up}
-use Rattle.world_laws.proofs.Prelude.{CameInOctets, FreeAreSilent}
+use Rattle.world_laws.proofs.Prelude.{with_turn, all_steps, step_at, Actors, base_of, is_active_at, new_actors, outbox_of, beside_rests}
+use Rattle.world_laws.proofs.Prelude.{Right, handle_turned, heard_of, kinds, there_of, kept_controller}
+use Rattle.world_laws.proofs.Prelude.{tick-turned, beside_step, IsOne, Serves, Turned, hear, both_empty, acks_append, free≢use, take, tick}
+use Rattle.world_laws.proofs.Prelude.{IsOwed, popped, AreHonest-new, is_beside, acknowledgements_taken, messages_up, read_of, coming_up}
+use Rattle.world_laws.proofs.Prelude.{TookOctets, FreeAreSilent}
 use Rattle.link_model.specs.Tenures.Tenures.{begins, ends}
 use Rattle.rsl_codec.specs.declared.rsl.Rsl.TheVariants as rsl
 use Rattle.world_model.specs.declared.event.Event.TheVariants as events
 use Rattle.world_model.specs.Life.{event_after}
 use Rattle.world_model.proofs.OwnerRuns.{ServesAt}
-use Rattle.world_laws.proofs.Acknowledged.{bound, brought_unbound, coming-read, given-read, nothing_outside, unbound}
+use Rattle.world_laws.proofs.Acknowledged.{bound, brought_unbound, coming_read, given_read, nothing_outside, unbound}
 use Rattle.world_laws.proofs.OwnerRun.{serves_event, snoc_steps}
 use Rattle.world_laws.proofs.Channels.Agreeing.{agreed}
-use Rattle.world_laws.proofs.Channels.RoleAcks.{by-said, free_silent, silent_of}
+use Rattle.world_laws.proofs.Channels.RoleAcks.{by_said, free_silent, silent_of}
 use Rattle.world_laws.proofs.Targets.FreeQuiet.{goes_free}
 use Rattle.world_laws.proofs.Events.{snoc_actors, world}
 use Rattle.world_laws.proofs.Framing.{all_left, all_right}
@@ -31,12 +31,12 @@ is_within within (rsl.ChannelActivationAck a ∷ ms) = is_within true ms
 is_within within (rsl.RfChannelReleaseAck channel ∷ ms) = is_within false ms
 is_within within (_ ∷ ms) = is_within within ms
 
-within-append : (b : Bool) (xs ys : List Rsl) → is_within b (xs ++ ys) ≡ is_within (is_within b xs) ys
+within_append : (b : Bool) (xs ys : List Rsl) → is_within b (xs ++ ys) ≡ is_within (is_within b xs) ys
 unfolding is_within
-within-append b [] ys = refl
-within-append b (rsl.ChannelActivationAck a ∷ xs) ys = within-append true xs ys
-within-append b (rsl.RfChannelReleaseAck channel ∷ xs) ys = within-append false xs ys
-within-append b (_ ∷ xs) ys = within-append b xs ys
+within_append b [] ys = refl
+within_append b (rsl.ChannelActivationAck a ∷ xs) ys = within_append true xs ys
+within_append b (rsl.RfChannelReleaseAck channel ∷ xs) ys = within_append false xs ys
+within_append b (_ ∷ xs) ys = within_append b xs ys
 
 -- the acknowledgements of a channel tell it of all that comes
 tenures_behind : {b e : Bool} (k : ℕ) (xs ys : List Rsl) → Tenures k b (xs ++ ys) e → Tenures k (is_within b (acknowledgements k xs)) ys e
@@ -69,9 +69,9 @@ turn_free owner w v at target t heard turned serves agrees hearing free = by (he
   by (inr end) = inr end
   by (inl was) =
       let way = agrees.way (serves.hearing hearing) in
-      let none : to_come w at ++ way.lost ≡ [] = free_silent at.number (to_come w at ++ way.lost) (subst (λ (s : ChannelState). Comes at.number s (to_come w at ++ way.lost)) was way.comes) in
-      let first : acknowledged_in at w.inbox ≡ [] = (Both-empty (acknowledged_in at w.inbox) (acknowledgements at.number (base_of w at.station).messages ++ due at.number (is_active_at w at) (outbox_of w at.station)) (sym (Both-empty (to_come w at) way.lost (sym none)).0)).0 in
-      inl (was, (Both-empty heard (acknowledged_in at v.inbox) (sym first ∙ turned.inbox)).0)
+      let none : to_come w at ++ way.lost ≡ [] = free_silent at.number (to_come w at ++ way.lost) (subst (λ (s : ChannelState). IsOwed at.number s (to_come w at ++ way.lost)) was way.comes) in
+      let first : acknowledged_in at w.inbox ≡ [] = (both_empty (acknowledged_in at w.inbox) (acknowledgements at.number (base_of w at.station).messages ++ due at.number (is_active_at w at) (outbox_of w at.station)) (sym (both_empty (to_come w at) way.lost (sym none)).0)).0 in
+      inl (was, (both_empty heard (acknowledged_in at v.inbox) (sym first ∙ turned.inbox)).0)
 
 -- ---- over all events
 
@@ -85,13 +85,13 @@ snoc_popped : (w : Actors) (xs : List Event) (e : Event) → all_popped w (xs ++
 snoc_popped w [] e = append-nil (popped w e)
 snoc_popped w (x ∷ xs) e = ap (λ (items : List Item). popped w x ++ items) (snoc_popped (actors_after w x) xs e) ∙ sym (append_assoc (popped w x) (all_popped (actors_after w x) xs) (popped (actors_after_all (actors_after w x) xs) e))
 
-taken-append : (at : Place) (xs ys : List Item) → acknowledgements_taken at (xs ++ ys) ≡ acknowledgements_taken at xs ++ acknowledgements_taken at ys
-taken-append at xs ys = ap (acknowledgements at.number) (flat_map-append (read_of at.station) xs ys) ∙ acks-append at.number (flat_map (read_of at.station) xs) (flat_map (read_of at.station) ys)
+taken_append : (at : Place) (xs ys : List Item) → acknowledgements_taken at (xs ++ ys) ≡ acknowledgements_taken at xs ++ acknowledgements_taken at ys
+taken_append at xs ys = ap (acknowledgements at.number) (flat_map-append (read_of at.station) xs ys) ∙ acks_append at.number (flat_map (read_of at.station) xs) (flat_map (read_of at.station) ys)
 
-taken-one : (at : Place) (item : Item) → acknowledgements_taken at (item ∷ []) ≡ heard_of at item
-taken-one at item = ap (acknowledgements at.number) (append-nil (read_of at.station item) ∙ by-said at.station item.source item.what)
+taken_one : (at : Place) (item : Item) → acknowledgements_taken at (item ∷ []) ≡ heard_of at item
+taken_one at item = ap (acknowledgements at.number) (append-nil (read_of at.station item) ∙ by_said at.station item.source item.what)
 
-module _ (settings : Parameters) (done : List Event) (allowed : AreAllowed settings) (octets : CameInOctets settings done) (free_over : FreeIsOver settings done) where
+module _ (settings : Parameters) (done : List Event) (allowed : AreAllowed settings) (octets : TookOctets settings done) (free_over : FreeIsOver settings done) where
   abbrev w : Actors
   w = world settings done
 
@@ -105,7 +105,7 @@ module _ (settings : Parameters) (done : List Event) (allowed : AreAllowed setti
   right = agreed settings done allowed octets
 
   took_then : (at : Place) (e : Event) → acknowledgements_taken at (all_popped (new_actors settings) (done ++ e ∷ [])) ≡ took at ++ acknowledgements_taken at (popped w e)
-  took_then at e = ap (acknowledgements_taken at) (snoc_popped (new_actors settings) done e) ∙ taken-append at (all_popped (new_actors settings) done) (popped w e)
+  took_then at e = ap (acknowledgements_taken at) (snoc_popped (new_actors settings) done e) ∙ taken_append at (all_popped (new_actors settings) done) (popped w e)
 
   -- where the controller does nothing
   resting : (e : Event) → (actors_after w e).controller ≡ w.controller → ((at : Place) → 1 ≤ at.station → at.station ≤ length settings.cells → popped w e ≡ []) → FreeIsOver settings (done ++ e ∷ [])
@@ -134,35 +134,35 @@ module _ (settings : Parameters) (done : List Event) (allowed : AreAllowed setti
     by : ((channel_state w.controller at ≡ Free) × (heard at ≡ [])) ⊎ IsEnd (heard at) → is_within false (acknowledgements_taken at (all_popped (new_actors settings) (done ++ e ∷ []))) ≡ false
     by (inl (was, none)) =
         ap (is_within false) (took_is ∙ ap (λ (ms : List Rsl). took at ++ ms) none ∙ append-nil (took at)) ∙ free_over at least most ((serves at least most).hearing hearing_next) was
-    by (inr (channel, end)) = ap (is_within false) (took_is ∙ ap (λ (ms : List Rsl). took at ++ ms) end) ∙ within-append false (took at) (rsl.RfChannelReleaseAck channel ∷ [])
+    by (inr (channel, end)) = ap (is_within false) (took_is ∙ ap (λ (ms : List Rsl). took at ++ ms) end) ∙ within_append false (took at) (rsl.RfChannelReleaseAck channel ∷ [])
 
   beside : (e : Event) → is_beside e ≡ true → FreeIsOver settings (done ++ e ∷ [])
-  beside e is = resting e (beside-step w e is).controller (λ at least most. (beside-rests at w e is (there-of settings own_of w [] at right least most)).pops)
+  beside e is = resting e (beside_step w e is).controller (λ at least most. (beside_rests at w e is (there_of settings own_of w [] at right least most)).pops)
 
-  ticks : (ms : ℕ) → AllByRecursion ComesInOctets (step_at w (events.Tick ms)) → FreeIsOver settings (done ++ events.Tick ms ∷ [])
+  ticks : (ms : ℕ) → AllByRecursion IsOctetStep (step_at w (events.Tick ms)) → FreeIsOver settings (done ++ events.Tick ms ∷ [])
   unfolding ServesAt event_after
   ticks ms came = turning (events.Tick ms) (actors_after w (events.Tick ms)) None (tick ms w.controller) (λ at. []) refl (λ at. refl) (λ at. tick-turned w at ms) (serves_event settings own_of done w (events.Tick ms) refl allowed octets came right.agree)
 
-  handles : AllByRecursion ComesInOctets (step_at w Handle) → FreeIsOver settings (done ++ Handle ∷ [])
+  handles : AllByRecursion IsOctetStep (step_at w Handle) → FreeIsOver settings (done ++ Handle ∷ [])
   unfolding ServesAt event_after
   handles came = by w.inbox refl where
     by : (items : List Item) → w.inbox ≡ items → FreeIsOver settings (done ++ Handle ∷ [])
     by [] is = resting Handle (ap (λ (items : List Item). (unwrap_or (handled items w) w).controller) is) (λ at least most. ap first_of is)
     by (item ∷ items) is =
         turning Handle (with_turn (target_in w item.source item.what) (take item w.controller) (record w { inbox = items })) (target_in w item.source item.what) (take item w.controller) (λ at. heard_of at item) (ap (λ (all : List Item). unwrap_or (handled all w) w) is)
-        (λ at. ap (λ (all : List Item). acknowledgements_taken at (first_of all)) is ∙ taken-one at item) (λ at. handle-turned w at item items is) (serves_event settings own_of done w Handle refl allowed octets came right.agree item items is)
+        (λ at. ap (λ (all : List Item). acknowledgements_taken at (first_of all)) is ∙ taken_one at item) (λ at. handle_turned w at item items is) (serves_event settings own_of done w Handle refl allowed octets came right.agree item items is)
 
-  event_over : (e : Event) → AllByRecursion ComesInOctets (step_at w e) → FreeIsOver settings (done ++ e ∷ [])
-  event_over = kinds (λ e. AllByRecursion ComesInOctets (step_at w e) → FreeIsOver settings (done ++ e ∷ [])) (λ e is came. beside e is) handles ticks (λ station came. resting (BaseTakes station) (kept-controller w station) (λ at least most. refl))
+  event_over : (e : Event) → AllByRecursion IsOctetStep (step_at w e) → FreeIsOver settings (done ++ e ∷ [])
+  event_over = kinds (λ e. AllByRecursion IsOctetStep (step_at w e) → FreeIsOver settings (done ++ e ∷ [])) (λ e is came. beside e is) handles ticks (λ station came. resting (BaseTakes station) (kept_controller w station) (λ at least most. refl))
 
-over_all : (settings : Parameters) (done rest : List Event) → AreAllowed settings → CameInOctets settings done → AllByRecursion ComesInOctets (all_steps (world settings done) rest) → FreeIsOver settings done → FreeIsOver settings (done ++ rest)
+over_all : (settings : Parameters) (done rest : List Event) → AreAllowed settings → TookOctets settings done → AllByRecursion IsOctetStep (all_steps (world settings done) rest) → FreeIsOver settings done → FreeIsOver settings (done ++ rest)
 over_all settings done [] allowed octets later free_over = subst (FreeIsOver settings) (sym (append-nil done)) free_over
 over_all settings done (event ∷ rest) allowed octets later free_over =
     let w : Actors = world settings done in
-    let own : AllByRecursion ComesInOctets (step_at w event) = all_left ComesInOctets (step_at w event) (all_steps (actors_after w event) rest) later in
+    let own : AllByRecursion IsOctetStep (step_at w event) = all_left IsOctetStep (step_at w event) (all_steps (actors_after w event) rest) later in
     subst (FreeIsOver settings) (append_assoc done (event ∷ []) rest)
-    (over_all settings (done ++ event ∷ []) rest allowed (snoc_steps ComesInOctets (new_actors settings) done event octets own)
-    (subst (λ (u : Actors). AllByRecursion ComesInOctets (all_steps u rest)) (sym (snoc_actors (new_actors settings) done event)) (all_right ComesInOctets (step_at w event) (all_steps (actors_after w event) rest) later))
+    (over_all settings (done ++ event ∷ []) rest allowed (snoc_steps IsOctetStep (new_actors settings) done event octets own)
+    (subst (λ (u : Actors). AllByRecursion IsOctetStep (all_steps u rest)) (sym (snoc_actors (new_actors settings) done event)) (all_right IsOctetStep (step_at w event) (all_steps (actors_after w event) rest) later))
     (event_over settings done allowed octets free_over event own))
 
 over_new : (settings : Parameters) → FreeIsOver settings []
@@ -171,7 +171,7 @@ over_new settings at least most hearing free = refl
 
 -- ---- so nothing comes of it
 
-pub free_coming : (settings : Parameters) (events : List Event) → AreAllowed settings → CameInOctets settings events → (at : Place) → 1 ≤ at.station → at.station ≤ length settings.cells → hears (world settings events).controller at.station ≡ true → channel_state (world settings events).controller at ≡ Free → coming_up (world settings events) at ≡ []
+pub free_coming : (settings : Parameters) (events : List Event) → AreAllowed settings → TookOctets settings events → (at : Place) → 1 ≤ at.station → at.station ≤ length settings.cells → hears (world settings events).controller at.station ≡ true → channel_state (world settings events).controller at ≡ Free → coming_up (world settings events) at ≡ []
 unfolding FreeIsOver
 free_coming settings events allowed octets at least most hearing free =
     let w : Actors = world settings events in
@@ -180,9 +180,9 @@ free_coming settings events allowed octets at least most hearing free =
     let honest = AreHonest-new settings events at.station station at.number in
     let all = tenures_behind at.number took (messages_up w at.station)
     (subst (λ (ms : List Rsl). Tenures at.number false ms honest.0)
-    (ap (λ (ms : List Rsl). ms ++ (base_of w at.station).messages) (given-read settings events at.station station) ∙ append_assoc took (flat_map (read_of at.station) w.inbox) (base_of w at.station).messages) honest.1) in
+    (ap (λ (ms : List Rsl). ms ++ (base_of w at.station).messages) (given_read settings events at.station station) ∙ append_assoc took (flat_map (read_of at.station) w.inbox) (base_of w at.station).messages) honest.1) in
     let over_now : is_within false (acknowledgements at.number took) ≡ false = over_all settings [] events allowed tt octets (over_new settings) at least most hearing free in
-    coming-read w at ∙ nothing_outside at.number (messages_up w at.station) (subst (λ (b : Bool). Tenures at.number b (messages_up w at.station) honest.0) over_now all) (silent_of settings events allowed octets at least most hearing free)
+    coming_read w at ∙ nothing_outside at.number (messages_up w at.station) (subst (λ (b : Bool). Tenures at.number b (messages_up w at.station) honest.0) over_now all) (silent_of settings events allowed octets at least most hearing free)
   where
     zero_less : (k : ℕ) → 1 ≤ k → k ≢ SWITCH_LINK
     zero_less k least is = absurd (omega (arith, is, least))

@@ -93,10 +93,10 @@ move_row s offer r fits = move_begins s.state s offer r refl fits
 
 -- ---- the step
 
-kept-requested : (state : State) (s : Connection) → IsRequested state → kept_in state s ≡ Some s
-kept-requested WaitConfirm s requested = refl
-kept-requested (Live reference stage) s requested = refl
-kept-requested _ s requested = absurd requested
+kept_requested : (state : State) (s : Connection) → IsRequested state → kept_in state s ≡ Some s
+kept_requested WaitConfirm s requested = refl
+kept_requested (Live reference stage) s requested = refl
+kept_requested _ s requested = absurd requested
 
 -- the connection after it, and what the row put
 record Went (s next : Connection) (input : Input) (offer : Option Channel) (r : Row) (t : Turn) : Type 0 where
@@ -116,7 +116,7 @@ begun_by {s} {next} {offer} {r} {t} from_one sent went =
     let aged = older s next went.aged in
     let begins = move_row next offer r went.fits in
     same r.next
-    (record { line = line_trans aged.line begins.line; there = went.after ∙ kept-requested r.next.state r.next begins.requested; requested = begins.requested; request = begins.request ∙ aged.request })
+    (record { line = line_trans aged.line begins.line; there = went.after ∙ kept_requested r.next.state r.next begins.requested; requested = begins.requested; request = begins.request ∙ aged.request })
     (none_forwarded s.number t.outs r.outs from_one went.put (subst (OfRow PutsUsual) went.fits (usual_row next inputs.Move offer)) sent begins.relays)
 
 went_by : (brought : Brought) {s next : Connection} {offer : Option Channel} {r : Row} {t : Turn} (input : Input) → IsOwnStep brought → IsBrought brought input → 1 ≤ s.number → AllByRecursion IsSent t.outs → Went s next input offer r t → Outcome s t

@@ -8,7 +8,7 @@ use Rattle.world_laws.proofs.Prelude.{on_word, concerned, rsl_word, Frame, IsOfO
 use Rattle.world_laws.proofs.Prelude.{Event, Handle, Tenure, actors_after, acknowledged_tenure, target_in, all_steps, rsl_in, Actors}
 use Rattle.world_laws.proofs.Prelude.{modulus_in, new_actors, LivesByTable-new, same_place, none-some, AllByRecursion-so, frame_leaves}
 use Rattle.world_laws.proofs.Prelude.{IsFrom, word_of, forwarded, brings_by, brings_if, brings_in, AreLinedUp, IsForOthers, IsOthers}
-use Rattle.world_laws.proofs.Prelude.{FaresOn}
+use Rattle.world_laws.proofs.Prelude.{IsOpenOrEnded}
 use Rattle.conn_rules.specs.declared.input.Input.TheVariants as inputs
 use Rattle.controller_model.specs.LifeLaws.Concern.{IsLeft}
 use Rattle.controller_model.specs.Life.{take}
@@ -19,12 +19,12 @@ use Rattle.world_laws.proofs.Others.{relay_leaves_others_new}
 use Rattle.world_laws.proofs.OthersFrame.{frames_are_for_others_new}
 use Rattle.world_laws.proofs.Quiet.{all_of}
 use Rattle.world_laws.proofs.TurnsLife.{same_places}
-use Rattle.world_laws.specs.Handling.Faring.FaresOn.{goes_on}
+use Rattle.world_laws.specs.Handling.OpenOrEnded.IsOpenOrEnded.{goes_on}
 use Rattle.world_laws.proofs.Handling.Dropped.{AreBeside, item_drops}
 use Rattle.world_laws.proofs.Handling.Finishing.{controller-is, handle_is, still_lined}
 use Rattle.world_laws.proofs.Handling.Knowing.{IsKnown, known, used_held, used_linked}
 use Rattle.world_laws.proofs.Handling.Leaving.{line_itself, none_down, nothing_down, silent_forwards}
-use Rattle.world_laws.proofs.Handling.Missing.{said-elsewhere}
+use Rattle.world_laws.proofs.Handling.Missing.{said_elsewhere}
 use Rattle.world_laws.proofs.Handling.Own.{DropsOut, Handling, item_tells, none_drops, take-frame}
 use Rattle.world_laws.proofs.Handling.Saying.{SaysUp, Tells, begins_none, word_says}
 use Rattle.world_laws.proofs.Handling.Saying.Tells.{message, nothing}
@@ -40,7 +40,7 @@ word_drops c s item frame m (OnChannel at input) known is says on from other =
     (λ x held. subst AreBeside (sym (ap (brings_by (place_of x) item.source) is ∙ ap (λ (o : Option Rsl). brings_read item.source o (place_of x)) says ∙ on.brings_it (place_of x))) (by x held (same_place (place_of x) at) refl)) (used_channels s) (used_held c s known.owns) where
       by : (x : Channel) → holder (channel_state c (place_of x)) ≡ Some s.number → (b : Bool) → same_place (place_of x) at ≡ b → AreBeside (said_by input on.text (place_of x))
       by x held true same = absurd (other (ap (λ (p : Place). holder (channel_state c p)) (sym (same_places (place_of x) at same)) ∙ held))
-      by x held false differ = subst AreBeside (sym (said-elsewhere input on.text at (place_of x) from.1 differ)) tt
+      by x held false differ = subst AreBeside (sym (said_elsewhere input on.text at (place_of x) from.1 differ)) tt
 word_drops c s item frame m (OnConnection number input) known is says on from other = absurd on
 word_drops c s item frame m _ known is says quiet from other = all_of (λ x. AreBeside (brings_in (place_of x) item)) (used_channels s) (λ x. subst AreBeside (sym (ap (brings_by (place_of x) item.source) is ∙ ap (λ (o : Option Rsl). brings_read item.source o (place_of x)) says)) (quiet.brings_none (place_of x)))
 
@@ -107,7 +107,7 @@ left_by {settings} {events} {mobile} {s} {item} frame h is other =
       c = (world settings events).controller
 
 pub other_fares : {settings : Parameters} {events : List Event} {mobile : ℕ} {s : Connection} {item : RelayItem} {items : List RelayItem} (frame : Frame) → Handling settings events mobile s item items → hears (world settings events).controller item.source ≡ true → item.what ≡ whats.Frame frame
-    → (concerned (world settings events).controller (word_of item.source frame) ≡ Some s.number → ⊥) → FaresOn (modulus_in settings) (actors_after (world settings events) Handle) mobile s
+    → (concerned (world settings events).controller (word_of item.source frame) ≡ Some s.number → ⊥) → IsOpenOrEnded (modulus_in settings) (actors_after (world settings events) Handle) mobile s
 other_fares {settings} {events} {mobile} {s} {item} {items} frame h up is other = by (target_in w item.source item.what) refl where
   w : Actors
   w = world settings events
@@ -144,13 +144,13 @@ other_fares {settings} {events} {mobile} {s} {item} {items} frame h up is other 
           ack_others frame p (target_in w item.source item.what) h is refl up (word ∙ ap (rsl_word item.source) it.is) other,
         )) h.lives.lined
 
-  by : (o : Option Tenure) → target_in w item.source item.what ≡ o → FaresOn (modulus_in settings) (actors_after w Handle) mobile s
+  by : (o : Option Tenure) → target_in w item.source item.what ≡ o → IsOpenOrEnded (modulus_in settings) (actors_after w Handle) mobile s
   by (Some tenure) begins =
       goes_on s refl
       (record { there = ap (λ (d : Controller). connection_of d s.number) (ap (λ (x : Actors). x.controller) (handle_is w item items h.stood) ∙ controller-is (target_in w item.source item.what) t (record w { inbox = items })) ∙ there; is_open = h.lives.had.is_open; from_one = h.lives.had.from_one })
       h.lives.requested refl (begun tenure begins)
   by None begins =
-      subst (λ (x : Actors). FaresOn (modulus_in settings) x mobile s) (sym (handle_is w item items h.stood))
+      subst (λ (x : Actors). IsOpenOrEnded (modulus_in settings) x mobile s) (sym (handle_is w item items h.stood))
       (still_lined s (target_in w item.source item.what) t h.lives.had.from_one h.up (silent_forwards s.number t.outs left.outs) (none_down (record w { inbox = items }) t begins)
       (record { line = line_itself s; there = there; requested = h.lives.requested; request = refl })
       h.lives.lined.lined.apart h.lives.lined.lined.placed h.lives.lined.found
@@ -167,10 +167,10 @@ ignored_drops c s item frame known is down =
       by x up true same = absurd (true≢false (sym up ∙ ap (is_link_up c.links) (sym (eqb-true item.source x.station same)) ∙ down))
 
 pub ignored_fares : {settings : Parameters} {events : List Event} {mobile : ℕ} {s : Connection} {item : RelayItem} {items : List RelayItem} (frame : Frame) → Handling settings events mobile s item items → hears (world settings events).controller item.source ≡ false → item.what ≡ whats.Frame frame
-    → FaresOn (modulus_in settings) (actors_after (world settings events) Handle) mobile s
+    → IsOpenOrEnded (modulus_in settings) (actors_after (world settings events) Handle) mobile s
 unfolding take
 ignored_fares {settings} {events} {mobile} {s} {item} {items} frame h down is =
-    subst (λ (x : Actors). FaresOn (modulus_in settings) x mobile s) (sym (handle_is w item items h.stood))
+    subst (λ (x : Actors). IsOpenOrEnded (modulus_in settings) x mobile s) (sym (handle_is w item items h.stood))
     (still_lined s (target_in w item.source item.what) t h.lives.had.from_one h.up (ap (λ (outs : List Out). forwarded outs s.number) silent ∙ silent_forwards s.number [] refl) (nothing_down (record w { inbox = items }) (target_in w item.source item.what) t silent)
     (record { line = line_itself s; there = ap (λ (b : Bool). connection_of (on_what b item.source item.what c).next s.number) down ∙ h.lives.had.there; requested = h.lives.requested; request = refl })
     h.lives.lined.lined.apart h.lives.lined.lined.placed h.lives.lined.found

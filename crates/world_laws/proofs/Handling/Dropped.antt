@@ -9,7 +9,7 @@ use Rattle.world_laws.proofs.Prelude.{target_tenure, waiting_of, Leads, LinedUp}
 use Rattle.conn_rules.specs.Streams.{target_in}
 use Rattle.world_laws.specs.LineUp.Places.{Item, Seat}
 use Rattle.world_laws.specs.LineUp.Places.Item.{brought}
-use Rattle.world_laws.proofs.LineUp.Lines.{controls-append, flow-apart, messages_in-append}
+use Rattle.world_laws.proofs.LineUp.Lines.{controls_append, flow-apart, messages_in-append}
 use Rattle.world_laws.proofs.Cutting.{AllCut, alive_cut, Cuts, cuts_itself}
 use Rattle.world_laws.proofs.Cutting.Cuts.{whole}
 use Rattle.world_laws.proofs.Framing.{all_left, all_right}
@@ -35,13 +35,13 @@ flow-behind (released ∷ front) items beside = absurd beside.0
 fewer_controls : (front items : List Item) → controls_in items ≤ controls_in (front ++ items)
 fewer_controls front items =
     let all = ap controls_of (messages_in-append front items) in
-    let sum = controls-append (messages_in front) (messages_in items) in
+    let sum = controls_append (messages_in front) (messages_in items) in
     omega arith
 
-ended-behind : (front items : List Item) → AreBeside front → is_ended (front ++ items) ≡ is_ended items
-ended-behind [] items beside = refl
-ended-behind (brought message ∷ front) items beside = ended-behind front items beside.1
-ended-behind (released ∷ front) items beside = absurd beside.0
+ended_behind : (front items : List Item) → AreBeside front → is_ended (front ++ items) ≡ is_ended items
+ended_behind [] items beside = refl
+ended_behind (brought message ∷ front) items beside = ended_behind front items beside.1
+ended_behind (released ∷ front) items beside = absurd beside.0
 
 -- ---- tenures
 
@@ -52,7 +52,7 @@ record Loses (f g : Place → List Item) (c : Channel) : Type 0 where
   beside : AreBeside front
 
 draining_cut : (up : Bool) (front items : List Item) (hold : List (List ℕ)) → AreBeside front → Cuts (draining_tenure up (front ++ items) hold) (draining_tenure up items hold)
-draining_cut up front items hold beside = whole refl (sym (flow-behind front items beside)) (fewer_controls front items) (ap (λ (b : Bool). not up && not b) (sym (ended-behind front items beside)))
+draining_cut up front items hold beside = whole refl (sym (flow-behind front items beside)) (fewer_controls front items) (ap (λ (b : Bool). not up && not b) (sym (ended_behind front items beside)))
 
 one_cut : (f g : Place → List Item) (up : ℕ → Bool) (d : Drain) (ds : List Drain) (hold : List (List ℕ)) → AllByRecursion (Loses f g) (undone (d ∷ ds)) → Cuts (old_tenure f up d hold) (old_tenure g up d hold) × AllByRecursion (Loses f g) (undone ds)
 one_cut f g up d ds hold all = by d.is_done all where
@@ -87,13 +87,13 @@ abbrev pub without_first : Actors → List RelayItem → Actors
 without_first w items = record w { inbox = items }
 
 -- what it brings comes first
-pub coming-first : (w : Actors) (item : RelayItem) (items : List RelayItem) → w.inbox ≡ item ∷ items → (at : Place) → coming_up w at ≡ brings_in at item ++ coming_up (without_first w items) at
-coming-first w item items stood at =
+pub coming_first : (w : Actors) (item : RelayItem) (items : List RelayItem) → w.inbox ≡ item ∷ items → (at : Place) → coming_up w at ≡ brings_in at item ++ coming_up (without_first w items) at
+coming_first w item items stood at =
     ap (λ (xs : List RelayItem). flat_map (brings_in at) xs ++ made_of at.number (base_of w at.station).messages) stood
     ∙ append_assoc (brings_in at item) (flat_map (brings_in at) items) (made_of at.number (base_of w at.station).messages)
 
 loses_of : (w : Actors) (item : RelayItem) (items : List RelayItem) → w.inbox ≡ item ∷ items → (channel : Channel) → AreBeside (brings_in (place_of channel) item) → Loses (coming_up w) (coming_up (without_first w items)) channel
-loses_of w item items stood channel beside = record { front = brings_in (place_of channel) item; is = coming-first w item items stood (place_of channel); beside = beside }
+loses_of w item items stood channel beside = record { front = brings_in (place_of channel) item; is = coming_first w item items stood (place_of channel); beside = beside }
 
 -- it brings nothing of the flow on the channels of a connection, which stays lined up
 pub item_drops : {m : ℕ} {w : Actors} {p : Mobile} {s : Connection} (item : RelayItem) (items : List RelayItem) → w.inbox ≡ item ∷ items → AllByRecursion (λ channel. AreBeside (brings_in (place_of channel) item)) (used_channels s) → LinedUp m w p s → LinedUp m (without_first w items) p s

@@ -1,18 +1,18 @@
 -- A connection that lives fares on when the controller takes a step.
 use Rattle.world_laws.proofs.Prelude.{◌≡◌, ℕ, ◌==◌, Bool, true, false, if◌then◌else◌, List, [], ◌∷◌, Option, Some, None, refl, sym, ap, ◌∙◌}
 use Rattle.world_laws.proofs.Prelude.{subst, inl, inr, arith, true≢false, AllByRecursion, cases_Bool, eq-eqb, eqb-true, Place, SWITCH_LINK}
-use Rattle.world_laws.proofs.Prelude.{Input, Connection, used_channels, brought_by, brought_in, brought_with, connection_of, ComesInOctets}
+use Rattle.world_laws.proofs.Prelude.{Input, Connection, used_channels, brought_by, brought_in, brought_with, connection_of, IsOctetStep}
 use Rattle.world_laws.proofs.Prelude.{own_carried, here_of, Word, Asks, Nothing, OnChannel, OnConnection, Ping, Reports, Controller, Turn}
 use Rattle.world_laws.proofs.Prelude.{channel_state, holder, hears, place_of, concerned, Frame, RelayItem, What, Rsl, AreAllowed}
 use Rattle.world_laws.proofs.Prelude.{Parameters, Event, Handle, Tick, actors_after, acknowledged_tenure, target_in, with_turn, rsl_in}
 use Rattle.world_laws.proofs.Prelude.{first_taken, Actors, is_up, modulus_in, false≢true, reports, take, tick, word_of, brings_by}
-use Rattle.world_laws.proofs.Prelude.{brings_in, AcksAgree, Lives, CameInOctets, FaresOn, LiveConnectionsFareOn}
+use Rattle.world_laws.proofs.Prelude.{brings_in, AcksAgree, IsOpenAndLinedUp, TookOctets, IsOpenOrEnded, LiveConnectionsFareOn}
 use Rattle.controller_model.specs.LifeLaws.Acts.Brought.{nothing as nothing_brought, passes}
 use Rattle.controller_model.specs.declared.step.Step.TheVariants as steps
 use Rattle.ruled_relay.specs.declared.item.What.TheVariants as whats
 use Rattle.world_laws.proofs.Ending.{line_ups_may_end_new}
 use Rattle.world_laws.proofs.Quiet.{all_of}
-use Rattle.world_laws.specs.Handling.Faring.FaresOn.{goes_on}
+use Rattle.world_laws.specs.Handling.OpenOrEnded.IsOpenOrEnded.{goes_on}
 use Rattle.world_laws.proofs.Handling.Acting.{IsOwnStep, Outcome, by_acts}
 use Rattle.world_laws.proofs.Handling.Acting.Outcome.{over, same}
 use Rattle.world_laws.proofs.Handling.Beside.{ignored_fares, other_fares}
@@ -32,9 +32,9 @@ use Rattle.world_laws.proofs.Events.{world}
 -- ---- a step of the controller's own, by an item
 
 outcome_fares : {settings : Parameters} {events : List Event} {mobile : ℕ} {s : Connection} {item : RelayItem} {items : List RelayItem} → Handling settings events mobile s item items → target_in (world settings events) item.source item.what ≡ None → DropsOut s item
-    → IsOwnStep (brought_in (world settings events).controller s.number (steps.Take item)) → FaresOn (modulus_in settings) (actors_after (world settings events) Handle) mobile s
+    → IsOwnStep (brought_in (world settings events).controller s.number (steps.Take item)) → IsOpenOrEnded (modulus_in settings) (actors_after (world settings events) Handle) mobile s
 outcome_fares {settings} {events} {mobile} {s} {item} {items} h target drops own =
-    subst (λ (x : Actors). FaresOn (modulus_in settings) x mobile s) (sym (handle_is w item items h.stood))
+    subst (λ (x : Actors). IsOpenOrEnded (modulus_in settings) x mobile s) (sym (handle_is w item items h.stood))
     (by (by_acts (brought_in w.controller s.number (steps.Take item)) s t own h.lives.had.from_one h.lives.requested h.lives.had.there does.sent does.acts.outs does.acts.acts)) where
       w : Actors
       w = world settings events
@@ -45,7 +45,7 @@ outcome_fares {settings} {events} {mobile} {s} {item} {items} h target drops own
       does : Steps w.controller (steps.Take item) s.number
       does = steps_known settings events (steps.Take item) s.number h.allowed h.octets h.own h.lives.had.from_one
 
-      by : Outcome s t → FaresOn (modulus_in settings) (handled_by w item items) mobile s
+      by : Outcome s t → IsOpenOrEnded (modulus_in settings) (handled_by w item items) mobile s
       by (same next is none) =
           let channels = does.after next (ap (connection_of t.next) is.line.number ∙ is.there) (open_of next.state is.requested) in
           still_lined next (target_in w item.source item.what) t h.lives.had.from_one h.up none (none_down (record w { inbox = items }) t target) is channels.0 channels.1 h.lives.lined.found (item_drops item items h.stood drops h.lives.lined.lined)
@@ -56,7 +56,7 @@ down_own : (c : Controller) (number source : ℕ) (b : Bool) → IsOwnStep (if b
 down_own c number source true = own_carried source
 down_own c number source false = tt
 
-down_fares : {settings : Parameters} {events : List Event} {mobile : ℕ} {s : Connection} {item : RelayItem} {items : List RelayItem} → Handling settings events mobile s item items → item.what ≡ whats.Down → FaresOn (modulus_in settings) (actors_after (world settings events) Handle) mobile s
+down_fares : {settings : Parameters} {events : List Event} {mobile : ℕ} {s : Connection} {item : RelayItem} {items : List RelayItem} → Handling settings events mobile s item items → item.what ≡ whats.Down → IsOpenOrEnded (modulus_in settings) (actors_after (world settings events) Handle) mobile s
 down_fares {settings} {events} {mobile} {s} {item} h is =
     outcome_fares h (ap (target_in w item.source) is)
     (all_of (λ x. AreBeside (brings_in (place_of x) item)) (used_channels s) (λ x. subst AreBeside (sym (ap (brings_by (place_of x) item.source) is)) tt))
@@ -71,7 +71,7 @@ quiet_drops s item frame m is says quiet =
     all_of (λ x. AreBeside (brings_in (place_of x) item)) (used_channels s) (λ x. subst AreBeside (sym (ap (brings_by (place_of x) item.source) is ∙ ap (λ (o : Option Rsl). brings_read item.source o (place_of x)) says)) (quiet.brings_none (place_of x)))
 
 report_fares : {settings : Parameters} {events : List Event} {mobile : ℕ} {s : Connection} {item : RelayItem} {items : List RelayItem} (frame : Frame) (at : Place) (number : ℕ) (report : _) → Handling settings events mobile s item items → hears (world settings events).controller item.source ≡ true → item.what ≡ whats.Frame frame
-    → word_of item.source frame ≡ Reports at number report → FaresOn (modulus_in settings) (actors_after (world settings events) Handle) mobile s
+    → word_of item.source frame ≡ Reports at number report → IsOpenOrEnded (modulus_in settings) (actors_after (world settings events) Handle) mobile s
 report_fares {settings} {events} {mobile} {s} {item} frame at number report h up is word = of (item_tells frame h is) where
   w : Actors
   w = world settings events
@@ -85,7 +85,7 @@ report_fares {settings} {events} {mobile} {s} {item} frame at number report h up
   own : IsOwnStep (brought_in c s.number (steps.Take item))
   own = subst IsOwnStep (sym brings) tt
 
-  of : Tells item.source frame → FaresOn (modulus_in settings) (actors_after w Handle) mobile s
+  of : Tells item.source frame → IsOpenOrEnded (modulus_in settings) (actors_after w Handle) mobile s
   of (nothing says) = outcome_fares h (ap (target_in w item.source) is ∙ ap (acknowledged_tenure w item.source) says) (none_drops s item frame is says) own
   of (message m says word_is) =
       let quiet : IsQuiet item.source m = subst (SaysUp item.source m) (sym word_is ∙ word) (word_says item.source m) in
@@ -99,7 +99,7 @@ one_number is = cc
 none_number : {n : ℕ} → (let o : Option ℕ = None in o) ≡ Some n → ⊥
 none_number is = absurd cc
 
-heard_fares : {settings : Parameters} {events : List Event} {mobile : ℕ} {s : Connection} {item : RelayItem} {items : List RelayItem} (frame : Frame) → Handling settings events mobile s item items → hears (world settings events).controller item.source ≡ true → item.what ≡ whats.Frame frame → FaresOn (modulus_in settings) (actors_after (world settings events) Handle) mobile s
+heard_fares : {settings : Parameters} {events : List Event} {mobile : ℕ} {s : Connection} {item : RelayItem} {items : List RelayItem} (frame : Frame) → Handling settings events mobile s item items → hears (world settings events).controller item.source ≡ true → item.what ≡ whats.Frame frame → IsOpenOrEnded (modulus_in settings) (actors_after (world settings events) Handle) mobile s
 heard_fares {settings} {events} {mobile} {s} {item} frame h up is = by (word_of item.source frame) refl where
   c : Controller
   c = (world settings events).controller
@@ -107,10 +107,10 @@ heard_fares {settings} {events} {mobile} {s} {item} frame h up is = by (word_of 
   one : IsKnown c s
   one = known settings events s h.allowed h.lives.had
 
-  not_his : (word : Word) → word_of item.source frame ≡ word → (concerned c word ≡ Some s.number → ⊥) → FaresOn (modulus_in settings) (actors_after (world settings events) Handle) mobile s
+  not_his : (word : Word) → word_of item.source frame ≡ word → (concerned c word ≡ Some s.number → ⊥) → IsOpenOrEnded (modulus_in settings) (actors_after (world settings events) Handle) mobile s
   not_his word word_is other = other_fares frame h up is (λ held. other (ap (concerned c) (sym word_is) ∙ held))
 
-  on_channel : (at : Place) (input : Input) → word_of item.source frame ≡ OnChannel at input → (o : Option ℕ) → holder (channel_state c at) ≡ o → FaresOn (modulus_in settings) (actors_after (world settings events) Handle) mobile s
+  on_channel : (at : Place) (input : Input) → word_of item.source frame ≡ OnChannel at input → (o : Option ℕ) → holder (channel_state c at) ≡ o → IsOpenOrEnded (modulus_in settings) (actors_after (world settings events) Handle) mobile s
   on_channel at input word_is None held = not_his (OnChannel at input) word_is (λ same. none_number (sym held ∙ same))
   on_channel at input word_is (Some n) held = elim (cases_Bool (n == s.number)) [
     | inr other ↦ not_his (OnChannel at input) word_is (λ same. true≢false (sym (eq-eqb n s.number (one_number (sym held ∙ same))) ∙ other))
@@ -120,7 +120,7 @@ heard_fares {settings} {events} {mobile} {s} {item} frame h up is = by (word_of 
         said_fares frame h up is (said_on c (word_of item.source frame) at input s.number s entry.0 word_is (held ∙ ap (λ (k : ℕ). Some k) number) entry.1 entry.2)
   ]
 
-  by : (word : Word) → word_of item.source frame ≡ word → FaresOn (modulus_in settings) (actors_after (world settings events) Handle) mobile s
+  by : (word : Word) → word_of item.source frame ≡ word → IsOpenOrEnded (modulus_in settings) (actors_after (world settings events) Handle) mobile s
   by Nothing word_is = not_his Nothing word_is none_number
   by Ping word_is = not_his Ping word_is none_number
   by (Asks request delay) word_is = not_his (Asks request delay) word_is (λ same.
@@ -139,7 +139,7 @@ heard_fares {settings} {events} {mobile} {s} {item} frame h up is = by (word_of 
         said_fares frame h up is (said_to c (word_of item.source frame) input s.number s entry.0 (word_is ∙ ap (λ (k : ℕ). OnConnection k input) number) entry.1 entry.2)
   ]
 
-frame_fares : {settings : Parameters} {events : List Event} {mobile : ℕ} {s : Connection} {item : RelayItem} {items : List RelayItem} (frame : Frame) → Handling settings events mobile s item items → item.what ≡ whats.Frame frame → FaresOn (modulus_in settings) (actors_after (world settings events) Handle) mobile s
+frame_fares : {settings : Parameters} {events : List Event} {mobile : ℕ} {s : Connection} {item : RelayItem} {items : List RelayItem} (frame : Frame) → Handling settings events mobile s item items → item.what ≡ whats.Frame frame → IsOpenOrEnded (modulus_in settings) (actors_after (world settings events) Handle) mobile s
 frame_fares {settings} {events} {item = item} frame h is = elim (cases_Bool (hears (world settings events).controller item.source)) [
   | inl up ↦ heard_fares frame h up is
   | inr down ↦ ignored_fares frame h down is
@@ -147,17 +147,17 @@ frame_fares {settings} {events} {item = item} frame h is = elim (cases_Bool (hea
 
 -- ---- any item
 
-item_fares : {settings : Parameters} {events : List Event} {mobile : ℕ} {s : Connection} {item : RelayItem} {items : List RelayItem} → Handling settings events mobile s item items → FaresOn (modulus_in settings) (actors_after (world settings events) Handle) mobile s
+item_fares : {settings : Parameters} {events : List Event} {mobile : ℕ} {s : Connection} {item : RelayItem} {items : List RelayItem} → Handling settings events mobile s item items → IsOpenOrEnded (modulus_in settings) (actors_after (world settings events) Handle) mobile s
 item_fares {settings} {events} {mobile} {s} {item} h = by item.what refl where
-  by : (what : What) → item.what ≡ what → FaresOn (modulus_in settings) (actors_after (world settings events) Handle) mobile s
+  by : (what : What) → item.what ≡ what → IsOpenOrEnded (modulus_in settings) (actors_after (world settings events) Handle) mobile s
   by (whats.Frame frame) is = frame_fares frame h is
   by whats.Down is = down_fares h is
 
 -- ---- time passes
 
-tick_fares : (settings : Parameters) (events : List Event) (ms mobile : ℕ) (s : Connection) → AreAllowed settings → CameInOctets settings events → is_up (world settings events) SWITCH_LINK ≡ true → Lives (modulus_in settings) (world settings events) mobile s → FaresOn (modulus_in settings) (actors_after (world settings events) (Tick ms)) mobile s
+tick_fares : (settings : Parameters) (events : List Event) (ms mobile : ℕ) (s : Connection) → AreAllowed settings → TookOctets settings events → is_up (world settings events) SWITCH_LINK ≡ true → IsOpenAndLinedUp (modulus_in settings) (world settings events) mobile s → IsOpenOrEnded (modulus_in settings) (actors_after (world settings events) (Tick ms)) mobile s
 tick_fares settings events ms mobile s allowed octets up lives =
-    subst (λ (x : Actors). FaresOn (modulus_in settings) x mobile s) (sym (tick_is w ms))
+    subst (λ (x : Actors). IsOpenOrEnded (modulus_in settings) x mobile s) (sym (tick_is w ms))
     (by (by_acts passes s t tt lives.had.from_one lives.requested lives.had.there does.sent does.acts.outs does.acts.acts)) where
       w : Actors
       w = world settings events
@@ -168,7 +168,7 @@ tick_fares settings events ms mobile s allowed octets up lives =
       does : Steps w.controller (steps.Tick ms) s.number
       does = steps_known settings events (steps.Tick ms) s.number allowed octets tt lives.had.from_one
 
-      by : Outcome s t → FaresOn (modulus_in settings) (with_turn None t w) mobile s
+      by : Outcome s t → IsOpenOrEnded (modulus_in settings) (with_turn None t w) mobile s
       by (same next is none) =
           let channels = does.after next (ap (connection_of t.next) is.line.number ∙ is.there) (open_of next.state is.requested) in
           still_lined next None t lives.had.from_one up none (none_down w t refl) is channels.0 channels.1 lives.lined.found lives.lined.lined
@@ -176,17 +176,17 @@ tick_fares settings events ms mobile s allowed octets up lives =
 
 -- ---- the law
 
-handle_fares : (settings : Parameters) (events : List Event) (mobile : ℕ) (s : Connection) → AreAllowed settings → CameInOctets settings events → AllByRecursion ComesInOctets (first_taken (world settings events).inbox) → is_up (world settings events) SWITCH_LINK ≡ true
-    → Lives (modulus_in settings) (world settings events) mobile s → AcksAgree (world settings events) s → FaresOn (modulus_in settings) (actors_after (world settings events) Handle) mobile s
+handle_fares : (settings : Parameters) (events : List Event) (mobile : ℕ) (s : Connection) → AreAllowed settings → TookOctets settings events → AllByRecursion IsOctetStep (first_taken (world settings events).inbox) → is_up (world settings events) SWITCH_LINK ≡ true
+    → IsOpenAndLinedUp (modulus_in settings) (world settings events) mobile s → AcksAgree (world settings events) s → IsOpenOrEnded (modulus_in settings) (actors_after (world settings events) Handle) mobile s
 handle_fares settings events mobile s allowed octets own up lives agree = by (world settings events).inbox refl where
-  by : (items : List RelayItem) → (world settings events).inbox ≡ items → FaresOn (modulus_in settings) (actors_after (world settings events) Handle) mobile s
-  by [] stood = subst (λ (x : Actors). FaresOn (modulus_in settings) x mobile s) (sym (idle_is (world settings events) stood)) (goes_on s refl lives.had lives.requested refl lives.lined)
+  by : (items : List RelayItem) → (world settings events).inbox ≡ items → IsOpenOrEnded (modulus_in settings) (actors_after (world settings events) Handle) mobile s
+  by [] stood = subst (λ (x : Actors). IsOpenOrEnded (modulus_in settings) x mobile s) (sym (idle_is (world settings events) stood)) (goes_on s refl lives.had lives.requested refl lives.lined)
   by (item ∷ items) stood = item_fares (handling item items stood) where
     handling : (item : RelayItem) (items : List RelayItem) → (world settings events).inbox ≡ item ∷ items → Handling settings events mobile s item items
     handling item items stood = record {
       allowed = allowed;
       octets = octets;
-      own = (subst (λ (xs : List RelayItem). AllByRecursion ComesInOctets (first_taken xs)) stood own).0;
+      own = (subst (λ (xs : List RelayItem). AllByRecursion IsOctetStep (first_taken xs)) stood own).0;
       stood = stood;
       up = up;
       lives = lives;

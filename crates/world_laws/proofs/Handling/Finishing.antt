@@ -3,11 +3,11 @@
 use Rattle.world_laws.proofs.Prelude.{◌≡◌, ℕ, ◌≤◌, true, unwrap_or, List, [], ◌∷◌, find, Option, Some, None, refl, sym, ap, ◌∙◌, subst}
 use Rattle.world_laws.proofs.Prelude.{SWITCH_LINK, Connection, AreApart, used_channels, IsThere, connection_of, Controller, Turn, RelayItem}
 use Rattle.world_laws.proofs.Prelude.{Handle, Tick, Tenure, actors_after, handled, with_turn, Actors, Mobile, has_number, is_up}
-use Rattle.world_laws.proofs.Prelude.{mobile_of, turn-leads, tick, forwarded, HasEnded, IsRequested, LinedUp, FaresOn}
+use Rattle.world_laws.proofs.Prelude.{mobile_of, turn_leads, tick, forwarded, HasEnded, IsRequested, LinedUp, IsOpenOrEnded}
 use Rattle.world_model.specs.Life.{event_after}
 use Rattle.world_laws.proofs.Others.{turn_mobiles}
 use Rattle.world_laws.proofs.Quiet.{ArePlaced}
-use Rattle.world_laws.specs.Handling.Faring.FaresOn.{goes_on, is_over}
+use Rattle.world_laws.specs.Handling.OpenOrEnded.IsOpenOrEnded.{goes_on, is_over}
 use Rattle.world_laws.proofs.Handling.Leaving.{NoneDown, SameLine, line_same, turn_ended, turn_lined, turned}
 use Rattle.world_laws.proofs.OwnHandle.{handled_by}
 use Rattle.world_laws.proofs.PutAsRead.{open_of}
@@ -28,7 +28,7 @@ tick_is w ms = refl
 
 -- its controller
 pub controller-is : (target : Option Tenure) (t : Turn) (w : Actors) → (with_turn target t w).controller ≡ t.next
-controller-is target t w = turn-leads (λ (x : Actors). x.controller ≡ t.next) target t w (λ links. refl)
+controller-is target t w = turn_leads (λ (x : Actors). x.controller ≡ t.next) target t w (λ links. refl)
 
 -- ---- it goes on
 
@@ -40,7 +40,7 @@ pub record IsSame (s next : Connection) (t : Turn) : Type 0 where
   pub request : next.request ≡ s.request
 
 pub still_lined : {m : ℕ} {w : Actors} {mobile : ℕ} {p : Mobile} {s : Connection} (next : Connection) (target : Option Tenure) (t : Turn) → 1 ≤ s.number → is_up w SWITCH_LINK ≡ true → forwarded t.outs s.number ≡ [] → NoneDown w target t → IsSame s next t
-    → AreApart (used_channels next) → ArePlaced (used_channels next) → mobile_of w mobile ≡ Some p → LinedUp m w p s → FaresOn m (with_turn target t w) mobile s
+    → AreApart (used_channels next) → ArePlaced (used_channels next) → mobile_of w mobile ≡ Some p → LinedUp m w p s → IsOpenOrEnded m (with_turn target t w) mobile s
 still_lined {m} {w} {mobile} {p} {s} next target t from_one up none down same apart placed found lined =
     goes_on next same.line.number
     (record {
@@ -57,7 +57,7 @@ still_lined {m} {w} {mobile} {p} {s} next target t from_one up none down same ap
 
 -- ---- it ended
 
-pub now_ended : {m : ℕ} {w : Actors} {mobile : ℕ} {s : Connection} (target : Option Tenure) (t : Turn) → is_up w SWITCH_LINK ≡ true → forwarded t.outs s.number ≡ [] → (IsThere (connection_of t.next s.number) → ⊥) → HasEnded m w mobile s.number → FaresOn m (with_turn target t w) mobile s
+pub now_ended : {m : ℕ} {w : Actors} {mobile : ℕ} {s : Connection} (target : Option Tenure) (t : Turn) → is_up w SWITCH_LINK ≡ true → forwarded t.outs s.number ≡ [] → (IsThere (connection_of t.next s.number) → ⊥) → HasEnded m w mobile s.number → IsOpenOrEnded m (with_turn target t w) mobile s
 now_ended {w} {s = s} target t up none gone ended =
     is_over (λ there. gone (subst (λ (c : Controller). IsThere (connection_of c s.number)) (controller-is target t w) there)) (turn_ended target t up none ended)
 

@@ -1,20 +1,20 @@
 -- What is known of the controller of a world, before it takes a step and after it.
 use Rattle.world_laws.proofs.Prelude.{◌≡◌, ◌≢◌, ℕ, ◌≤◌, true, List, [], ◌∷◌, ◌++◌, Option, Some, None, option_map, refl, sym, ap, ◌∙◌}
-use Rattle.world_laws.proofs.Prelude.{subst, AllByRecursion, Channel, SWITCH_LINK, AllByRecursion-append, target_in-role, Connection}
-use Rattle.world_laws.proofs.Prelude.{roles_of, target_channels, target_role, Stands, AreApart, IsOpen, undone, used_channels, ActsOn}
-use Rattle.world_laws.proofs.Prelude.{connection_of, SameRequest, Owns, OwnsOpen, is_link_up, ComesInOctets, IsSent, AreUsed, life_acts}
+use Rattle.world_laws.proofs.Prelude.{subst, AllByRecursion, Channel, SWITCH_LINK, AllByRecursion-append, target_in_role, Connection}
+use Rattle.world_laws.proofs.Prelude.{roles_of, target_channels, target_role, IsValid, AreApart, IsOpen, undone, used_channels, ActsOn}
+use Rattle.world_laws.proofs.Prelude.{connection_of, SameRequest, Owns, OwnsOpen, is_link_up, IsOctetStep, IsSent, AreUsed, life_acts}
 use Rattle.world_laws.proofs.Prelude.{life_names, life_sends, life_after, run_step, Ready, ChannelState, Free, InUse, Releasing, Step}
 use Rattle.world_laws.proofs.Prelude.{Controller, Entry, channel_state, entry_of, holder, place_at, place_of, state_in, step, AreAllowed}
 use Rattle.world_laws.proofs.Prelude.{Parameters, Event, all_steps, step_at, new_actors, LivesByTable-new, Fits, used_apart, IsAfter}
-use Rattle.world_laws.proofs.Prelude.{ready_by, ready_uses, life, CameInOctets, IsHad}
+use Rattle.world_laws.proofs.Prelude.{ready_by, ready_uses, life, TookOctets, IsHad}
 use Rattle.world_laws.proofs.Quiet.{ArePlaced}
 use Rattle.world_laws.proofs.Standing.{connections_stand_new}
 use Rattle.world_laws.proofs.Events.{split_steps, world}
 
 -- ---- the world before the event
 
-pub octets_came : (settings : Parameters) (events : List Event) (event : Event) → CameInOctets settings (events ++ event ∷ []) → CameInOctets settings events × AllByRecursion ComesInOctets (step_at (world settings events) event)
-octets_came settings events event all = split_steps ComesInOctets (new_actors settings) events event all
+pub octets_came : (settings : Parameters) (events : List Event) (event : Event) → TookOctets settings (events ++ event ∷ []) → TookOctets settings events × AllByRecursion IsOctetStep (step_at (world settings events) event)
+octets_came settings events event all = split_steps IsOctetStep (new_actors settings) events event all
 
 -- ---- the channels of a connection
 
@@ -26,7 +26,7 @@ used_placed c state (x ∷ xs) used isnt all = (
 )
 
 owns_placed : (c : Controller) (s : Connection) → AreUsed c → Owns c.channels c.links s.number (roles_of s) → ArePlaced (used_channels s)
-owns_placed c s used owns = subst (λ (cs : List Channel). ArePlaced (undone s.draining ++ s.serving ∷ cs)) (target_in-role s.state)
+owns_placed c s used owns = subst (λ (cs : List Channel). ArePlaced (undone s.draining ++ s.serving ∷ cs)) (target_in_role s.state)
     (AllByRecursion-append (λ (x : Channel). x.station ≢ SWITCH_LINK) (undone s.draining) (s.serving ∷ target_channels (target_role s.state))
     (used_placed c (Releasing s.number) (undone s.draining) used (λ is. absurd cc) owns.releasing)
     (used_placed c (InUse s.number) (s.serving ∷ target_channels (target_role s.state)) used (λ is. absurd cc) owns.using))
@@ -37,14 +37,14 @@ state_held c state number [] held all = tt
 state_held c state number (x ∷ xs) held all = (ap holder all.0 ∙ held, state_held c state number xs held all.1)
 
 pub used_held : (c : Controller) (s : Connection) → Owns c.channels c.links s.number (roles_of s) → AllByRecursion (λ (x : Channel). holder (channel_state c (place_of x)) ≡ Some s.number) (used_channels s)
-used_held c s owns = subst (λ (cs : List Channel). AllByRecursion (λ (x : Channel). holder (channel_state c (place_of x)) ≡ Some s.number) (undone s.draining ++ s.serving ∷ cs)) (target_in-role s.state)
+used_held c s owns = subst (λ (cs : List Channel). AllByRecursion (λ (x : Channel). holder (channel_state c (place_of x)) ≡ Some s.number) (undone s.draining ++ s.serving ∷ cs)) (target_in_role s.state)
     (AllByRecursion-append (λ (x : Channel). holder (channel_state c (place_of x)) ≡ Some s.number) (undone s.draining) (s.serving ∷ target_channels (target_role s.state))
     (state_held c (Releasing s.number) s.number (undone s.draining) refl owns.releasing)
     (state_held c (InUse s.number) s.number (s.serving ∷ target_channels (target_role s.state)) refl owns.using))
 
 -- their links are up
 pub used_linked : (c : Controller) (s : Connection) → Owns c.channels c.links s.number (roles_of s) → AllByRecursion (λ (x : Channel). is_link_up c.links x.station ≡ true) (used_channels s)
-used_linked c s owns = subst (λ (cs : List Channel). AllByRecursion (λ (x : Channel). is_link_up c.links x.station ≡ true) (undone s.draining ++ s.serving ∷ cs)) (target_in-role s.state) owns.linked
+used_linked c s owns = subst (λ (cs : List Channel). AllByRecursion (λ (x : Channel). is_link_up c.links x.station ≡ true) (undone s.draining ++ s.serving ∷ cs)) (target_in_role s.state) owns.linked
 
 -- ---- the controller
 
@@ -54,7 +54,7 @@ pub record IsKnown (c : Controller) (s : Connection) : Type 0 where
   pub ready : Ready c
   pub fits : (n : ℕ) → 1 ≤ n → Fits n c
   pub there : connection_of c s.number ≡ Some s
-  pub stands : Stands s
+  pub stands : IsValid s
   pub owns : Owns c.channels c.links s.number (roles_of s)
 
 pub known : (settings : Parameters) (events : List Event) (s : Connection) → AreAllowed settings → IsHad (world settings events) s → IsKnown (world settings events).controller s
@@ -81,7 +81,7 @@ pub record Steps (c : Controller) (s : Step) (number : ℕ) : Type 0 where
   pub acts : ActsOn number c s
   pub after : (next : Connection) → connection_of (step c s).next next.number ≡ Some next → IsOpen next.state → AreApart (used_channels next) × ArePlaced (used_channels next)
 
-pub steps_known : (settings : Parameters) (events : List Event) (s : Step) (number : ℕ) → AreAllowed settings → CameInOctets settings events → ComesInOctets s → 1 ≤ number → Steps (world settings events).controller s number
+pub steps_known : (settings : Parameters) (events : List Event) (s : Step) (number : ℕ) → AreAllowed settings → TookOctets settings events → IsOctetStep s → 1 ≤ number → Steps (world settings events).controller s number
 steps_known settings events s number allowed octets own from_one =
     let lives = LivesByTable-new settings events in
     let steps = all_steps (new_actors settings) events in

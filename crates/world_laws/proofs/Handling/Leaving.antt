@@ -4,7 +4,7 @@ use Rattle.world_laws.proofs.Prelude.{◌≡◌, ℕ, ◌≤◌, ◌==◌, ◌&&
 use Rattle.world_laws.proofs.Prelude.{refl, sym, ap, ◌∙◌, subst, inl, inr, AllByRecursion, flat_map, cases_Bool, cond-false, cond-true}
 use Rattle.world_laws.proofs.Prelude.{append-nil, Channel, Message, Out, SWITCH_LINK, outs_of, Target, Connection, AreApart, relayed}
 use Rattle.world_laws.proofs.Prelude.{used_channels, is_for, outs_for, IsSent, forwarded_seen, Forwarded, Turn, place_of, forwarded_by}
-use Rattle.world_laws.proofs.Prelude.{Sapi, Tenure, joined_by, with_turn, Actors, Mobile, has_number, is_up, tenure_at, turn-leads}
+use Rattle.world_laws.proofs.Prelude.{Sapi, Tenure, joined_by, with_turn, Actors, Mobile, has_number, is_up, tenure_at, turn_leads}
 use Rattle.world_laws.proofs.Prelude.{sccp_reading, AreUsual, Alive, flow, coming_up, HasEnded, going_down, commanded_target, is_confirmed}
 use Rattle.world_laws.proofs.Prelude.{is_opening, line_up, taken_of, waiting_of, Leads, LinedUp, NoneOn, Sits}
 use Rattle.controller_model.specs.Views.{forwarded}
@@ -31,12 +31,12 @@ pub record SameLine (s next : Connection) : Type 0 where
 pub line_itself : (s : Connection) → SameLine s s
 line_itself s = record { number = refl; serving = refl; draining = refl; tenures = refl; target = refl; confirmed = refl; opening = refl }
 
-line-is : (w : Actors) (p : Mobile) (s next : Connection) → SameLine s next → line_up w p next ≡ line_up w p s
-line-is w p s next same = rw (same.number, same.serving, same.draining, same.tenures, same.target, same.confirmed, same.opening) refl
+line_is : (w : Actors) (p : Mobile) (s next : Connection) → SameLine s next → line_up w p next ≡ line_up w p s
+line_is w p s next same = rw (same.number, same.serving, same.draining, same.tenures, same.target, same.confirmed, same.opening) refl
 
 pub line_same : {m : ℕ} {w : Actors} {p : Mobile} {s : Connection} (next : Connection) → SameLine s next → AreApart (used_channels next) → ArePlaced (used_channels next) → LinedUp m w p s → LinedUp m w p next
 line_same {m} {w} {p} {s} next same apart placed lined = record {
-  alive = subst (Alive m) (sym (line-is w p s next same)) lined.alive;
+  alive = subst (Alive m) (sym (line_is w p s next same)) lined.alive;
   sits = subst (λ (c : Channel). Sits w c (commanded_target next.state) p.seat) (sym same.serving) (subst (λ (o : Option Target). Sits w s.serving o p.seat) (sym same.target) lined.sits);
   led = subst (λ (c : Channel). AllByRecursion (λ a. Leads w a (commanded_target next.state)) (going_down w (place_of c))) (sym same.serving)
       (subst (λ (o : Option Target). AllByRecursion (λ a. Leads w a o) (going_down w (place_of s.serving))) (sym same.target) lined.led);
@@ -90,13 +90,13 @@ nothing_down w target t none = λ c. ap (λ (outs : List Out). going_down (fold 
 sees_turned : {w : Actors} {s : Connection} (target : Option Tenure) (t : Turn) → is_up w SWITCH_LINK ≡ true → forwarded t.outs s.number ≡ [] → NoneDown w target t → SeesSame w (with_turn target t w) s
 unfolding SameTenures
 sees_turned {w} {s} target t up none down = record {
-  coming = all_of (λ c. coming_up (with_turn target t w) (place_of c) ≡ coming_up w (place_of c)) (used_channels s) (λ c. turn-leads (λ (x : Actors). coming_up x (place_of c) ≡ coming_up w (place_of c)) target t w (λ links. refl));
+  coming = all_of (λ c. coming_up (with_turn target t w) (place_of c) ≡ coming_up w (place_of c)) (used_channels s) (λ c. turn_leads (λ (x : Actors). coming_up x (place_of c) ≡ coming_up w (place_of c)) target t w (λ links. refl));
   up = turn_stations target t.outs (turned w t);
   serving = down s.serving;
   target = λ c is. down c.channel;
-  tenures = λ at. turn-leads (λ (x : Actors). tenure_at x at ≡ tenure_at w at) target t w (λ links. refl);
+  tenures = λ at. turn_leads (λ (x : Actors). tenure_at x at ≡ tenure_at w at) target t w (λ links. refl);
   waiting = turn_waiting target t.outs (turned w t) s.number up ∙ ap (λ (fs : List Forwarded). waiting_of w s.number ++ map (λ f. f.message) fs) none ∙ append-nil (waiting_of w s.number);
-  taken = turn-leads (λ (x : Actors). taken_of x s.number ≡ taken_of w s.number) target t w (λ links. refl);
+  taken = turn_leads (λ (x : Actors). taken_of x s.number ≡ taken_of w s.number) target t w (λ links. refl);
 }
 
 pub turn_lined : {m : ℕ} {w : Actors} {p : Mobile} {s : Connection} (target : Option Tenure) (t : Turn) → is_up w SWITCH_LINK ≡ true → forwarded t.outs s.number ≡ [] → NoneDown w target t → LinedUp m w p s → LinedUp m (with_turn target t w) p s
@@ -117,4 +117,4 @@ turn_ended {m} {w} {mobile} {number} target t up none ended = record {
   waits = turn_waiting target t.outs (turned w t) number up ∙ ap (λ (fs : List Forwarded). waiting_of w number ++ map (λ f. f.message) fs) none ∙ append-nil (waiting_of w number)
 
   takes : taken_of v number ≡ taken_of w number
-  takes = turn-leads (λ (x : Actors). taken_of x number ≡ taken_of w number) target t w (λ links. refl)
+  takes = turn_leads (λ (x : Actors). taken_of x number ≡ taken_of w number) target t w (λ links. refl)

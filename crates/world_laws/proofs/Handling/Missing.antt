@@ -1,9 +1,9 @@
 -- An input that no row fits brings nothing of the flow on the channels of its connection.
 use Rattle.world_laws.proofs.Prelude.{◌≡◌, ℕ, zero, suc, Bool, true, false, if◌then◌else◌, List, [], ◌∷◌, ◌++◌, length, Option, Some, None}
 use Rattle.world_laws.proofs.Prelude.{refl, sym, ap, ◌∙◌, subst, AllByRecursion, Channel, Place, AllByRecursion-append, Input, Drain}
-use Rattle.world_laws.proofs.Prelude.{Preparing, Changing, State, WaitConfirm, Live, Connection, drain_at, is_at, Stands}
-use Rattle.world_laws.proofs.Prelude.{StandsBy, undone, used_channels, dtap_in, on_dtap, on_release_ack, release_in, IsAtPlace}
-use Rattle.world_laws.proofs.Prelude.{place_of, Three, Zero, is_control, is_control-apart, same_place, AllByRecursion-so, messages_in}
+use Rattle.world_laws.proofs.Prelude.{Preparing, Changing, State, WaitConfirm, Live, Connection, drain_at, is_at, IsValid}
+use Rattle.world_laws.proofs.Prelude.{IsValidState, undone, used_channels, dtap_in, on_dtap, on_release_ack, release_in, IsAtPlace}
+use Rattle.world_laws.proofs.Prelude.{place_of, Three, Zero, is_control, is_control_apart, same_place, AllByRecursion-so, messages_in}
 use Rattle.world_laws.proofs.Prelude.{released, awaited_in, is_ended, IsRequested, none_if}
 use Rattle.conn_rules.specs.declared.input.Input.TheVariants as inputs
 use Rattle.conn_rules.specs.declared.state.Stage.{Stage}
@@ -13,7 +13,7 @@ use Rattle.conn_rules.specs.Table.{dtap_on_target, row_of}
 use Rattle.world_laws.specs.LineUp.Places.{Item}
 use Rattle.world_laws.specs.LineUp.Places.Item.{brought}
 use Rattle.world_laws.specs.OwnItem.{said_by}
-use Rattle.world_laws.proofs.OwnReleases.{same-at, undone_none}
+use Rattle.world_laws.proofs.OwnReleases.{same_at, undone_none}
 use Rattle.world_laws.proofs.Quiet.{all_of}
 use Rattle.world_laws.proofs.Handling.Dropped.{AreBeside}
 use Rattle.world_laws.proofs.Handling.Saying.{IsControl}
@@ -24,23 +24,23 @@ off : (b : Bool) (items : List Item) → b ≡ false → (if b then items else [
 off false items is = refl
 off true items is = absurd cc
 
-pub said-elsewhere : (input : Input) (text : List ℕ) (at place : Place) → IsAtPlace at input → same_place place at ≡ false → said_by input text place ≡ []
-said-elsewhere (inputs.Dtap there Zero message) text at place here other = off (same_place place there) (brought message ∷ []) (ap (same_place place) here ∙ other)
-said-elsewhere (inputs.EstablishIndication there Zero (Some initial)) text at place here other = off (same_place place there) (brought initial ∷ []) (ap (same_place place) here ∙ other)
-said-elsewhere (inputs.Complete there change cause) text at place here other = off (same_place place there) (brought text ∷ []) (ap (same_place place) here ∙ other)
-said-elsewhere (inputs.Failure there change cause) text at place here other = off (same_place place there) (brought text ∷ []) (ap (same_place place) here ∙ other)
-said-elsewhere (inputs.ReleaseAck there) text at place here other = off (same_place place there) (released ∷ []) (ap (same_place place) here ∙ other)
-said-elsewhere _ text at place here other = refl
+pub said_elsewhere : (input : Input) (text : List ℕ) (at place : Place) → IsAtPlace at input → same_place place at ≡ false → said_by input text place ≡ []
+said_elsewhere (inputs.Dtap there Zero message) text at place here other = off (same_place place there) (brought message ∷ []) (ap (same_place place) here ∙ other)
+said_elsewhere (inputs.EstablishIndication there Zero (Some initial)) text at place here other = off (same_place place there) (brought initial ∷ []) (ap (same_place place) here ∙ other)
+said_elsewhere (inputs.Complete there change cause) text at place here other = off (same_place place there) (brought text ∷ []) (ap (same_place place) here ∙ other)
+said_elsewhere (inputs.Failure there change cause) text at place here other = off (same_place place there) (brought text ∷ []) (ap (same_place place) here ∙ other)
+said_elsewhere (inputs.ReleaseAck there) text at place here other = off (same_place place there) (released ∷ []) (ap (same_place place) here ∙ other)
+said_elsewhere _ text at place here other = refl
 
 -- ---- no row
 
 -- a message of SAPI 0 on this channel, or an end
 off_beside : (at : Place) (items : List Item) (c : Channel) → is_at at c ≡ false → AreBeside (if same_place (place_of c) at then items else [])
-off_beside at items c other = subst AreBeside (sym (off (same_place (place_of c) at) items (same-at at c ∙ other))) tt
+off_beside at items c other = subst AreBeside (sym (off (same_place (place_of c) at) items (same_at at c ∙ other))) tt
 
 -- of a connection that awaits CC nothing drains
-none_drains_before : (s : Connection) → Stands s → s.state ≡ WaitConfirm → s.draining ≡ []
-none_drains_before s stands is = (subst (λ (state : State). StandsBy state s.draining s.down s.up.tenures s.link s.waits) is stands.state).none_drains
+none_drains_before : (s : Connection) → IsValid s → s.state ≡ WaitConfirm → s.draining ≡ []
+none_drains_before s stands is = (subst (λ (state : State). IsValidState state s.draining s.down s.up.tenures s.link s.waits) is stands.state).none_drains
 
 -- ---- a message of SAPI 0
 
@@ -73,7 +73,7 @@ on_targets at message reference (Preparing target) s none silent = (silent_besid
 on_targets at message reference (Changing target) s none silent = (off_beside at (brought message ∷ []) target.channel (none_if (is_at at target.channel) _ none), tt)
 on_targets at message reference _ s none silent = tt
 
-dtap_missed : (state : State) (s : Connection) (at : Place) (message : List ℕ) → s.state ≡ state → IsRequested state → Stands s → on_dtap state s at Zero message ≡ None
+dtap_missed : (state : State) (s : Connection) (at : Place) (message : List ℕ) → s.state ≡ state → IsRequested state → IsValid s → on_dtap state s at Zero message ≡ None
     → AllByRecursion (λ c. messages_in (if same_place (place_of c) at then brought message ∷ [] else []) ≡ []) (awaited_in state) → AllByRecursion (OnSapiZero at message) (undone s.draining ++ s.serving ∷ target_in state)
 unfolding OnSapiZero
 dtap_missed WaitConfirm s at message is requested stands none silent =
@@ -103,7 +103,7 @@ release_none : (o : Option ℕ) (reference : ℕ) (stage : Stage) (offer : Optio
 release_none None reference stage offer s none = refl
 release_none (Some place) reference stage offer s none = absurd cc
 
-ends_missed : (state : State) (s : Connection) (at : Place) (offer : Option Channel) → s.state ≡ state → IsRequested state → Stands s → on_release_ack state s at offer ≡ None → AllByRecursion (OnEnd at) (undone s.draining)
+ends_missed : (state : State) (s : Connection) (at : Place) (offer : Option Channel) → s.state ≡ state → IsRequested state → IsValid s → on_release_ack state s at offer ≡ None → AllByRecursion (OnEnd at) (undone s.draining)
 unfolding OnEnd
 ends_missed WaitConfirm s at offer is requested stands none = subst (λ (ds : List Drain). AllByRecursion (OnEnd at) (undone ds)) (sym (none_drains_before s stands is)) tt
 ends_missed (Live reference stage) s at offer is requested stands none =
@@ -118,10 +118,10 @@ NotInitial (inputs.EstablishIndication at Zero (Some initial)) c = same_place (p
 NotInitial _ c = Unit {0}
 
 control_beside : (b : Bool) (text : List ℕ) → is_control text ≡ true → AreBeside (if b then brought text ∷ [] else [])
-control_beside true text control = (is_control-apart text control, tt)
+control_beside true text control = (is_control_apart text control, tt)
 control_beside false text control = tt
 
-pub missed_beside : (s : Connection) (input : Input) (text : List ℕ) (offer : Option Channel) → IsRequested s.state → Stands s → row_of s input offer ≡ None → IsControl input text
+pub missed_beside : (s : Connection) (input : Input) (text : List ℕ) (offer : Option Channel) → IsRequested s.state → IsValid s → row_of s input offer ≡ None → IsControl input text
     → AllByRecursion (λ c. is_ended (said_by input text (place_of c)) ≡ false) (s.serving ∷ target_in s.state) → AllByRecursion (λ c. messages_in (said_by input text (place_of c)) ≡ []) (awaited_in s.state)
     → AllByRecursion (NotInitial input) (used_channels s) → AllByRecursion (λ c. AreBeside (said_by input text (place_of c))) (used_channels s)
 unfolding row_of OnSapiZero OnEnd

@@ -9,19 +9,19 @@ use Rattle.world_laws.proofs.Prelude.{IsThere, connection_of, outs_for, SameRequ
 use Rattle.world_laws.proofs.Prelude.{usual_row, Take, Controller, Turn, hears, place_of, on_what, on_word, keeps_number, Zero}
 use Rattle.world_laws.proofs.Prelude.{Frame, is_control, RelayItem, What, Rsl, AreAllowed, Parameters, Event, Handle, actors_after}
 use Rattle.world_laws.proofs.Prelude.{tenure_in, rsl_in, Actors, Mobile, base_of, is_station_up, is_up, modulus_in, IsKnownItem}
-use Rattle.world_laws.proofs.Prelude.{known-inbox, same_place, and-left, AllByRecursion-so, IsFinal-row, IsFinal, IsCarriedBy, word_carried}
-use Rattle.world_laws.proofs.Prelude.{kept_there, IsFrom, word_of, forwarded, AliveStands, controls_in, messages_in, released, NoneReleases}
+use Rattle.world_laws.proofs.Prelude.{known_inbox, same_place, and_left, AllByRecursion-so, IsFinal-row, IsFinal, IsCarriedBy, word_carried}
+use Rattle.world_laws.proofs.Prelude.{kept_there, IsFrom, word_of, forwarded, ChangePhase, controls_in, messages_in, released, NoneReleases}
 use Rattle.world_laws.proofs.Prelude.{acknowledgements_up, read_by, read_of, brings_by, brings_in, coming_up, IsReadyFor, awaited_in}
-use Rattle.world_laws.proofs.Prelude.{commanded_target, is_ended, seat_from, target_tenure, AcksAgree, IsLed, Lives, initial_by}
-use Rattle.world_laws.proofs.Prelude.{initials_up, CameInOctets, IsFrameFor, IsRequested, IsSaidTo, on_channel, on_connection, LinedUp}
-use Rattle.world_laws.proofs.Prelude.{commanded_channels, FaresOn, open_or}
+use Rattle.world_laws.proofs.Prelude.{commanded_target, is_ended, seat_from, target_tenure, AcksAgree, IsLed, IsOpenAndLinedUp, initial_by}
+use Rattle.world_laws.proofs.Prelude.{initials_up, TookOctets, IsFrameFor, IsRequested, IsSaidTo, on_channel, on_connection, LinedUp}
+use Rattle.world_laws.proofs.Prelude.{commanded_channels, IsOpenOrEnded, open_or}
 use Rattle.std.proofs.Common.{eq-eqb}
 use Rattle.conn_rules.specs.declared.input.Input.TheVariants as inputs
 use Rattle.conn_rules.specs.Streams.{target_in}
 use Rattle.conn_rules.specs.Table.{row_of}
 use Rattle.controller_model.proofs.LifeLaws.Progress.{Advances, IsLive, Next, advances}
 use Rattle.controller_model.specs.Life.{take}
-use Rattle.world_laws.specs.LineUp.Alive.Stands.{arrives, leaves, opens, rests, returns, waits}
+use Rattle.world_laws.specs.LineUp.Alive.ChangePhase.{arrives, leaves, opens, rests, returns, waits}
 use Rattle.world_laws.specs.LineUp.Places.{Item}
 use Rattle.world_laws.specs.LineUp.Places.Item.{brought}
 use Rattle.world_laws.proofs.LineUp.Lines.{controls_first}
@@ -32,12 +32,12 @@ use Rattle.world_laws.proofs.Apart.{all_both}
 use Rattle.world_laws.proofs.Ending.{line_ups_may_end_new}
 use Rattle.world_laws.proofs.Framing.{all_right}
 use Rattle.world_laws.proofs.OwnFrameLaw.{frame_is_handled_new}
-use Rattle.world_laws.proofs.OwnReleases.{same-at}
+use Rattle.world_laws.proofs.OwnReleases.{same_at}
 use Rattle.world_laws.proofs.PutAsRead.{allowed_frames_keep_line_ups_new, still_there}
 use Rattle.world_laws.proofs.Quiet.{all_of}
 use Rattle.world_laws.proofs.TurnsLife.{same_places}
-use Rattle.world_laws.specs.Handling.Faring.FaresOn.{goes_on}
-use Rattle.world_laws.proofs.Handling.Dropped.{AreBeside, coming-first, item_drops, without_first}
+use Rattle.world_laws.specs.Handling.OpenOrEnded.IsOpenOrEnded.{goes_on}
+use Rattle.world_laws.proofs.Handling.Dropped.{AreBeside, coming_first, item_drops, without_first}
 use Rattle.world_laws.proofs.Handling.Finishing.{controller-is, ended_before, handle_is, now_ended, still_lined}
 use Rattle.world_laws.proofs.Handling.Knowing.{IsKnown, Steps, known, names_known, steps_known}
 use Rattle.world_laws.proofs.Handling.Leaving.{line_itself, none_forwarded, nothing_down, silent_forwards}
@@ -92,11 +92,11 @@ record Fails (state : State) (s : Connection) (at : Place) : Type 0 where
 
 failure_is : (state : State) (s : Connection) (at : Place) (change : _) (cause : ℕ) (offer : Option Channel) (r : Row) → on_failure state s at change cause offer ≡ Some r → Fails state s at
 failure_is (Live reference (Changing target)) s at change cause offer r fits =
-    record { target = target; commanded = refl; targets = refl; here = and-left (is_at at s.serving) (same_change change target.change) (row_if_some (is_at at s.serving && same_change change target.change) _ r fits) }
+    record { target = target; commanded = refl; targets = refl; here = and_left (is_at at s.serving) (same_change change target.change) (row_if_some (is_at at s.serving && same_change change target.change) _ r fits) }
 failure_is _ s at change cause offer r fits = absurd cc
 
 -- FAILURE is on its way: so no COMPLETE is
-no_complete : {opening changing : Bool} {commands serving texts target link : ℕ} {seat : _} → AliveStands opening changing commands seat serving texts target link → 1 ≤ serving → target ≡ 0
+no_complete : {opening changing : Bool} {commands serving texts target link : ℕ} {seat : _} → ChangePhase opening changing commands seat serving texts target link → 1 ≤ serving → target ≡ 0
 no_complete (opens stays none) some = omega arith
 no_complete (rests stays none) some = omega arith
 no_complete (waits stays few none) some = omega arith
@@ -129,14 +129,14 @@ controls_more text items all control is = let more = controls_first text (messag
 -- the first item of the inbox is handled
 pub record Handling (settings : Parameters) (events : List Event) (mobile : ℕ) (s : Connection) (item : RelayItem) (items : List RelayItem) : Type 0 where
   pub allowed : AreAllowed settings
-  pub octets : CameInOctets settings events
+  pub octets : TookOctets settings events
   pub own : IsOfOctets item.what
   pub stood : (world settings events).inbox ≡ item ∷ items
   pub up : is_up (world settings events) SWITCH_LINK ≡ true
-  pub lives : Lives (modulus_in settings) (world settings events) mobile s
+  pub lives : IsOpenAndLinedUp (modulus_in settings) (world settings events) mobile s
   pub agree : AcksAgree (world settings events) s
 
-silent_for : {w : Actors} {m mobile : ℕ} {s : Connection} (item : RelayItem) (items : List RelayItem) (input : Input) (offer : Option Channel) (r : Row) (text : List ℕ) → w.inbox ≡ item ∷ items → Lives m w mobile s → row_of s input offer ≡ Some r → IsRead input text → ((at : Place) → brings_in at item ≡ said_by input text at)
+silent_for : {w : Actors} {m mobile : ℕ} {s : Connection} (item : RelayItem) (items : List RelayItem) (input : Input) (offer : Option Channel) (r : Row) (text : List ℕ) → w.inbox ≡ item ∷ items → IsOpenAndLinedUp m w mobile s → row_of s input offer ≡ Some r → IsRead input text → ((at : Place) → brings_in at item ≡ said_by input text at)
     → IsBesideTarget input → AllByRecursion (λ c. messages_in (coming_up w (place_of c)) ≡ []) (target_in s.state)
 unfolding row_of
 silent_for {w} {s = s} item items (inputs.ActivationAck at) offer r text stood lives fits read brings beside =
@@ -145,7 +145,7 @@ silent_for {w} {s = s} item items (inputs.Failure at change cause) offer r text 
     let fails = failure_is s.state s at change cause.0 offer r fits in
     fails_silent fails lives.lined.lined lives.fresh.led
     (controls_more text (coming_up (without_first w items) (place_of s.serving)) (coming_up w (place_of s.serving)) read
-    (coming-first w item items stood (place_of s.serving) ∙ ap (λ (xs : List Item). xs ++ coming_up (without_first w items) (place_of s.serving)) (brings (place_of s.serving) ∙ ap (λ (b : Bool). if b then brought text ∷ [] else []) (same-at at s.serving ∙ fails.here))))
+    (coming_first w item items stood (place_of s.serving) ∙ ap (λ (xs : List Item). xs ++ coming_up (without_first w items) (place_of s.serving)) (brings (place_of s.serving) ∙ ap (λ (b : Bool). if b then brought text ∷ [] else []) (same_at at s.serving ∙ fails.here))))
 silent_for item items _ offer r text stood lives fits read brings beside = absurd beside
 
 ready_for : {settings : Parameters} {events : List Event} {mobile : ℕ} {s : Connection} {item : RelayItem} {items : List RelayItem} (input : Input) (offer : Option Channel) (r : Row) → Handling settings events mobile s item items → IsFrameFor (world settings events) item s input offer r → IsReadyFor (world settings events) s input
@@ -163,7 +163,7 @@ ready_for {settings} {events} {s = s} {item} {items} input offer r h comes =
 
 -- it stays open
 keeps_on : {settings : Parameters} {events : List Event} {mobile : ℕ} {s : Connection} {item : RelayItem} {items : List RelayItem} {input : Input} {offer : Option Channel} (r : Row) → Handling settings events mobile s item items → IsFrameFor (world settings events) item s input offer r
-    → connection_of (take item (world settings events).controller).next s.number ≡ Some r.next → FaresOn (modulus_in settings) (actors_after (world settings events) Handle) mobile s
+    → connection_of (take item (world settings events).controller).next s.number ≡ Some r.next → IsOpenOrEnded (modulus_in settings) (actors_after (world settings events) Handle) mobile s
 keeps_on {settings} {events} {mobile} {s} {item} {items} {input} {offer} r h comes next =
     let w : Actors = world settings events in
     let number : r.next.number ≡ s.number = subst (OfRow (λ (q : Row). q.next.number ≡ s.number)) comes.fits (keeps_number s input offer) in
@@ -178,7 +178,7 @@ keeps_on {settings} {events} {mobile} {s} {item} {items} {input} {offer} r h com
 -- ---- what the item tells
 
 pub item_tells : {settings : Parameters} {events : List Event} {mobile : ℕ} {s : Connection} {item : RelayItem} {items : List RelayItem} (frame : Frame) → Handling settings events mobile s item items → item.what ≡ whats.Frame frame → Tells item.source frame
-item_tells {settings} {events} {item = item} frame h is = frame_tells item.source frame (subst (λ (x : What). IsKnownItem (record { source = item.source; what = x })) is (subst (AllByRecursion IsKnownItem) h.stood (known-inbox settings events)).0)
+item_tells {settings} {events} {item = item} frame h is = frame_tells item.source frame (subst (λ (x : What). IsKnownItem (record { source = item.source; what = x })) is (subst (AllByRecursion IsKnownItem) h.stood (known_inbox settings events)).0)
 
 -- ---- no row fits
 
@@ -247,7 +247,7 @@ missed_drops {settings} {events} {s = s} {item} {items} input offer frame m at h
       brings place = ap (brings_by place item.source) is ∙ ap (λ (o : Option Rsl). brings_read item.source o place) says ∙ on.brings_it place
 
       first : (place : Place) → coming_up w place ≡ said_by input on.text place ++ coming_up (without_first w items) place
-      first place = coming-first w item items h.stood place ∙ ap (λ (xs : List Item). xs ++ coming_up (without_first w items) place) (brings place)
+      first place = coming_first w item items h.stood place ∙ ap (λ (xs : List Item). xs ++ coming_up (without_first w items) place) (brings place)
 
       goes_on : AllByRecursion (λ c. is_ended (coming_up w (place_of c)) ≡ false) (s.serving ∷ target_in s.state)
       goes_on = all_both (λ c. c.station ≢ SWITCH_LINK) (λ c. NoneReleases (acknowledgements_up w (place_of c))) (λ c. is_ended (coming_up w (place_of c)) ≡ false) (s.serving ∷ target_in s.state)
@@ -274,7 +274,7 @@ unfolding take
 take-frame c item frame up is = ap (λ (b : Bool). on_what b item.source item.what c) up ∙ ap (λ (x : What). on_what true item.source x c) is
 
 pub said_fares : {settings : Parameters} {events : List Event} {mobile : ℕ} {s : Connection} {item : RelayItem} {items : List RelayItem} {input : Input} {offer : Option Channel} (frame : Frame) → Handling settings events mobile s item items → hears (world settings events).controller item.source ≡ true → item.what ≡ whats.Frame frame
-    → IsSaidTo (world settings events).controller (word_of item.source frame) s input offer → FaresOn (modulus_in settings) (actors_after (world settings events) Handle) mobile s
+    → IsSaidTo (world settings events).controller (word_of item.source frame) s input offer → IsOpenOrEnded (modulus_in settings) (actors_after (world settings events) Handle) mobile s
 said_fares {settings} {events} {mobile} {s} {item} {items} {input} {offer} frame h up is said = by (row_of s input offer) refl where
   w : Actors
   w = world settings events
@@ -300,10 +300,10 @@ said_fares {settings} {events} {mobile} {s} {item} {items} {input} {offer} frame
   carried : IsCarried input
   carried = said_carried item.source frame said
 
-  by : (o : Option Row) → row_of s input offer ≡ o → FaresOn (modulus_in settings) (actors_after w Handle) mobile s
+  by : (o : Option Row) → row_of s input offer ≡ o → IsOpenOrEnded (modulus_in settings) (actors_after w Handle) mobile s
   by None none =
       let silent : t.outs ≡ [] = turns.outs ∙ ap (outs_by s.number) none in
-      subst (λ (x : Actors). FaresOn (modulus_in settings) x mobile s) (sym (handle_is w item items h.stood))
+      subst (λ (x : Actors). IsOpenOrEnded (modulus_in settings) x mobile s) (sym (handle_is w item items h.stood))
       (still_lined s (tenure_in w item.source item.what) t h.lives.had.from_one h.up (ap (λ (outs : List Out). forwarded outs s.number) silent ∙ silent_forwards s.number [] refl) (nothing_down (record w { inbox = items }) (tenure_in w item.source item.what) t silent)
       (record { line = line_itself s; there = turns.next ∙ ap (next_by s) none; requested = h.lives.requested; request = refl })
       h.lives.lined.lined.apart h.lives.lined.lined.placed h.lives.lined.found
@@ -314,7 +314,7 @@ said_fares {settings} {events} {mobile} {s} {item} {items} {input} {offer} frame
       let final : IsFinal s r = subst (OfRow (IsFinal s)) fits (IsFinal-row s input offer) in
       elim (open_or r.next.state) [
         | inl is_open ↦ keeps_on r h (record { frame = frame; is = is; up = up; said = said; requested = h.lives.requested; fits = fits; stays_open = is_open; carried = carried }) (next ∙ still_there r.next.state r.next is_open)
-        | inr shut ↦ subst (λ (x : Actors). FaresOn (modulus_in settings) x mobile s) (sym (handle_is w item items h.stood))
+        | inr shut ↦ subst (λ (x : Actors). IsOpenOrEnded (modulus_in settings) x mobile s) (sym (handle_is w item items h.stood))
             (now_ended (tenure_in w item.source item.what) t h.up
             (none_forwarded s.number t.outs r.outs h.lives.had.from_one outs (subst (OfRow PutsUsual) fits (usual_row s input offer)) does.sent (final.relays shut))
             (λ there. shut (kept_there r.next.state r.next (subst IsThere next there)))

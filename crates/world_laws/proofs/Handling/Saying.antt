@@ -3,7 +3,7 @@ use Rattle.world_laws.proofs.Prelude.{◌≡◌, ◌≢◌, ℕ, ◌==◌, not, 
 use Rattle.world_laws.proofs.Prelude.{sym, ap, ◌∙◌, subst, inl, inr, Place, SWITCH_LINK, Input, is_dtap, Word, Nothing, OnChannel}
 use Rattle.world_laws.proofs.Prelude.{OnConnection, Reports, place_at, change_word, data_word, of_sapi, report_word, result_word, rsl_word}
 use Rattle.world_laws.proofs.Prelude.{sapi_of, report_reading, RrMessage, AssignmentComplete, AssignmentFailure, HandoverComplete}
-use Rattle.world_laws.proofs.Prelude.{HandoverFailure, MeasurementReport, RrFault, Sapi, Three, Zero, Frame, is_control, is_control-apart}
+use Rattle.world_laws.proofs.Prelude.{HandoverFailure, MeasurementReport, RrFault, Sapi, Three, Zero, Frame, is_control, is_control_apart}
 use Rattle.world_laws.proofs.Prelude.{Establishment, Rsl, acknowledged_tenure, Tenure, rsl_in, Actors, IsKnown, IsKnownItem, Result}
 use Rattle.world_laws.proofs.Prelude.{word_of, rr_reading, messages_in, brings, of_establishment, of_main, initial_by}
 use Rattle.std.proofs.Common.{eq-eqb}
@@ -14,8 +14,8 @@ use Rattle.ruled_relay.specs.declared.item.What.TheVariants as whats
 use Rattle.rsl_codec.specs.declared.radio_link.Data.{Data}
 use Rattle.rsl_codec.specs.declared.rsl.Rsl.TheVariants as rsl
 use Rattle.world_laws.specs.OwnItem.{said_by}
-use Rattle.world_laws.proofs.OrderHeard.{read_known, word-known}
-use Rattle.world_laws.proofs.OwnFrame.{IsPlain, SaysInput, SaysWord, brings_of, message_says, control-or, one_place}
+use Rattle.world_laws.proofs.OrderHeard.{read_known, word_known}
+use Rattle.world_laws.proofs.OwnFrame.{IsPlain, SaysInput, SaysWord, brings_of, message_says, control_or, one_place}
 use Rattle.world_laws.proofs.Handling.Dropped.{AreBeside}
 use Rattle.world_laws.proofs.OwnFrames.{brings_read}
 use Rattle.world_laws.proofs.OwnerRun.{source_or}
@@ -103,7 +103,7 @@ establish_up source e (Some Zero) is = by e.l3 refl where
 
 -- what is so, on SAPI 0
 main_beside : (sapi : Option Sapi) (l3 : List ℕ) → is_control l3 ≡ true → AreBeside (of_main sapi l3)
-main_beside (Some Zero) l3 control = (is_control-apart l3 control, tt)
+main_beside (Some Zero) l3 control = (is_control_apart l3 control, tt)
 main_beside _ l3 control = tt
 
 data_quiet : (source : ℕ) (d : Data) → AreBeside (of_main (sapi_of d.link) d.l3) → IsQuiet source (rsl.DataIndication d)
@@ -120,9 +120,9 @@ data_up : (source : ℕ) (d : Data) (b : Bool) (sapi : Option Sapi) → is_dtap 
 data_up source d true None dtap is says = data_quiet source d (subst (λ (o : Option Sapi). AreBeside (of_main o d.l3)) (sym is) tt)
 data_up source d true (Some Zero) dtap is says = from_says (says tt) tt
 data_up source d true (Some Three) dtap is says = from_says (says tt) tt
-data_up source d false None dtap is says = data_quiet source d (main_beside (sapi_of d.link) d.l3 (control-or d.l3 ∙ ap not dtap))
-data_up source d false (Some Three) dtap is says = data_quiet source d (main_beside (sapi_of d.link) d.l3 (control-or d.l3 ∙ ap not dtap))
-data_up source d false (Some Zero) dtap is says = change_up source d (rr_reading d.l3) (data_quiet source d (main_beside (sapi_of d.link) d.l3 (control-or d.l3 ∙ ap not dtap))) says
+data_up source d false None dtap is says = data_quiet source d (main_beside (sapi_of d.link) d.l3 (control_or d.l3 ∙ ap not dtap))
+data_up source d false (Some Three) dtap is says = data_quiet source d (main_beside (sapi_of d.link) d.l3 (control_or d.l3 ∙ ap not dtap))
+data_up source d false (Some Zero) dtap is says = change_up source d (rr_reading d.l3) (data_quiet source d (main_beside (sapi_of d.link) d.l3 (control_or d.l3 ∙ ap not dtap))) says
 
 measured_up : (source : ℕ) (m : Rsl) (place : Place) (number : ℕ) (l3 : Option (List ℕ)) → IsQuiet source m → SaysUp source m (result_word place number l3)
 measured_up source m place number None quiet = quiet
@@ -179,7 +179,7 @@ frame_tells source frame known = elim (source_or source) [
   | inr station ↦ of_station station (known.station station)
 ] where
   of_station : source ≢ SWITCH_LINK → IsKnown (whats.Frame frame) → Tells source frame
-  of_station other (m, is, read, no_nack) = message m (ap rsl_in is ∙ read_known m read) (ap (word_of source) is ∙ word-known source m other read)
+  of_station other (m, is, read, no_nack) = message m (ap rsl_in is ∙ read_known m read) (ap (word_of source) is ∙ word_known source m other read)
 
 pub none_read : (source : ℕ) (place : Place) → brings_read source None place ≡ []
 none_read source place = by (source == place.station) where

@@ -1,33 +1,33 @@
 -- What holds while a connection lives is kept by changes of its channels.
 use Rattle.world_laws.proofs.Prelude.{◌≡◌, ℕ, Bool, true, false, List, [], ◌∷◌, ◌++◌, refl, sym, ap, ◌∙◌, subst, append_assoc, cond}
-use Rattle.world_laws.proofs.Prelude.{append-nil, is_control, is_control-apart, LineUp, flow, messages_in, part_of, parts_of, with_items}
+use Rattle.world_laws.proofs.Prelude.{append-nil, is_control, is_control_apart, LineUp, flow, messages_in, part_of, parts_of, with_items}
 use Rattle.world_laws.proofs.Prelude.{fresh, released, Alive, Condition, ChangeStep, after_complete, done}
 use Rattle.world_laws.specs.LineUp.Places.{Item, Tenure}
 use Rattle.world_laws.specs.LineUp.Places.Item.{brought}
 use Rattle.world_laws.specs.LineUp.ChangeStep.ChangeStep.{commands, completes, goes_back, is_released, releases, leaves_to_old}
 use Rattle.world_laws.specs.LineUp.ChangeStep.ChangeStep.{leaves_to_serving}
-use Rattle.world_laws.proofs.LineUp.Lines.{flow-apart, messages_in-append, hold_relayed, parts-within, parts-tail, some_lost-at}
+use Rattle.world_laws.proofs.LineUp.Lines.{flow-apart, messages_in-append, hold_relayed, parts_within, parts_tail, some_lost-at}
 use Rattle.world_laws.proofs.LineUp.Lines.{some_lost-push, first_relays_at, first_relays_push, controls_first, bare_target}
 use Rattle.world_laws.proofs.LineUp.Standing.{stands_commands, stands_completes, stands_goes_back}
 use Rattle.world_laws.proofs.LineUp.Conditions.{condition_completes, condition_goes_back}
 use Rattle.world_laws.proofs.LineUp.Following.{follows_line}
 
 -- a control message has no place on the line
-part-control : (t : Tenure) (x : List ℕ) (items : List Item) → is_control x ≡ true → part_of (with_items t (brought x ∷ items)) ≡ part_of (with_items t items)
-part-control t x items is = ap (λ (list : List (List ℕ)). flow t.hold ++ list) (flow-apart x (messages_in items) (is_control-apart x is))
+part_control : (t : Tenure) (x : List ℕ) (items : List Item) → is_control x ≡ true → part_of (with_items t (brought x ∷ items)) ≡ part_of (with_items t items)
+part_control t x items is = ap (λ (list : List (List ℕ)). flow t.hold ++ list) (flow-apart x (messages_in items) (is_control_apart x is))
 
 -- the roles change, the order stays
 roles_change : (old : List Tenure) (serving t : Tenure) (x : List ℕ) (items : List Item) → is_control x ≡ true → parts_of (old ++ serving ∷ with_items t (brought x ∷ items) ∷ []) ≡ parts_of ((old ++ serving ∷ []) ++ with_items t items ∷ fresh ∷ [])
 roles_change old serving t x items is =
-    parts-tail old (serving ∷ with_items t (brought x ∷ items) ∷ []) (serving ∷ with_items t items ∷ fresh ∷ [])
-    (ap (λ (part : List (List ℕ)). part_of serving ++ cond serving.is_lost [] (part ++ cond t.is_lost [] [])) (part-control t x items is))
+    parts_tail old (serving ∷ with_items t (brought x ∷ items) ∷ []) (serving ∷ with_items t items ∷ fresh ∷ [])
+    (ap (λ (part : List (List ℕ)). part_of serving ++ cond serving.is_lost [] (part ++ cond t.is_lost [] [])) (part_control t x items is))
     ∙ sym (ap parts_of (append_assoc old (serving ∷ []) (with_items t items ∷ fresh ∷ [])))
 
 -- the target goes, of which nothing came
 target_goes : (old : List Tenure) (t : Tenure) (x : List ℕ) (items : List Item) (target : Tenure) → is_control x ≡ true → parts_of (target ∷ []) ≡ [] → parts_of (old ++ with_items t (brought x ∷ items) ∷ target ∷ []) ≡ parts_of (old ++ with_items t items ∷ fresh ∷ [])
 target_goes old t x items target is bare =
-    parts-tail old (with_items t (brought x ∷ items) ∷ target ∷ []) (with_items t items ∷ fresh ∷ [])
-    (ap (λ (part : List (List ℕ)). part ++ cond t.is_lost [] (parts_of (target ∷ []))) (part-control t x items is)
+    parts_tail old (with_items t (brought x ∷ items) ∷ target ∷ []) (with_items t items ∷ fresh ∷ [])
+    (ap (λ (part : List (List ℕ)). part ++ cond t.is_lost [] (parts_of (target ∷ []))) (part_control t x items is)
     ∙ ap (λ (rest : List (List ℕ)). part_of (with_items t items) ++ cond t.is_lost [] rest) bare)
 
 pub alive_change : {m : ℕ} {before after : LineUp} → ChangeStep before after → Alive m before → Alive m after
@@ -52,14 +52,14 @@ alive_change (is_released l before t after whole) alive =
     let e : Tenure = with_items t (t.items ++ released ∷ []) in
     let part : part_of t ≡ part_of e = ap (λ (messages : List (List ℕ)). flow t.hold ++ flow messages) (sym (messages_in-append t.items (released ∷ []) ∙ append-nil (messages_in t.items))) in
     record {
-      follows = follows_line (ap (λ (parts : List (List ℕ)). (flow l.taken ++ flow l.out) ++ parts) (parts-within before t e after (l.serving ∷ l.target ∷ []) part refl)) alive.follows;
+      follows = follows_line (ap (λ (parts : List (List ℕ)). (flow l.taken ++ flow l.out) ++ parts) (parts_within before t e after (l.serving ∷ l.target ∷ []) part refl)) alive.follows;
       first = first_relays_at l.is_confirmed before t e after l.serving.hold refl alive.first;
       stands = alive.stands;
       condition = subst (λ (b : Bool). Condition l.seat b l.serving.is_lost l.target.is_lost l.is_intact) (some_lost-at before t e after refl) alive.condition;
       bare = alive.bare;
     }
 alive_change (releases l before t after) alive = record {
-  follows = follows_line (ap (λ (parts : List (List ℕ)). (flow l.taken ++ flow l.out) ++ parts) (parts-within before (with_items t (released ∷ [])) (done t) after (l.serving ∷ l.target ∷ []) refl refl)) alive.follows;
+  follows = follows_line (ap (λ (parts : List (List ℕ)). (flow l.taken ++ flow l.out) ++ parts) (parts_within before (with_items t (released ∷ [])) (done t) after (l.serving ∷ l.target ∷ []) refl refl)) alive.follows;
   first = first_relays_at l.is_confirmed before (with_items t (released ∷ [])) (done t) after l.serving.hold refl alive.first;
   stands = alive.stands;
   condition = subst (λ (b : Bool). Condition l.seat b l.serving.is_lost l.target.is_lost l.is_intact) (some_lost-at before (with_items t (released ∷ [])) (done t) after refl) alive.condition;

@@ -1,6 +1,6 @@
 -- Why the line is intact, or isn't, step by step.
 use Rattle.world_laws.proofs.Prelude.{◌≡◌, Bool, true, false, ◌||◌, ◌⊎◌, inl, inr, refl, on_serving, on_target, moving, after_complete}
-use Rattle.world_laws.proofs.Prelude.{Stays, Condition, remains, left, sound, left_the_cell, lost_old, lost_serving, lost_target}
+use Rattle.world_laws.proofs.Prelude.{IsHereOrGone, Condition, remains, left, sound, left_the_cell, lost_old, lost_serving, lost_target}
 use Rattle.world_laws.specs.LineUp.Places.{Seat}
 
 pub condition_intact : {seat : Seat} {o s t ok : Bool} → ok ≡ true → Condition seat o s t ok → (o ≡ false) × (s ≡ false) × (t ≡ false)
@@ -47,7 +47,7 @@ condition_completes (lost_serving {old = true}) = lost_old
 condition_completes (lost_serving {old = false}) = lost_old
 condition_completes (lost_target here) = lost_serving
 
-pub condition_goes_back : {seat : Seat} {o s t ok : Bool} → Stays on_serving seat → Condition seat o s t ok → Condition seat o s false ok
+pub condition_goes_back : {seat : Seat} {o s t ok : Bool} → IsHereOrGone on_serving seat → Condition seat o s t ok → Condition seat o s false ok
 condition_goes_back stays sound = sound
 condition_goes_back stays left_the_cell = left_the_cell
 condition_goes_back stays lost_old = lost_old

@@ -1,7 +1,7 @@
 -- Where a line ends, and what follows it.
 use Rattle.world_laws.proofs.Prelude.{◌≡◌, ℕ, Bool, true, false, Some, List, [], ◌∷◌, ◌++◌, refl, sym, subst, Rise, lent_message}
 use Rattle.world_laws.proofs.Prelude.{after_lending, to_be_taken, DataLinkState, Rise-front, Rise-grow, GoesOn-lent, flow, Follows, rises}
-use Rattle.mobile_end.specs.GoesOn.{GoesOn}
+use Rattle.mobile_end.specs.RunsToEnd.{RunsToEnd}
 use Rattle.world_laws.specs.LineUp.Alive.Follows.{goes_on}
 
 -- the same line
@@ -21,17 +21,17 @@ follows_front {m} {sent} ys zs front follows =
     rises cut.0 cut.1
 
 -- another link behind it
-pub follows_link : {m : ℕ} {sent xs : List (List ℕ)} {link new : DataLinkState} {ok : Bool} → (GoesOn m sent xs link → GoesOn m sent xs new) → Follows m sent xs link ok → Follows m sent xs new ok
+pub follows_link : {m : ℕ} {sent xs : List (List ℕ)} {link new : DataLinkState} {ok : Bool} → (RunsToEnd m sent xs link → RunsToEnd m sent xs new) → Follows m sent xs link ok → Follows m sent xs new ok
 follows_link change (goes_on going) = goes_on (change going)
 follows_link change (rises k rise) = rises k rise
 
 -- more is sent
-pub follows_sent : {m : ℕ} {sent xs : List (List ℕ)} {link new : DataLinkState} {ok : Bool} (more : List (List ℕ)) → (GoesOn m sent xs link → GoesOn m (sent ++ more) xs new) → Follows m sent xs link ok → Follows m (sent ++ more) xs new ok
+pub follows_sent : {m : ℕ} {sent xs : List (List ℕ)} {link new : DataLinkState} {ok : Bool} (more : List (List ℕ)) → (RunsToEnd m sent xs link → RunsToEnd m (sent ++ more) xs new) → Follows m sent xs link ok → Follows m (sent ++ more) xs new ok
 follows_sent more change (goes_on going) = goes_on (change going)
 follows_sent more change (rises k rise) = rises k (Rise-grow more rise)
 
 -- a station takes a message: where the line is intact it is the next on it, and else it isn't on it
 pub follows_taken : {m : ℕ} {sent : List (List ℕ)} {ok : Bool} (xs ys : List (List ℕ)) (link : DataLinkState) (x : List ℕ) → lent_message link ≡ Some x → (ok ≡ true → ys ≡ xs ++ flow (x ∷ [])) → (ok ≡ false → ys ≡ xs) → Follows m sent xs link ok → Follows m sent ys (after_lending link) ok
 follows_taken {m} {sent} xs ys link x lent grows same (goes_on going) =
-    goes_on (subst (λ (list : List (List ℕ)). GoesOn m sent list (after_lending link)) (sym (grows refl)) (GoesOn-lent link x lent going))
+    goes_on (subst (λ (list : List (List ℕ)). RunsToEnd m sent list (after_lending link)) (sym (grows refl)) (GoesOn-lent link x lent going))
 follows_taken {m} {sent} xs ys link x lent grows same (rises k rise) = rises k (subst (λ (list : List (List ℕ)). Rise m sent 0 list k) (sym (same refl)) rise)

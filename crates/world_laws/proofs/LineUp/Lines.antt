@@ -41,41 +41,41 @@ switch_taken taken x out rest = rw (flow-cons x out, flow-append taken (x ∷ []
 -- ---- one channel in the place of another
 
 -- with the same part
-pub parts-at : (before : List Tenure) (d e : Tenure) (after : List Tenure) → part_of d ≡ part_of e → d.is_lost ≡ e.is_lost → parts_of (before ++ d ∷ after) ≡ parts_of (before ++ e ∷ after)
-parts-at [] d e after part lost =
+pub parts_at : (before : List Tenure) (d e : Tenure) (after : List Tenure) → part_of d ≡ part_of e → d.is_lost ≡ e.is_lost → parts_of (before ++ d ∷ after) ≡ parts_of (before ++ e ∷ after)
+parts_at [] d e after part lost =
     ap (λ (list : List (List ℕ)). list ++ cond d.is_lost [] (parts_of after)) part
     ∙ ap (λ (b : Bool). part_of e ++ cond b [] (parts_of after)) lost
-parts-at (t ∷ before) d e after part lost = ap (λ (list : List (List ℕ)). part_of t ++ cond t.is_lost [] list) (parts-at before d e after part lost)
+parts_at (t ∷ before) d e after part lost = ap (λ (list : List (List ℕ)). part_of t ++ cond t.is_lost [] list) (parts_at before d e after part lost)
 
-pub parts-within : (before : List Tenure) (d e : Tenure) (after rest : List Tenure) → part_of d ≡ part_of e → d.is_lost ≡ e.is_lost → parts_of ((before ++ d ∷ after) ++ rest) ≡ parts_of ((before ++ e ∷ after) ++ rest)
-parts-within before d e after rest part lost =
-    ap parts_of (append_assoc before (d ∷ after) rest) ∙ parts-at before d e (after ++ rest) part lost ∙ sym (ap parts_of (append_assoc before (e ∷ after) rest))
+pub parts_within : (before : List Tenure) (d e : Tenure) (after rest : List Tenure) → part_of d ≡ part_of e → d.is_lost ≡ e.is_lost → parts_of ((before ++ d ∷ after) ++ rest) ≡ parts_of ((before ++ e ∷ after) ++ rest)
+parts_within before d e after rest part lost =
+    ap parts_of (append_assoc before (d ∷ after) rest) ∙ parts_at before d e (after ++ rest) part lost ∙ sym (ap parts_of (append_assoc before (e ∷ after) rest))
 
 -- other channels behind these
-pub parts-tail : (before xs ys : List Tenure) → parts_of xs ≡ parts_of ys → parts_of (before ++ xs) ≡ parts_of (before ++ ys)
-parts-tail [] xs ys same = same
-parts-tail (t ∷ before) xs ys same = ap (λ (list : List (List ℕ)). part_of t ++ cond t.is_lost [] list) (parts-tail before xs ys same)
+pub parts_tail : (before xs ys : List Tenure) → parts_of xs ≡ parts_of ys → parts_of (before ++ xs) ≡ parts_of (before ++ ys)
+parts_tail [] xs ys same = same
+parts_tail (t ∷ before) xs ys same = ap (λ (list : List (List ℕ)). part_of t ++ cond t.is_lost [] list) (parts_tail before xs ys same)
 
 -- behind a lost one nothing counts
 lost_step : (b c : Bool) (part p q : List (List ℕ)) → (b || c) ≡ true → (c ≡ true → p ≡ q) → part ++ cond b [] p ≡ part ++ cond b [] q
 lost_step true c part p q some same = refl
 lost_step false c part p q some same = ap (λ (list : List (List ℕ)). part ++ list) (same some)
 
-pub parts-lost : (before xs ys : List Tenure) → some_lost before ≡ true → parts_of (before ++ xs) ≡ parts_of (before ++ ys)
-parts-lost [] xs ys some = absurd cc
-parts-lost (t ∷ before) xs ys some =
-    lost_step t.is_lost (some_lost before) (part_of t) (parts_of (before ++ xs)) (parts_of (before ++ ys)) some (parts-lost before xs ys)
+pub parts_lost : (before xs ys : List Tenure) → some_lost before ≡ true → parts_of (before ++ xs) ≡ parts_of (before ++ ys)
+parts_lost [] xs ys some = absurd cc
+parts_lost (t ∷ before) xs ys some =
+    lost_step t.is_lost (some_lost before) (part_of t) (parts_of (before ++ xs)) (parts_of (before ++ ys)) some (parts_lost before xs ys)
 
 -- behind whole ones all counts
 pub none_lost : (b c : Bool) → (b || c) ≡ false → (b ≡ false) × (c ≡ false)
 none_lost true c none = absurd cc
 none_lost false c none = (refl, none)
 
-pub parts-whole : (before xs ys : List Tenure) (zs : List (List ℕ)) → some_lost before ≡ false → parts_of xs ≡ parts_of ys ++ zs → parts_of (before ++ xs) ≡ parts_of (before ++ ys) ++ zs
-parts-whole [] xs ys zs none more = more
-parts-whole (t ∷ before) xs ys zs none more =
+pub parts_whole : (before xs ys : List Tenure) (zs : List (List ℕ)) → some_lost before ≡ false → parts_of xs ≡ parts_of ys ++ zs → parts_of (before ++ xs) ≡ parts_of (before ++ ys) ++ zs
+parts_whole [] xs ys zs none more = more
+parts_whole (t ∷ before) xs ys zs none more =
     let both = none_lost t.is_lost (some_lost before) none in
-    let rec = parts-whole before xs ys zs both.1 more in
+    let rec = parts_whole before xs ys zs both.1 more in
     ap (λ (list : List (List ℕ)). part_of t ++ list) (cond-false t.is_lost [] (parts_of (before ++ xs)) both.0 ∙ rec)
     ∙ sym (append_assoc (part_of t) (parts_of (before ++ ys)) zs)
     ∙ ap (λ (list : List (List ℕ)). (part_of t ++ list) ++ zs) (sym (cond-false t.is_lost [] (parts_of (before ++ ys)) both.0))
@@ -100,8 +100,8 @@ parts_broken t items dropped after =
     )
 
 -- the part of a channel that one more item came of
-pub part-push : (t : Tenure) (x : List ℕ) → part_of (with_items t (t.items ++ brought x ∷ [])) ≡ part_of t ++ flow (x ∷ [])
-part-push t x = rw (messages_in-append t.items (brought x ∷ []), flow-append (messages_in t.items) (x ∷ [])) (simp append_assoc refl)
+pub part_push : (t : Tenure) (x : List ℕ) → part_of (with_items t (t.items ++ brought x ∷ [])) ≡ part_of t ++ flow (x ∷ [])
+part_push t x = rw (messages_in-append t.items (brought x ∷ []), flow-append (messages_in t.items) (x ∷ [])) (simp append_assoc refl)
 
 -- ---- whether something is lost
 
@@ -141,11 +141,11 @@ first_relays_push (o ∷ old) t hold first = first
 
 -- ---- counts
 
-pub controls-append : (xs ys : List (List ℕ)) → controls_of (xs ++ ys) ≡ controls_of xs + controls_of ys
-controls-append xs ys = ap length (filter-append is_control xs ys) ∙ length-append (filter is_control xs) (filter is_control ys)
+pub controls_append : (xs ys : List (List ℕ)) → controls_of (xs ++ ys) ≡ controls_of xs + controls_of ys
+controls_append xs ys = ap length (filter-append is_control xs ys) ∙ length-append (filter is_control xs) (filter is_control ys)
 
 pub controls_behind : (x : List ℕ) (xs : List (List ℕ)) → controls_of xs ≤ controls_of (x ∷ xs)
-controls_behind x xs = let sum = controls-append (x ∷ []) xs in omega arith
+controls_behind x xs = let sum = controls_append (x ∷ []) xs in omega arith
 
 pub texts_behind : (x : List ℕ) (xs : List (List ℕ)) → length (flow xs) ≤ length (flow (x ∷ xs))
 texts_behind x xs = let sum = ap length (flow-cons x xs) ∙ length-append (flow (x ∷ [])) (flow xs) in omega arith
@@ -155,7 +155,7 @@ controls_first x xs is = let count = ap length (cond-true (is_control x) (x ∷ 
 
 pub controls_front : (xs ys : List Item) → controls_in xs ≤ controls_in (xs ++ ys)
 controls_front xs ys =
-    let sum : controls_in (xs ++ ys) ≡ controls_in xs + controls_in ys = ap controls_of (messages_in-append xs ys) ∙ controls-append (messages_in xs) (messages_in ys) in
+    let sum : controls_in (xs ++ ys) ≡ controls_in xs + controls_in ys = ap controls_of (messages_in-append xs ys) ∙ controls_append (messages_in xs) (messages_in ys) in
     omega arith
 
 pub texts_front : (xs ys : List Item) → texts_in xs ≤ texts_in (xs ++ ys)

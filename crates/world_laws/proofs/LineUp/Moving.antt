@@ -2,8 +2,8 @@
 use Rattle.world_laws.proofs.Prelude.{◌≡◌, ℕ, ◌+◌, ◌%◌, ◌≤◌, ◌⊎◌, Bool, true, false, ◌||◌, Option, Some, List, [], ◌∷◌, ◌++◌, length, refl}
 use Rattle.world_laws.proofs.Prelude.{sym, ap, ◌∙◌, append_assoc, cond, arith, inl, inr, filter, not, option_to_list, cases_Bool, cond-true}
 use Rattle.world_laws.proofs.Prelude.{cond-false, is_flow_message, with_number, is_control, without_control, waits, lent_message}
-use Rattle.world_laws.proofs.Prelude.{after_lending, after_resume, to_be_taken, outstanding_messages, DataLinkState, is_control-apart}
-use Rattle.world_laws.proofs.Prelude.{is_flow-with_number, GoesOn-acknowledged, GoesOn-resumed, GoesOn-numbered, GoesOn-unnumbered}
+use Rattle.world_laws.proofs.Prelude.{after_lending, after_resume, to_be_taken, outstanding_messages, DataLinkState, is_control_apart}
+use Rattle.world_laws.proofs.Prelude.{is_flow_with_number, GoesOn-acknowledged, GoesOn-resumed, GoesOn-numbered, GoesOn-unnumbered}
 use Rattle.world_laws.proofs.Prelude.{to_be_taken-waits, to_be_taken-lent_message, to_be_taken-acknowledged, LineUp, flow, messages_in}
 use Rattle.world_laws.proofs.Prelude.{part_of, parts_of, with_items, line, controls_of, controls_in, Alive, some_lost, rises, left_the_cell}
 use Rattle.world_laws.specs.LineUp.Places.{Item, Tenure}
@@ -12,7 +12,7 @@ use Rattle.world_laws.specs.LineUp.MobileStep.{MobileStep}
 use Rattle.world_laws.specs.LineUp.MobileStep.MobileStep.{sends_numbered, sends_other, taken_on_serving, taken_on_target, acknowledged}
 use Rattle.world_laws.specs.LineUp.MobileStep.MobileStep.{follows_command, loses_command, arrives, returns, dismissed_from_serving}
 use Rattle.world_laws.specs.LineUp.MobileStep.MobileStep.{dismissed_from_target}
-use Rattle.world_laws.proofs.LineUp.Lines.{messages_in-append, controls-append, parts-whole, parts-lost, parts-tail, part-push, bare_target}
+use Rattle.world_laws.proofs.LineUp.Lines.{messages_in-append, controls_append, parts_whole, parts_lost, parts_tail, part_push, bare_target}
 use Rattle.world_laws.proofs.LineUp.Lines.{last_part}
 use Rattle.world_laws.proofs.LineUp.Standing.{stands_fewer, stands_link, stands_taken_on_serving, stands_taken_on_target, stands_follows}
 use Rattle.world_laws.proofs.LineUp.Standing.{stands_arrives, stands_returns, stands_dismissed_from_serving, stands_dismissed_from_target}
@@ -27,24 +27,24 @@ use Rattle.world_laws.proofs.LineUp.Following.{follows_rise, follows_link, follo
 pub flow_no_control : (x : List ℕ) → is_flow_message x ≡ true → is_control x ≡ false
 flow_no_control x flow =
     elim (cases_Bool (is_control x)) [
-      | inl control ↦ let apart = is_control-apart x control in absurd cc
+      | inl control ↦ let apart = is_control_apart x control in absurd cc
       | inr other ↦ other
     ]
 
 -- a message that isn't one waits
 pub controls_waits : (link : DataLinkState) (x : List ℕ) → is_control x ≡ false → controls_of (to_be_taken (waits link x)) ≤ controls_of (to_be_taken link)
 controls_waits link x other =
-    let sum = ap controls_of (to_be_taken-waits link x) ∙ controls-append (to_be_taken link) (x ∷ []) in
+    let sum = ap controls_of (to_be_taken-waits link x) ∙ controls_append (to_be_taken link) (x ∷ []) in
     let none = ap length (cond-false (is_control x) (x ∷ []) [] other) in
     omega arith
 
 -- one that is lent goes from the link to the channel
-controls-lent : (link : DataLinkState) (x : List ℕ) (items : List Item) → lent_message link ≡ Some x → controls_in (items ++ brought x ∷ []) + controls_of (to_be_taken (after_lending link)) ≡ controls_in items + controls_of (to_be_taken link)
-controls-lent link x items lent =
-    let there = ap controls_of (messages_in-append items (brought x ∷ [])) ∙ controls-append (messages_in items) (x ∷ []) in
+controls_lent : (link : DataLinkState) (x : List ℕ) (items : List Item) → lent_message link ≡ Some x → controls_in (items ++ brought x ∷ []) + controls_of (to_be_taken (after_lending link)) ≡ controls_in items + controls_of (to_be_taken link)
+controls_lent link x items lent =
+    let there = ap controls_of (messages_in-append items (brought x ∷ [])) ∙ controls_append (messages_in items) (x ∷ []) in
     let first : (x ∷ []) ++ to_be_taken (after_lending link) ≡ to_be_taken link =
     ap (λ (message : Option (List ℕ)). option_to_list message ++ to_be_taken (after_lending link)) (sym lent) ∙ to_be_taken-lent_message link.waiting link.air in
-    let here = sym (controls-append (x ∷ []) (to_be_taken (after_lending link))) ∙ ap controls_of first in
+    let here = sym (controls_append (x ∷ []) (to_be_taken (after_lending link))) ∙ ap controls_of first in
     omega arith
 
 -- behind a change of channel the new one is the only one
@@ -58,8 +58,8 @@ without_control-none (x ∷ xs) =
           ∙ ap length (cond-false (is_control x) (x ∷ filter is_control (without_control xs)) (filter is_control (without_control xs)) other) ∙ without_control-none xs
     ]
 
-controls-resumed : (link : DataLinkState) (control : List ℕ) → is_control control ≡ true → controls_of (to_be_taken (after_resume link control)) ≡ 1
-controls-resumed link control is =
+controls_resumed : (link : DataLinkState) (control : List ℕ) → is_control control ≡ true → controls_of (to_be_taken (after_resume link control)) ≡ 1
+controls_resumed link control is =
     let kept : List (List ℕ) = without_control (outstanding_messages link) in
     let none = without_control-none (outstanding_messages link) in
     let count = ap length (cond-true (is_control control) (control ∷ filter is_control kept) (filter is_control kept) is) in
@@ -71,26 +71,26 @@ controls-resumed link control is =
 joins_serving : (old : List Tenure) (t target : Tenure) (x : List ℕ) → some_lost old ≡ false → parts_of (target ∷ []) ≡ [] → parts_of (old ++ with_items t (t.items ++ brought x ∷ []) ∷ target ∷ []) ≡ parts_of (old ++ t ∷ target ∷ []) ++ flow (x ∷ [])
 joins_serving old t target x none bare =
     let alone : (s : Tenure) → parts_of (s ∷ target ∷ []) ≡ part_of s = λ s. ap (λ (rest : List (List ℕ)). part_of s ++ cond s.is_lost [] rest) bare ∙ last_part s in
-    parts-whole old _ _ (flow (x ∷ [])) none
-    (alone (with_items t (t.items ++ brought x ∷ [])) ∙ part-push t x ∙ ap (λ (part : List (List ℕ)). part ++ flow (x ∷ [])) (sym (alone t)))
+    parts_whole old _ _ (flow (x ∷ [])) none
+    (alone (with_items t (t.items ++ brought x ∷ [])) ∙ part_push t x ∙ ap (λ (part : List (List ℕ)). part ++ flow (x ∷ [])) (sym (alone t)))
 
 -- on the target
 joins_target : (old : List Tenure) (serving t : Tenure) (x : List ℕ) → some_lost old ≡ false → serving.is_lost ≡ false → parts_of (old ++ serving ∷ with_items t (t.items ++ brought x ∷ []) ∷ []) ≡ parts_of (old ++ serving ∷ t ∷ []) ++ flow (x ∷ [])
 joins_target old serving t x none whole =
-    parts-whole old _ _ (flow (x ∷ [])) none
-    (parts-whole (serving ∷ []) (with_items t (t.items ++ brought x ∷ []) ∷ []) (t ∷ []) (flow (x ∷ [])) (ap (λ (b : Bool). b || false) whole)
-    (last_part (with_items t (t.items ++ brought x ∷ [])) ∙ part-push t x ∙ ap (λ (part : List (List ℕ)). part ++ flow (x ∷ [])) (sym (last_part t))))
+    parts_whole old _ _ (flow (x ∷ [])) none
+    (parts_whole (serving ∷ []) (with_items t (t.items ++ brought x ∷ []) ∷ []) (t ∷ []) (flow (x ∷ [])) (ap (λ (b : Bool). b || false) whole)
+    (last_part (with_items t (t.items ++ brought x ∷ [])) ∙ part_push t x ∙ ap (λ (part : List (List ℕ)). part ++ flow (x ∷ [])) (sym (last_part t))))
 
 -- behind something that is missing it isn't on the line
 passes_target : (old : List Tenure) (serving t : Tenure) (x : List ℕ) → (some_lost old ≡ true) ⊎ (serving.is_lost ≡ true) → parts_of (old ++ serving ∷ with_items t (t.items ++ brought x ∷ []) ∷ []) ≡ parts_of (old ++ serving ∷ t ∷ [])
-passes_target old serving t x (inl some) = parts-lost old _ _ some
-passes_target old serving t x (inr lost) = parts-tail old _ _ (parts-lost (serving ∷ []) (with_items t (t.items ++ brought x ∷ []) ∷ []) (t ∷ []) (ap (λ (b : Bool). b || false) lost))
+passes_target old serving t x (inl some) = parts_lost old _ _ some
+passes_target old serving t x (inr lost) = parts_tail old _ _ (parts_lost (serving ∷ []) (with_items t (t.items ++ brought x ∷ []) ∷ []) (t ∷ []) (ap (λ (b : Bool). b || false) lost))
 
 pub alive_mobile : {m : ℕ} {before after : LineUp} → MobileStep m before after → Alive m before → Alive m after
 alive_mobile {m} (sends_numbered l x clear) alive = record {
   follows = follows_sent (x ∷ []) (GoesOn-numbered l.link x clear) alive.follows;
   first = alive.first;
-  stands = stands_link (controls_waits l.link (with_number (length l.sent % m) x) (flow_no_control (with_number (length l.sent % m) x) (is_flow-with_number (length l.sent % m) x ∙ clear.is_flow))) alive.stands;
+  stands = stands_link (controls_waits l.link (with_number (length l.sent % m) x) (flow_no_control (with_number (length l.sent % m) x) (is_flow_with_number (length l.sent % m) x ∙ clear.is_flow))) alive.stands;
   condition = alive.condition;
   bare = alive.bare;
 }
@@ -109,10 +109,10 @@ alive_mobile (taken_on_serving l x lent whole) alive =
           follows_taken (line l) _ l.link x lent
           (λ intact. ap (λ (parts : List (List ℕ)). front ++ parts) (joins_serving l.old l.serving l.target x (condition_intact intact alive.condition).0 bare)
           ∙ sym (append_assoc front (parts_of (l.old ++ l.serving ∷ l.target ∷ [])) (flow (x ∷ []))))
-          (λ isnt. ap (λ (parts : List (List ℕ)). front ++ parts) (parts-lost l.old _ _ (condition_on_serving isnt whole alive.condition)))
+          (λ isnt. ap (λ (parts : List (List ℕ)). front ++ parts) (parts_lost l.old _ _ (condition_on_serving isnt whole alive.condition)))
           alive.follows;
       first = alive.first;
-      stands = stands_taken_on_serving (controls-lent l.link x l.serving.items lent) alive.stands;
+      stands = stands_taken_on_serving (controls_lent l.link x l.serving.items lent) alive.stands;
       condition = alive.condition;
       bare = alive.bare;
     }
@@ -128,7 +128,7 @@ alive_mobile (taken_on_target l x lent whole) alive =
           (λ isnt. ap (λ (parts : List (List ℕ)). front ++ parts) (passes_target l.old l.serving l.target x (condition_on_target isnt whole alive.condition)))
           alive.follows;
       first = alive.first;
-      stands = stands_taken_on_target (controls-lent l.link x l.target.items lent) alive.stands;
+      stands = stands_taken_on_target (controls_lent l.link x l.target.items lent) alive.stands;
       condition = alive.condition;
       bare = alive.bare;
     }
@@ -152,14 +152,14 @@ alive_mobile (loses_command l) alive = record {
 alive_mobile (arrives l complete is) alive = record {
   follows = follows_link (GoesOn-resumed l.link complete is) alive.follows;
   first = alive.first;
-  stands = stands_arrives (controls-resumed l.link complete is) alive.stands;
+  stands = stands_arrives (controls_resumed l.link complete is) alive.stands;
   condition = condition_arrives alive.condition;
   bare = alive.bare;
 }
 alive_mobile (returns l failure is) alive = record {
   follows = follows_link (GoesOn-resumed l.link failure is) alive.follows;
   first = alive.first;
-  stands = stands_returns (controls-resumed l.link failure is) alive.stands;
+  stands = stands_returns (controls_resumed l.link failure is) alive.stands;
   condition = condition_returns alive.condition;
   bare = alive.bare;
 }

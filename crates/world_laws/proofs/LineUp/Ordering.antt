@@ -4,10 +4,10 @@ use Rattle.world_laws.proofs.Prelude.{Rise, to_be_taken, DataLinkState, Rise-cut
 use Rattle.world_laws.proofs.Prelude.{accepted_list_from-rise, progress_from-rise, LineUp, flow, messages_in, parts_of, line, controls_in}
 use Rattle.world_laws.proofs.Prelude.{controls_of, Alive, remains, sound, IsInOrder, coming, by_mobile, by_relaying, by_change, by_break}
 use Rattle.world_laws.proofs.Prelude.{none, first}
-use Rattle.mobile_end.specs.GoesOn.{GoesOn}
+use Rattle.mobile_end.specs.RunsToEnd.{RunsToEnd}
 use Rattle.world_laws.specs.LineUp.Places.{Item}
 use Rattle.world_laws.specs.LineUp.Alive.Follows.{goes_on}
-use Rattle.world_laws.specs.LineUp.Alive.Stands.{rests}
+use Rattle.world_laws.specs.LineUp.Alive.ChangePhase.{rests}
 use Rattle.world_laws.specs.LineUp.Order.{Ended}
 use Rattle.world_laws.specs.LineUp.Opening.{opened}
 use Rattle.world_laws.specs.LineUp.Steps.{Step, Steps}
@@ -22,12 +22,12 @@ rise_list : {m n k : ℕ} {sent xs ys : List (List ℕ)} → xs ≡ ys → Rise 
 rise_list {m} {n} {k} {sent} same rise = subst (λ (list : List (List ℕ)). Rise m sent n list k) same rise
 
 -- a connection that its initial message opened
-pub alive_opened : (m : ℕ) (sent : List (List ℕ)) (link : DataLinkState) (initial : List ℕ) (items : List Item) → GoesOn m sent (flow (initial ∷ messages_in items)) link → controls_in items + controls_of (to_be_taken link) ≡ 0 → Alive m (opened sent link initial items)
+pub alive_opened : (m : ℕ) (sent : List (List ℕ)) (link : DataLinkState) (initial : List ℕ) (items : List Item) → RunsToEnd m sent (flow (initial ∷ messages_in items)) link → controls_in items + controls_of (to_be_taken link) ≡ 0 → Alive m (opened sent link initial items)
 alive_opened m sent link initial items going controls =
     let same : flow (initial ∷ messages_in items) ≡ line (opened sent link initial items) =
     flow-cons initial (messages_in items) ∙ ap (λ (rest : List (List ℕ)). flow (initial ∷ []) ++ rest) (sym (append-nil (flow (messages_in items)))) in
     record {
-      follows = goes_on (subst (λ (list : List (List ℕ)). GoesOn m sent list link) same going);
+      follows = goes_on (subst (λ (list : List (List ℕ)). RunsToEnd m sent list link) same going);
       first = λ confirmed. refl;
       stands = rests remains (omega arith);
       condition = sound;

@@ -5,7 +5,7 @@ use Rattle.world_laws.specs.LineUp.Places.Item.{brought}
 use Rattle.world_laws.specs.LineUp.RelayStep.{RelayStep}
 use Rattle.world_laws.specs.LineUp.RelayStep.RelayStep.{relays_serving, holds_before_confirm, holds_serving, relays_oldest, holds_old}
 use Rattle.world_laws.specs.LineUp.RelayStep.RelayStep.{ignores_serving, ignores_old, ignores_target, confirms, switch_takes}
-use Rattle.world_laws.proofs.LineUp.Lines.{flow-apart, relayed, held, hold_relayed, switch_taken, parts-at, parts-within, parts-tail}
+use Rattle.world_laws.proofs.LineUp.Lines.{flow-apart, relayed, held, hold_relayed, switch_taken, parts_at, parts_within, parts_tail}
 use Rattle.world_laws.proofs.LineUp.Lines.{some_lost-at, first_relays_at, controls_behind, texts_behind}
 use Rattle.world_laws.proofs.LineUp.Standing.{stands_serving, stands_target}
 use Rattle.world_laws.proofs.LineUp.Following.{follows_line}
@@ -19,14 +19,14 @@ alive_relay (relays_serving l t x items) alive = record {
   bare = alive.bare;
 }
 alive_relay (holds_before_confirm l t x items) alive = record {
-  follows = follows_line (ap (λ (parts : List (List ℕ)). (flow l.taken ++ flow l.out) ++ parts) (parts-at [] (with_items t (brought x ∷ items)) (holding t x items) (l.target ∷ []) (held t.hold x (messages_in items)) refl)) alive.follows;
+  follows = follows_line (ap (λ (parts : List (List ℕ)). (flow l.taken ++ flow l.out) ++ parts) (parts_at [] (with_items t (brought x ∷ items)) (holding t x items) (l.target ∷ []) (held t.hold x (messages_in items)) refl)) alive.follows;
   first = λ confirmed. absurd cc;
   stands = stands_serving (controls_behind x (messages_in items)) alive.stands;
   condition = alive.condition;
   bare = alive.bare;
 }
 alive_relay (holds_serving l oldest others t x items) alive = record {
-  follows = follows_line (ap (λ (parts : List (List ℕ)). (flow l.taken ++ flow l.out) ++ parts) (parts-at (oldest ∷ others) (with_items t (brought x ∷ items)) (holding t x items) (l.target ∷ []) (held t.hold x (messages_in items)) refl)) alive.follows;
+  follows = follows_line (ap (λ (parts : List (List ℕ)). (flow l.taken ++ flow l.out) ++ parts) (parts_at (oldest ∷ others) (with_items t (brought x ∷ items)) (holding t x items) (l.target ∷ []) (held t.hold x (messages_in items)) refl)) alive.follows;
   first = alive.first;
   stands = stands_serving (controls_behind x (messages_in items)) alive.stands;
   condition = alive.condition;
@@ -41,7 +41,7 @@ alive_relay (relays_oldest l t others x items) alive = record {
 }
 alive_relay {m} (holds_old l oldest before t after x items) alive = record {
   follows = follows_line (ap (λ (parts : List (List ℕ)). (flow l.taken ++ flow l.out) ++ parts)
-      (parts-within (oldest ∷ before) (with_items t (brought x ∷ items)) (holding t x items) after (l.serving ∷ l.target ∷ []) (held t.hold x (messages_in items)) refl)) alive.follows;
+      (parts_within (oldest ∷ before) (with_items t (brought x ∷ items)) (holding t x items) after (l.serving ∷ l.target ∷ []) (held t.hold x (messages_in items)) refl)) alive.follows;
   first = alive.first;
   stands = alive.stands;
   condition = subst (λ b. Condition l.seat b l.serving.is_lost l.target.is_lost l.is_intact) (some_lost-at (oldest ∷ before) (with_items t (brought x ∷ items)) (holding t x items) after refl) alive.condition;
@@ -49,7 +49,7 @@ alive_relay {m} (holds_old l oldest before t after x items) alive = record {
 }
 alive_relay (ignores_serving l t x items apart) alive = record {
   follows = follows_line (ap (λ (parts : List (List ℕ)). (flow l.taken ++ flow l.out) ++ parts)
-      (parts-at l.old (with_items t (brought x ∷ items)) (with_items t items) (l.target ∷ []) (ap (λ (list : List (List ℕ)). flow t.hold ++ list) (flow-apart x (messages_in items) apart)) refl)) alive.follows;
+      (parts_at l.old (with_items t (brought x ∷ items)) (with_items t items) (l.target ∷ []) (ap (λ (list : List (List ℕ)). flow t.hold ++ list) (flow-apart x (messages_in items) apart)) refl)) alive.follows;
   first = alive.first;
   stands = stands_serving (controls_behind x (messages_in items)) alive.stands;
   condition = alive.condition;
@@ -57,7 +57,7 @@ alive_relay (ignores_serving l t x items apart) alive = record {
 }
 alive_relay (ignores_old l before t after x items apart) alive = record {
   follows = follows_line (ap (λ (parts : List (List ℕ)). (flow l.taken ++ flow l.out) ++ parts)
-      (parts-within before (with_items t (brought x ∷ items)) (with_items t items) after (l.serving ∷ l.target ∷ []) (ap (λ (list : List (List ℕ)). flow t.hold ++ list) (flow-apart x (messages_in items) apart)) refl)) alive.follows;
+      (parts_within before (with_items t (brought x ∷ items)) (with_items t items) after (l.serving ∷ l.target ∷ []) (ap (λ (list : List (List ℕ)). flow t.hold ++ list) (flow-apart x (messages_in items) apart)) refl)) alive.follows;
   first = first_relays_at l.is_confirmed before (with_items t (brought x ∷ items)) (with_items t items) after l.serving.hold refl alive.first;
   stands = alive.stands;
   condition = subst (λ b. Condition l.seat b l.serving.is_lost l.target.is_lost l.is_intact) (some_lost-at before (with_items t (brought x ∷ items)) (with_items t items) after refl) alive.condition;
@@ -65,8 +65,8 @@ alive_relay (ignores_old l before t after x items apart) alive = record {
 }
 alive_relay (ignores_target l t x items apart) alive = record {
   follows = follows_line (ap (λ (parts : List (List ℕ)). (flow l.taken ++ flow l.out) ++ parts)
-      (parts-tail l.old (l.serving ∷ with_items t (brought x ∷ items) ∷ []) (l.serving ∷ with_items t items ∷ [])
-      (parts-at (l.serving ∷ []) (with_items t (brought x ∷ items)) (with_items t items) [] (ap (λ (list : List (List ℕ)). flow t.hold ++ list) (flow-apart x (messages_in items) apart)) refl))) alive.follows;
+      (parts_tail l.old (l.serving ∷ with_items t (brought x ∷ items) ∷ []) (l.serving ∷ with_items t items ∷ [])
+      (parts_at (l.serving ∷ []) (with_items t (brought x ∷ items)) (with_items t items) [] (ap (λ (list : List (List ℕ)). flow t.hold ++ list) (flow-apart x (messages_in items) apart)) refl))) alive.follows;
   first = alive.first;
   stands = stands_target (texts_behind x (messages_in items)) (controls_behind x (messages_in items)) alive.stands;
   condition = alive.condition;

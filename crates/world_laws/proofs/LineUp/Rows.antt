@@ -3,12 +3,13 @@ use Rattle.world_laws.proofs.Prelude.{◌≡◌, ℕ, ◌+◌, ◌≤◌, true, 
 use Rattle.world_laws.proofs.Prelude.{DataLinkState, again, accepted_list, progress, LineUp, fresh, messages_in, part_of, parts_of, line}
 use Rattle.world_laws.proofs.Prelude.{controls_of, controls_in, texts_in, released, on_serving, on_target, moving, Alive, rises, remains}
 use Rattle.world_laws.proofs.Prelude.{sound, lost_serving, coming, breaks_target, by_mobile, by_relaying, by_change, by_break, none, first}
+use Rattle.octets.proofs.Hex.{hex}
 use Rattle.dtap_codec.specs.Places.Rise.{over}
 use Rattle.world_laws.specs.LineUp.Places.{Tenure}
 use Rattle.world_laws.specs.LineUp.Places.Item.{brought}
-use Rattle.world_laws.specs.LineUp.Alive.{Stands}
+use Rattle.world_laws.specs.LineUp.Alive.{ChangePhase}
 use Rattle.world_laws.specs.LineUp.Alive.Follows.{goes_on}
-use Rattle.world_laws.specs.LineUp.Alive.Stands.{opens, rests, arrives as has_arrived}
+use Rattle.world_laws.specs.LineUp.Alive.ChangePhase.{opens, rests, arrives as has_arrived}
 use Rattle.world_laws.specs.LineUp.Opening.{opened}
 use Rattle.world_laws.specs.LineUp.MobileStep.MobileStep.{taken_on_serving, taken_on_target, acknowledged, follows_command, arrives}
 use Rattle.world_laws.specs.LineUp.MobileStep.MobileStep.{returns}
@@ -20,25 +21,25 @@ use Rattle.world_laws.proofs.Usual.{paging_response, opening_sent}
 
 -- what the upper layers sent, and each message with its number modulo 4
 abbrev sent : List (List ℕ)
-sent = (0x05 ∷ 0x24 ∷ []) ∷ (0x03 ∷ 0x05 ∷ []) ∷ (0x03 ∷ 0x06 ∷ []) ∷ (0x03 ∷ 0x07 ∷ []) ∷ []
+sent = (hex "05 24") ∷ (hex "03 05") ∷ (hex "03 06") ∷ (hex "03 07") ∷ []
 
 abbrev m0 : List ℕ
-m0 = 0x05 ∷ 0x24 ∷ []
+m0 = hex "05 24"
 
 abbrev m1 : List ℕ
-m1 = 0x03 ∷ 0x45 ∷ []
+m1 = hex "03 45"
 
 abbrev m2 : List ℕ
-m2 = 0x03 ∷ 0x86 ∷ []
+m2 = hex "03 86"
 
 abbrev m3 : List ℕ
-m3 = 0x03 ∷ 0xc7 ∷ []
+m3 = hex "03 c7"
 
 abbrev complete : List ℕ
-complete = 0x06 ∷ 0x2c ∷ 0x00 ∷ []
+complete = hex "06 2c 00"
 
 abbrev short_message : List ℕ
-short_message = 0x09 ∷ 0x01 ∷ []
+short_message = hex "09 01"
 
 -- ---- parts
 
@@ -92,16 +93,16 @@ coming_in_handover : coming in_handover ≡ m0 ∷ m1 ∷ m2 ∷ m2 ∷ []
 coming_in_handover = refl
 
 at_0 : Carries 4 sent 0 m0
-at_0 = record { message = 0x05 ∷ 0x24 ∷ []; is_sent = refl; is_clear = record { is_flow = refl; cleared = refl }; carries = refl }
+at_0 = record { message = hex "05 24"; is_sent = refl; is_clear = record { is_flow = refl; cleared = refl }; carries = refl }
 
 at_1 : Carries 4 sent 1 m1
-at_1 = record { message = 0x03 ∷ 0x05 ∷ []; is_sent = refl; is_clear = record { is_flow = refl; cleared = refl }; carries = refl }
+at_1 = record { message = hex "03 05"; is_sent = refl; is_clear = record { is_flow = refl; cleared = refl }; carries = refl }
 
 at_2 : Carries 4 sent 2 m2
-at_2 = record { message = 0x03 ∷ 0x06 ∷ []; is_sent = refl; is_clear = record { is_flow = refl; cleared = refl }; carries = refl }
+at_2 = record { message = hex "03 06"; is_sent = refl; is_clear = record { is_flow = refl; cleared = refl }; carries = refl }
 
 at_3 : Carries 4 sent 3 m3
-at_3 = record { message = 0x03 ∷ 0x07 ∷ []; is_sent = refl; is_clear = record { is_flow = refl; cleared = refl }; carries = refl }
+at_3 = record { message = hex "03 07"; is_sent = refl; is_clear = record { is_flow = refl; cleared = refl }; carries = refl }
 
 -- message 2 once more, since it wasn't acknowledged, and then message 3
 handover_is_alive : Alive 4 in_handover
@@ -165,7 +166,7 @@ answer_is_taken : Steps 4 (record to_open { link = record { waiting = m0 ∷ m1 
 answer_is_taken = first (by_mobile (taken_on_serving (record to_open { link = record { waiting = m0 ∷ m1 ∷ m2 ∷ m3 ∷ []; air = Given paging_response } }) paging_response refl refl)) (none brought_answer)
 
 -- but behind the connection request no message like it is left, on its way up or in the link
-none_is_left : {serving link : ℕ} → 1 ≤ serving + link → Stands false false 0 on_serving serving 0 0 link → ⊥
+none_is_left : {serving link : ℕ} → 1 ≤ serving + link → ChangePhase false false 0 on_serving serving 0 0 link → ⊥
 none_is_left some (rests here zero) = absurd (omega arith)
 
 left_on_its_way : Alive 4 (record brought_answer { is_opening = false }) → ⊥
@@ -177,7 +178,7 @@ left_in_the_link alive = none_is_left (omega arith) alive.stands
 -- and while it is still to come no COMMAND is on its way
 none_is_commanded : Alive 4 (record to_open { commands = 1 }) → ⊥
 none_is_commanded alive = by alive.stands where
-  by : Stands true false 1 on_serving 0 0 0 1 → ⊥
+  by : ChangePhase true false 1 on_serving 0 0 0 1 → ⊥
   by (opens here zero) = absurd (omega arith)
 
 -- ---- line-ups that aren't sound: the switch took what the filter judges a gap
@@ -263,7 +264,7 @@ accepted = (refl, refl)
 -- ---- the mobile returns: FAILURE comes behind what was taken before it left, and the same message once more behind that
 
 abbrev failure : List ℕ
-failure = 0x06 ∷ 0x28 ∷ 0x6f ∷ []
+failure = hex "06 28 6f"
 
 abbrev has_returned : LineUp
 has_returned = record has_left { seat = on_serving; link = record { waiting = m1 ∷ []; air = Given failure } }

@@ -1,7 +1,7 @@
 -- The air of a channel stays empty, where no DATA REQUEST for the channel is taken.
 use Rattle.world_laws.proofs.Prelude.{◌≡◌, ◌≢◌, inl, inr, ℕ, false, List, [], ◌∷◌, refl, sym, ap, ◌∙◌, subst, cases_Bool, Place}
 use Rattle.world_laws.proofs.Prelude.{SWITCH_LINK, place_at, BaseState, Event, BaseTakes, AirMessage, OutboxEntry, actors_after, Actors}
-use Rattle.world_laws.proofs.Prelude.{Spot, outbox_of, spot_at, with_base, with_spot, up-right, spot-with_base, Respots, event-keeps}
+use Rattle.world_laws.proofs.Prelude.{Spot, outbox_of, spot_at, with_base, with_spot, up_right, spot_with_base, Respots, event-keeps}
 use Rattle.world_laws.proofs.Prelude.{NoDataEntry, airs, asks_up, counts, goes_down, is_left, short_up}
 use Rattle.world_laws.proofs.Targets.Places.{is_place, same_place, spot-apart, spot_here}
 
@@ -10,7 +10,7 @@ module _ (at : Place) (at_is : at.station ≢ SWITCH_LINK) where
   Empty v = (spot_at v at).air ≡ []
 
   based : (n : ℕ) (base : BaseState) (u : Actors) → Empty u → Empty (with_base n base u)
-  based n base u none = ap (λ (s : Spot). s.air) (spot-with_base n base u at) ∙ none
+  based n base u none = ap (λ (s : Spot). s.air) (spot_with_base n base u at) ∙ none
 
   spotted : (p : Place) (spot : Spot) (u : Actors) → p.station ≢ SWITCH_LINK → (at ≡ p → spot.air ≡ []) → (is_place at p ≡ false → Empty u) → Empty (with_spot p spot u)
   spotted p spot u p_is here other = elim (cases_Bool (is_place at p)) [
@@ -53,8 +53,8 @@ module _ (at : Place) (at_is : at.station ≢ SWITCH_LINK) where
     tells = λ u n message _ _ none. based n _ u none;
     spots = λ u p spot p_is how none. spotted p spot u p_is (λ same. respot_none no_data none same how) (λ _. none);
     pops = λ station others _ none. none;
-    activates = λ u s a taken _ none. spotted (place_at s a.channel) _ (with_base s _ u) (up-right s w taken.up).0 (λ _. refl) (λ _. based s _ u none);
-    releases = λ u s channel taken none. spotted (place_at s channel) _ (with_base s _ u) (up-right s w taken.up).0 (λ _. refl) (λ _. based s _ u none);
+    activates = λ u s a taken _ none. spotted (place_at s a.channel) _ (with_base s _ u) (up_right s w taken.up).0 (λ _. refl) (λ _. based s _ u none);
+    releases = λ u s channel taken none. spotted (place_at s channel) _ (with_base s _ u) (up_right s w taken.up).0 (λ _. refl) (λ _. based s _ u none);
   }) (record {
     rest = λ u inbox controller switch made links none. none;
     next = λ source message _ none. based source _ w none;

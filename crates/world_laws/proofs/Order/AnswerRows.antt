@@ -2,13 +2,14 @@
 use Rattle.world_laws.proofs.Prelude.{◌≡◌, ℕ, true, List, [], ◌∷◌, option_map, Some, refl, sym, ap, ◌∙◌, arith, connection_of}
 use Rattle.world_laws.proofs.Prelude.{to_be_taken, BasePush, Connect, Handle, actors_after_all, connected, Mobile, mobile_of, controls_of}
 use Rattle.world_laws.proofs.Prelude.{behind_first, IsNew}
+use Rattle.octets.proofs.Hex.{hex}
 use Rattle.world_model.proofs.Worlds.{on_literals}
 use Rattle.world_laws.proofs.Order.Coming.{connected_goes}
 use Rattle.world_laws.proofs.Usual.{begin, service_request}
 
 -- a mobile that asks with PAGING RESPONSE
 abbrev paging : List ℕ
-paging = 0x06 ∷ 0x27 ∷ 0x71 ∷ []
+paging = hex "06 27 71"
 
 -- ---- as it connected
 

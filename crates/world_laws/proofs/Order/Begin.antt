@@ -4,8 +4,8 @@ use Rattle.world_laws.proofs.Prelude.{◌≡◌, ◌⊎◌, ℕ, ◌==◌, ◌&&
 use Rattle.world_laws.proofs.Prelude.{Option, Some, None, refl, sym, ap, ◌∙◌, subst, cond-false, cond-true, ne_eqb, eq-eqb, append-nil}
 use Rattle.world_laws.proofs.Prelude.{AllByRecursion, Place, Out, ChannelState, Free, InUse, activation_ack, Rsl, OutboxEntry, Tenure}
 use Rattle.world_laws.proofs.Prelude.{Agrees, to_come, acknowledgement, due, is_active_then, to_link, rsl_in, Actors, is_active_at, is_up}
-use Rattle.world_laws.proofs.Prelude.{outbox_of, Both-empty, Goes, Passes, said_to, first_passes, runs, channel_state, hears, entries_to}
-use Rattle.world_laws.proofs.Prelude.{runs-kept, entry-out, goes_activates, acknowledgements_up, is_ending, Waits, here, later}
+use Rattle.world_laws.proofs.Prelude.{outbox_of, both_empty, Goes, Passes, said_to, first_passes, runs, channel_state, hears, entries_to}
+use Rattle.world_laws.proofs.Prelude.{runs_kept, entry_out, goes_activates, acknowledgements_up, is_ending, Waits, here, later}
 use Rattle.rsl_codec.specs.declared.rsl.Rsl.TheVariants as rsl
 use Rattle.world_model.specs.Relay.{entry_of}
 use Rattle.world_laws.proofs.Targets.Settled.{comes_idle}
@@ -16,8 +16,8 @@ use Rattle.world_laws.proofs.Channels.RoleAcks.{up_first}
 
 -- ---- what is put
 
-entry-says : (at : Place) (target : Option Tenure) (out : Out) → ((entry_of target out).out.to == at.station) ≡ true → rsl_in (entry_of target out).out.frame ≡ said_to at out
-entry-says at target out hit = ap (λ (o : Out). rsl_in o.frame) (entry-out target out) ∙ sym (ap (λ (b : Bool). if b then rsl_in out.frame else None) (sym (ap (λ (o : Out). o.to == at.station) (entry-out target out)) ∙ hit))
+entry_says : (at : Place) (target : Option Tenure) (out : Out) → ((entry_of target out).out.to == at.station) ≡ true → rsl_in (entry_of target out).out.frame ≡ said_to at out
+entry_says at target out hit = ap (λ (o : Out). rsl_in o.frame) (entry_out target out) ∙ sym (ap (λ (b : Bool). if b then rsl_in out.frame else None) (sym (ap (λ (o : Out). o.to == at.station) (entry_out target out)) ∙ hit))
 
 passes_none : (k : ℕ) (o : Option Rsl) → Passes k o → activates k o ≡ false
 passes_none k (Some (rsl.ChannelActivation a)) beside = ne_eqb a.channel k beside
@@ -26,15 +26,15 @@ passes_none k _ beside = refl
 -- a channel that comes into use by outputs that carry no DATA REQUEST for it is activated by one of
 -- them
 goes_waits : (at : Place) (target : Option Tenure) (n : ℕ) {state end : ChannelState} {outs : List Out} → Goes at state outs end → end ≡ InUse n → (state ≡ InUse n → ⊥) → AllByRecursion (NoDataOut at) outs → Waits at.number (entries_to at target outs)
-goes_waits at target n (runs all) is isnt none = absurd (isnt (runs-kept n all is))
+goes_waits at target n (runs all) is isnt none = absurd (isnt (runs_kept n all is))
 goes_waits at target n (first_passes {out = out} {outs = outs} beside rest) is isnt none = by ((entry_of target out).out.to == at.station) refl (goes_waits at target n rest is isnt none.1) where
   by : (b : Bool) → ((entry_of target out).out.to == at.station) ≡ b → Waits at.number (to_link at.station (map (entry_of target) outs)) → Waits at.number (cond ((entry_of target out).out.to == at.station) (entry_of target out ∷ to_link at.station (map (entry_of target) outs)) (to_link at.station (map (entry_of target) outs)))
-  by true hit others = subst (Waits at.number) (sym (cond-true ((entry_of target out).out.to == at.station) _ _ hit)) (later (ap (activates at.number) (entry-says at target out hit) ∙ passes_none at.number (said_to at out) beside) others)
+  by true hit others = subst (Waits at.number) (sym (cond-true ((entry_of target out).out.to == at.station) _ _ hit)) (later (ap (activates at.number) (entry_says at target out hit) ∙ passes_none at.number (said_to at out) beside) others)
   by false miss others = subst (Waits at.number) (sym (cond-false ((entry_of target out).out.to == at.station) _ _ miss)) others
 goes_waits at target n (goes_activates {out = out} {outs = outs} a says channel few rest) is isnt none = by ((entry_of target out).out.to == at.station) refl where
   by : (b : Bool) → ((entry_of target out).out.to == at.station) ≡ b → Waits at.number (cond ((entry_of target out).out.to == at.station) (entry_of target out ∷ to_link at.station (map (entry_of target) outs)) (to_link at.station (map (entry_of target) outs)))
-  by true hit = subst (Waits at.number) (sym (cond-true ((entry_of target out).out.to == at.station) _ _ hit)) (here (ap (activates at.number) (entry-says at target out hit ∙ says) ∙ eq-eqb a.channel at.number channel) (entries_none at target outs none.1))
-  by false miss = absurd (let both : None ≡ Some (rsl.ChannelActivation a) = sym (ap (λ (b : Bool). if b then rsl_in out.frame else None) (sym (ap (λ (o : Out). o.to == at.station) (entry-out target out)) ∙ miss)) ∙ says in cc)
+  by true hit = subst (Waits at.number) (sym (cond-true ((entry_of target out).out.to == at.station) _ _ hit)) (here (ap (activates at.number) (entry_says at target out hit ∙ says) ∙ eq-eqb a.channel at.number channel) (entries_none at target outs none.1))
+  by false miss = absurd (let both : None ≡ Some (rsl.ChannelActivation a) = sym (ap (λ (b : Bool). if b then rsl_in out.frame else None) (sym (ap (λ (o : Out). o.to == at.station) (entry_out target out)) ∙ miss)) ∙ says in cc)
 
 -- ---- where nothing is due no activation waits
 
@@ -49,7 +49,7 @@ behind_waits : (k : ℕ) (xs ys : List OutboxEntry) → due k false xs ≡ [] �
 behind_waits k [] ys none rest = rest
 behind_waits k (x ∷ xs) ys none rest =
     let o : Option Rsl = rsl_in x.out.frame in
-    let parts = Both-empty (acknowledgement k false o) (due k (is_active_then k false o) xs) (sym none) in
+    let parts = both_empty (acknowledgement k false o) (due k (is_active_then k false o) xs) (sym none) in
     let isnt : activates k o ≡ false = act_none k o parts.0 in
     later isnt (behind_waits k xs ys (subst (λ (b : Bool). due k b xs ≡ []) (stays_inactive k o isnt) parts.1) rest)
 

@@ -4,17 +4,17 @@ use Rattle.world_laws.proofs.Prelude.{◌≡◌, ◌≢◌, ℕ, ◌+◌, ◌-�
 use Rattle.world_laws.proofs.Prelude.{◌++◌, find, fold, length, option_map, Option, Some, None, refl, sym, ap, ◌∙◌, subst, append_assoc}
 use Rattle.world_laws.proofs.Prelude.{arith, inl, inr, AllByRecursion, flat_map, result_ok, cases_Bool, cond-false, cond-true, leb-false}
 use Rattle.world_laws.proofs.Prelude.{leb-true, Channel, Place, Station, Out, SWITCH_LINK, access_activation, new_connection}
-use Rattle.world_laws.proofs.Prelude.{connection_of, IsNumbered, ComesInOctets, IsSent, find_below, life_fits}
+use Rattle.world_laws.proofs.Prelude.{connection_of, IsNumbered, IsOctetStep, IsSent, find_below, life_fits}
 use Rattle.world_laws.proofs.Prelude.{IsOffered, offered_free, life_sends, life_ready, Ready, Sdcch, Step, Asks, access_channel, Controller}
 use Rattle.world_laws.proofs.Prelude.{Entry, Turn, hears, place_of, Zero, Three, Frame, Item, What, Activation, Rsl, RequestReference}
 use Rattle.world_laws.proofs.Prelude.{AreAllowed, CellParameters, Parameters, Event, Tenure, actors_after, actors_after_all, brought}
 use Rattle.world_laws.proofs.Prelude.{said_by, joined_by, target_in, with_turn, rsl_in, all_steps, first_taken, step_at, Actors, Mobile}
-use Rattle.world_laws.proofs.Prelude.{base_of, has_number, is_up, modulus_in, new_actors, outbox_of, with_outbox, good-all, good-new}
-use Rattle.world_laws.proofs.Prelude.{after-taken, air_up-leads, handle-leads, turn-leads, LivesByTable-new, IsKnownItem, known-inbox}
+use Rattle.world_laws.proofs.Prelude.{base_of, has_number, is_up, modulus_in, new_actors, outbox_of, with_outbox, good_all, good_new}
+use Rattle.world_laws.proofs.Prelude.{after_taken, air_up_leads, handle_leads, turn_leads, LivesByTable-new, IsKnownItem, known_inbox}
 use Rattle.world_laws.proofs.Prelude.{option_and_then_some, slice_get_within, behind_found, word_asked, IsAskedOf, channel_in}
 use Rattle.world_laws.proofs.Prelude.{channel_of_kind, free_channel, free_in, life, new_entry, take, tick, word_of, messages_in, brings_in}
 use Rattle.world_laws.proofs.Prelude.{coming_up, made_of, going_down, leading_by, leading_from_outbox, Begins, ConnectionsBegin, HasBegun}
-use Rattle.world_laws.proofs.Prelude.{StillAsks, WasNeverAnswered, requests_in, requests_up, said_in, IsQuiet, entry-out}
+use Rattle.world_laws.proofs.Prelude.{StillAsks, WasNeverAnswered, requests_in, requests_up, said_in, IsQuiet, entry_out}
 use Rattle.std.proofs.Common.{slice_get}
 use Rattle.conn_messages.specs.Out.{out_of}
 use Rattle.controller_model.specs.declared.step.Step.TheVariants as steps
@@ -26,13 +26,13 @@ use Rattle.rsl_codec.specs.declared.rsl.Rsl.TheVariants as rsl
 use Rattle.world_model.specs.declared.event.Event.TheVariants as events
 use Rattle.world_model.specs.Life.{event_after}
 use Rattle.world_model.specs.Relay.{entry_of}
-use Rattle.world_laws.proofs.Others.{down-joined, turn_mobiles}
+use Rattle.world_laws.proofs.Others.{down_joined, turn_mobiles}
 use Rattle.world_laws.proofs.OrderTexts.{activation_back, read_of}
 use Rattle.world_laws.proofs.OwnerRun.{life-settings, not_zero}
 use Rattle.world_laws.proofs.Sublists.{Sub, sub_behind, sub_nothing}
 use Rattle.world_laws.proofs.Access.Passes.{Passes, passes_itself}
 use Rattle.world_laws.proofs.Access.Travels.{event_passes, is_passing}
-use Rattle.world_laws.proofs.Access.Upcoming.{initials-none}
+use Rattle.world_laws.proofs.Access.Upcoming.{initials_none}
 use Rattle.world_laws.specs.Order.Beginning.HasBegun.{begins as has_begun, not_yet}
 use Rattle.world_laws.proofs.Order.Naming.{step_names, turn_names}
 use Rattle.world_laws.proofs.Order.Opens.{Opens, take_opens, tick_numbers}
@@ -40,7 +40,7 @@ use Rattle.world_laws.proofs.Order.Opens.Opens.{begins as opens_one, stays as op
 use Rattle.world_laws.proofs.Order.Unanswered.{unanswered_mobiles_ask_new}
 use Rattle.world_laws.specs.Owners.OneEach.{AsksOnce}
 use Rattle.world_laws.proofs.Owners.Asking.{asking_says}
-use Rattle.world_laws.proofs.Owners.Making.{requests-append}
+use Rattle.world_laws.proofs.Owners.Making.{requests_append}
 use Rattle.world_laws.proofs.Owners.OneEach.{none_was_answered_new, requests_come_once_new}
 use Rattle.world_laws.proofs.Targets.FreeQuiet.{free_channels_are_quiet_new}
 use Rattle.world_laws.proofs.Events.{split_steps}
@@ -70,7 +70,7 @@ activation_leads k n station a target sent =
     let out : Out = out_of n (Station station (rsl.ChannelActivation a)) in
     let read = read_of n station (rsl.ChannelActivation a) sent in
     let back = activation_back read.0 a (sym read.1.text) in
-    ap (λ (o : Out). leading_by k (entry_of target out).target (rsl_in o.frame)) (entry-out target out)
+    ap (λ (o : Out). leading_by k (entry_of target out).target (rsl_in o.frame)) (entry_out target out)
     ∙ ap (leading_by k (entry_of target out).target) (ap result_ok read.1.reading ∙ ap (λ (y : Rsl). Some y) back.1)
 
 none_behind : (xs ys : List Brought) → messages_in (xs ++ ys) ≡ [] → messages_in ys ≡ []
@@ -96,22 +96,22 @@ module _ (settings : Parameters) (done : List Event) where
 
   request_up : (item : Item) (items : List Item) (frame : Frame) (request : RequestReference) (delay : ℕ) → world.inbox ≡ item ∷ items → item.what ≡ whats.Frame frame → word_of item.source frame ≡ Asks request delay → 1 ≤ requests_up world request.access
   request_up item items frame request delay stood is asks =
-      let known : IsKnownItem item = (subst (AllByRecursion IsKnownItem) stood (known-inbox settings done)).0 in
+      let known : IsKnownItem item = (subst (AllByRecursion IsKnownItem) stood (known_inbox settings done)).0 in
       let own : item ≡ record { source = item.source; what = whats.Frame frame } = ap (λ (x : What). record { source = item.source; what = x }) is in
       let said : requests_in request.access (said_by (whats.Frame frame)) ≡ 1 = asking_says item.source frame request delay (subst IsKnownItem own known) asks in
       let one : requests_in request.access (said_by item.what) ≡ 1 = ap (λ (x : What). requests_in request.access (said_by x)) is ∙ said in
       let all : requests_in request.access (said_in world.inbox) ≡ requests_in request.access (said_in (item ∷ items)) = ap (λ (xs : List Item). requests_in request.access (said_in xs)) stood in
-      let parts = requests-append request.access (said_by item.what) (said_in items) in
+      let parts = requests_append request.access (said_by item.what) (said_in items) in
       omega (arith, one, all, parts)
 
-  asker_still_asks : (k : ℕ) → AreAllowed settings → AllByRecursion ComesInOctets steps_done → 1 ≤ requests_up world k → StillAsks modulus done world k
+  asker_still_asks : (k : ℕ) → AreAllowed settings → AllByRecursion IsOctetStep steps_done → 1 ≤ requests_up world k → StillAsks modulus done world k
   asker_still_asks k allowed octets some = unanswered_mobiles_ask_new settings done k allowed octets never where
     never : WasNeverAnswered settings done k
     never before after whole = none_was_answered_new settings before after k (subst (λ (xs : List Event). 1 ≤ requests_up (actors_after_all (new_actors settings) xs) k) whole some)
 
   -- ---- its channel
 
-  channel_quiet : (source : ℕ) (frame : Frame) (channel : Channel) (request : RequestReference) (delay : ℕ) → AreAllowed settings → AllByRecursion ComesInOctets steps_done → word_of source frame ≡ Asks request delay → access_channel world.controller source ≡ Some channel → IsQuiet world (place_of channel)
+  channel_quiet : (source : ℕ) (frame : Frame) (channel : Channel) (request : RequestReference) (delay : ℕ) → AreAllowed settings → AllByRecursion IsOctetStep steps_done → word_of source frame ≡ Asks request delay → access_channel world.controller source ≡ Some channel → IsQuiet world (place_of channel)
   channel_quiet source frame channel request delay allowed octets asks free =
       let ready : Ready world.controller = subst Ready (sym lives) (life_ready settings steps_done allowed) in
       let offered : IsOffered world.controller.channels world.controller.links channel = offered_free world.controller world.controller.links source 0 Sdcch channel refl ready.holds.shaped free in
@@ -130,16 +130,16 @@ module _ (settings : Parameters) (done : List Event) where
   waiting items = record world { inbox = items }
 
   v_controller : (target : Option Tenure) (t : Turn) (u : Actors) → (with_turn target t u).controller ≡ t.next
-  v_controller target t u = turn-leads (λ v. v.controller ≡ t.next) target t u (λ links. refl)
+  v_controller target t u = turn_leads (λ v. v.controller ≡ t.next) target t u (λ links. refl)
 
   v_coming : (target : Option Tenure) (t : Turn) (u : Actors) (at : Place) → coming_up (with_turn target t u) at ≡ coming_up u at
-  v_coming target t u at = turn-leads (λ v. coming_up v at ≡ coming_up u at) target t u (λ links. refl)
+  v_coming target t u at = turn_leads (λ v. coming_up v at ≡ coming_up u at) target t u (λ links. refl)
 
-  coming-behind : (item : Item) (items : List Item) (at : Place) → world.inbox ≡ item ∷ items → coming_up world at ≡ brings_in at item ++ coming_up (waiting items) at
-  coming-behind item items at stood = ap (λ (xs : List Item). flat_map (brings_in at) xs ++ made_of at.number (base_of world at.station).messages) stood ∙ append_assoc (brings_in at item) (flat_map (brings_in at) items) (made_of at.number (base_of world at.station).messages)
+  coming_behind : (item : Item) (items : List Item) (at : Place) → world.inbox ≡ item ∷ items → coming_up world at ≡ brings_in at item ++ coming_up (waiting items) at
+  coming_behind item items at stood = ap (λ (xs : List Item). flat_map (brings_in at) xs ++ made_of at.number (base_of world at.station).messages) stood ∙ append_assoc (brings_in at item) (flat_map (brings_in at) items) (made_of at.number (base_of world at.station).messages)
 
   turn_quiet : (item : Item) (items : List Item) (target : Option Tenure) (t : Turn) (n : ℕ) (channel : Channel) → world.inbox ≡ item ∷ items → t.outs ≡ out_of n (access_activation channel) ∷ [] → AllByRecursion IsSent t.outs → IsQuiet world (place_of channel) → IsQuiet (with_turn target t (waiting items)) (place_of channel)
-  turn_quiet item items target t n channel stood outs sent quiet = record { nothing_comes = none; none_opens = initials-none v at none; none_commanded = down ∙ quiet.none_commanded } where
+  turn_quiet item items target t n channel stood outs sent quiet = record { nothing_comes = none; none_opens = initials_none v at none; none_commanded = down ∙ quiet.none_commanded } where
     at : Place
     at = place_of channel
 
@@ -147,7 +147,7 @@ module _ (settings : Parameters) (done : List Event) where
     v = with_turn target t (waiting items)
 
     none : messages_in (coming_up v at) ≡ []
-    none = ap messages_in (v_coming target t (waiting items) at) ∙ none_behind (brings_in at item) (coming_up (waiting items) at) (ap messages_in (sym (coming-behind item items at stood)) ∙ quiet.nothing_comes)
+    none = ap messages_in (v_coming target t (waiting items) at) ∙ none_behind (brings_in at item) (coming_up (waiting items) at) (ap messages_in (sym (coming_behind item items at stood)) ∙ quiet.nothing_comes)
 
     u : Actors
     u = record (waiting items) { controller = t.next }
@@ -156,7 +156,7 @@ module _ (settings : Parameters) (done : List Event) where
     out = out_of n (access_activation channel)
 
     one : (b : Bool) → going_down (if b then with_outbox out.to (outbox_of u out.to ++ entry_of target out ∷ []) u else u) at ≡ going_down u at
-    one true = down-joined u target out channel (λ is. activation_leads channel.number n channel.station _ target (subst (AllByRecursion IsSent) outs sent).0)
+    one true = down_joined u target out channel (λ is. activation_leads channel.number n channel.station _ target (subst (AllByRecursion IsSent) outs sent).0)
     one false = refl
 
     down : going_down v at ≡ going_down world at
@@ -170,7 +170,7 @@ module _ (settings : Parameters) (done : List Event) where
       ap (λ (k : ℕ). connection_of (with_connection c channel request delay).next k) is
       ∙ ap (option_map (λ (e : Entry). e.connection)) (behind_found (new_entry c.settings c.next_number channel request delay) c.entries (find_below c.next_number c.entries numbered.below))
 
-  begins_now : (item : Item) (items : List Item) (frame : Frame) (channel : Channel) (request : RequestReference) (delay : ℕ) → AreAllowed settings → AllByRecursion ComesInOctets steps_done → ComesInOctets (steps.Take item) → world.inbox ≡ item ∷ items → item.what ≡ whats.Frame frame → word_of item.source frame ≡ Asks request delay → access_channel world.controller item.source ≡ Some channel
+  begins_now : (item : Item) (items : List Item) (frame : Frame) (channel : Channel) (request : RequestReference) (delay : ℕ) → AreAllowed settings → AllByRecursion IsOctetStep steps_done → IsOctetStep (steps.Take item) → world.inbox ≡ item ∷ items → item.what ≡ whats.Frame frame → word_of item.source frame ≡ Asks request delay → access_channel world.controller item.source ≡ Some channel
       → take item world.controller ≡ with_connection world.controller channel request delay → Begins modulus done (with_turn (target_in world item.source item.what) (take item world.controller) (waiting items)) (new_connection world.controller.next_number channel request delay)
   begins_now item items frame channel request delay allowed octets own stood is asks free opens = record {
     had = record {
@@ -208,7 +208,7 @@ module _ (settings : Parameters) (done : List Event) where
   same_number : (v : Actors) (number : ℕ) → v.controller.next_number ≡ world.controller.next_number → world.controller.next_number ≤ number → HasBegun (Begins modulus done) v number
   same_number v number same past = not_yet (omega (arith, same, past))
 
-  take_begins : (item : Item) (items : List Item) (number : ℕ) → AreAllowed settings → AllByRecursion ComesInOctets steps_done → ComesInOctets (steps.Take item) → world.controller.next_number ≤ number → world.inbox ≡ item ∷ items
+  take_begins : (item : Item) (items : List Item) (number : ℕ) → AreAllowed settings → AllByRecursion IsOctetStep steps_done → IsOctetStep (steps.Take item) → world.controller.next_number ≤ number → world.inbox ≡ item ∷ items
       → HasBegun (Begins modulus done) (with_turn (target_in world item.source item.what) (take item world.controller) (waiting items)) number
   take_begins item items number allowed octets own past stood = by (take_opens world.controller item) where
     v : Actors
@@ -228,12 +228,12 @@ module _ (settings : Parameters) (done : List Event) where
               has_begun (new_connection world.controller.next_number channel request delay) (omega (arith, past, less)) (begins_now item items frame channel request delay allowed octets own stood is asks free opens)
         ]
 
-  handle_begins : (number : ℕ) → AreAllowed settings → AllByRecursion ComesInOctets steps_done → AllByRecursion ComesInOctets (first_taken world.inbox) → world.controller.next_number ≤ number → HasBegun (Begins modulus done) (actors_after world events.Handle) number
+  handle_begins : (number : ℕ) → AreAllowed settings → AllByRecursion IsOctetStep steps_done → AllByRecursion IsOctetStep (first_taken world.inbox) → world.controller.next_number ≤ number → HasBegun (Begins modulus done) (actors_after world events.Handle) number
   unfolding event_after
   handle_begins number allowed octets own past =
-      after-taken (λ v. HasBegun (Begins modulus done) v number) (event_after world events.Handle) world
-      (handle-leads (λ v. HasBegun (Begins modulus done) v number) world (λ item items stood.
-      take_begins item items number allowed octets (subst (λ (xs : List Item). AllByRecursion ComesInOctets (first_taken xs)) stood own).0 past stood)) (same_number world number refl past)
+      after_taken (λ v. HasBegun (Begins modulus done) v number) (event_after world events.Handle) world
+      (handle_leads (λ v. HasBegun (Begins modulus done) v number) world (λ item items stood.
+      take_begins item items number allowed octets (subst (λ (xs : List Item). AllByRecursion IsOctetStep (first_taken xs)) stood own).0 past stood)) (same_number world number refl past)
 
   tick_begins : (ms number : ℕ) → world.controller.next_number ≤ number → HasBegun (Begins modulus done) (actors_after world (events.Tick ms)) number
   unfolding event_after
@@ -242,15 +242,15 @@ module _ (settings : Parameters) (done : List Event) where
   sent_begins : (n number : ℕ) → world.controller.next_number ≤ number → HasBegun (Begins modulus done) (actors_after world (events.AirUp n Zero)) number
   unfolding event_after
   sent_begins n number past =
-      after-taken (λ v. HasBegun (Begins modulus done) v number) (event_after world (events.AirUp n Zero)) world
-      (air_up-leads (λ v. HasBegun (Begins modulus done) v number) world n Zero (λ p tenure command frame acts sits lent reached. same_number (brought world p tenure.at Zero frame) number refl past)) (same_number world number refl past)
+      after_taken (λ v. HasBegun (Begins modulus done) v number) (event_after world (events.AirUp n Zero)) world
+      (air_up_leads (λ v. HasBegun (Begins modulus done) v number) world n Zero (λ p tenure command frame acts sits lent reached. same_number (brought world p tenure.at Zero frame) number refl past)) (same_number world number refl past)
 
   passing_begins : (event : Event) (number : ℕ) → is_passing event ≡ true → world.controller.next_number ≤ number → HasBegun (Begins modulus done) (actors_after world event) number
   passing_begins event number passing past =
-      let passes : Passes world (actors_after world event) = after-taken (Passes world) (event_after world event) world (event_passes world event passing (good-all (new_actors settings) done (good-new settings))) (passes_itself world) in
+      let passes : Passes world (actors_after world event) = after_taken (Passes world) (event_after world event) world (event_passes world event passing (good_all (new_actors settings) done (good_new settings))) (passes_itself world) in
       same_number (actors_after world event) number (ap (λ (c : Controller). c.next_number) passes.controller) past
 
-  event_begins : (event : Event) (number : ℕ) → AreAllowed settings → AllByRecursion ComesInOctets steps_done → AllByRecursion ComesInOctets (step_at world event) → world.controller.next_number ≤ number → HasBegun (Begins modulus done) (actors_after world event) number
+  event_begins : (event : Event) (number : ℕ) → AreAllowed settings → AllByRecursion IsOctetStep steps_done → AllByRecursion IsOctetStep (step_at world event) → world.controller.next_number ≤ number → HasBegun (Begins modulus done) (actors_after world event) number
   event_begins events.Handle number allowed octets own past = handle_begins number allowed octets own past
   event_begins (events.Tick ms) number allowed octets own past = tick_begins ms number past
   event_begins (events.AirUp n Zero) number allowed octets own past = sent_begins n number past
@@ -259,5 +259,5 @@ module _ (settings : Parameters) (done : List Event) where
 
 pub connections_begin_new : (settings : Parameters) (done : List Event) (event : Event) → ConnectionsBegin settings done event
 connections_begin_new settings done event number allowed octets from_one past =
-    let parts = split_steps ComesInOctets (new_actors settings) done event octets in
+    let parts = split_steps IsOctetStep (new_actors settings) done event octets in
     event_begins settings done event number allowed parts.0 parts.1 past

@@ -3,14 +3,14 @@ use Rattle.world_laws.proofs.Prelude.{◌≡◌, ◌≢◌, ◌⊎◌, inl, inr,
 use Rattle.world_laws.proofs.Prelude.{◌++◌, Contains, Option, Some, None, refl, sym, ap, ◌∙◌, subst, arith, append_assoc, cases_Bool}
 use Rattle.world_laws.proofs.Prelude.{eqb-true, eqb-false, append-nil, AllByRecursion, flat_map, list_any, Place, Message, Out, SWITCH_LINK}
 use Rattle.world_laws.proofs.Prelude.{outs_of, Connection, AllByRecursion-filter, Acts, brought_in, connection_of, is_for, outs_for}
-use Rattle.world_laws.proofs.Prelude.{ComesInOctets, IsSent, IsNotOn, life_after, contains_none, ChannelState, Free, InUse, Step}
+use Rattle.world_laws.proofs.Prelude.{IsOctetStep, IsSent, IsNotOn, life_after, contains_none, ChannelState, Free, InUse, Step}
 use Rattle.world_laws.proofs.Prelude.{Controller, channel_state, hears, place_of, step, RelayItem, Rsl, AreAllowed, Parameters, Event}
 use Rattle.world_laws.proofs.Prelude.{OutboxEntry, Tenure, actors_after, AllAgree, owner_in, is_active, acknowledgements, active_all}
 use Rattle.world_laws.proofs.Prelude.{outputs, outputs_at, put, taken, to_link, target_in, all_steps, first_taken, step_at, Actors, Link}
 use Rattle.world_laws.proofs.Prelude.{base_of, is_active_at, is_up, new_actors, outbox_of, LivesByTable-new, outbox-step, OutboxStep}
-use Rattle.world_laws.proofs.Prelude.{breaks, Goes, first_passes, runs, heard_of, Serves, hear, acks-append, length-stations_from}
+use Rattle.world_laws.proofs.Prelude.{breaks, Goes, first_passes, runs, heard_of, Serves, hear, acks_append, length-stations_from}
 use Rattle.world_laws.proofs.Prelude.{pipe-step, PipeStep, flows, stops, life_ready, Ready, free≢use, used_places, IsFine, life, take, tick}
-use Rattle.world_laws.proofs.Prelude.{runs-kept, goes_activates, acknowledgements_up, is_release_ack, read_of, CameInOctets, IsHad}
+use Rattle.world_laws.proofs.Prelude.{runs_kept, goes_activates, acknowledgements_up, is_release_ack, read_of, TookOctets, IsHad}
 use Rattle.world_laws.proofs.Prelude.{is_ending, ChannelsBeginQuiet, NoDataEntry, Quiet, Waits, IsEarlyIn, hear_in_use}
 use Rattle.controller_model.specs.declared.step.Step.TheVariants as steps
 use Rattle.rsl_codec.specs.declared.rsl.Rsl.TheVariants as rsl
@@ -42,11 +42,11 @@ hear-used (rsl.RfChannelReleaseAck channel ∷ rest) n = refl
 hear-used (_ ∷ rest) n = refl
 
 goes_from : {at : Place} {state end : ChannelState} {outs : List Out} (n : ℕ) → Goes at state outs end → end ≡ InUse n → (state ≡ InUse n) ⊎ (state ≡ Free)
-goes_from n (runs all) is = inl (runs-kept n all is)
+goes_from n (runs all) is = inl (runs_kept n all is)
 goes_from n (first_passes beside rest) is = goes_from n rest is
 goes_from n (goes_activates a says channel few rest) is = inr refl
 
-module _ (settings : Parameters) (done : List Event) (event : Event) (s : Connection) (allowed : AreAllowed settings) (octets : CameInOctets settings (done ++ event ∷ []))
+module _ (settings : Parameters) (done : List Event) (event : Event) (s : Connection) (allowed : AreAllowed settings) (octets : TookOctets settings (done ++ event ∷ []))
     (new : connection_of (world settings done).controller s.number ≡ None) (has : IsHad (world settings (done ++ event ∷ [])) s) (early_then : IsEarlyIn s.state) where
   abbrev w : Actors
   w = world settings done
@@ -66,7 +66,7 @@ module _ (settings : Parameters) (done : List Event) (event : Event) (s : Connec
   same : vv ≡ v
   same = snoc_actors (new_actors settings) done event
 
-  came : CameInOctets settings done × AllByRecursion ComesInOctets (step_at w event)
+  came : TookOctets settings done × AllByRecursion IsOctetStep (step_at w event)
   came = octets_came settings done event octets
 
   used_then : channel_state vv.controller at ≡ InUse s.number
@@ -99,7 +99,7 @@ module _ (settings : Parameters) (done : List Event) (event : Event) (s : Connec
   unused : channel_state c at ≡ InUse s.number → ⊥
   unused used = contains_none at (subst (λ (o : Option Connection). Contains (used_places o) at) new (((used_at settings done allowed).using at s.number).0 used))
 
-  module _ (x : Step) (target : Option Tenure) (heard rest : List Rsl) (own : ComesInOctets x) (puts : outputs w event ≡ map (entry_of target) (step c x).outs) (next : vv.controller ≡ (step c x).next) (untaken : taken at.station w event ≡ [])
+  module _ (x : Step) (target : Option Tenure) (heard rest : List Rsl) (own : IsOctetStep x) (puts : outputs w event ≡ map (entry_of target) (step c x).outs) (next : vv.controller ≡ (step c x).next) (untaken : taken at.station w event ≡ [])
       (serves : Serves (owner_in (new_actors settings) done) w at target (step c x) heard) (hears_it : acknowledgements_up w at ≡ heard ++ rest) where
     does : Steps c x s.number
     does = steps_known settings done x s.number allowed came.0 own has.from_one
@@ -208,14 +208,14 @@ channels_begin_quiet_new settings done events.Handle s allowed octets new has ea
       let place = placed settings done events.Handle s allowed octets new has early_then in
       begins_quiet settings done events.Handle s allowed octets new has early_then (steps.Take item) (target_in w item.source item.what) (heard_of at item)
       (acknowledgements at.number (flat_map (read_of n) items ++ (base_of w n).messages))
-      (subst (λ (xs : List RelayItem). AllByRecursion ComesInOctets (first_taken xs)) stood came.1).0
+      (subst (λ (xs : List RelayItem). AllByRecursion IsOctetStep (first_taken xs)) stood came.1).0
       (ap (outputs_at w) stood)
       (ap (λ (x : Actors). x.controller) (snoc_actors (new_actors settings) done events.Handle ∙ handle_is w item items stood) ∙ controller-is (target_in w item.source item.what) (take item w.controller) (record w { inbox = items }))
       refl
       (serves_event settings (owner_in (new_actors settings) done) done w events.Handle refl allowed came.0 came.1 (agree settings done events.Handle s allowed octets new has early_then) item items stood at place.least place.most)
       (ap (λ (xs : List RelayItem). acknowledgements at.number (flat_map (read_of n) xs ++ (base_of w n).messages)) stood
       ∙ ap (acknowledgements at.number) (append_assoc (read_of n item) (flat_map (read_of n) items) (base_of w n).messages)
-      ∙ acks-append at.number (read_of n item) (flat_map (read_of n) items ++ (base_of w n).messages)
+      ∙ acks_append at.number (read_of n item) (flat_map (read_of n) items ++ (base_of w n).messages)
       ∙ ap (λ (xs : List Rsl). xs ++ acknowledgements at.number (flat_map (read_of n) items ++ (base_of w n).messages)) (sym (heard_read at item ∙ ap (acknowledgements at.number) (append-nil (read_of n item)))))
 channels_begin_quiet_new settings done (events.Tick ms) s allowed octets new has early_then =
     let w : Actors = world settings done in

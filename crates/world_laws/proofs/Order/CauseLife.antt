@@ -6,7 +6,7 @@ use Rattle.world_laws.proofs.Prelude.{subst, arith, true≢false, AllByRecursion
 use Rattle.world_laws.proofs.Prelude.{append-nil, none-some, Bssap, Management, Transfer, Bssmap, InterfaceFault, Sccp, bssap_text}
 use Rattle.world_laws.proofs.Prelude.{IsReference, Message, Station, Request, Data, ReleaseComplete, Out, SWITCH_LINK, IsReadOf, outs_of}
 use Rattle.world_laws.proofs.Prelude.{Input, State, Removed, Connection, Row, OfRow, Acts, Brought, IsAged, brought_in, kept_in, ages, goes}
-use Rattle.world_laws.proofs.Prelude.{opens, rests, connection_of, outs_for, IsNumbered, ComesInOctets, IsSent, find_below, aged_holds}
+use Rattle.world_laws.proofs.Prelude.{opens, rests, connection_of, outs_for, IsNumbered, IsOctetStep, IsSent, find_below, aged_holds}
 use Rattle.world_laws.proofs.Prelude.{life_fits, life_sends, life_sound, step_does, Step, Controller, Entry, each, new_controller, pong}
 use Rattle.world_laws.proofs.Prelude.{step, Frame, SCCP_STREAM, Rsl, AreAllowed, Parameters, sccp_in, eqb-false, Result, sccp_reading}
 use Rattle.world_laws.proofs.Prelude.{row_of, IsMessage, HasFairCause, IsFair}
@@ -81,7 +81,7 @@ below_next number c s numbered there few = elim (cases_Bool (leb c.next_number n
   weaker (e ∷ es) past all = (omega (arith, all.0, past), weaker es past all.1)
 
 module _ (p : Parameters) (allowed : AreAllowed p) (number : ℕ) (from_one : 1 ≤ number) where
-  step_fine : (steps : List Step) (s : Step) → AllByRecursion ComesInOctets steps → HasSmallOf (connection_of (life p steps).next number)
+  step_fine : (steps : List Step) (s : Step) → AllByRecursion IsOctetStep steps → HasSmallOf (connection_of (life p steps).next number)
       → (put : List Message) × (outs_for number (step (life p steps).next s).outs ≡ outs_of number put) × IsFineStep number put (connection_of (step (life p steps).next s).next number)
   step_fine steps s octets small =
       let c : Controller = (life p steps).next in
@@ -93,17 +93,17 @@ module _ (p : Parameters) (allowed : AreAllowed p) (number : ℕ) (from_one : 1 
             (λ old there. below_next number c old numbered there (life_sound p steps allowed octets).next) small does.acts,
       )
 
-  small_through : (done rest : List Step) → AllByRecursion ComesInOctets (done ++ rest) → HasSmallOf (connection_of (life p done).next number) → HasSmallOf (connection_of (life p (done ++ rest)).next number)
+  small_through : (done rest : List Step) → AllByRecursion IsOctetStep (done ++ rest) → HasSmallOf (connection_of (life p done).next number) → HasSmallOf (connection_of (life p (done ++ rest)).next number)
   unfolding life
   small_through done [] octets small = subst (λ (steps : List Step). HasSmallOf (connection_of (life p steps).next number)) (sym (append-nil done)) small
   small_through done (s ∷ rest) octets small =
       let same : (done ++ s ∷ []) ++ rest ≡ done ++ s ∷ rest = append_assoc done (s ∷ []) rest in
-      let own = step_fine done s (all_left ComesInOctets done (s ∷ rest) octets) small in
+      let own = step_fine done s (all_left IsOctetStep done (s ∷ rest) octets) small in
       subst (λ (steps : List Step). HasSmallOf (connection_of (life p steps).next number)) same
-      (small_through (done ++ s ∷ []) rest (subst (AllByRecursion ComesInOctets) (sym same) octets)
+      (small_through (done ++ s ∷ []) rest (subst (AllByRecursion IsOctetStep) (sym same) octets)
       (subst (λ (c : Controller). HasSmallOf (connection_of c number)) (sym (each-append (new_controller p) done (s ∷ []))) own.2.small))
 
-  small_life : (steps : List Step) → AllByRecursion ComesInOctets steps → HasSmallOf (connection_of (life p steps).next number)
+  small_life : (steps : List Step) → AllByRecursion IsOctetStep steps → HasSmallOf (connection_of (life p steps).next number)
   unfolding life
   small_life steps octets = small_through [] steps octets tt
 
@@ -191,7 +191,7 @@ all_fair : (xs : List Out) → AllByRecursion IsSent xs → AllByRecursion IsOfO
 all_fair [] sent ones fine = tt
 all_fair (x ∷ xs) sent ones fine = (out_fair x sent.0 ones.0 fine.0, all_fair xs sent.1 ones.1 fine.1)
 
-pub step_fair : (p : Parameters) (steps : List Step) (s : Step) → AreAllowed p → AllByRecursion ComesInOctets steps → ComesInOctets s → AllByRecursion (λ (out : Out). IsFair (sccp_in out.frame)) (step (life p steps).next s).outs
+pub step_fair : (p : Parameters) (steps : List Step) (s : Step) → AreAllowed p → AllByRecursion IsOctetStep steps → IsOctetStep s → AllByRecursion (λ (out : Out). IsFair (sccp_in out.frame)) (step (life p steps).next s).outs
 step_fair p steps s allowed octets own =
     let c : Controller = (life p steps).next in
     all_fair (step c s).outs (life_sends p steps s allowed octets own) (outs_of_one c s (life_fits p steps 1 (omega arith)).numbered)

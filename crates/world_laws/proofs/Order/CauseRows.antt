@@ -1,7 +1,7 @@
 -- A row that asks the switch to clear does so with a cause of one octet.
 use Rattle.world_laws.proofs.Prelude.{ℕ, Option, Some, ◌<◌, refl, arith, AllByRecursion, Channel, Message, Data, Input, State, Connection, Row}
 use Rattle.world_laws.proofs.Prelude.{OfRow, row_of, HasFairCause}
-use Rattle.conn_rules.proofs.RowPuts.{Enters, HasCause, Kinds, Puts, loose, loose_brings, loose_parts, row-puts}
+use Rattle.conn_rules.proofs.RowPuts.{Enters, HasCause, Kinds, Puts, loose, loose_brings, loose_parts, row_puts}
 
 -- a CLEAR REQUEST has a cause of one octet
 abbrev pub IsSmallMessage : Message → Type 0
@@ -56,4 +56,4 @@ enters = record {
 pub row_small : (s : Connection) (input : Input) (offer : Option Channel) → HasSmall s.state → OfRow IsSmallRow (row_of s input offer)
 row_small s input offer is =
     let parts = loose_parts IsSmall (Unit {0}) s offer is (omega arith, omega arith, omega arith) in
-    row-puts small IsSmallMessage (λ state request. HasSmall state) s offer (puts s) enters parts is input (loose_brings IsSmall (Unit {0}) input (λ clear. tt))
+    row_puts small IsSmallMessage (λ state request. HasSmall state) s offer (puts s) enters parts is input (loose_brings IsSmall (Unit {0}) input (λ clear. tt))

@@ -2,12 +2,12 @@
 use Rattle.world_laws.proofs.Prelude.{◌≡◌, ℕ, Bool, true, false, if◌then◌else◌, List, [], ◌∷◌, Some, refl, sym, ap, subst, AllByRecursion}
 use Rattle.world_laws.proofs.Prelude.{Connection, Zero, is_flow_message, to_be_taken, waits, after_number, new_mobile, Parameters, Event}
 use Rattle.world_laws.proofs.Prelude.{OutboxEntry, actors_after, rsl_in, Actors, Mobile, modulus_in, outbox_of, controls_of, is_initial}
-use Rattle.world_laws.proofs.Prelude.{idle_link, GoesOn-new, GoesOn-numbered, GoesOn-unnumbered, is_initial-clear, IsClear-flow, AssignsIn}
+use Rattle.world_laws.proofs.Prelude.{idle_link, GoesOn-new, GoesOn-numbered, GoesOn-unnumbered, is_initial_clear, IsClear-flow, AssignsIn}
 use Rattle.world_laws.proofs.Prelude.{behind_first, IsComing, IsNew, AssignsAnother, Begins, ConnectionsBeginComing, HasBegun}
 use Rattle.world_laws.proofs.Prelude.{IsAsItConnected, IsEarlyIn}
-use Rattle.mobile_end.specs.GoesOn.{GoesOn}
+use Rattle.mobile_end.specs.RunsToEnd.{RunsToEnd}
 use Rattle.mobile_end.specs.Mobile.{after_connect, connected_mobile, link_of, with_link}
-use Rattle.world_laws.specs.Access.Coming.Comes.{asks}
+use Rattle.world_laws.specs.Access.Coming.IsAccessing.{asks}
 use Rattle.world_laws.specs.Order.Beginning.HasBegun.{begins, not_yet}
 use Rattle.world_laws.proofs.Order.Beginning.{connections_begin_new}
 use Rattle.world_laws.proofs.Access.Turning.{another_assigns}
@@ -16,12 +16,12 @@ use Rattle.world_laws.proofs.Events.{world}
 -- ---- a mobile as it connected
 
 -- its link begins with what its upper layers sent
-pub connected_goes : (m : ℕ) (initial : List ℕ) → is_initial initial ≡ true → GoesOn m (after_connect (new_mobile m) (Some initial)).sent [] (after_connect (new_mobile m) (Some initial)).zero
+pub connected_goes : (m : ℕ) (initial : List ℕ) → is_initial initial ≡ true → RunsToEnd m (after_connect (new_mobile m) (Some initial)).sent [] (after_connect (new_mobile m) (Some initial)).zero
 connected_goes m initial lawful = by (is_flow_message initial) refl where
   by : (b : Bool) → is_flow_message initial ≡ b
-      → GoesOn m (connected_mobile (if b then after_number (new_mobile m) initial else with_link (new_mobile m) Zero (waits (link_of (new_mobile m) Zero) initial))).sent []
+      → RunsToEnd m (connected_mobile (if b then after_number (new_mobile m) initial else with_link (new_mobile m) Zero (waits (link_of (new_mobile m) Zero) initial))).sent []
       (connected_mobile (if b then after_number (new_mobile m) initial else with_link (new_mobile m) Zero (waits (link_of (new_mobile m) Zero) initial))).zero
-  by true flow = GoesOn-numbered {m = m} {sent = []} {xs = []} idle_link initial (IsClear-flow initial (is_initial-clear initial lawful) flow) (GoesOn-new m)
+  by true flow = GoesOn-numbered {m = m} {sent = []} {xs = []} idle_link initial (IsClear-flow initial (is_initial_clear initial lawful) flow) (GoesOn-new m)
   by false apart = GoesOn-unnumbered {m = m} {sent = []} {xs = []} idle_link initial apart (GoesOn-new m)
 
 -- and nothing stands behind it

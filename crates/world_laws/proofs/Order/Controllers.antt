@@ -1,9 +1,9 @@
 -- The controller of a run: where it stays as it is, and the numbers of its connections.
 use Rattle.world_laws.proofs.Prelude.{◌≡◌, ℕ, ◌≤◌, ◌<◌, leb, inl, inr, List, [], ◌∷◌, ◌++◌, option_map, Some, None, refl, sym, ap, ◌∙◌}
 use Rattle.world_laws.proofs.Prelude.{subst, arith, append_assoc, AllByRecursion, cases_Bool, leb-false, leb-true, append-nil, none-some}
-use Rattle.world_laws.proofs.Prelude.{Connection, connection_of, IsNumbered, ComesInOctets, step_goes, find_below, life_fits, Step}
+use Rattle.world_laws.proofs.Prelude.{Connection, connection_of, IsNumbered, IsOctetStep, step_goes, find_below, life_fits, Step}
 use Rattle.world_laws.proofs.Prelude.{Controller, Entry, each, new_controller, step, Parameters, Event, actors_after, actors_after_all}
-use Rattle.world_laws.proofs.Prelude.{all_steps, step_at, Actors, new_actors, LivesByTable-new, CameInOctets}
+use Rattle.world_laws.proofs.Prelude.{all_steps, step_at, Actors, new_actors, LivesByTable-new, TookOctets}
 use Rattle.controller_model.specs.Life.{life}
 use Rattle.world_laws.proofs.References.Moving.{each-append}
 use Rattle.world_laws.proofs.Events.{snoc_actors, snoc_steps, world}
@@ -17,10 +17,10 @@ append_steps w (x ∷ xs) more =
     ∙ sym (append_assoc (step_at w x) (all_steps (actors_after w x) xs) (all_steps (actors_after_all (actors_after w x) xs) more))
 
 -- what came before was octets, too
-pub octets_front : (settings : Parameters) (events more : List Event) → CameInOctets settings (events ++ more) → CameInOctets settings events
+pub octets_front : (settings : Parameters) (events more : List Event) → TookOctets settings (events ++ more) → TookOctets settings events
 octets_front settings events more octets =
-    front (all_steps (new_actors settings) events) (all_steps (world settings events) more) (subst (AllByRecursion ComesInOctets) (append_steps (new_actors settings) events more) octets) where
-      front : (steps others : List Step) → AllByRecursion ComesInOctets (steps ++ others) → AllByRecursion ComesInOctets steps
+    front (all_steps (new_actors settings) events) (all_steps (world settings events) more) (subst (AllByRecursion IsOctetStep) (append_steps (new_actors settings) events more) octets) where
+      front : (steps others : List Step) → AllByRecursion IsOctetStep (steps ++ others) → AllByRecursion IsOctetStep steps
       front [] others all = tt
       front (s ∷ ss) others all = (all.0, front ss others all.1)
 

@@ -2,16 +2,16 @@
 use Rattle.world_laws.proofs.Prelude.{◌≡◌, ◌≢◌, inl, inr, ℕ, zero, suc, ◌-◌, ◌≤◌, ◌<◌, nat_eq, Bool, true, false, if◌then◌else◌, map}
 use Rattle.world_laws.proofs.Prelude.{length, List, [], ◌∷◌, ◌++◌, Option, Some, None, refl, sym, ap, ◌∙◌, subst, arith}
 use Rattle.world_laws.proofs.Prelude.{cases_Bool, eqb-true, eqb-false, append-nil, AllByRecursion, Place, Message, SWITCH_LINK, outs_of}
-use Rattle.world_laws.proofs.Prelude.{Connection, AllByRecursion-filter, Acts, brought_in, connection_of, is_for, outs_for, ComesInOctets}
+use Rattle.world_laws.proofs.Prelude.{Connection, AllByRecursion-filter, Acts, brought_in, connection_of, is_for, outs_for, IsOctetStep}
 use Rattle.world_laws.proofs.Prelude.{IsSent, IsNotOn, life_after, Free, InUse, Step, Controller, channel_state, hears, place_of, step}
 use Rattle.world_laws.proofs.Prelude.{RelayItem, AreAllowed, Parameters, Event, OutboxEntry, Tenure, actors_after, actors_after_all}
 use Rattle.world_laws.proofs.Prelude.{outputs, outputs_at, put, to_link, target_in, all_steps, first_taken, step_at, Actors, is_up}
 use Rattle.world_laws.proofs.Prelude.{new_actors, LivesByTable-new, length-stations_from, pipe-step, same_Some, IsFine, life, take, tick}
-use Rattle.world_laws.proofs.Prelude.{CameInOctets, IsHad, LetsNoneGo, ChannelsStayQuiet, NoDataEntry, Quiet, QuietLetsNoneGo, IsEarlyIn}
+use Rattle.world_laws.proofs.Prelude.{TookOctets, IsHad, LetsNoneGo, ChannelsStayQuiet, NoDataEntry, Quiet, QuietLetsNoneGo, IsEarlyIn}
 use Rattle.controller_model.specs.declared.step.Step.TheVariants as steps
 use Rattle.world_model.specs.declared.event.Event.TheVariants as events
 use Rattle.world_model.specs.Relay.{entry_of}
-use Rattle.world_model.proofs.Counting.{same-stations}
+use Rattle.world_model.proofs.Counting.{same_stations}
 use Rattle.world_laws.proofs.Channels.Agreeing.{IsPlaced, owns_at, placed_at}
 use Rattle.world_laws.proofs.Handling.Finishing.{controller-is, handle_is, tick_is}
 use Rattle.world_laws.proofs.Handling.Knowing.{Steps, octets_came, steps_known, known}
@@ -28,13 +28,13 @@ use Rattle.world_laws.proofs.References.Numbered.{outs_of_one}
 
 pub stations-all : (w : Actors) (xs : List Event) → length (actors_after_all w xs).stations ≡ length w.stations
 stations-all w [] = refl
-stations-all w (x ∷ xs) = stations-all (actors_after w x) xs ∙ same-stations w x
+stations-all w (x ∷ xs) = stations-all (actors_after w x) xs ∙ same_stations w x
 
 pub less_one : (n l cells : ℕ) → 1 ≤ n → n ≤ cells → l ≡ cells → n - 1 < l
 less_one zero l cells least most is = absurd (omega (arith, least))
 less_one (suc n) l cells least most is = omega (arith, most, is)
 
-module _ (settings : Parameters) (done : List Event) (event : Event) (old s : Connection) (allowed : AreAllowed settings) (octets : CameInOctets settings (done ++ event ∷ [])) (had : IsHad (world settings done) old) (early : IsEarlyIn old.state)
+module _ (settings : Parameters) (done : List Event) (event : Event) (old s : Connection) (allowed : AreAllowed settings) (octets : TookOctets settings (done ++ event ∷ [])) (had : IsHad (world settings done) old) (early : IsEarlyIn old.state)
     (number : s.number ≡ old.number) (has : IsHad (world settings (done ++ event ∷ [])) s) (early_then : IsEarlyIn s.state) (quiet : Quiet (world settings done) (place_of old.serving)) where
   abbrev w : Actors
   w = world settings done
@@ -54,7 +54,7 @@ module _ (settings : Parameters) (done : List Event) (event : Event) (old s : Co
   same : vv ≡ v
   same = snoc_actors (new_actors settings) done event
 
-  came : CameInOctets settings done × AllByRecursion ComesInOctets (step_at w event)
+  came : TookOctets settings done × AllByRecursion IsOctetStep (step_at w event)
   came = octets_came settings done event octets
 
   used_then : channel_state vv.controller at ≡ InUse s.number
@@ -98,7 +98,7 @@ module _ (settings : Parameters) (done : List Event) (event : Event) (old s : Co
 
   -- ---- it takes a step
 
-  module _ (x : Step) (target : Option Tenure) (own : ComesInOctets x) (puts : outputs w event ≡ map (entry_of target) (step c x).outs) (next : vv.controller ≡ (step c x).next) where
+  module _ (x : Step) (target : Option Tenure) (own : IsOctetStep x) (puts : outputs w event ≡ map (entry_of target) (step c x).outs) (next : vv.controller ≡ (step c x).next) where
     does : Steps c x s.number
     does = steps_known settings done x s.number allowed came.0 own has.from_one
 
@@ -153,7 +153,7 @@ channels_stay_quiet_new settings done events.Handle old s allowed octets had ear
   by [] stood = rests_quiet settings done events.Handle old s allowed octets had early number has early_then quiet (ap first_taken stood) (ap (outputs_at w) stood)
   by (item ∷ items) stood =
       works_quiet settings done events.Handle old s allowed octets had early number has early_then quiet (steps.Take item) (target_in w item.source item.what)
-      (subst (λ (xs : List RelayItem). AllByRecursion ComesInOctets (first_taken xs)) stood (octets_came settings done events.Handle octets).1).0
+      (subst (λ (xs : List RelayItem). AllByRecursion IsOctetStep (first_taken xs)) stood (octets_came settings done events.Handle octets).1).0
       (ap (outputs_at w) stood)
       (ap (λ (x : Actors). x.controller) (snoc_actors (new_actors settings) done events.Handle ∙ handle_is w item items stood) ∙ controller-is (target_in w item.source item.what) (take item w.controller) (record w { inbox = items }))
 channels_stay_quiet_new settings done (events.Tick ms) old s allowed octets had early number has early_then quiet =

@@ -2,7 +2,7 @@
 -- no DATA REQUEST.
 use Rattle.world_laws.proofs.Prelude.{◌≡◌, ℕ, Bool, List, [], ◌∷◌, Option, Some, None, refl, sym, ap, ◌∙◌, subst, AllByRecursion, Channel}
 use Rattle.world_laws.proofs.Prelude.{Place, Message, access_activation, Input, State, Closed, Live, Removed, WaitActivation, WaitConfirm}
-use Rattle.world_laws.proofs.Prelude.{WaitEstablish, Connection, ChangesRoles, goes_on, ends, had_ended, Stands, Row, IsOpen, Acts, Brought}
+use Rattle.world_laws.proofs.Prelude.{WaitEstablish, Connection, ChangesRoles, goes_on, ends, had_ended, IsValid, Row, IsOpen, Acts, Brought}
 use Rattle.world_laws.proofs.Prelude.{kept_in, ages, goes, opens, rests, aged_holds, fine_old, changes_of, IsNotOn, same_Some, row_of}
 use Rattle.world_laws.proofs.Prelude.{IsFine, IsRequested, IsEarlyIn}
 use Rattle.world_laws.proofs.Access.EarlyRows.{EarlyRow, early_row}
@@ -25,7 +25,7 @@ shut_stays s input offer r (goes_on was is on) shut there = shut was
 shut_stays s input offer r (ends was is over) shut there = shut was
 shut_stays s input offer r (had_ended was is nothing) shut there = is there
 
-was_early : (s : Connection) (input : Input) (offer : Option Channel) (r : Row) → Stands s → row_of s input offer ≡ Some r → IsEarlyIn r.next.state → IsEarlyIn s.state
+was_early : (s : Connection) (input : Input) (offer : Option Channel) (r : Row) → IsValid s → row_of s input offer ≡ Some r → IsEarlyIn r.next.state → IsEarlyIn s.state
 was_early s input offer r stands fits early = by s.state refl where
   later : IsRequested s.state → ⊥
   later requested = not_requested r.next.state early (still_requested s input offer r requested fits (early_open r.next.state early))

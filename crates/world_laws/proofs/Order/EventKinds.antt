@@ -3,7 +3,7 @@
 use Rattle.world_laws.proofs.Prelude.{◌≡◌, ◌⊎◌, inl, ℕ, Bool, true, false, if◌then◌else◌, [], refl, sym, ap, subst, SWITCH_LINK}
 use Rattle.world_laws.proofs.Prelude.{AllByRecursion, Event, BaseTakes, Handle, SwitchTakes, Tick, BaseDown, OutboxEntry, actors_after}
 use Rattle.world_laws.proofs.Prelude.{outputs, put, to_link, step_at, Actors, is_up, outbox_of, false≢true, DeliversAt, PutsNoMore}
-use Rattle.world_laws.proofs.Prelude.{IsUnheard, DeliversFirst, carried_for, is_beside_relay, is_of_controller}
+use Rattle.world_laws.proofs.Prelude.{IsUnknownForGood, DeliversFirst, carried_for, is_beside_relay, is_of_controller}
 
 pub data Kind (w : Actors) (number : ℕ) : Event → Type 0 where
   handles : Kind w number Handle
@@ -36,7 +36,7 @@ working _ = rests false≢true refl refl
 
 -- ---- the switch takes what was put, or what it takes is of a connection that it never hears of
 
-pub delivers_or : {w : Actors} {number : ℕ} {event : Event} → Kind w number event → DeliversFirst w number (outbox_of w SWITCH_LINK) ⊎ IsUnheard (actors_after w SwitchTakes) number → DeliversAt w number event ⊎ IsUnheard (actors_after w event) number
+pub delivers_or : {w : Actors} {number : ℕ} {event : Event} → Kind w number event → DeliversFirst w number (outbox_of w SWITCH_LINK) ⊎ IsUnknownForGood (actors_after w SwitchTakes) number → DeliversAt w number event ⊎ IsUnknownForGood (actors_after w event) number
 delivers_or handles or = inl tt
 delivers_or (ticks ms) or = inl tt
 delivers_or switch_takes or = or

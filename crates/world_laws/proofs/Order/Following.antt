@@ -1,7 +1,7 @@
 -- Each number of a run stands.
 use Rattle.world_laws.proofs.Prelude.{◌≡◌, ℕ, ◌≤◌, List, [], ◌∷◌, ◌++◌, get_or, length, replicate, Option, refl, sym, ap, subst}
 use Rattle.world_laws.proofs.Prelude.{append_assoc, option_or, append-nil, SWITCH_LINK, AreAllowed, Parameters, Event}
-use Rattle.world_laws.proofs.Prelude.{actors_after, Actors, broken_link, modulus_in, new_actors, new_link, CameInOctets, first_served}
+use Rattle.world_laws.proofs.Prelude.{actors_after, Actors, broken_link, modulus_in, new_actors, new_link, TookOctets, first_served}
 use Rattle.world_laws.proofs.Prelude.{served_by, CutNumbersStay, Facts, NumbersStand, OnceDown, Standing, while_up}
 use Rattle.std.proofs.Math.Numerals.{add-one}
 use Rattle.world_laws.specs.Order.Facts.{Holds}
@@ -17,7 +17,7 @@ stands_first settings number from_one = while_up (ap (λ (count : ℕ). (get_or 
 
 module _ (settings : Parameters) (facts : Facts settings) (allowed : AreAllowed settings) (number : ℕ) (from_one : 1 ≤ number) where
   -- and after each event
-  stands_next : (events : List Event) (event : Event) → CameInOctets settings (events ++ event ∷ []) → Standing (modulus_in settings) (world settings events) (first_served (new_actors settings) events number) number
+  stands_next : (events : List Event) (event : Event) → TookOctets settings (events ++ event ∷ []) → Standing (modulus_in settings) (world settings events) (first_served (new_actors settings) events number) number
       → Standing (modulus_in settings) (world settings (events ++ event ∷ [])) (first_served (new_actors settings) (events ++ event ∷ []) number) number
   stands_next events event octets at =
       let next : world settings (events ++ event ∷ []) ≡ actors_after (world settings events) event = snoc_actors (new_actors settings) events event in
@@ -31,13 +31,13 @@ module _ (settings : Parameters) (facts : Facts settings) (allowed : AreAllowed 
       (subst (λ (o : Option ℕ). Standing (modulus_in settings) (actors_after (world settings events) event) o number) (sym (snoc_served (new_actors settings) events event number)) now)
 
   -- these, and then those
-  stands_through : (done rest : List Event) → CameInOctets settings (done ++ rest) → Standing (modulus_in settings) (world settings done) (first_served (new_actors settings) done number) number
+  stands_through : (done rest : List Event) → TookOctets settings (done ++ rest) → Standing (modulus_in settings) (world settings done) (first_served (new_actors settings) done number) number
       → Standing (modulus_in settings) (world settings (done ++ rest)) (first_served (new_actors settings) (done ++ rest) number) number
   stands_through done [] octets at = subst (λ (events : List Event). Standing (modulus_in settings) (world settings events) (first_served (new_actors settings) events number) number) (sym (append-nil done)) at
   stands_through done (event ∷ rest) octets at =
       let same : (done ++ event ∷ []) ++ rest ≡ done ++ event ∷ rest = append_assoc done (event ∷ []) rest in
       subst (λ (events : List Event). Standing (modulus_in settings) (world settings events) (first_served (new_actors settings) events number) number) same
-      (stands_through (done ++ event ∷ []) rest (subst (CameInOctets settings) (sym same) octets) (stands_next done event (octets_front settings (done ++ event ∷ []) rest (subst (CameInOctets settings) (sym same) octets)) at))
+      (stands_through (done ++ event ∷ []) rest (subst (TookOctets settings) (sym same) octets) (stands_next done event (octets_front settings (done ++ event ∷ []) rest (subst (TookOctets settings) (sym same) octets)) at))
 
 pub numbers_stand_new : (settings : Parameters) (events : List Event) → NumbersStand settings events
 numbers_stand_new settings events number facts allowed octets from_one = stands_through settings facts allowed number from_one [] events octets (stands_first settings number from_one)

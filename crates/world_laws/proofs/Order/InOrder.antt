@@ -4,7 +4,7 @@ use Rattle.world_laws.proofs.Prelude.{◌≡◌, ℕ, ◌≤◌, Bool, true, fal
 use Rattle.world_laws.proofs.Prelude.{sym, ap, ◌∙◌, subst, arith, option_and_then, none-some, same_Some, Connection, SwitchConnection}
 use Rattle.world_laws.proofs.Prelude.{AreAllowed, Parameters, Event, Actors, Mobile, mobile_of, modulus_in, new_actors, IsSome}
 use Rattle.world_laws.proofs.Prelude.{take-append-drop, had_of, Four, Two, count_of, IsInOrder, accepted_list, progress, IsPrefix, HasEnded}
-use Rattle.world_laws.proofs.Prelude.{is_of_peer, taken_in, taken_of, CameInOctets, AreLinedUp, first_served, Facts, IsBeginningOfSent}
+use Rattle.world_laws.proofs.Prelude.{is_of_peer, taken_in, taken_of, TookOctets, AreLinedUp, first_served, Facts, IsBeginningOfSent}
 use Rattle.world_laws.proofs.Prelude.{RunsAreInOrder, Standing, silent, cut, while_up, once_down}
 use Rattle.std.proofs.Common.{take}
 use Rattle.msc_end.specs.Switch.{connection_of}
@@ -62,7 +62,7 @@ two_numbers settings = by settings.network.release98 where
   by true = omega arith
   by false = omega arith
 
-module _ (settings : Parameters) (events : List Event) (facts : Facts settings) (allowed : AreAllowed settings) (octets : CameInOctets settings events) where
+module _ (settings : Parameters) (events : List Event) (facts : Facts settings) (allowed : AreAllowed settings) (octets : TookOctets settings events) where
   abbrev w : Actors
   w = world settings events
 
@@ -90,14 +90,14 @@ module _ (settings : Parameters) (events : List Event) (facts : Facts settings) 
         is_prefix = subst (λ (xs : List (List ℕ)). IsPrefix xs at.one.end.sent) (sym at.accepts ∙ ap (λ (n : ℕ). accepted_list n c.reception.taken) (sym (modulus-of k c is)) ∙ same) (drop at.count at.one.end.sent, take-append-drop at.count at.one.end.sent);
       }
 
-  in-order : (k : ℕ) (list : List (List ℕ)) → accepted w k ≡ Some list → IsBeginningOfSent (new_actors settings) events k list
-  in-order k list is = by (connection_of w.switch.connections k) refl is where
+  is_in_order : (k : ℕ) (list : List (List ℕ)) → accepted w k ≡ Some list → IsBeginningOfSent (new_actors settings) events k list
+  is_in_order k list is = by (connection_of w.switch.connections k) refl is where
     by : (o : Option SwitchConnection) → connection_of w.switch.connections k ≡ o → option_map (λ (c : SwitchConnection). accepted_list c.reception.modulus c.reception.taken) o ≡ Some list → IsBeginningOfSent (new_actors settings) events k list
     by None there is = absurd (none-some list is)
     by (Some c) there is = begins k c list there (same_Some (accepted_list c.reception.modulus c.reception.taken) list is)
 
-  no-gap : (k : ℕ) (o : Option ℕ) → progress_of w k ≡ Some o → IsSome o
-  no-gap k o is = by (connection_of w.switch.connections k) refl is where
+  is_no_gap : (k : ℕ) (o : Option ℕ) → progress_of w k ≡ Some o → IsSome o
+  is_no_gap k o is = by (connection_of w.switch.connections k) refl is where
     by : (p : Option SwitchConnection) → connection_of w.switch.connections k ≡ p → option_map (λ (c : SwitchConnection). progress c.reception.modulus c.reception.taken) p ≡ Some o → IsSome o
     by None there is = absurd (none-some o is)
     by (Some c) there is =
@@ -106,6 +106,6 @@ module _ (settings : Parameters) (events : List Event) (facts : Facts settings) 
 
 pub runs_are_in_order_new : (settings : Parameters) (events : List Event) → RunsAreInOrder settings events
 runs_are_in_order_new settings events facts allowed octets = record {
-  in_order = in-order settings events facts allowed octets;
-  no_gap = no-gap settings events facts allowed octets;
+  in_order = is_in_order settings events facts allowed octets;
+  no_gap = is_no_gap settings events facts allowed octets;
 }

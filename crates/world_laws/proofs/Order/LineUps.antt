@@ -4,7 +4,7 @@ use Rattle.world_laws.proofs.Prelude.{inr, refl, sym, ap, ◌∙◌, subst, appe
 use Rattle.world_laws.proofs.Prelude.{WaitConfirm, Live, Connection, IsThere, connection_of, Rise, to_be_taken, outstanding_messages}
 use Rattle.world_laws.proofs.Prelude.{AreAllowed, Parameters, Event, Actors, is_up, modulus_in, new_actors, Rise-cut, Rise-of_flow, Follows}
 use Rattle.world_laws.proofs.Prelude.{rises, LineUp, flow, line, parts_of, IsInOrder, coming, accepted_list_from-rise, progress_from-rise}
-use Rattle.world_laws.proofs.Prelude.{line_up, taken_of, IsUnheard, Lives, CameInOctets, IsHad, IsRequested, AllNumbersStand, AllPlacesRise}
+use Rattle.world_laws.proofs.Prelude.{line_up, taken_of, IsUnknownForGood, IsOpenAndLinedUp, TookOctets, IsHad, IsRequested, AllNumbersStand, AllPlacesRise}
 use Rattle.world_laws.proofs.Prelude.{IsLinedUp, PlacesRise, still_to_come, first_served, has_asked, Standing, while_up, once_down}
 use Rattle.world_laws.specs.LineUp.Alive.Follows.{goes_on}
 use Rattle.world_laws.proofs.OwnRow.{flow-twice}
@@ -64,7 +64,7 @@ line-of w s l same =
     ∙ ap (λ (xs : List (List ℕ)). xs ++ flow l.out ++ parts_of (l.old ++ l.serving ∷ l.target ∷ [])) (flow-twice (taken_of w s.number))
     ∙ append_assoc (flow (taken_of w s.number)) (flow l.out) (parts_of (l.old ++ l.serving ∷ l.target ∷ []))
 
-places_of : (m : ℕ) (w : Actors) (mobile : ℕ) (s : Connection) → 2 ≤ m → (l : Lives m w mobile s) → PlacesRise m (taken_of w s.number) (line_up w l.lined.one s)
+places_of : (m : ℕ) (w : Actors) (mobile : ℕ) (s : Connection) → 2 ≤ m → (l : IsOpenAndLinedUp m w mobile s) → PlacesRise m (taken_of w s.number) (line_up w l.lined.one s)
 places_of m w mobile s two l =
     let line : LineUp = line_up w l.lined.one s in
     places_by m two (taken_of w s.number) line (line-of w s line refl) line.is_intact refl l.lined.lined.alive.follows
@@ -87,13 +87,13 @@ module _ (settings : Parameters) (events : List Event) (s : Connection) (had : I
   same_one : (other : Connection) → other.number ≡ s.number → connection_of w.controller other.number ≡ Some other → other ≡ s
   same_one other same there = same_Some other s (sym there ∙ ap (connection_of w.controller) same ∙ had.there)
 
-  lined_up : (mobile : ℕ) (other : Connection) → opener ≡ Some mobile → other ≡ s → Lives (modulus_in settings) w mobile other → IsLinedUp (modulus_in settings) w opener s
+  lined_up : (mobile : ℕ) (other : Connection) → opener ≡ Some mobile → other ≡ s → IsOpenAndLinedUp (modulus_in settings) w mobile other → IsLinedUp (modulus_in settings) w opener s
   lined_up mobile other opened is l =
-      let own : Lives (modulus_in settings) w mobile s = subst (Lives (modulus_in settings) w mobile) is l in
+      let own : IsOpenAndLinedUp (modulus_in settings) w mobile s = subst (IsOpenAndLinedUp (modulus_in settings) w mobile) is l in
       record { mobile = mobile; opened = opened; lives = own; places = places_of (modulus_in settings) w mobile s (two_numbers settings) own }
 
-  rises_by : is_up w SWITCH_LINK ≡ true → AreAllowed settings → CameInOctets settings events → Standing (modulus_in settings) w opener s.number
-      → IsLinedUp (modulus_in settings) w opener s ⊎ IsUnheard w s.number
+  rises_by : is_up w SWITCH_LINK ≡ true → AreAllowed settings → TookOctets settings events → Standing (modulus_in settings) w opener s.number
+      → IsLinedUp (modulus_in settings) w opener s ⊎ IsUnknownForGood w s.number
   rises_by up allowed octets (while_up _ (unborn none past)) = absurd (none-some s (sym (none_given settings events s.number past) ∙ had.there))
   rises_by up allowed octets (while_up _ (comes mobile other none same coming_so)) =
       let is_so = ((facts settings).holds events allowed octets).is_coming mobile other coming_so in
@@ -105,5 +105,5 @@ module _ (settings : Parameters) (events : List Event) (s : Connection) (had : I
 
 pub all_places_rise_new : (settings : Parameters) (events : List Event) → AllPlacesRise settings events
 all_places_rise_new settings events s allowed events_octets up had requested =
-    let octets : CameInOctets settings events = ComeInOctets-new settings events allowed events_octets in
+    let octets : TookOctets settings events = ComeInOctets-new settings events allowed events_octets in
     rises_by settings events s had requested up allowed octets (numbers_stand_new settings events s.number (facts settings) allowed octets had.from_one)

@@ -38,25 +38,25 @@ all_numbered P cs n c is all = by (n == 0) is where
 
 -- ---- a message
 
-live-modulus : (c : Connection) (message : Bssap) → (live_connection_after c message).reception.modulus ≡ c.reception.modulus
-live-modulus c (Transfer dlci message) = refl
-live-modulus c (Management message) = by message where
+live_modulus : (c : Connection) (message : Bssap) → (live_connection_after c message).reception.modulus ≡ c.reception.modulus
+live_modulus c (Transfer dlci message) = refl
+live_modulus c (Management message) = by message where
   by : (message : Bssmap) → (live_connection_after c (Management message)).reception.modulus ≡ c.reception.modulus
   by (ClearRequest cause) = refl
   by _ = refl
 
-after-modulus : (c : Connection) (message : Bssap) → (connection_after c message).reception.modulus ≡ c.reception.modulus
-after-modulus c message = by c.stage where
+after_modulus : (c : Connection) (message : Bssap) → (connection_after c message).reception.modulus ≡ c.reception.modulus
+after_modulus c message = by c.stage where
   by : (stage : Stage) → (connection_by stage c message).reception.modulus ≡ c.reception.modulus
   by Ended = refl
-  by _ = live-modulus c message
+  by _ = live_modulus c message
 
 abbrev AllOf : ℕ → List Connection → Type 0
 AllOf m cs = AllByRecursion (λ (c : Connection). c.reception.modulus ≡ m) cs
 
 data_modulus : (m : ℕ) (cs : List Connection) (n : ℕ) (o : Option Connection) (message : Option Bssap) → connection_of cs n ≡ o → AllOf m cs → AllOf m (connections_by cs n o message)
 data_modulus m cs n (Some c) (Some message) is all =
-    all_set (λ (c : Connection). c.reception.modulus ≡ m) cs (n - 1) (connection_after c message) all (after-modulus c message ∙ all_numbered (λ (c : Connection). c.reception.modulus ≡ m) cs n c is all)
+    all_set (λ (c : Connection). c.reception.modulus ≡ m) cs (n - 1) (connection_after c message) all (after_modulus c message ∙ all_numbered (λ (c : Connection). c.reception.modulus ≡ m) cs n c is all)
 data_modulus m cs n (Some c) None is all = all
 data_modulus m cs n None message is all = all
 

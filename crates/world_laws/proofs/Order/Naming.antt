@@ -2,18 +2,18 @@
 use Rattle.world_laws.proofs.Prelude.{◌≡◌, ◌≢◌, inl, inr, ℕ, ◌+◌, ◌≤◌, nat_eq, Bool, true, false, if◌then◌else◌, cond, List, [], ◌∷◌, fold}
 use Rattle.world_laws.proofs.Prelude.{map, Option, Some, None, Ok, refl, sym, ap, ◌∙◌, subst, arith, AllByRecursion, result_ok, eqb-false}
 use Rattle.world_laws.proofs.Prelude.{Channel, Message, Station, Out, outs_of, immediate_assign_command, Connection, connection_of}
-use Rattle.world_laws.proofs.Prelude.{outs_for, Names, NamesItsMobile, ComesInOctets, IsSent, life_fits, life_names, life_sends, Step}
+use Rattle.world_laws.proofs.Prelude.{outs_for, Names, NamesItsMobile, IsOctetStep, IsSent, life_fits, life_names, life_sends, Step}
 use Rattle.world_laws.proofs.Prelude.{Controller, pong, step, ImmediateAssignment, Rsl, RequestReference, rsl_text, AreAllowed, Parameters}
 use Rattle.world_laws.proofs.Prelude.{Event, Tenure, to_link, joined_by, rsl_in, all_steps, Actors, is_up, new_actors, outbox_of}
 use Rattle.world_laws.proofs.Prelude.{LivesByTable-new, all_join, same_Some, AllByRecursion-append, NamesOf, life, rr_reading}
-use Rattle.world_laws.proofs.Prelude.{AssignsAnother, NamesAnother, NoneNames, IsUnanswered, entry-out}
+use Rattle.world_laws.proofs.Prelude.{AssignsAnother, NamesAnother, NoneNames, IsUnanswered, entry_out}
 use Rattle.conn_messages.specs.Out.{out_of}
 use Rattle.rsl_codec.specs.declared.common_channel.ImmediateAssignment.{ImmediateAssignment as Assignment}
 use Rattle.rsl_codec.specs.declared.rsl.Rsl.TheVariants as rsl
 use Rattle.world_model.specs.Relay.{entry_of}
 use Rattle.world_laws.proofs.OrderTexts.{assignment_back, read_of}
 use Rattle.world_laws.proofs.References.Numbered.{AreOfOne, IsOfOne, outs_of_one}
-use Rattle.world_laws.proofs.OrderNames.{information-in, assignment_read}
+use Rattle.world_laws.proofs.OrderNames.{information_in, assignment_read}
 use Rattle.world_laws.proofs.Events.{world}
 
 -- ---- a message that assigns, as it is read
@@ -25,7 +25,7 @@ another_in k _ names = tt
 assigns_another : (k station : ℕ) (serving : Channel) (request : RequestReference) (delay : ℕ) (i j : Assignment) → i.information ≡ j.information → Station station (rsl.ImmediateAssignCommand i) ≡ immediate_assign_command serving request delay → request.access ≢ k → NamesAnother k (rr_reading j.information)
 assigns_another k station serving request delay i j same is differs =
     let read = assignment_read serving request delay in
-    let reads : rr_reading j.information ≡ Ok (ImmediateAssignment read.channel read.named read.advance) = ap rr_reading (sym same ∙ ap information-in is) ∙ read.reads in
+    let reads : rr_reading j.information ≡ Ok (ImmediateAssignment read.channel read.named read.advance) = ap rr_reading (sym same ∙ ap information_in is) ∙ read.reads in
     subst (NamesAnother k) (sym reads) (λ named. differs (sym read.access ∙ named))
 
 message_another : (k n : ℕ) (serving : Channel) (request : RequestReference) (m : Message) → IsSent (out_of n m) → Names serving request m → request.access ≢ k → AssignsAnother k (rsl_in (out_of n m).frame)
@@ -90,7 +90,7 @@ pong_not : (k : ℕ) (out : Out) → out ≡ pong out.to → AssignsNot k out
 unfolding AssignsNot
 pong_not k out is = subst (λ (o : Out). AssignsAnother k (rsl_in o.frame)) (sym is) tt
 
-pub step_names : (settings : Parameters) (done : List Event) (s : Step) (k : ℕ) → AreAllowed settings → AllByRecursion ComesInOctets (all_steps (new_actors settings) done) → ComesInOctets s → IsUnanswered (world settings done) k
+pub step_names : (settings : Parameters) (done : List Event) (s : Step) (k : ℕ) → AreAllowed settings → AllByRecursion IsOctetStep (all_steps (new_actors settings) done) → IsOctetStep s → IsUnanswered (world settings done) k
     → AllByRecursion (λ out. AssignsAnother k (rsl_in out.frame)) (step (world settings done).controller s).outs
 unfolding AssignsNot
 step_names settings done s k allowed octets own unanswered =
@@ -117,7 +117,7 @@ linked k target n [] all = tt
 linked k target n (out ∷ outs) all = by (nat_eq (entry_of target out).out.to n) (linked k target n outs all.1) where
   by : (b : Bool) → AllByRecursion (λ entry. AssignsAnother k (rsl_in entry.out.frame)) (to_link n (map (entry_of target) outs)) → AllByRecursion (λ entry. AssignsAnother k (rsl_in entry.out.frame)) (cond b (entry_of target out ∷ to_link n (map (entry_of target) outs)) (to_link n (map (entry_of target) outs)))
   by false others = others
-  by true others = (subst (λ (o : Out). AssignsAnother k (rsl_in o.frame)) (sym (entry-out target out)) all.0, others)
+  by true others = (subst (λ (o : Out). AssignsAnother k (rsl_in o.frame)) (sym (entry_out target out)) all.0, others)
 
 pub turn_names : (k : ℕ) (target : Option Tenure) (outs : List Out) (u : Actors) → NoneNames u k → AllByRecursion (λ out. AssignsAnother k (rsl_in out.frame)) outs → NoneNames (fold (joined_by target) u outs) k
 turn_names k target outs u none all station =

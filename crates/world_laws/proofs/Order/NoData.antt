@@ -3,11 +3,11 @@ use Rattle.world_laws.proofs.Prelude.{◌≡◌, ◌≢◌, inl, inr, ℕ, ◌�
 use Rattle.world_laws.proofs.Prelude.{Some, None, refl, sym, ap, ◌∙◌, subst, cases_Bool, cond-false, cond-true, eqb-true, eq-eqb}
 use Rattle.world_laws.proofs.Prelude.{AllByRecursion, Place, Message, Station, Request, Data, ReleaseComplete, Out, outs_of, is_for}
 use Rattle.world_laws.proofs.Prelude.{outs_for, IsSent, IsNotOn, same_channel, place_at, pong, Rsl, rsl_text, OutboxEntry, Tenure, to_link}
-use Rattle.world_laws.proofs.Prelude.{rsl_in, said_to, none-some, request_is, request_known, same_kind, NoDataEntry, NoDataOn, entry-out}
+use Rattle.world_laws.proofs.Prelude.{rsl_in, said_to, none-some, request_is, request_known, same_kind, NoDataEntry, NoDataOn, entry_out}
 use Rattle.conn_messages.specs.Out.{out_of}
 use Rattle.rsl_codec.specs.declared.rsl.Rsl.TheVariants as rsl
 use Rattle.world_model.specs.Relay.{entry_of}
-use Rattle.world_laws.proofs.OrderTexts.{no_switch, read_of, said-other, said-own}
+use Rattle.world_laws.proofs.OrderTexts.{no_switch, read_of, said_other, said_own}
 use Rattle.world_laws.proofs.References.Numbered.{AreOfOne, IsOfOne}
 
 abbrev pub NoDataOut : Place → Out → Type 0
@@ -19,10 +19,10 @@ nothing_said k o none d is same = none-some _ (sym none ∙ is)
 message_none : (at : Place) (m : ℕ) (x : Message) → 1 ≤ at.station → IsSent (out_of m x) → IsNotOn at x → NoDataOut at (out_of m x)
 unfolding out_of
 message_none at m (Station station x) least sent off = λ d is same. elim (cases_Bool (station == at.station)) [
-  | inr miss ↦ none-some _ (sym (said-other at m station x miss) ∙ is)
+  | inr miss ↦ none-some _ (sym (said_other at m station x miss) ∙ is)
   | inl hit ↦
       let read = read_of m station x sent in
-      let said : read.0 ≡ rsl.DataRequest d = (let both : Some read.0 ≡ Some (rsl.DataRequest d) = sym (said-own at m station x read.0 hit read.1) ∙ is in cc) in
+      let said : read.0 ≡ rsl.DataRequest d = (let both : Some read.0 ≡ Some (rsl.DataRequest d) = sym (said_own at m station x read.0 hit read.1) ∙ is in cc) in
       let text : rsl_text x ≡ rsl_text (rsl.DataRequest d) = read.1.text ∙ ap rsl_text said in
       let one = request_is x (same_kind x (rsl.DataRequest d) text ∙ request_known d) in
       let channel : one.0.channel ≡ d.channel = same_channel one.0 d (ap rsl_text (sym one.1) ∙ text) in
@@ -64,5 +64,5 @@ entries_none at target (out ∷ outs) none = by ((entry_of target out).out.to ==
 
   by : (b : Bool) → ((entry_of target out).out.to == at.station) ≡ b → AllByRecursion (NoDataEntry at.number) others → AllByRecursion (NoDataEntry at.number) (cond ((entry_of target out).out.to == at.station) (entry_of target out ∷ others) others)
   by true hit rest = subst (AllByRecursion (NoDataEntry at.number)) (sym (cond-true ((entry_of target out).out.to == at.station) (entry_of target out ∷ others) others hit))
-      ((λ d is same. none.0 d (ap (λ (b : Bool). if b then rsl_in out.frame else None) (sym (ap (λ (o : Out). o.to == at.station) (entry-out target out)) ∙ hit) ∙ sym (ap (λ (o : Out). rsl_in o.frame) (entry-out target out)) ∙ is) same), rest)
+      ((λ d is same. none.0 d (ap (λ (b : Bool). if b then rsl_in out.frame else None) (sym (ap (λ (o : Out). o.to == at.station) (entry_out target out)) ∙ hit) ∙ sym (ap (λ (o : Out). rsl_in o.frame) (entry_out target out)) ∙ is) same), rest)
   by false miss rest = subst (AllByRecursion (NoDataEntry at.number)) (sym (cond-false ((entry_of target out).out.to == at.station) (entry_of target out ∷ others) others miss)) rest

@@ -8,15 +8,15 @@ use Rattle.world_laws.proofs.Prelude.{Stage, New, Connected, lent_message, after
 use Rattle.world_laws.proofs.Prelude.{RfChannelReleaseAck, CellParameters, Parameters, Event, BasePush, BaseDown, Tenure, actors_after}
 use Rattle.world_laws.proofs.Prelude.{complete, connected, failure, frame_in, station_item, switch_item, accepts, Actors}
 use Rattle.world_laws.proofs.Prelude.{Mobile, Spot, base_of, is_up, mobile_of, new_actors, new_spot, no_station, spot_at, station_of}
-use Rattle.world_laws.proofs.Prelude.{stations_from, with_base, with_mobile, with_spot, Good, good-new, good-step, found-all, Sccp}
+use Rattle.world_laws.proofs.Prelude.{stations_from, with_base, with_mobile, with_spot, Good, good_new, good_step, found_all, Sccp}
 use Rattle.world_laws.proofs.Prelude.{all_pushed, first_of, pushed, Becomes, Joins, Lends, Respots, Tells, event-keeps, hearing-end, Four}
-use Rattle.world_laws.proofs.Prelude.{Two, count_of, frame_answer_at, set-elsewhere, set-or-not, back-all, behind-all, AreOctetEvents}
+use Rattle.world_laws.proofs.Prelude.{Two, count_of, frame_answer_at, set-elsewhere, set-or-not, back_all, behind_all, AreOctetEvents}
 use Rattle.world_laws.proofs.Prelude.{IsOctetEvent, IsOctetItem, StationsGiveOctets, acked_holds, arrival_holds, frame_holds, lent_holds}
 use Rattle.world_laws.proofs.Prelude.{link_holds, connects, airs, asks_up, counts, goes_down, is_left, short_up}
 use Rattle.dtap_codec.specs.declared.report.TheConstants.{REPORT_LENGTH}
 use Rattle.mobile_end.specs.declared.mobile_end.Place.TheVariants as places
 use Rattle.mobile_end.specs.Mobile.{link_of}
-use Rattle.world_model.specs.Mobiles.{told}
+use Rattle.world_model.specs.Mobiles.{with_message_made}
 use Rattle.world_model.specs.World.{Station}
 use Rattle.world_model.proofs.Lawful.{IsOnChannel}
 use Rattle.ruled_relay.specs.declared.item.What.TheVariants as whats
@@ -26,7 +26,7 @@ use Rattle.world_laws.proofs.Order.OctetTexts.{IsOctetRsl, Octets, OctetsIf, oct
 use Rattle.world_laws.proofs.Order.OctetTexts.{octet_establishment, octet_release, octet_report, octet_request, octets_cons, octets_nil}
 use Rattle.world_model.proofs.Footprints.Becomes.{arrives, hears, is_acked, leaves, lends, opens, queues, returns}
 use Rattle.world_model.proofs.Footprints.Tells.{answers, brings, detects, establishes, links, opens_with, reports, requires}
-use Rattle.world_model.proofs.Heard.{lent-l3, lent-lawful, reached-lawful, taken-lawful}
+use Rattle.world_model.proofs.Heard.{lent_l3, lent_lawful, reached_lawful, taken_lawful}
 
 abbrev IsOctetStation : Station → Type 0
 IsOctetStation s = AllByRecursion IsOctetRsl s.base.messages × AllByRecursion (λ (spot : Spot). spot.reports < 256) s.spots
@@ -61,7 +61,7 @@ stations_set stations k station is all j =
 -- ---- changes of the world
 
 made_mobile : (p : Mobile) (u : Actors) → HasOctetEnd p → Makers u → Makers (with_mobile p u)
-made_mobile p u is of = record { stations = of.stations; mobiles = back-all HasOctetEnd p u.mobiles is of.mobiles; counted = of.counted }
+made_mobile p u is of = record { stations = of.stations; mobiles = back_all HasOctetEnd p u.mobiles is of.mobiles; counted = of.counted }
 
 made_base : (station : ℕ) (base : BaseState) (u : Actors) → AllByRecursion IsOctetRsl base.messages → Makers u → Makers (with_base station base u)
 made_base station base u all of = record {
@@ -81,11 +81,11 @@ made_spot at spot u small of = record {
 reports_small : (u : Actors) (at : Place) → Makers u → (spot_at u at).reports < 256
 reports_small u at of = all_or (λ (spot : Spot). spot.reports < 256) (station_of u at.station).spots at.number new_spot (of.stations (at.station - 1)).1 (omega arith)
 
-made_told : (station : ℕ) (message : Rsl) (u : Actors) → IsOctetRsl message → Makers u → Makers (told station message u)
+made_told : (station : ℕ) (message : Rsl) (u : Actors) → IsOctetRsl message → Makers u → Makers (with_message_made station message u)
 made_told station message u is of = made_base station (after_tell (base_of u station) message) u (AllByRecursion-append IsOctetRsl (base_of u station).messages (message ∷ []) (of.stations (station - 1)).0 (is, tt)) of
 
 of_mobile : (w : Actors) (number : ℕ) (p : Mobile) → Makers w → mobile_of w number ≡ Some p → HasOctetEnd p
-of_mobile w number p of found = found-all HasOctetEnd number w.mobiles p of.mobiles found
+of_mobile w number p of found = found_all HasOctetEnd number w.mobiles p of.mobiles found
 
 -- ---- a frame that is brought
 
@@ -144,14 +144,14 @@ lent_all {w} {number} {sapi} {p} {tenure} {frame} of lent =
 tells_octets : {w : Actors} {event : Event} {n : ℕ} {message : Rsl} → IsOctetEvent event → Good w → Makers w → Tells w event n message → IsOctetRsl message
 unfolding IsOnChannel
 tells_octets octets good of (requires number station initial accepts) = octet_request number octets.0
-tells_octets octets good of (opens_with number p tenure frame lent) = octet_establishment tenure.at.number Zero (Some frame) (lent-lawful good lent) (lent-l3 good lent) (lent_all of lent)
-tells_octets octets good of (brings number sapi p tenure frame lent) = octet_data tenure.at.number sapi frame (lent-lawful good lent) (lent-l3 good lent) (lent_all of lent)
-tells_octets octets good of (links number p tenure frame lent) = octet_establishment tenure.at.number Three None (lent-lawful good lent) tt tt
-tells_octets {w} octets good of (detects number tenure reached) = octet_detection tenure.at.number (reached-lawful w tenure good reached)
-tells_octets {w} octets good of (establishes tenure reached) = octet_establishment tenure.at.number Zero None (reached-lawful w tenure good reached) tt tt
-tells_octets octets good of (answers station l answer taken) = octet_answer answer l.channel (taken-lawful taken)
+tells_octets octets good of (opens_with number p tenure frame lent) = octet_establishment tenure.at.number Zero (Some frame) (lent_lawful good lent) (lent_l3 good lent) (lent_all of lent)
+tells_octets octets good of (brings number sapi p tenure frame lent) = octet_data tenure.at.number sapi frame (lent_lawful good lent) (lent_l3 good lent) (lent_all of lent)
+tells_octets octets good of (links number p tenure frame lent) = octet_establishment tenure.at.number Three None (lent_lawful good lent) tt tt
+tells_octets {w} octets good of (detects number tenure reached) = octet_detection tenure.at.number (reached_lawful w tenure good reached)
+tells_octets {w} octets good of (establishes tenure reached) = octet_establishment tenure.at.number Zero None (reached_lawful w tenure good reached) tt tt
+tells_octets octets good of (answers station l answer taken) = octet_answer answer l.channel (taken_lawful taken)
 tells_octets {w} octets good of (reports number report tenure reached long) =
-    octet_report tenure.at.number (spot_at w tenure.at).reports report (reached-lawful w tenure good reached) (reports_small w tenure.at of) (eqb-true (length report) REPORT_LENGTH long) (record { are = octets })
+    octet_report tenure.at.number (spot_at w tenure.at).reports report (reached_lawful w tenure good reached) (reports_small w tenure.at of) (eqb-true (length report) REPORT_LENGTH long) (record { are = octets })
 
 respot_small : {w u : Actors} {event : Event} {at : Place} {spot : Spot} → Makers u → Respots w u event at spot → spot.reports < 256
 respot_small {u = u} of (short_up number tenure reached) = reports_small u tenure.at of
@@ -172,16 +172,16 @@ unfolding IsOnChannel
 made_step w event octets good of = event-keeps Makers w event (record {
   puts = λ u number p q found _ how so. made_mobile q u (becomes_octets octets (of_mobile w number p of found) how) so;
   joins = λ number initial accepts how so.
-      let all = behind-all HasOctetEnd (connected w.modulus number initial accepts) w.mobiles (joins_octets octets of how) so.mobiles in
+      let all = behind_all HasOctetEnd (connected w.modulus number initial accepts) w.mobiles (joins_octets octets of how) so.mobiles in
       record { stations = so.stations; mobiles = all; counted = so.counted };
   tells = λ u n message _ how so. made_told n message u (tells_octets octets good of how) so;
   spots = λ u at spot _ how so. made_spot at spot u (respot_small so how) so;
   pops = λ station others _ so. same refl refl refl so;
   activates = λ u s a taken _ so.
-      let all = behind (base_of u s) (activation_ack a.channel) (octet_ack a.channel (taken-lawful taken)) (so.stations (s - 1)).0 in
+      let all = behind (base_of u s) (activation_ack a.channel) (octet_ack a.channel (taken_lawful taken)) (so.stations (s - 1)).0 in
       made_spot (place_at s a.channel) _ (with_base s _ u) (omega arith) (made_base s _ u all so);
   releases = λ u s channel taken so.
-      let all = behind (base_of u s) (RfChannelReleaseAck channel) (octet_release channel (taken-lawful taken)) (so.stations (s - 1)).0 in
+      let all = behind (base_of u s) (RfChannelReleaseAck channel) (octet_release channel (taken_lawful taken)) (so.stations (s - 1)).0 in
       made_spot (place_at s channel) _ (with_base s _ u) (reports_small u (place_at s channel) so) (made_base s _ u all so);
 }) (record {
   rest = λ u inbox controller switch made lines so. same refl refl refl so;
@@ -231,7 +231,7 @@ given_octets w _ of = tt
 all_given : (w : Actors) (events : List Event) → AreOctetEvents events → Good w → Makers w → AllByRecursion IsOctetItem (all_pushed w events)
 all_given w [] octets good of = tt
 all_given w (event ∷ events) octets good of =
-    AllByRecursion-append IsOctetItem (pushed w event) (all_pushed (actors_after w event) events) (given_octets w event of) (all_given (actors_after w event) events octets.1 (good-step w event good) (made_step w event octets.0 good of))
+    AllByRecursion-append IsOctetItem (pushed w event) (all_pushed (actors_after w event) events) (given_octets w event of) (all_given (actors_after w event) events octets.1 (good_step w event good) (made_step w event octets.0 good of))
 
 pub stations_give_octets_new : (settings : Parameters) (events : List Event) → StationsGiveOctets settings events
-stations_give_octets_new settings events octets = all_given (new_actors settings) events octets (good-new settings) (made_new settings)
+stations_give_octets_new settings events octets = all_given (new_actors settings) events octets (good_new settings) (made_new settings)

@@ -1,15 +1,15 @@
 -- All that comes to the controller is of octets, where what it puts for the switch is fair.
 use Rattle.world_laws.proofs.Prelude.{◌≡◌, ℕ, ◌==◌, nat_eq, Bool, true, false, if◌then◌else◌, List, [], ◌∷◌, ◌++◌, length, map}
 use Rattle.world_laws.proofs.Prelude.{option_to_list, unwrap_or, Option, Some, None, refl, sym, ap, ◌∙◌, subst, append_assoc, arith, ◌+◌}
-use Rattle.world_laws.proofs.Prelude.{◌≤◌, AllByRecursion, append-nil, Sccp, SWITCH_LINK, AllByRecursion-append, ComesInOctets, IsOfOctets}
+use Rattle.world_laws.proofs.Prelude.{◌≤◌, AllByRecursion, append-nil, Sccp, SWITCH_LINK, AllByRecursion-append, IsOctetStep, IsOfOctets}
 use Rattle.world_laws.proofs.Prelude.{first_message, first_of_messages, replies, CONNECTION_LIMIT, Item, Rsl, Parameters, Event, BaseTakes}
 use Rattle.world_laws.proofs.Prelude.{BasePush, Handle, SwitchTakes, SwitchDoes, Tick, BaseDown, actors_after, actors_after_all, all_popped}
 use Rattle.world_laws.proofs.Prelude.{all_pushed, first_of, pushed, put, taken, after_base_push, after_break, after_handle}
 use Rattle.world_laws.proofs.Prelude.{pushed_by_station, pushed_by_switch, station_item, switch_item, target_in, after_base_takes}
 use Rattle.world_laws.proofs.Prelude.{all_steps, first_taken, step_at, after_switch_takes, sccp_in, switch_took, Actors, Link, base_of}
-use Rattle.world_laws.proofs.Prelude.{is_up, new_actors, outbox_of, with_outbox, Good, good-new, good-step, after-taken, handle-leads}
-use Rattle.world_laws.proofs.Prelude.{turn-leads, switch_takes-leads, broken-leads, new_outbox, aerial-leads, taking-leads, take, tick}
-use Rattle.world_laws.proofs.Prelude.{OfTaken, KeepsQueues-new, LinkStep, CameInOctets, AreOctetEvents, IsFair, IsFairEntry, IsOctetEvent}
+use Rattle.world_laws.proofs.Prelude.{is_up, new_actors, outbox_of, with_outbox, Good, good_new, good_step, after_taken, handle_leads}
+use Rattle.world_laws.proofs.Prelude.{turn_leads, switch_takes_leads, broken_leads, new_outbox, aerial_leads, taking_leads, take, tick}
+use Rattle.world_laws.proofs.Prelude.{OfTaken, KeepsQueues-new, LinkStep, TookOctets, AreOctetEvents, IsFair, IsFairEntry, IsOctetEvent}
 use Rattle.ruled_relay.specs.declared.item.What.TheVariants as whats
 use Rattle.world_model.specs.Life.{event_after}
 use Rattle.world_model.proofs.Leads.{FromAir}
@@ -57,20 +57,20 @@ push_sends w source sends = by_source (source == SWITCH_LINK) where
   by_source false = by_message (first_message (base_of w source))
 
 after : (w : Actors) (o : Option Actors) → Sends w w → OfTaken (Sends w) o → Sends w (unwrap_or o w)
-after w o sends leads = after-taken (Sends w) o w leads sends
+after w o sends leads = after_taken (Sends w) o w leads sends
 
 event_sends : (w : Actors) (event : Event) → IsOctetEvent event → Side w → Sends w (actors_after w event)
 unfolding event_after FromAir
-event_sends w (BaseTakes station) octets side = after w (after_base_takes w station) side.sends (taking-leads (Sends w) w station (λ first others _ _ mobiles stations. same refl refl side.sends))
+event_sends w (BaseTakes station) octets side = after w (after_base_takes w station) side.sends (taking_leads (Sends w) w station (λ first others _ _ mobiles stations. same refl refl side.sends))
 event_sends w (BasePush source) octets side = push_sends w source side.sends
-event_sends w Handle octets side = after w (after_handle w) side.sends (handle-leads (Sends w) w (λ item items _. turn-leads (Sends w) (target_in w item.source item.what) (take item w.controller) (record w { inbox = items }) (λ links. same refl refl side.sends)))
+event_sends w Handle octets side = after w (after_handle w) side.sends (handle_leads (Sends w) w (λ item items _. turn_leads (Sends w) (target_in w item.source item.what) (take item w.controller) (record w { inbox = items }) (λ links. same refl refl side.sends)))
 event_sends w SwitchTakes octets side =
-    after w (after_switch_takes w) side.sends (switch_takes-leads (Sends w) w (λ first others up stood.
+    after w (after_switch_takes w) side.sends (switch_takes_leads (Sends w) w (λ first others up stood.
     took_sends w (with_outbox SWITCH_LINK others w) (sccp_in first.out.frame) (subst (AllByRecursion IsFairEntry) stood side.waits).0 (same refl refl side.sends)))
 event_sends w (SwitchDoes action) octets side = does_octets w action octets side.sends.next side.sends.made
-event_sends w (Tick ms) octets side = turn-leads (Sends w) None (tick ms w.controller) w (λ links. same refl refl side.sends)
-event_sends w (BaseDown source) octets side = after w (after_break w source) side.sends (broken-leads (Sends w) w source (λ _ _. record { next = side.sends.next; made = tt }) (λ _ _. same refl refl side.sends))
-event_sends w event octets side = after w (event_after w event) side.sends (aerial-leads (Sends w) w event refl (λ mobiles stations. same refl refl side.sends))
+event_sends w (Tick ms) octets side = turn_leads (Sends w) None (tick ms w.controller) w (λ links. same refl refl side.sends)
+event_sends w (BaseDown source) octets side = after w (after_break w source) side.sends (broken_leads (Sends w) w source (λ _ _. record { next = side.sends.next; made = tt }) (λ _ _. same refl refl side.sends))
+event_sends w event octets side = after w (event_after w event) side.sends (aerial_leads (Sends w) w event refl (λ mobiles stations. same refl refl side.sends))
 
 waits_then : {w v : Actors} {event : Event} → LinkStep SWITCH_LINK w event v → AllByRecursion IsFairEntry (outbox_of w SWITCH_LINK) → AllByRecursion IsFairEntry (put SWITCH_LINK w event) → AllByRecursion IsFairEntry (outbox_of v SWITCH_LINK)
 waits_then {w} {v} {event} (goes up flows) waits puts =
@@ -109,14 +109,14 @@ given w _ makers side = tt
 
 -- ---- what the controller takes
 
-step_octets : (w : Actors) (event : Event) → Kind w 0 event → AllByRecursion IsOctetItem w.inbox → AllByRecursion ComesInOctets (step_at w event)
+step_octets : (w : Actors) (event : Event) → Kind w 0 event → AllByRecursion IsOctetItem w.inbox → AllByRecursion IsOctetStep (step_at w event)
 step_octets w event handles all = by w.inbox all where
-  by : (items : List Item) → AllByRecursion IsOctetItem items → AllByRecursion ComesInOctets (first_taken items)
+  by : (items : List Item) → AllByRecursion IsOctetItem items → AllByRecursion IsOctetStep (first_taken items)
   by [] all = tt
   by (item ∷ items) all = (all.0, tt)
 step_octets w event (ticks ms) all = (tt, tt)
 step_octets w event switch_takes all = tt
-step_octets w event (beside is not none nothing delivers) all = subst (AllByRecursion ComesInOctets) (sym none) tt
+step_octets w event (beside is not none nothing delivers) all = subst (AllByRecursion IsOctetStep) (sym none) tt
 step_octets w event _ all = tt
 
 append_pushed : (w : Actors) (events : List Event) (event : Event) → all_pushed w (events ++ event ∷ []) ≡ all_pushed w events ++ pushed (actors_after_all w events) event
@@ -128,19 +128,19 @@ append_pushed w (x ∷ xs) event =
 -- ---- the run
 
 abbrev Fairly : Parameters → Type 0
-Fairly settings = (events : List Event) (event : Event) → CameInOctets settings (events ++ event ∷ []) → AllByRecursion IsFairEntry (put SWITCH_LINK (world settings events) event)
+Fairly settings = (events : List Event) (event : Event) → TookOctets settings (events ++ event ∷ []) → AllByRecursion IsFairEntry (put SWITCH_LINK (world settings events) event)
 
 record Run (settings : Parameters) (events : List Event) : Type 0 where
   good : Good (world settings events)
   makers : Makers (world settings events)
   side : Side (world settings events)
   given_all : AllByRecursion IsOctetItem (all_pushed (new_actors settings) events)
-  came : CameInOctets settings events
+  came : TookOctets settings events
 
-came_then : (settings : Parameters) (events : List Event) (event : Event) → Run settings events → CameInOctets settings (events ++ event ∷ [])
+came_then : (settings : Parameters) (events : List Event) (event : Event) → Run settings events → TookOctets settings (events ++ event ∷ [])
 came_then settings events event run =
-    subst (AllByRecursion ComesInOctets) (sym (snoc_steps (new_actors settings) events event))
-    (AllByRecursion-append ComesInOctets (all_steps (new_actors settings) events) (step_at w event) run.came (step_octets w event (kind w 0 event) waiting)) where
+    subst (AllByRecursion IsOctetStep) (sym (snoc_steps (new_actors settings) events event))
+    (AllByRecursion-append IsOctetStep (all_steps (new_actors settings) events) (step_at w event) run.came (step_octets w event (kind w 0 event) waiting)) where
       w : Actors
       w = world settings events
 
@@ -151,9 +151,9 @@ run_then : (settings : Parameters) (events : List Event) (event : Event) → Fai
 run_then settings events event fairly octets run =
     let w : Actors = world settings events in
     let next : world settings (events ++ event ∷ []) ≡ actors_after w event = snoc_actors (new_actors settings) events event in
-    let came : CameInOctets settings (events ++ event ∷ []) = came_then settings events event run in
+    let came : TookOctets settings (events ++ event ∷ []) = came_then settings events event run in
     record {
-      good = subst Good (sym next) (good-step w event run.good);
+      good = subst Good (sym next) (good_step w event run.good);
       makers = subst Makers (sym next) (made_step w event octets run.good run.makers);
       side = subst Side (sym next) (side_then w event octets (fairly events event came) run.side);
       given_all = subst (AllByRecursion IsOctetItem) (sym (append_pushed (new_actors settings) events event)) (AllByRecursion-append IsOctetItem (all_pushed (new_actors settings) events) (pushed w event) run.given_all (given w event run.makers run.side));
@@ -162,7 +162,7 @@ run_then settings events event fairly octets run =
 
 run_first : (settings : Parameters) → Run settings []
 run_first settings = record {
-  good = good-new settings;
+  good = good_new settings;
   makers = made_new settings;
   side = record { sends = record { next = record { referred = tt; few = least }; made = tt }; waits = subst (AllByRecursion IsFairEntry) (sym (new_outbox (length settings.cells + 1) SWITCH_LINK)) tt };
   given_all = tt;
@@ -176,5 +176,5 @@ run_through settings done [] fairly octets run = subst (Run settings) (sym (appe
 run_through settings done (event ∷ rest) fairly octets run =
     subst (Run settings) (append_assoc done (event ∷ []) rest) (run_through settings (done ++ event ∷ []) rest fairly octets.1 (run_then settings done event fairly octets.0 run))
 
-pub come_in_fairly_new : (settings : Parameters) (events : List Event) → Fairly settings → AreOctetEvents events → CameInOctets settings events
+pub come_in_fairly_new : (settings : Parameters) (events : List Event) → Fairly settings → AreOctetEvents events → TookOctets settings events
 come_in_fairly_new settings events fairly octets = (run_through settings [] events fairly octets (run_first settings)).came

@@ -7,7 +7,7 @@ use Rattle.world_laws.proofs.Prelude.{bssap_write_fault, IsReference, sccp_text,
 use Rattle.world_laws.proofs.Prelude.{Ended, CONNECTION_LIMIT, REFERENCE_BASE, after_clear, assignment_request, clear_command}
 use Rattle.world_laws.proofs.Prelude.{connection_after, connection_by, connections_after_clear, connections_by, data_form_by, data_forms_on}
 use Rattle.world_laws.proofs.Prelude.{dlci_for, live_connection_after, message_in, replies, with_connection, SwitchState, SwitchAction}
-use Rattle.world_laws.proofs.Prelude.{Assign, Clear, Dtap, after_switch_does, is_layer_3, may_send_on, sent_on, Actors, and-right}
+use Rattle.world_laws.proofs.Prelude.{Assign, Clear, Dtap, after_switch_does, is_layer_3, may_send_on, sent_on, Actors, and_right}
 use Rattle.world_laws.proofs.Prelude.{ClearCommand, ClearComplete, ClearRequest, cause_of, reference_text, MESSAGE_LIMIT, HasFairCause}
 use Rattle.world_laws.proofs.Prelude.{IsFair, IsOctetAction}
 use Rattle.std.proofs.lemmas.List.{length-append}
@@ -56,7 +56,7 @@ assignment_octets : IsOctetBssap assignment_request
 assignment_octets free = (omega arith, octets_cons (omega arith) (octets_cons (omega arith) (octets_cons (omega arith) (octets_cons (omega arith) (octets_cons (omega arith) (octets_cons (omega arith) (octets_cons (omega arith) (octets_cons (omega arith) octets_nil))))))))
 
 transfer_octets : (sapi : Sapi) (message : List ℕ) → is_layer_3 message ≡ true → Octets message → IsOctetBssap (Transfer (dlci_for sapi) message)
-transfer_octets sapi message sized all free = (few (length message) (leb-true (length message) MESSAGE_LIMIT (and-right (nat_le 1 (length message)) (nat_le (length message) MESSAGE_LIMIT) sized)), octets_cons (omega arith) (octets_cons (dlci sapi) (octets_cons (short (length message) (leb-true (length message) MESSAGE_LIMIT (and-right (nat_le 1 (length message)) (nat_le (length message) MESSAGE_LIMIT) sized))) all))) where
+transfer_octets sapi message sized all free = (few (length message) (leb-true (length message) MESSAGE_LIMIT (and_right (nat_le 1 (length message)) (nat_le (length message) MESSAGE_LIMIT) sized)), octets_cons (omega arith) (octets_cons (dlci sapi) (octets_cons (short (length message) (leb-true (length message) MESSAGE_LIMIT (and_right (nat_le 1 (length message)) (nat_le (length message) MESSAGE_LIMIT) sized))) all))) where
   few : (n : ℕ) → n ≤ MESSAGE_LIMIT → suc (suc (suc n)) < 256
   few n le = omega (arith, le)
 

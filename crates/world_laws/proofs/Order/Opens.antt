@@ -6,7 +6,7 @@ use Rattle.world_laws.proofs.Prelude.{access_channel, handover_offer, Controller
 use Rattle.world_laws.proofs.Prelude.{channel_state, freed, freed_station, with_down, all_aged, break_of, by_fitting, concerning}
 use Rattle.world_laws.proofs.Prelude.{concerning_too, entry_at, expiry, frees, given, may_open, measured, measures, on_break, on_decision}
 use Rattle.world_laws.proofs.Prelude.{on_expiry, on_freed, on_report, on_what, on_word, row_in, timed, with_report, decision_over, Decision}
-use Rattle.world_laws.proofs.Prelude.{Stay, Frame, Item, What, RequestReference, row_of, told, word_of}
+use Rattle.world_laws.proofs.Prelude.{Stay, Frame, Item, What, RequestReference, row_of, with_own_input, word_of}
 use Rattle.conn_rules.specs.declared.input.Input.TheVariants as inputs
 use Rattle.controller_model.specs.Controller.{is_up}
 use Rattle.controller_model.specs.Life.{take, tick, with_connection}
@@ -61,10 +61,10 @@ expiry_numbers (Some input) c e = too_numbers c input c (Some e) refl
 break_numbers : (source : ℕ) (c : Controller) → Numbers c (on_break source c)
 break_numbers source c = by (source == SWITCH_LINK) where
   told_all : Turn
-  told_all = each (told (break_of source)) (with_down source c) c.entries
+  told_all = each (with_own_input (break_of source)) (with_down source c) c.entries
 
   same : told_all.next.next_number ≡ c.next_number
-  same = each_numbers (told (break_of source)) (λ d e. too_numbers d (break_of source) d (Some e) refl) (with_down source c) c.entries
+  same = each_numbers (with_own_input (break_of source)) (λ d e. too_numbers d (break_of source) d (Some e) refl) (with_down source c) c.entries
 
   by : (b : Bool) → (if b then told_all.next else freed_station source told_all.next).next_number ≡ c.next_number
   by true = same

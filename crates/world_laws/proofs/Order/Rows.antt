@@ -3,6 +3,7 @@
 use Rattle.world_laws.proofs.Prelude.{◌≡◌, ◌<◌, true, false, [], ◌∷◌, map, Some, None, refl, arith, ConnectionRequest, Due, WaitActivation}
 use Rattle.world_laws.proofs.Prelude.{WaitEstablish, WaitConfirm, Closed, Removed, Given, Reached, to_be_taken, outstanding_messages}
 use Rattle.world_laws.proofs.Prelude.{Connect, Move, LineUp, fresh, released, on_serving, still_to_come, IsFair, IsOctetEvent, has_asked}
+use Rattle.octets.proofs.Hex.{hex}
 use Rattle.world_laws.specs.LineUp.Places.{Tenure}
 use Rattle.world_laws.specs.LineUp.Places.Item.{brought}
 use Rattle.world_laws.specs.Order.Facts.{IsAsking}
@@ -41,16 +42,16 @@ none_asks is = is
 -- an old channel that holds one message and on which one is on its way; the serving one, on which
 -- one is on its way
 abbrev pub old_channel : Tenure
-old_channel = record fresh { hold = (0x03 ∷ 0x42 ∷ []) ∷ []; items = brought (0x05 ∷ 0x83 ∷ []) ∷ released ∷ [] }
+old_channel = record fresh { hold = (hex "03 42") ∷ []; items = brought (hex "05 83") ∷ released ∷ [] }
 
 abbrev pub serving_channel : Tenure
-serving_channel = record fresh { items = brought (0x06 ∷ 0x29 ∷ []) ∷ brought (0x03 ∷ 0xc4 ∷ []) ∷ [] }
+serving_channel = record fresh { items = brought (hex "06 29") ∷ brought (hex "03 c4") ∷ [] }
 
 -- one waits for the switch, one stands in the air, and one waits behind it
 abbrev pub six_come : LineUp
 six_come = record {
   sent = [];
-  link = record { waiting = (0x05 ∷ 0x46 ∷ []) ∷ []; air = Given (0x03 ∷ 0x05 ∷ []) };
+  link = record { waiting = (hex "05 46") ∷ []; air = Given (hex "03 05") };
   seat = on_serving;
   is_intact = true;
   is_opening = false;
@@ -60,23 +61,23 @@ six_come = record {
   old = old_channel ∷ [];
   serving = serving_channel;
   target = fresh;
-  out = (0x05 ∷ 0x01 ∷ []) ∷ [];
+  out = (hex "05 01") ∷ [];
   taken = [];
 }
 
-come_in_order : still_to_come six_come (to_be_taken six_come.link) ≡ (0x05 ∷ 0x01 ∷ []) ∷ (0x03 ∷ 0x42 ∷ []) ∷ (0x05 ∷ 0x83 ∷ []) ∷ (0x03 ∷ 0xc4 ∷ []) ∷ (0x03 ∷ 0x05 ∷ []) ∷ (0x05 ∷ 0x46 ∷ []) ∷ []
+come_in_order : still_to_come six_come (to_be_taken six_come.link) ≡ (hex "05 01") ∷ (hex "03 42") ∷ (hex "05 83") ∷ (hex "03 c4") ∷ (hex "03 05") ∷ (hex "05 46") ∷ []
 come_in_order = refl
 
 -- a station took the one in the air: it comes again on another channel alone
 abbrev pub one_taken : LineUp
-one_taken = record six_come { link = record { waiting = (0x05 ∷ 0x46 ∷ []) ∷ []; air = Reached (0x03 ∷ 0xc4 ∷ []) } }
+one_taken = record six_come { link = record { waiting = (hex "05 46") ∷ []; air = Reached (hex "03 c4") } }
 
-come_behind_the_taken : still_to_come one_taken (to_be_taken one_taken.link) ≡ (0x05 ∷ 0x01 ∷ []) ∷ (0x03 ∷ 0x42 ∷ []) ∷ (0x05 ∷ 0x83 ∷ []) ∷ (0x03 ∷ 0xc4 ∷ []) ∷ (0x05 ∷ 0x46 ∷ []) ∷ []
+come_behind_the_taken : still_to_come one_taken (to_be_taken one_taken.link) ≡ (hex "05 01") ∷ (hex "03 42") ∷ (hex "05 83") ∷ (hex "03 c4") ∷ (hex "05 46") ∷ []
 come_behind_the_taken = refl
 
-come_again : still_to_come one_taken (outstanding_messages one_taken.link) ≡ (0x05 ∷ 0x01 ∷ []) ∷ (0x03 ∷ 0x42 ∷ []) ∷ (0x05 ∷ 0x83 ∷ []) ∷ (0x03 ∷ 0xc4 ∷ []) ∷ (0x03 ∷ 0xc4 ∷ []) ∷ (0x05 ∷ 0x46 ∷ []) ∷ []
+come_again : still_to_come one_taken (outstanding_messages one_taken.link) ≡ (hex "05 01") ∷ (hex "03 42") ∷ (hex "05 83") ∷ (hex "03 c4") ∷ (hex "03 c4") ∷ (hex "05 46") ∷ []
 come_again = refl
 
 -- where something of the old channel is lost, nothing behind it comes
-come_up_to_a_loss : still_to_come (record six_come { old = record old_channel { is_lost = true } ∷ []; is_intact = false }) (to_be_taken six_come.link) ≡ (0x05 ∷ 0x01 ∷ []) ∷ (0x03 ∷ 0x42 ∷ []) ∷ (0x05 ∷ 0x83 ∷ []) ∷ []
+come_up_to_a_loss : still_to_come (record six_come { old = record old_channel { is_lost = true } ∷ []; is_intact = false }) (to_be_taken six_come.link) ≡ (hex "05 01") ∷ (hex "03 42") ∷ (hex "05 83") ∷ []
 come_up_to_a_loss = refl

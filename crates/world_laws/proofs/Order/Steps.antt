@@ -2,11 +2,11 @@
 use Rattle.world_laws.proofs.Prelude.{◌≡◌, ◌⊎◌, inl, inr, ℕ, ◌≤◌, ◌<◌, nat_eq, Bool, true, false, find, List, [], Option, Some, None, refl}
 use Rattle.world_laws.proofs.Prelude.{sym, ap, ◌∙◌, subst, arith, true≢false, option_or, cases_Bool, eqb-false, eqb-true, SWITCH_LINK}
 use Rattle.world_laws.proofs.Prelude.{Connection, IsThere, connection_of, Controller, SwitchState, Parameters, Event, BaseTakes, BaseDown}
-use Rattle.world_laws.proofs.Prelude.{OutboxEntry, actors_after, Actors, is_station_up, is_up, modulus_in, outbox_of, down-after}
-use Rattle.world_laws.proofs.Prelude.{down-outbox, DeliversAt, HasEnded, PutsNoMore, is_of_peer, waiting_of, AcksAgree, IsUnheard, Lives}
+use Rattle.world_laws.proofs.Prelude.{OutboxEntry, actors_after, Actors, is_station_up, is_up, modulus_in, outbox_of, down_after}
+use Rattle.world_laws.proofs.Prelude.{down_outbox, DeliversAt, HasEnded, PutsNoMore, is_of_peer, waiting_of, AcksAgree, IsUnknownForGood, IsOpenAndLinedUp}
 use Rattle.world_laws.proofs.Prelude.{TargetIsFresh, IsHad, IsRequested, IsAlone, AreLinedUp, DeliversFirst, has_asked, served_by, OnceDown}
-use Rattle.world_laws.proofs.Prelude.{Standing, WhileUp, IsComingTo, IsFresh, silent, cut, while_up, once_down, IsUnheardOf, Came, requests}
-use Rattle.world_laws.proofs.Prelude.{HasBegun, FaresOn, is_of_controller}
+use Rattle.world_laws.proofs.Prelude.{Standing, WhileUp, IsComingTo, IsFresh, silent, cut, while_up, once_down, IsUnknownToSwitch, HasAccess, requests}
+use Rattle.world_laws.proofs.Prelude.{HasBegun, IsOpenOrEnded, is_of_controller}
 use Rattle.controller_model.specs.Views.{forwarded}
 use Rattle.world_laws.proofs.BesideRelay.{mobiles_keep_line_ups_new}
 use Rattle.world_laws.proofs.Breaks.{station_breaks_keep_line_ups_new}
@@ -19,11 +19,11 @@ use Rattle.world_laws.proofs.Order.Controllers.{controller-stays, given_below, n
 use Rattle.world_laws.proofs.Order.EventKinds.{Kind, Working, kind, working, delivers_by, delivers_or, down_puts, quiet_puts}
 use Rattle.world_laws.proofs.Order.EventKinds.Working.{works, rests}
 use Rattle.world_laws.proofs.Order.EventKinds.Kind.{handles, ticks, switch_takes, station_takes, breaks, beside}
-use Rattle.world_laws.proofs.Order.Openers.{served-absent, served-asking, served-confirming, served-there}
-use Rattle.world_laws.proofs.Order.SwitchDown.{break_cuts, outbox-down, station-idle, switch-down}
-use Rattle.world_laws.specs.Access.Requested.Came.{comes, goes}
+use Rattle.world_laws.proofs.Order.Openers.{served_absent, served_asking, served-confirming, served_there}
+use Rattle.world_laws.proofs.Order.SwitchDown.{break_cuts, outbox_down, station-idle, switch-down}
+use Rattle.world_laws.specs.Access.Requested.HasAccess.{comes, goes}
 use Rattle.world_laws.specs.Order.Beginning.HasBegun.{not_yet, begins}
-use Rattle.world_laws.specs.Handling.Faring.FaresOn.{goes_on, is_over}
+use Rattle.world_laws.specs.Handling.OpenOrEnded.IsOpenOrEnded.{goes_on, is_over}
 use Rattle.world_laws.proofs.Events.{world}
 
 -- ---- where the link is down
@@ -36,7 +36,7 @@ nothing_waits w number none = ap (λ (entries : List OutboxEntry). waiting_in en
 pub asking_at : (w : Actors) (number : ℕ) (s : Connection) → connection_of w.controller number ≡ Some s → has_asked s.state ≡ false → IsAsking (connection_of w.controller number)
 asking_at w number s there asking = subst IsAsking (sym there) asking
 
-silent_unheard : {w : Actors} {number : ℕ} → IsUnheard w number → IsUnheardOf w number
+silent_unheard : {w : Actors} {number : ℕ} → IsUnknownForGood w number → IsUnknownToSwitch w number
 silent_unheard u = record { none_taken = u.none_taken; none_waits = u.none_waits }
 
 -- what a number that stands so while the link is up is once it is down
@@ -96,13 +96,13 @@ cut_then settings events event {opener} number down at = by at where
   v = actors_after w event
 
   waits : waiting_of v number ≡ []
-  waits = nothing_waits v number (down-outbox SWITCH_LINK w event (outbox-down settings events) (down-after SWITCH_LINK w event down))
+  waits = nothing_waits v number (down_outbox SWITCH_LINK w event (outbox_down settings events) (down_after SWITCH_LINK w event down))
 
   by : OnceDown (modulus_in settings) w opener number → OnceDown (modulus_in settings) v (option_or opener (served_by v number)) number
   by (silent at) = silent (record { none_taken = ap (λ (s : SwitchState). find (is_of_peer number) s.connections) (switch-down w event down) ∙ at.none_taken; none_waits = waits })
   by (cut mobile is has none) =
       cut mobile (ap (λ (o : Option ℕ). option_or o (served_by v number)) is)
-      (ended_stay_in_order_new settings events event mobile number (delivers_by (kind w number event) (subst (DeliversFirst w number) (sym (outbox-down settings events down)) tt)) (down_puts w event number down) has)
+      (ended_stay_in_order_new settings events event mobile number (delivers_by (kind w number event) (subst (DeliversFirst w number) (sym (outbox_down settings events down)) tt)) (down_puts w event number down) has)
       waits
 
 -- ---- an event of a run
@@ -127,7 +127,7 @@ module _ (settings : Parameters) (events : List Event) (event : Event) where
   Then opener number = Standing m v (option_or opener (served_by v number)) number
 
   emptied_then : is_up v SWITCH_LINK ≡ false → outbox_of v SWITCH_LINK ≡ []
-  emptied_then down = down-outbox SWITCH_LINK w event (outbox-down settings events) down
+  emptied_then down = down_outbox SWITCH_LINK w event (outbox_down settings events) down
 
   -- who was first served stays so
   first_stays : {opener : Option ℕ} {mobile : ℕ} (number : ℕ) → opener ≡ Some mobile → option_or opener (served_by v number) ≡ Some mobile
@@ -145,25 +145,25 @@ module _ (settings : Parameters) (events : List Event) (event : Event) where
   coming_then : {opener : Option ℕ} (number : ℕ) → Around → opener ≡ None → (mobile : ℕ) (s : Connection) → s.number ≡ number → IsComingTo m v mobile s → WhileUp m v (option_or opener (served_by v number)) number
   coming_then number around none mobile s same comes_so =
       let is_so = around.after.is_coming mobile s comes_so in
-      coming mobile s (first_now number none (subst (λ (n : ℕ). served_by v n ≡ None) same (served-asking v s.number s is_so.0.there is_so.1))) same comes_so
+      coming mobile s (first_now number none (subst (λ (n : ℕ). served_by v n ≡ None) same (served_asking v s.number s is_so.0.there is_so.1))) same comes_so
 
   -- ---- a number that is still to be given
 
   begun_then : {opener : Option ℕ} (number : ℕ) → Around → 1 ≤ number → opener ≡ None → HasBegun (λ (x : Actors) (t : Connection). IsComingTo m x t.request.access t) v number → Then opener number
-  begun_then {opener} number around from_one none (not_yet past) = then_up opener around from_one (unborn (first_now number none (served-absent v number (none_given_then settings events event number past))) past)
+  begun_then {opener} number around from_one none (not_yet past) = then_up opener around from_one (unborn (first_now number none (served_absent v number (none_given_then settings events event number past))) past)
   begun_then {opener} number around from_one none (begins s same comes_so) = then_up opener around from_one (coming_then number around none s.request.access s same comes_so)
 
-  came_then : {opener : Option ℕ} (number mobile : ℕ) → Around → 1 ≤ number → opener ≡ None → IsAsking (connection_of w.controller number) → Came (IsComingTo m) m v mobile number → Then opener number
+  came_then : {opener : Option ℕ} (number mobile : ℕ) → Around → 1 ≤ number → opener ≡ None → IsAsking (connection_of w.controller number) → HasAccess (IsComingTo m) m v mobile number → Then opener number
   came_then {opener} number mobile around from_one none asking (comes s same comes_so) = then_up opener around from_one (coming_then number around none mobile s same comes_so)
   came_then {opener} number mobile around from_one none asking (requests s same state l is) =
-      then_up opener around from_one (lives mobile s (first_now number none (subst (λ (n : ℕ). served_by v n ≡ Some mobile) same (served-there v s.number s l.had.there ∙ served-confirming v s state ∙ is))) same l (around.after.fresh_first l.lined.one s state))
+      then_up opener around from_one (lives mobile s (first_now number none (subst (λ (n : ℕ). served_by v n ≡ Some mobile) same (served_there v s.number s l.had.there ∙ served-confirming v s state ∙ is))) same l (around.after.fresh_first l.lined.one s state))
   came_then {opener} number mobile around from_one none asking (goes gone) = then_up opener around from_one (unheard (around.at.goes_unheard number from_one asking gone))
 
   -- ---- one that ended
 
   ended_then : {opener : Option ℕ} (number mobile : ℕ) → Around → 1 ≤ number → is_up w SWITCH_LINK ≡ true → opener ≡ Some mobile → number < w.controller.next_number → (IsThere (connection_of w.controller number) → ⊥) → HasEnded m w mobile number → Then opener number
   ended_then {opener} number mobile around from_one up is past gone has = by (delivers_or (kind w number event) (around.before.delivers number from_one up)) where
-    by : DeliversAt w number event ⊎ IsUnheard v number → Then opener number
+    by : DeliversAt w number event ⊎ IsUnknownForGood v number → Then opener number
     by (inl delivers) =
         let over = around.at.stays_over number from_one past gone in
         then_up opener around from_one (ended mobile (first_stays number is) over.past over.gone (ended_stay_in_order_new settings events event mobile number delivers over.puts has))
@@ -171,7 +171,7 @@ module _ (settings : Parameters) (events : List Event) (event : Event) where
 
   -- ---- one that lives
 
-  lives_then : {opener : Option ℕ} (mobile : ℕ) (s : Connection) → Around → is_up w SWITCH_LINK ≡ true → opener ≡ Some mobile → (l : Lives m w mobile s) → IsFresh w l.lined.one s → Then opener s.number
+  lives_then : {opener : Option ℕ} (mobile : ℕ) (s : Connection) → Around → is_up w SWITCH_LINK ≡ true → opener ≡ Some mobile → (l : IsOpenAndLinedUp m w mobile s) → IsFresh w l.lined.one s → Then opener s.number
   lives_then {opener} mobile s around up is l is_fresh = by_work (working (kind w s.number event)) where
     from_one : 1 ≤ s.number
     from_one = l.had.from_one
@@ -186,7 +186,7 @@ module _ (settings : Parameters) (events : List Event) (event : Event) where
     past = omega (arith, given_below settings events s.number s l.had.there, next_rises settings events event)
 
     -- the controller works
-    worked : FaresOn m v mobile s → Then opener s.number
+    worked : IsOpenOrEnded m v mobile s → Then opener s.number
     worked (goes_on next same had requested request lined) =
         let fresh : IsFresh v lined.one next = around.at.fresh mobile s next lined.one l alone agree is_fresh same had lined.found in
         let tells : TargetIsFresh v next = around.after.fresh_tells lined.one next fresh in
@@ -201,7 +201,7 @@ module _ (settings : Parameters) (events : List Event) (event : Event) where
     worked (is_over gone has) = then_up opener around from_one (ended mobile (first_stays s.number is) past gone has)
 
     -- it doesn't
-    quiet : (is_of_controller event ≡ true → ⊥) → v.controller ≡ w.controller → PutsNoMore w s.number event → DeliversAt w s.number event ⊎ IsUnheard v s.number → Then opener s.number
+    quiet : (is_of_controller event ≡ true → ⊥) → v.controller ≡ w.controller → PutsNoMore w s.number event → DeliversAt w s.number event ⊎ IsUnknownForGood v s.number → Then opener s.number
     quiet not same puts (inr u) = then_up opener around from_one (unheard u)
     quiet not same puts (inl delivers) = by_link (is_up v SWITCH_LINK) refl where
       had : IsHad v s
@@ -229,15 +229,15 @@ module _ (settings : Parameters) (events : List Event) (event : Event) where
 
   -- ---- all
 
-  up-then : {opener : Option ℕ} (number : ℕ) → Around → 1 ≤ number → is_up w SWITCH_LINK ≡ true → WhileUp m w opener number → Then opener number
-  up-then {opener} number around from_one up (unborn none past) = begun_then number around from_one none (around.at.begun number from_one up past)
-  up-then {opener} number around from_one up (coming mobile s none same comes_so) =
+  up_and_then : {opener : Option ℕ} (number : ℕ) → Around → 1 ≤ number → is_up w SWITCH_LINK ≡ true → WhileUp m w opener number → Then opener number
+  up_and_then {opener} number around from_one up (unborn none past) = begun_then number around from_one none (around.at.begun number from_one up past)
+  up_and_then {opener} number around from_one up (coming mobile s none same comes_so) =
       let is_so = around.before.is_coming mobile s comes_so in
       subst (λ (n : ℕ). Then opener n) same (came_then s.number mobile around is_so.0.from_one none (asking_at w s.number s is_so.0.there is_so.1) (around.at.came mobile s up comes_so))
-  up-then {opener} number around from_one up (lives mobile s is same l fresh) = subst (λ (n : ℕ). Then opener n) same (lives_then mobile s around up is l fresh)
-  up-then {opener} number around from_one up (ended mobile is past gone has) = ended_then number mobile around from_one up is past gone has
-  up-then {opener} number around from_one up (unheard u) = then_up opener around from_one (unheard (around.at.stays_unheard number from_one u))
+  up_and_then {opener} number around from_one up (lives mobile s is same l fresh) = subst (λ (n : ℕ). Then opener n) same (lives_then mobile s around up is l fresh)
+  up_and_then {opener} number around from_one up (ended mobile is past gone has) = ended_then number mobile around from_one up is past gone has
+  up_and_then {opener} number around from_one up (unheard u) = then_up opener around from_one (unheard (around.at.stays_unheard number from_one u))
 
   pub stands_then : (opener : Option ℕ) (number : ℕ) → Around → 1 ≤ number → Standing m w opener number → Then opener number
-  stands_then opener number around from_one (while_up up at) = up-then number around from_one up at
-  stands_then opener number around from_one (once_down down at) = once_down (down-after SWITCH_LINK w event down) (cut_then settings events event number down at)
+  stands_then opener number around from_one (while_up up at) = up_and_then number around from_one up at
+  stands_then opener number around from_one (once_down down at) = once_down (down_after SWITCH_LINK w event down) (cut_then settings events event number down at)

@@ -6,9 +6,9 @@ use Rattle.world_laws.proofs.Prelude.{clear_command, data_forms_on, dlci_for, se
 use Rattle.world_laws.proofs.Prelude.{BaseTakes, BasePush, Handle, SwitchTakes, SwitchDoes, Tick, BaseDown, SwitchAction, Assign, Clear}
 use Rattle.world_laws.proofs.Prelude.{Dtap, actors_after, actors_after_all, after_base_push, after_break, after_handle, target_in}
 use Rattle.world_laws.proofs.Prelude.{after_base_takes, after_switch_does, is_layer_3, sent_on, switch_took_first, Actors, Link}
-use Rattle.world_laws.proofs.Prelude.{broken_link, is_station_up, is_up, new_actors, outbox_of, after-taken, handle-leads, turn-leads}
-use Rattle.world_laws.proofs.Prelude.{push-leads, broken-leads, changed_link, new_outbox, aerial-leads, taking-leads, take, tick}
-use Rattle.world_laws.proofs.Prelude.{took_first, OfTaken, down-outbox}
+use Rattle.world_laws.proofs.Prelude.{broken_link, is_station_up, is_up, new_actors, outbox_of, after_taken, handle_leads, turn_leads}
+use Rattle.world_laws.proofs.Prelude.{push_leads, broken_leads, changed_link, new_outbox, aerial_leads, taking_leads, take, tick}
+use Rattle.world_laws.proofs.Prelude.{took_first, OfTaken, down_outbox}
 use Rattle.msc_end.specs.Switch.{connection_of}
 use Rattle.world_model.specs.Life.{event_after}
 use Rattle.world_model.specs.Relay.{broken}
@@ -21,7 +21,7 @@ abbrev Stays : Actors → Actors → Type 0
 Stays w v = v.switch ≡ w.switch
 
 still : (w : Actors) (o : Option Actors) → OfTaken (Stays w) o → (unwrap_or o w).switch ≡ w.switch
-still w o leads = after-taken (Stays w) o w leads refl
+still w o leads = after_taken (Stays w) o w leads refl
 
 -- it takes a message, or sends on a connection; no other event changes it
 pub data SwitchKind (w : Actors) : Event → Type 0 where
@@ -31,34 +31,34 @@ pub data SwitchKind (w : Actors) : Event → Type 0 where
 
 pub switch_kind : (w : Actors) (event : Event) → SwitchKind w event
 unfolding event_after FromAir
-switch_kind w (BaseTakes station) = stays (still w (after_base_takes w station) (taking-leads (Stays w) w station (λ first others _ _ mobiles stations. refl)))
-switch_kind w (BasePush source) = stays (still w (after_base_push w source) (push-leads (Stays w) w source (λ first others. refl) (λ message _. refl)))
-switch_kind w Handle = stays (still w (after_handle w) (handle-leads (Stays w) w (λ item items _. turn-leads (Stays w) (target_in w item.source item.what) (take item w.controller) (record w { inbox = items }) (λ links. refl))))
+switch_kind w (BaseTakes station) = stays (still w (after_base_takes w station) (taking_leads (Stays w) w station (λ first others _ _ mobiles stations. refl)))
+switch_kind w (BasePush source) = stays (still w (after_base_push w source) (push_leads (Stays w) w source (λ first others. refl) (λ message _. refl)))
+switch_kind w Handle = stays (still w (after_handle w) (handle_leads (Stays w) w (λ item items _. turn_leads (Stays w) (target_in w item.source item.what) (take item w.controller) (record w { inbox = items }) (λ links. refl))))
 switch_kind w SwitchTakes = takes
 switch_kind w (SwitchDoes action) = does action
-switch_kind w (Tick ms) = stays (turn-leads (Stays w) None (tick ms w.controller) w (λ links. refl))
-switch_kind w (BaseDown source) = stays (still w (after_break w source) (broken-leads (Stays w) w source (λ _ _. refl) (λ _ _. refl)))
-switch_kind w event = stays (still w (event_after w event) (aerial-leads (Stays w) w event refl (λ mobiles stations. refl)))
+switch_kind w (Tick ms) = stays (turn_leads (Stays w) None (tick ms w.controller) w (λ links. refl))
+switch_kind w (BaseDown source) = stays (still w (after_break w source) (broken_leads (Stays w) w source (λ _ _. refl) (λ _ _. refl)))
+switch_kind w event = stays (still w (event_after w event) (aerial_leads (Stays w) w event refl (λ mobiles stations. refl)))
 
 -- ---- where its link is down it stays as it is
 
 -- it sends on no connection
-sent-nothing : (w : Actors) (connection : ℕ) (message : Bssap) (next : SwitchState) → is_up w SWITCH_LINK ≡ false → (unwrap_or (sent_on w connection message next) w).switch ≡ w.switch
-sent-nothing w connection message next down =
+sent_nothing : (w : Actors) (connection : ℕ) (message : Bssap) (next : SwitchState) → is_up w SWITCH_LINK ≡ false → (unwrap_or (sent_on w connection message next) w).switch ≡ w.switch
+sent_nothing w connection message next down =
     ap (λ (up : Bool). (unwrap_or (if (up && is_none (send_fault (connection_of w.switch.connections connection))) then Some (record w { switch = next; switch_made = w.switch_made ++ data_forms_on (connection_of w.switch.connections connection) message }) else None) w).switch) down
 
-does-nothing : (w : Actors) (action : SwitchAction) → is_up w SWITCH_LINK ≡ false → (unwrap_or (after_switch_does w action) w).switch ≡ w.switch
-does-nothing w (Assign connection) down = sent-nothing w connection assignment_request w.switch down
-does-nothing w (Clear connection) down = sent-nothing w connection clear_command (after_clear w.switch connection) down
-does-nothing w (Dtap connection sapi message) down = by_length (is_layer_3 message) where
+does_nothing : (w : Actors) (action : SwitchAction) → is_up w SWITCH_LINK ≡ false → (unwrap_or (after_switch_does w action) w).switch ≡ w.switch
+does_nothing w (Assign connection) down = sent_nothing w connection assignment_request w.switch down
+does_nothing w (Clear connection) down = sent_nothing w connection clear_command (after_clear w.switch connection) down
+does_nothing w (Dtap connection sapi message) down = by_length (is_layer_3 message) where
   by_length : (b : Bool) → (unwrap_or (if b then sent_on w connection (Transfer (dlci_for sapi) message) w.switch else None) w).switch ≡ w.switch
-  by_length true = sent-nothing w connection (Transfer (dlci_for sapi) message) w.switch down
+  by_length true = sent_nothing w connection (Transfer (dlci_for sapi) message) w.switch down
   by_length false = refl
 
 down_by : {w : Actors} {event : Event} → SwitchKind w event → is_up w SWITCH_LINK ≡ false → (actors_after w event).switch ≡ w.switch
 unfolding event_after
 down_by {w} takes down = ap (λ (up : Bool). (unwrap_or (if up then switch_took_first (outbox_of w SWITCH_LINK) w else None) w).switch) down
-down_by {w} (does action) down = does-nothing w action down
+down_by {w} (does action) down = does_nothing w action down
 down_by (stays same) down = same
 
 pub switch-down : (w : Actors) (event : Event) → is_up w SWITCH_LINK ≡ false → (actors_after w event).switch ≡ w.switch
@@ -68,10 +68,10 @@ switch-down w event down = down_by (switch_kind w event) down
 
 emptied : (w : Actors) (events : List Event) → (is_up w SWITCH_LINK ≡ false → outbox_of w SWITCH_LINK ≡ []) → is_up (actors_after_all w events) SWITCH_LINK ≡ false → outbox_of (actors_after_all w events) SWITCH_LINK ≡ []
 emptied w [] none down = none down
-emptied w (event ∷ events) none down = emptied (actors_after w event) events (down-outbox SWITCH_LINK w event none) down
+emptied w (event ∷ events) none down = emptied (actors_after w event) events (down_outbox SWITCH_LINK w event none) down
 
-pub outbox-down : (settings : Parameters) (events : List Event) → is_up (world settings events) SWITCH_LINK ≡ false → outbox_of (world settings events) SWITCH_LINK ≡ []
-outbox-down settings events down = emptied (new_actors settings) events (λ _. new_outbox (length settings.cells + 1) SWITCH_LINK) down
+pub outbox_down : (settings : Parameters) (events : List Event) → is_up (world settings events) SWITCH_LINK ≡ false → outbox_of (world settings events) SWITCH_LINK ≡ []
+outbox_down settings events down = emptied (new_actors settings) events (λ _. new_outbox (length settings.cells + 1) SWITCH_LINK) down
 
 -- ---- a link that was up breaks
 

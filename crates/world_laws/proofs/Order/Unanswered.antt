@@ -1,18 +1,18 @@
 -- A mobile to which no connection was ever the answer stays as it connected, event by event.
 use Rattle.world_laws.proofs.Prelude.{◌≡◌, ℕ, ◌+◌, ◌&&◌, nat_eq, Bool, true, false, if◌then◌else◌, cond, List, [], ◌∷◌, ◌++◌, find, length}
 use Rattle.world_laws.proofs.Prelude.{Option, Some, None, refl, sym, ap, ◌∙◌, subst, append_assoc, true≢false, AllByRecursion, is_none}
-use Rattle.world_laws.proofs.Prelude.{eqb-true, eqb-false, append-nil, ComesInOctets, Turn, Zero, refusal_of_connect, Item, AreAllowed}
+use Rattle.world_laws.proofs.Prelude.{eqb-true, eqb-false, append-nil, IsOctetStep, Turn, Zero, refusal_of_connect, Item, AreAllowed}
 use Rattle.world_laws.proofs.Prelude.{Parameters, Event, OutboxEntry, Command, Asking, On, Tenure, actors_after, actors_after_all, brought}
 use Rattle.world_laws.proofs.Prelude.{channel_required, connected, framed, is_new, target_in, with_turn, rsl_in, all_steps, first_taken}
 use Rattle.world_laws.proofs.Prelude.{step_at, Actors, Mobile, has_number, is_station_up, mobile_of, modulus_in, new_actors, outbox_of}
-use Rattle.world_laws.proofs.Prelude.{back-other, found-number, good-all, good-new, after-taken, air_up-leads, and-right, broken-leads}
-use Rattle.world_laws.proofs.Prelude.{connect-leads, handle-leads, push-leads, new_outbox, event-keeps, same_Some, found-front, take, tick}
+use Rattle.world_laws.proofs.Prelude.{back_other, number_found, good_all, good_new, after_taken, air_up_leads, and_right, broken_leads}
+use Rattle.world_laws.proofs.Prelude.{connect_leads, handle_leads, push_leads, new_outbox, event-keeps, same_Some, found_front, take, tick}
 use Rattle.world_laws.proofs.Prelude.{rr_reading, is_initial, MobileFault, BadMessage, AssignsAnother, NamesAnother, IsAsItConnected}
 use Rattle.world_laws.proofs.Prelude.{NoneNames, StillAsks, UnansweredMobilesAsk, WasNeverAnswered, IsUnanswered}
 use Rattle.controller_model.specs.declared.step.Step.TheVariants as steps
 use Rattle.world_model.specs.declared.event.Event.TheVariants as events
 use Rattle.world_model.specs.Life.{event_after}
-use Rattle.world_model.specs.Mobiles.{told}
+use Rattle.world_model.specs.Mobiles.{with_message_made}
 use Rattle.world_laws.proofs.Others.{turn_mobiles}
 use Rattle.world_laws.proofs.OwnerRun.{snoc_steps}
 use Rattle.world_laws.proofs.Sublists.{sub_all}
@@ -113,10 +113,10 @@ module _ (settings : Parameters) (done : List Event) (k : ℕ) where
     v = actors_after world event
 
     passes : Passes world v
-    passes = after-taken (Passes world) (event_after world event) world (event_passes world event passing (good-all (new_actors settings) done (good-new settings))) (passes_itself world)
+    passes = after_taken (Passes world) (event_after world event) world (event_passes world event passing (good_all (new_actors settings) done (good_new settings))) (passes_itself world)
 
     all : AllGo world event v
-    all = after-taken (AllGo world event) (event_after world event) world (event_goes world event passing) (all_same world event world refl)
+    all = after_taken (AllGo world event) (event_after world event) world (event_goes world event passing) (all_same world event world refl)
 
     by : (q : Mobile) → mobile_of v k ≡ Some q → (o : Option Mobile) → mobile_of world k ≡ o → IsAsItConnected modulus (done ++ event ∷ []) k q
     by q found None none = absurd (true≢false (sym (ap is_none none) ∙ sym (there k) ∙ ap is_none found))
@@ -129,7 +129,7 @@ module _ (settings : Parameters) (done : List Event) (k : ℕ) where
   -- a station takes a mobile's frame
   sent_step : (number : ℕ) → StillAsks modulus done world k → StillAsks modulus (done ++ events.AirUp number Zero ∷ []) (actors_after world (events.AirUp number Zero)) k
   unfolding event_after
-  sent_step number asks = after-taken P (event_after world event) world (air_up-leads P world number Zero (λ p tenure command frame acts sits lent reached. sent p tenure command frame acts sits)) (still event asks) where
+  sent_step number asks = after_taken P (event_after world event) world (air_up_leads P world number Zero (λ p tenure command frame acts sits lent reached. sent p tenure command frame acts sits)) (still event asks) where
     event : Event
     event = events.AirUp number Zero
 
@@ -142,18 +142,18 @@ module _ (settings : Parameters) (done : List Event) (k : ℕ) where
       q = record (framed p Zero) { opens = false }
 
       q_number : q.number ≡ number
-      q_number = found-number number world.mobiles p acts
+      q_number = number_found number world.mobiles p acts
 
       by_number : (x : Mobile) → mobile_of (brought world p tenure.at Zero frame) k ≡ Some x → (b : Bool) → nat_eq number k ≡ b → IsAsItConnected modulus (done ++ event ∷ []) k x
       by_number x found true hit =
           let own = asks.as_connected p (ap (mobile_of world) (sym (eqb-true number k hit)) ∙ acts) in
           absurd (on_asks (sym sits ∙ ap (λ (y : Mobile). y.seat) own.same))
-      by_number x found false miss = later_one event x (asks.as_connected x (sym (back-other q world.mobiles k (λ is. eqb-false number k miss (sym q_number ∙ is))) ∙ found))
+      by_number x found false miss = later_one event x (asks.as_connected x (sym (back_other q world.mobiles k (λ is. eqb-false number k miss (sym q_number ∙ is))) ∙ found))
 
   -- a mobile connects
   connect_step : (number station : ℕ) (initial : List ℕ) (accepts : Bool) → StillAsks modulus done world k → StillAsks modulus (done ++ events.Connect number station initial accepts ∷ []) (actors_after world (events.Connect number station initial accepts)) k
   unfolding event_after
-  connect_step number station initial accepts asks = after-taken P (event_after world event) world (connect-leads P world number station initial accepts (λ may. comes may)) (still event asks) where
+  connect_step number station initial accepts asks = after_taken P (event_after world event) world (connect_leads P world number station initial accepts (λ may. comes may)) (still event asks) where
     event : Event
     event = events.Connect number station initial accepts
 
@@ -163,11 +163,11 @@ module _ (settings : Parameters) (done : List Event) (k : ℕ) where
     new : Mobile
     new = connected world.modulus number initial accepts
 
-    comes : is_new world number && is_station_up world station && is_none (refusal_of_connect (Some initial)) ≡ true → P (told station (channel_required number) (record world { mobiles = world.mobiles ++ new ∷ [] }))
+    comes : is_new world number && is_station_up world station && is_none (refusal_of_connect (Some initial)) ≡ true → P (with_message_made station (channel_required number) (record world { mobiles = world.mobiles ++ new ∷ [] }))
     comes may = record { none_names = λ at. asks.none_names at; as_connected = λ x found. by x found (mobile_of world k) refl } where
       by : (x : Mobile) → find (has_number k) (world.mobiles ++ new ∷ []) ≡ Some x → (o : Option Mobile) → mobile_of world k ≡ o → IsAsItConnected modulus (done ++ event ∷ []) k x
       by x found (Some p) was =
-          let is : x ≡ p = same_Some _ _ (sym found ∙ found-front k p world.mobiles (new ∷ []) was) in
+          let is : x ≡ p = same_Some _ _ (sym found ∙ found_front k p world.mobiles (new ∷ []) was) in
           subst (IsAsItConnected modulus (done ++ event ∷ []) k) (sym is) (later_one event p (asks.as_connected p was))
       by x found None none =
           let is = behind_new k x new world.mobiles none found in
@@ -178,7 +178,7 @@ module _ (settings : Parameters) (done : List Event) (k : ℕ) where
             accepts = accepts;
             after = [];
             came = ap (λ (n : ℕ). done ++ events.Connect n station initial accepts ∷ []) is.1;
-            lawful = lawful_of initial (and-right (is_new world number && is_station_up world station) (is_none (refusal_of_connect (Some initial))) may);
+            lawful = lawful_of initial (and_right (is_new world number && is_station_up world station) (is_none (refusal_of_connect (Some initial))) may);
             same = sym is.0 ∙ ap (λ (m : ℕ). connected m number initial accepts) (counts_all modulus (new_actors settings) done refl) ∙ ap (λ (n : ℕ). connected modulus n initial accepts) is.1;
           }
 
@@ -189,34 +189,34 @@ module _ (settings : Parameters) (done : List Event) (k : ℕ) where
     as_connected = λ x found. later_one event x (asks.as_connected x (sym (ap (λ (ms : List Mobile). find (has_number k) ms) (turn_mobiles target t.outs (record u { controller = t.next }) ∙ mobiles)) ∙ found));
   }
 
-  handle_step : AreAllowed settings → AllByRecursion ComesInOctets (all_steps (new_actors settings) done) → AllByRecursion ComesInOctets (first_taken world.inbox) → IsUnanswered world k → StillAsks modulus done world k → StillAsks modulus (done ++ events.Handle ∷ []) (actors_after world events.Handle) k
+  handle_step : AreAllowed settings → AllByRecursion IsOctetStep (all_steps (new_actors settings) done) → AllByRecursion IsOctetStep (first_taken world.inbox) → IsUnanswered world k → StillAsks modulus done world k → StillAsks modulus (done ++ events.Handle ∷ []) (actors_after world events.Handle) k
   unfolding event_after
-  handle_step allowed octets own unanswered asks = after-taken P (event_after world events.Handle) world (handle-leads P world (λ item items stood. handled item items stood)) (still events.Handle asks) where
+  handle_step allowed octets own unanswered asks = after_taken P (event_after world events.Handle) world (handle_leads P world (λ item items stood. handled item items stood)) (still events.Handle asks) where
     P : Actors → Type 0
     P v = StillAsks modulus (done ++ events.Handle ∷ []) v k
 
     handled : (item : Item) (items : List Item) → world.inbox ≡ item ∷ items → P (with_turn (target_in world item.source item.what) (take item world.controller) (record world { inbox = items }))
     handled item items stood =
         turned events.Handle (target_in world item.source item.what) (take item world.controller) (record world { inbox = items }) (λ station. asks.none_names station) refl
-        (step_names settings done (steps.Take item) k allowed octets (subst (λ (xs : List Item). AllByRecursion ComesInOctets (first_taken xs)) stood own).0 unanswered) asks
+        (step_names settings done (steps.Take item) k allowed octets (subst (λ (xs : List Item). AllByRecursion IsOctetStep (first_taken xs)) stood own).0 unanswered) asks
 
-  tick_step : (ms : ℕ) → AreAllowed settings → AllByRecursion ComesInOctets (all_steps (new_actors settings) done) → IsUnanswered world k → StillAsks modulus done world k → StillAsks modulus (done ++ events.Tick ms ∷ []) (actors_after world (events.Tick ms)) k
+  tick_step : (ms : ℕ) → AreAllowed settings → AllByRecursion IsOctetStep (all_steps (new_actors settings) done) → IsUnanswered world k → StillAsks modulus done world k → StillAsks modulus (done ++ events.Tick ms ∷ []) (actors_after world (events.Tick ms)) k
   unfolding event_after
   tick_step ms allowed octets unanswered asks = turned (events.Tick ms) None (tick ms world.controller) world asks.none_names refl (step_names settings done (steps.Tick ms) k allowed octets tt unanswered) asks
 
   pushed_there : (source j : ℕ) → is_none (mobile_of (actors_after world (events.BasePush source)) j) ≡ is_none (mobile_of world j)
   unfolding event_after
   pushed_there source j =
-      after-taken (λ v. is_none (mobile_of v j) ≡ is_none (mobile_of world j)) (event_after world (events.BasePush source)) world
-      (push-leads (λ v. is_none (mobile_of v j) ≡ is_none (mobile_of world j)) world source (λ first others. refl) (λ message first. refl)) refl
+      after_taken (λ v. is_none (mobile_of v j) ≡ is_none (mobile_of world j)) (event_after world (events.BasePush source)) world
+      (push_leads (λ v. is_none (mobile_of v j) ≡ is_none (mobile_of world j)) world source (λ first others. refl) (λ message first. refl)) refl
 
   broken_there : (source j : ℕ) → is_none (mobile_of (actors_after world (events.BaseDown source)) j) ≡ is_none (mobile_of world j)
   unfolding event_after
   broken_there source j =
-      after-taken (λ v. is_none (mobile_of v j) ≡ is_none (mobile_of world j)) (event_after world (events.BaseDown source)) world
-      (broken-leads (λ v. is_none (mobile_of v j) ≡ is_none (mobile_of world j)) world source (λ up switch. refl) (λ up station. refl)) refl
+      after_taken (λ v. is_none (mobile_of v j) ≡ is_none (mobile_of world j)) (event_after world (events.BaseDown source)) world
+      (broken_leads (λ v. is_none (mobile_of v j) ≡ is_none (mobile_of world j)) world source (λ up switch. refl) (λ up station. refl)) refl
 
-  event_asks : (event : Event) → AreAllowed settings → AllByRecursion ComesInOctets (all_steps (new_actors settings) done) → AllByRecursion ComesInOctets (step_at world event) → IsUnanswered world k → StillAsks modulus done world k → StillAsks modulus (done ++ event ∷ []) (actors_after world event) k
+  event_asks : (event : Event) → AreAllowed settings → AllByRecursion IsOctetStep (all_steps (new_actors settings) done) → AllByRecursion IsOctetStep (step_at world event) → IsUnanswered world k → StillAsks modulus done world k → StillAsks modulus (done ++ event ∷ []) (actors_after world event) k
   event_asks (events.Connect number station initial accepts) allowed octets own unanswered asks = connect_step number station initial accepts asks
   event_asks (events.AirUp number Zero) allowed octets own unanswered asks = sent_step number asks
   event_asks (events.BasePush source) allowed octets own unanswered asks = passing_step (events.BasePush source) refl (pushed_there source) asks
@@ -227,15 +227,15 @@ module _ (settings : Parameters) (done : List Event) (k : ℕ) where
 
 -- ---- all events
 
-asks_through : (settings : Parameters) (k : ℕ) (all done rest : List Event) (w : Actors) → all ≡ done ++ rest → w ≡ actors_after_all (new_actors settings) done → AreAllowed settings → AllByRecursion ComesInOctets (all_steps (new_actors settings) done) → AllByRecursion ComesInOctets (all_steps w rest)
+asks_through : (settings : Parameters) (k : ℕ) (all done rest : List Event) (w : Actors) → all ≡ done ++ rest → w ≡ actors_after_all (new_actors settings) done → AreAllowed settings → AllByRecursion IsOctetStep (all_steps (new_actors settings) done) → AllByRecursion IsOctetStep (all_steps w rest)
     → WasNeverAnswered settings all k → StillAsks (modulus_in settings) done w k → StillAsks (modulus_in settings) all (actors_after_all w rest) k
 asks_through settings k all done [] w whole is allowed octets later never asks = subst (λ (xs : List Event). StillAsks (modulus_in settings) xs w k) (sym (whole ∙ append-nil done)) asks
 asks_through settings k all done (event ∷ rest) w whole is allowed octets later never asks =
-    let front = all_left ComesInOctets (step_at w event) (all_steps (actors_after w event) rest) later in
-    let own : AllByRecursion ComesInOctets (step_at (actors_after_all (new_actors settings) done) event) = subst (λ (x : Actors). AllByRecursion ComesInOctets (step_at x event)) is front in
+    let front = all_left IsOctetStep (step_at w event) (all_steps (actors_after w event) rest) later in
+    let own : AllByRecursion IsOctetStep (step_at (actors_after_all (new_actors settings) done) event) = subst (λ (x : Actors). AllByRecursion IsOctetStep (step_at x event)) is front in
     asks_through settings k all (done ++ event ∷ []) rest (actors_after w event) (whole ∙ sym (append_assoc done (event ∷ []) rest)) (ap (λ (x : Actors). actors_after x event) is ∙ sym (snoc_actors (new_actors settings) done event)) allowed
-    (snoc_steps ComesInOctets (new_actors settings) done event octets own)
-    (all_right ComesInOctets (step_at w event) (all_steps (actors_after w event) rest) later) never
+    (snoc_steps IsOctetStep (new_actors settings) done event octets own)
+    (all_right IsOctetStep (step_at w event) (all_steps (actors_after w event) rest) later) never
     (subst (λ (x : Actors). StillAsks (modulus_in settings) (done ++ event ∷ []) (actors_after x event) k) (sym is)
     (event_asks settings done k event allowed octets own (never done (event ∷ rest) whole) (subst (λ (x : Actors). StillAsks (modulus_in settings) done x k) is asks)))
 

@@ -2,10 +2,10 @@
 -- used.
 use Rattle.world_laws.proofs.Prelude.{◌≡◌, ℕ, ◌≤◌, Bool, true, false, List, [], ◌∷◌, ◌++◌, Option, Some, None, inl, inr, refl, sym, subst}
 use Rattle.world_laws.proofs.Prelude.{AllByRecursion, SWITCH_LINK, State, WaitActivation, WaitEstablish}
-use Rattle.world_laws.proofs.Prelude.{Connection, connection_of, ComesInOctets, AreAllowed, Parameters, Event}
-use Rattle.world_laws.proofs.Prelude.{actors_after, all_steps, step_at, Actors, is_up, modulus_in, new_actors, place_of, CameInOctets}
+use Rattle.world_laws.proofs.Prelude.{Connection, connection_of, IsOctetStep, AreAllowed, Parameters, Event}
+use Rattle.world_laws.proofs.Prelude.{actors_after, all_steps, step_at, Actors, is_up, modulus_in, new_actors, place_of, TookOctets}
 use Rattle.world_laws.proofs.Prelude.{IsHad, IsAlone, is_of_others, IsComing, Quiet, HasBegun, TakesOctets, HasNotAsked, IsEarlyIn}
-use Rattle.world_laws.proofs.Prelude.{IsUnheardOf, IsFreshIn, has_asked, AllRunsAreInOrder, Facts, IsComingTo, Came, requests}
+use Rattle.world_laws.proofs.Prelude.{IsUnknownToSwitch, IsFreshIn, has_asked, AllRunsAreInOrder, Facts, IsComingTo, HasAccess, requests}
 use Rattle.world_laws.proofs.StationTakes.{stations_keep_line_ups_new}
 use Rattle.world_laws.specs.Access.Arriving.{IsKnown}
 use Rattle.world_laws.proofs.Access.CameLaw.{controller_brings_coming_new}
@@ -29,17 +29,17 @@ use Rattle.world_laws.proofs.Order.Controllers.{none_given, octets_front}
 use Rattle.world_laws.proofs.Order.Fairly.{ComeInOctets-new}
 use Rattle.world_laws.proofs.Order.InOrder.{runs_are_in_order_new}
 use Rattle.world_laws.proofs.Events.{snoc_actors, snoc_steps, world}
-use Rattle.world_laws.specs.Access.Requested.Came.{comes, goes}
+use Rattle.world_laws.specs.Access.Requested.HasAccess.{comes, goes}
 use Rattle.world_laws.specs.Order.Beginning.HasBegun.{not_yet, begins}
 use Rattle.world_laws.proofs.Framing.{all_right}
 
 -- ---- words
 
 -- what comes at the last event is octets
-takes_octets : (settings : Parameters) (events : List Event) (event : Event) → CameInOctets settings (events ++ event ∷ []) → TakesOctets (world settings events) event
+takes_octets : (settings : Parameters) (events : List Event) (event : Event) → TookOctets settings (events ++ event ∷ []) → TakesOctets (world settings events) event
 takes_octets settings events event octets =
-    all_right ComesInOctets (all_steps (new_actors settings) events) (step_at (world settings events) event)
-    (subst (AllByRecursion ComesInOctets) (snoc_steps (new_actors settings) events event) octets)
+    all_right IsOctetStep (all_steps (new_actors settings) events) (step_at (world settings events) event)
+    (subst (AllByRecursion IsOctetStep) (snoc_steps (new_actors settings) events event) octets)
 
 -- a connection that hasn't asked is early
 early_of : (state : State) → has_asked state ≡ false → IsEarlyIn state
@@ -63,7 +63,7 @@ coming_unasked {s = s} coming = record { own = s; there = coming.had.there; is_e
 
 -- ---- of each world
 
-holds_of : (settings : Parameters) (events : List Event) → AreAllowed settings → CameInOctets settings events
+holds_of : (settings : Parameters) (events : List Event) → AreAllowed settings → TookOctets settings events
     → Holds (modulus_in settings) (world settings events)
 holds_of settings events allowed octets =
     let w : Actors = world settings events in
@@ -83,11 +83,11 @@ holds_of settings events allowed octets =
     }
 
 -- what a connection that is coming takes as known
-known_of : (settings : Parameters) (events : List Event) (mobile : ℕ) (s : Connection) → AreAllowed settings → CameInOctets settings events
+known_of : (settings : Parameters) (events : List Event) (mobile : ℕ) (s : Connection) → AreAllowed settings → TookOctets settings events
     → IsComingTo (modulus_in settings) (world settings events) mobile s → IsKnown (modulus_in settings) (world settings events) mobile s
 known_of settings events mobile s allowed octets coming =
     let w : Actors = world settings events in
-    let unheard : IsUnheardOf w s.number = unasked_are_unheard_of_new settings events s.number allowed octets coming.0.had.from_one (inr (coming_unasked coming.0)) in
+    let unheard : IsUnknownToSwitch w s.number = unasked_are_unheard_of_new settings events s.number allowed octets coming.0.had.from_one (inr (coming_unasked coming.0)) in
     record {
       alone = subst (λ (n : ℕ). IsAlone w n s) coming.0.asked (connections_are_alone_new settings events s allowed octets coming.0.had);
       kept = quiet_lets_none_go_new settings events s allowed octets coming.0.had coming.1;
@@ -100,11 +100,11 @@ known_of settings events mobile s allowed octets coming =
 
 -- ---- of each event
 
-comes_then : (settings : Parameters) (events : List Event) (event : Event) (mobile : ℕ) (s : Connection) → AreAllowed settings → CameInOctets settings (events ++ event ∷ [])
+comes_then : (settings : Parameters) (events : List Event) (event : Event) (mobile : ℕ) (s : Connection) → AreAllowed settings → TookOctets settings (events ++ event ∷ [])
     → is_up (world settings events) SWITCH_LINK ≡ true → IsComingTo (modulus_in settings) (world settings events) mobile s
-    → Came (IsComingTo (modulus_in settings)) (modulus_in settings) (actors_after (world settings events) event) mobile s.number
+    → HasAccess (IsComingTo (modulus_in settings)) (modulus_in settings) (actors_after (world settings events) event) mobile s.number
 comes_then settings events event mobile s allowed octets up coming = by (is_of_others event) refl where
-  before : CameInOctets settings events
+  before : TookOctets settings events
   before = octets_front settings events (event ∷ []) octets
 
   known : IsKnown (modulus_in settings) (world settings events) mobile s
@@ -120,16 +120,16 @@ comes_then settings events event mobile s allowed octets up coming = by (is_of_o
         (channels_stay_quiet_new settings events event s next allowed octets coming.0.had coming.0.early same (subst (λ (v : Actors). IsHad v next) (sym snoc) comes-now.had) comes-now.early coming.1),
   )
 
-  came_of : Came (IsComing (modulus_in settings)) (modulus_in settings) (actors_after (world settings events) event) mobile s.number → Came (IsComingTo (modulus_in settings)) (modulus_in settings) (actors_after (world settings events) event) mobile s.number
+  came_of : HasAccess (IsComing (modulus_in settings)) (modulus_in settings) (actors_after (world settings events) event) mobile s.number → HasAccess (IsComingTo (modulus_in settings)) (modulus_in settings) (actors_after (world settings events) event) mobile s.number
   came_of (comes next same comes-now) = comes next same (stays next same comes-now)
   came_of (requests next same waits lives served) = requests next same waits lives served
   came_of (goes gone) = goes gone
 
-  by : (b : Bool) → is_of_others event ≡ b → Came (IsComingTo (modulus_in settings)) (modulus_in settings) (actors_after (world settings events) event) mobile s.number
+  by : (b : Bool) → is_of_others event ≡ b → HasAccess (IsComingTo (modulus_in settings)) (modulus_in settings) (actors_after (world settings events) event) mobile s.number
   by true others = comes s refl (stays s refl (others_keep_coming_new settings events event mobile s others allowed known coming.0))
   by false own = came_of (controller_brings_coming_new settings events event mobile s own allowed octets up known (acknowledgements_agree_new settings events s allowed before coming.0.had) (connections_are_one_each_new settings events) coming.0)
 
-begins_then : (settings : Parameters) (events : List Event) (event : Event) (number : ℕ) → AreAllowed settings → CameInOctets settings (events ++ event ∷ []) → (world settings events).controller.next_number ≤ number
+begins_then : (settings : Parameters) (events : List Event) (event : Event) (number : ℕ) → AreAllowed settings → TookOctets settings (events ++ event ∷ []) → (world settings events).controller.next_number ≤ number
     → HasBegun (λ v s. IsComing (modulus_in settings) v s.request.access s) (actors_after (world settings events) event) number
     → HasBegun (λ v s. IsComingTo (modulus_in settings) v s.request.access s) (actors_after (world settings events) event) number
 begins_then settings events event number allowed octets next (not_yet none) = not_yet none
@@ -142,11 +142,11 @@ begins_then settings events event number allowed octets next (begins s same comi
           (channels_begin_quiet_new settings events event s allowed octets (none_given settings events s.number past) (subst (λ (v : Actors). IsHad v s) (sym snoc) coming.had) coming.early),
     )
 
-holds_at_of : (settings : Parameters) (events : List Event) (event : Event) → AreAllowed settings → CameInOctets settings (events ++ event ∷ [])
+holds_at_of : (settings : Parameters) (events : List Event) (event : Event) → AreAllowed settings → TookOctets settings (events ++ event ∷ [])
     → HoldsAt (modulus_in settings) (world settings events) event
 holds_at_of settings events event allowed octets =
     let w : Actors = world settings events in
-    let before : CameInOctets settings events = octets_front settings events (event ∷ []) octets in
+    let before : TookOctets settings events = octets_front settings events (event ∷ []) octets in
     let takes : TakesOctets w event = takes_octets settings events event octets in
     record {
       stays_unheard = λ number from_one unheard. unheard_stay_unheard_new settings events event number allowed before takes from_one unheard;
@@ -169,5 +169,5 @@ facts settings = record {
   holds_at = holds_at_of settings;
 }
 
-pub runs-are-in-order : (settings : Parameters) (events : List Event) → AllRunsAreInOrder settings events
-runs-are-in-order settings events allowed octets = runs_are_in_order_new settings events (facts settings) allowed (ComeInOctets-new settings events allowed octets)
+pub runs_are_in_order : (settings : Parameters) (events : List Event) → AllRunsAreInOrder settings events
+runs_are_in_order settings events allowed octets = runs_are_in_order_new settings events (facts settings) allowed (ComeInOctets-new settings events allowed octets)

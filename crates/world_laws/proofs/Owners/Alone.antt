@@ -8,11 +8,11 @@ use Rattle.world_laws.proofs.Prelude.{channel_state, entry_of, hears, place_at, 
 use Rattle.world_laws.proofs.Prelude.{Parameters, Event, BaseTakes, Handle, Tick, Tenure, actors_after, actors_after_all, Agrees}
 use Rattle.world_laws.proofs.Prelude.{active_behind, asker, tenure_behind, owner_in, handled, target_in, with_turn, all_steps, Actors}
 use Rattle.world_laws.proofs.Prelude.{Mobile, is_active_at, is_reached, is_station_up, is_up, new_actors, outbox_of, spot_at, tenure_at}
-use Rattle.world_laws.proofs.Prelude.{reached-up, up-right, and-right, LivesByTable-new, found-all, IsKnownItem, known-inbox, Right}
-use Rattle.world_laws.proofs.Prelude.{handle-turned, heard_of, kinds, right-step, there-of, tick-turned, beside-step, Serves, Turned, hear}
-use Rattle.world_laws.proofs.Prelude.{down-after, place-is, none-some, right-new, found-number, channels_of-roles, comes, found_number}
+use Rattle.world_laws.proofs.Prelude.{reached_up, up_right, and_right, LivesByTable-new, found_all, IsKnownItem, known_inbox, Right}
+use Rattle.world_laws.proofs.Prelude.{handle_turned, heard_of, kinds, right_step, there_of, tick-turned, beside_step, Serves, Turned, hear}
+use Rattle.world_laws.proofs.Prelude.{down_after, place-is, none-some, right_new, number_found, channels_of-roles, comes, found_number}
 use Rattle.world_laws.proofs.Prelude.{all_contained, contains_behind, contains_first, life, take, tick, tenure_all, SitsBy, tenure-append}
-use Rattle.world_laws.proofs.Prelude.{goes-put, beside-number, takes-number, CameInOctets, IsHad, IsElsewhere, ChannelsAreMobiles}
+use Rattle.world_laws.proofs.Prelude.{goes_put, beside_number, takes_number, TookOctets, IsHad, IsElsewhere, ChannelsAreMobiles}
 use Rattle.world_laws.proofs.Prelude.{ConnectionsAreAlone, IsMobiles, hear-use, on_own}
 use Rattle.conn_rules.specs.declared.input.Input.TheVariants as inputs
 use Rattle.controller_model.specs.declared.step.Step.TheVariants as steps
@@ -71,7 +71,7 @@ still_up : (w : Actors) (event : Event) (station : ℕ) → is_up (actors_after 
 still_up w event station up = by (is_up w station) refl where
   by : (b : Bool) → is_up w station ≡ b → is_up w station ≡ true
   by true is = is
-  by false down = absurd (true≢false (sym up ∙ down-after station w event down))
+  by false down = absurd (true≢false (sym up ∙ down_after station w event down))
 
 -- ---- old channels
 
@@ -99,7 +99,7 @@ same_turn owner w v at target t heard turned serves agrees hearing up busy =
     let n : ℕ = at.station in
     let k : ℕ = at.number in
     let way = agrees.way (serves.hearing hearing) in
-    let puts = goes-put owner at target (tenure_behind w at).number (serves.goes hearing) (serves.fits hearing up) (active_behind w at) (way.active up ∙ sym (hear-use heard (channel_state w.controller at))) in
+    let puts = goes_put owner at target (tenure_behind w at).number (serves.goes hearing) (serves.fits hearing up) (active_behind w at) (way.active up ∙ sym (hear-use heard (channel_state w.controller at))) in
     let last : (tenure_behind v at).number ≡ puts.last =
     ap (λ (b : _). tenure_all k (is_active b.active k) (spot_at v at).tenure (outbox_of v n)) turned.base
     ∙ ap (λ (m : ℕ). tenure_all k (is_active_at w at) m (outbox_of v n)) turned.tenure
@@ -159,7 +159,7 @@ turn_old settings owner done rest w v event s target heard allowed is after turn
 
 take_frees : (settings : Parameters) (done : List Event) (w : Actors) (item : Item) (items : List Item) → w ≡ world settings done → w.inbox ≡ item ∷ items → FreesBy w (steps.Take item) (λ at. heard_of at item)
 take_frees settings done w item items is stands at n state hearing least free =
-    let known : AllByRecursion IsKnownItem (item ∷ items) = subst (AllByRecursion IsKnownItem) stands (subst (λ (x : Actors). AllByRecursion IsKnownItem x.inbox) (sym is) (known-inbox settings done)) in
+    let known : AllByRecursion IsKnownItem (item ∷ items) = subst (AllByRecursion IsKnownItem) stands (subst (λ (x : Actors). AllByRecursion IsKnownItem x.inbox) (sym is) (known_inbox settings done)) in
     freed_brings w.controller at n item.source item.what state hearing (λ zero_is. nonzero at.station least zero_is) known.0 free
   where
     nonzero : (k : ℕ) → 1 ≤ k → k ≡ 0 → ⊥
@@ -175,7 +175,7 @@ handle_old settings owner done rest w allowed is serves right old = by w.inbox r
       let same : actors_after w Handle ≡ v = ap (λ (all : List Item). unwrap_or (handled all w) w) stands in
       subst (OldIn owner) (sym same)
       (turn_old settings owner done rest w v Handle (steps.Take item) (target_in w item.source item.what) (λ at. heard_of at item) allowed is same
-      (λ at. handle-turned w at item items stands) (serves item items stands) (take_frees settings done w item items is stands) right old)
+      (λ at. handle_turned w at item items stands) (serves item items stands) (take_frees settings done w item items is stands) right old)
 
 tick_old : (settings : Parameters) (owner : Tenure → ℕ) (done rest : List Event) (w : Actors) (ms : ℕ) → AreAllowed settings → w ≡ world settings done → ServesAt settings owner w (Tick ms) → Right settings owner w (Tick ms ∷ rest) → OldIn owner w → OldIn owner (actors_after w (Tick ms))
 unfolding ServesAt event_after
@@ -186,13 +186,13 @@ old_step : (settings : Parameters) (owner : Tenure → ℕ) (done rest : List Ev
 old_step settings owner done rest w event allowed is =
     kinds (λ (e : Event). ServesAt settings owner w e → Right settings owner w (e ∷ rest) → OldIn owner w → OldIn owner (actors_after w e))
     (λ e beside serves right old.
-    rests_old settings owner done w e allowed is (beside-step w e beside).controller
-    (λ at least most up. beside-number at w e beside (there-of settings owner w (e ∷ rest) at right least most) up) old)
+    rests_old settings owner done w e allowed is (beside_step w e beside).controller
+    (λ at least most up. beside_number at w e beside (there_of settings owner w (e ∷ rest) at right least most) up) old)
     (λ serves right old. handle_old settings owner done rest w allowed is serves right old)
     (λ ms serves right old. tick_old settings owner done rest w ms allowed is serves right old)
     (λ station serves right old.
     rests_old settings owner done w (BaseTakes station) allowed is (plain_quiet w (BaseTakes station) refl).controller
-    (λ at least most up. takes-number owner at w station (there-of settings owner w (BaseTakes station ∷ rest) at right least most) right.spots (right.agree at least most) up) old)
+    (λ at least most up. takes_number owner at w station (there_of settings owner w (BaseTakes station ∷ rest) at right least most) right.spots (right.agree at least most) up) old)
     event
 
 -- ---- over all events
@@ -203,17 +203,17 @@ run settings owner done [] w allowed is serves right old = (right, old)
 run settings owner done (event ∷ rest) w allowed is serves right old =
     let serving = serves.0 right.agree in
     run settings owner (done ++ event ∷ []) rest (actors_after w event) allowed (ap (λ (x : Actors). actors_after x event) is ∙ sym (snoc_actors (new_actors settings) done event)) serves.1
-    (right-step settings owner w event rest serving right) (old_step settings owner done rest w event allowed is serving right old)
+    (right_step settings owner w event rest serving right) (old_step settings owner done rest w event allowed is serving right old)
 
 old_new : (settings : Parameters) (owner : Tenure → ℕ) → OldIn owner (new_actors settings)
 unfolding OldIn
 old_new settings owner s had c has up = absurd (none-some _ had.there)
 
-ran : (settings : Parameters) (events : List Event) → AreAllowed settings → CameInOctets settings events
+ran : (settings : Parameters) (events : List Event) → AreAllowed settings → TookOctets settings events
     → Right settings (owner_in (new_actors settings) events) (world settings events) [] × OldIn (owner_in (new_actors settings) events) (world settings events)
 ran settings events allowed octets =
     let owner : Tenure → ℕ = owner_in (new_actors settings) events in
-    run settings owner [] events (new_actors settings) allowed refl (serves_through settings owner [] events (new_actors settings) refl allowed tt octets) (right-new settings events) (old_new settings owner)
+    run settings owner [] events (new_actors settings) allowed refl (serves_through settings owner [] events (new_actors settings) refl allowed tt octets) (right_new settings events) (old_new settings owner)
 
 -- ---- the laws
 
@@ -264,9 +264,9 @@ channels_are_mobiles_new settings events s allowed octets had =
 -- one that is reached is the present one, of a station that is up
 reached_is : (w : Actors) (t : Tenure) → is_reached w t ≡ true → (is_up w t.at.station ≡ true) × (is_active_at w t.at ≡ true) × (tenure_at w t.at ≡ t)
 reached_is w t reached =
-    let parts = reached-up w t reached in
-    let number = and-right (is_station_up w t.at.station && is_active_at w t.at) ((spot_at w t.at).tenure == t.number) reached in
-    ((up-right t.at.station w parts.0).1, parts.1, ap (λ (n : ℕ). record { at = t.at; number = n }) (eqb-true (spot_at w t.at).tenure t.number number))
+    let parts = reached_up w t reached in
+    let number = and_right (is_station_up w t.at.station && is_active_at w t.at) ((spot_at w t.at).tenure == t.number) reached in
+    ((up_right t.at.station w parts.0).1, parts.1, ap (λ (n : ℕ). record { at = t.at; number = n }) (eqb-true (spot_at w t.at).tenure t.number number))
 
 pub connections_are_alone_new : (settings : Parameters) (events : List Event) → ConnectionsAreAlone settings events
 connections_are_alone_new settings events s allowed octets had other q tenure command differs found seat reached =
@@ -280,8 +280,8 @@ connections_are_alone_new settings events s allowed octets had other q tenure co
 
     theirs : owner tenure ≡ other
     theirs =
-        let sits : SitsBy owner q.number q.seat = found-all (λ (p : Mobile). SitsBy owner p.number p.seat) other w.mobiles q (mobiles_sit_on_theirs_new settings events allowed octets) found in
-        on_own owner q.number tenure command (subst (SitsBy owner q.number) seat sits) ∙ found-number other w.mobiles q found
+        let sits : SitsBy owner q.number q.seat = found_all (λ (p : Mobile). SitsBy owner p.number p.seat) other w.mobiles q (mobiles_sit_on_theirs_new settings events allowed octets) found in
+        on_own owner q.number tenure command (subst (SitsBy owner q.number) seat sits) ∙ number_found other w.mobiles q found
 
     never : (c : Channel) → IsMobiles owner w s.request.access c → is_at tenure.at c ≡ true → ⊥
     never c own here =

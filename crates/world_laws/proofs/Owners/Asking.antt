@@ -19,7 +19,7 @@ use Rattle.dtap_codec.specs.declared.report.Report.{Report}
 use Rattle.controller_model.specs.Decision.TheVariants.{Move}
 use Rattle.ruled_relay.specs.declared.item.What.TheVariants as whats
 use Rattle.rsl_codec.specs.declared.rsl.Rsl.TheVariants as rsl
-use Rattle.world_laws.proofs.OrderHeard.{read_known, word-known, IsPlain, FreesNone, plain_asks, sapi_plain, data_plain, result_plain}
+use Rattle.world_laws.proofs.OrderHeard.{read_known, word_known, IsPlain, FreesNone, plain_asks, sapi_plain, data_plain, result_plain}
 
 -- ---- which word asks
 
@@ -45,7 +45,7 @@ pub asking_says : (source : ℕ) (frame : Frame) (request : RequestReference) (d
 asking_says source frame request delay known is =
     let station : source ≢ SWITCH_LINK = asked_of source (word_of source frame) request delay is (word_asked source frame) in
     let made = known.station station in
-    let word : rsl_word source made.0 ≡ Asks request delay = sym (ap (word_of source) made.1 ∙ word-known source made.0 station made.2) ∙ is in
+    let word : rsl_word source made.0 ≡ Asks request delay = sym (ap (word_of source) made.1 ∙ word_known source made.0 station made.2) ∙ is in
     ap (λ (o : Option Rsl). requests_in request.access (option_to_list o)) (ap rsl_in made.1 ∙ read_known made.0 made.2)
     ∙ ap (λ (b : Bool). (if b then 1 else 0) + 0) (asks_is source made.0 request delay word)
 

@@ -10,7 +10,7 @@ use Rattle.world_laws.proofs.Prelude.{Handle, Tick, BaseDown, Tenure, actors_aft
 use Rattle.world_laws.proofs.Prelude.{after_base_push, after_break, handled, pushed_by_station, pushed_by_switch, station_item, switch_item}
 use Rattle.world_laws.proofs.Prelude.{target_in, with_turn, all_steps, Actors, Link, base_of, broken_link, is_up, new_actors, with_base}
 use Rattle.world_laws.proofs.Prelude.{new_link, no_station, stations_from, with_link, Plain, base-elsewhere, base-there, as_before}
-use Rattle.world_laws.proofs.Prelude.{ends_now, inbox-goes, after-taken, broken-leads, connect-leads, turn-leads, LivesByTable-new}
+use Rattle.world_laws.proofs.Prelude.{ends_now, inbox_goes, after_taken, broken_leads, connect_leads, turn_leads, LivesByTable-new}
 use Rattle.world_laws.proofs.Prelude.{all_join, changed_link, unwrap_or-slice_get, channels_of-roles, LinkedOf, life_linked, life, take}
 use Rattle.world_laws.proofs.Prelude.{tick, made_item, of_source, pushing, link-else}
 use Rattle.controller_model.proofs.LifeLaws.Beside.{other_link}
@@ -56,15 +56,15 @@ none_ends : (source : ℕ) (xs : List Item) → NoneIsDown source xs → EndsWit
 none_ends source [] none = tt
 none_ends source (x ∷ xs) none = ((λ is. absurd (none.0 is)), none_ends source xs none.1)
 
-of-both : (source : ℕ) (xs ys : List Item) → of_source source xs ≡ [] → of_source source ys ≡ [] → of_source source (xs ++ ys) ≡ []
-of-both source xs ys none none_too = filter-append (λ (item : Item). item.source == source) xs ys ∙ ap (λ (items : List Item). items ++ of_source source ys) none ∙ none_too
+of_both : (source : ℕ) (xs ys : List Item) → of_source source xs ≡ [] → of_source source ys ≡ [] → of_source source (xs ++ ys) ≡ []
+of_both source xs ys none none_too = filter-append (λ (item : Item). item.source == source) xs ys ∙ ap (λ (items : List Item). items ++ of_source source ys) none ∙ none_too
 
 others_behind : (source : ℕ) (xs ys : List Item) → of_source source ys ≡ [] → NoneIsDown source ys → EndsWithDown source xs → EndsWithDown source (xs ++ ys)
 others_behind source [] ys others none ends = none_ends source ys none
-others_behind source (x ∷ xs) ys others none ends = ((λ is. of-both source xs ys (ends.0 is) others), others_behind source xs ys others none ends.1)
+others_behind source (x ∷ xs) ys others none ends = ((λ is. of_both source xs ys (ends.0 is) others), others_behind source xs ys others none ends.1)
 
-of-behind : (source : ℕ) (x : Item) (xs : List Item) → of_source source (x ∷ xs) ≡ [] → of_source source xs ≡ []
-of-behind source x xs none = by (x.source == source) none where
+of_behind : (source : ℕ) (x : Item) (xs : List Item) → of_source source (x ∷ xs) ≡ [] → of_source source xs ≡ []
+of_behind source x xs none = by (x.source == source) none where
   by : (b : Bool) → cond b (x ∷ of_source source xs) (of_source source xs) ≡ [] → of_source source xs ≡ []
   by true is = absurd cc
   by false is = is
@@ -101,7 +101,7 @@ leaves_ends source w v leaves ends = record {
   broke = λ deaf. leaves.up ∙ ends.broke (sym leaves.hearing ∙ deaf);
   over = λ deaf.
       let was = sym leaves.hearing ∙ deaf in
-      ap (of_source source) leaves.inbox ∙ of-both source w.inbox leaves.more (ends.over was) (leaves.others (ends.broke was));
+      ap (of_source source) leaves.inbox ∙ of_both source w.inbox leaves.more (ends.over was) (leaves.others (ends.broke was));
 } where
   by : (b : Bool) → is_up w source ≡ b → EndsWithDown source (w.inbox ++ leaves.more)
   by true up = none_behind source w.inbox leaves.more (ends.none_yet up) (none_ends source leaves.more leaves.frames)
@@ -128,8 +128,8 @@ stays_leaves source w = record { up = refl; hearing = refl; more = []; inbox = s
 connect_leaves : (source : ℕ) (w : Actors) (number station : ℕ) (initial : List ℕ) (accepts : Bool) → Leaves source w (actors_after w (Connect number station initial accepts))
 unfolding event_after
 connect_leaves source w number station initial accepts =
-    after-taken (Leaves source w) (after_connecting w number station initial accepts) w
-    (connect-leads (Leaves source w) w number station initial accepts (λ may.
+    after_taken (Leaves source w) (after_connecting w number station initial accepts) w
+    (connect_leads (Leaves source w) w number station initial accepts (λ may.
     let now = connects w number station initial accepts may in
     record {
       up = refl;
@@ -144,8 +144,8 @@ connect_leaves source w number station initial accepts =
 
 -- ---- a push
 
-first-none : (messages : List Rsl) → messages ≡ [] → first_of_messages messages ≡ None
-first-none messages is = ap first_of_messages is
+first_none : (messages : List Rsl) → messages ≡ [] → first_of_messages messages ≡ None
+first_none messages is = ap first_of_messages is
 
 push_leaves : (source other : ℕ) (w : Actors) → EndsOnce w source → Leaves source w (actors_after w (BasePush other))
 unfolding event_after
@@ -153,7 +153,7 @@ push_leaves source other w ends = record {
   up = up;
   hearing = hearing;
   more = made_item w other;
-  inbox = sym (inbox-goes w (BasePush other));
+  inbox = sym (inbox_goes w (BasePush other));
   frames = frames;
   others = λ down. others down;
   switch = λ same down empty. switch empty;
@@ -198,17 +198,17 @@ push_leaves source other w ends = record {
   frames : NoneIsDown source (made_item w other)
   frames = frames_by (other == SWITCH_LINK)
 
-  switch-of : (made : List Sccp) → (source ≡ SWITCH_LINK → made ≡ []) → of_source source (map switch_item (first_of made)) ≡ []
-  switch-of [] none = refl
-  switch-of (first ∷ rest) none = other_source source (switch_item first) (ne_eqb SWITCH_LINK source (λ same. absurd (let empty = none (sym same) in cc)))
+  switch_of : (made : List Sccp) → (source ≡ SWITCH_LINK → made ≡ []) → of_source source (map switch_item (first_of made)) ≡ []
+  switch_of [] none = refl
+  switch_of (first ∷ rest) none = other_source source (switch_item first) (ne_eqb SWITCH_LINK source (λ same. absurd (let empty = none (sym same) in cc)))
 
-  station-of : (o : Option Rsl) → (source ≡ other → o ≡ None) → of_source source (map (station_item other) (option_to_list o)) ≡ []
-  station-of None none = refl
-  station-of (Some message) none = other_source source (station_item other message) (ne_eqb other source (λ same. absurd (let empty = none (sym same) in cc)))
+  station_of : (o : Option Rsl) → (source ≡ other → o ≡ None) → of_source source (map (station_item other) (option_to_list o)) ≡ []
+  station_of None none = refl
+  station_of (Some message) none = other_source source (station_item other message) (ne_eqb other source (λ same. absurd (let empty = none (sym same) in cc)))
 
   others_by : is_up w source ≡ false → (b : Bool) → (other == SWITCH_LINK) ≡ b → of_source source (if b then map switch_item (first_of w.switch_made) else map (station_item other) (option_to_list (first_message (base_of w other)))) ≡ []
-  others_by down true is = switch-of w.switch_made (λ same. ends.switch_made same down)
-  others_by down false is = station-of (first_message (base_of w other)) (λ same. ap (λ (n : ℕ). first_message (base_of w n)) (sym same) ∙ first-none (base_of w source).messages (ends.station_made (λ switch. eqb-false other SWITCH_LINK is (sym same ∙ switch)) down))
+  others_by down true is = switch_of w.switch_made (λ same. ends.switch_made same down)
+  others_by down false is = station_of (first_message (base_of w other)) (λ same. ap (λ (n : ℕ). first_message (base_of w n)) (sym same) ∙ first_none (base_of w source).messages (ends.station_made (λ switch. eqb-false other SWITCH_LINK is (sym same ∙ switch)) down))
 
   others : is_up w source ≡ false → of_source source (made_item w other) ≡ []
   others down = others_by down (other == SWITCH_LINK) refl
@@ -217,20 +217,20 @@ push_leaves source other w ends = record {
   switch-left [] empty is = empty
   switch-left (first ∷ rest) empty is = absurd cc
 
-  station-left : (o : Option Rsl) → w.switch_made ≡ [] → (unwrap_or (pushed_by_station other o w) w).switch_made ≡ []
-  station-left None empty = empty
-  station-left (Some message) empty = empty
+  station_is_left : (o : Option Rsl) → w.switch_made ≡ [] → (unwrap_or (pushed_by_station other o w) w).switch_made ≡ []
+  station_is_left None empty = empty
+  station_is_left (Some message) empty = empty
 
   switch-by : (b : Bool) → w.switch_made ≡ [] → (unwrap_or (if b then pushed_by_switch w.switch_made w else pushed_by_station other (first_message (base_of w other)) w) w).switch_made ≡ []
   switch-by true empty = switch-left w.switch_made empty empty
-  switch-by false empty = station-left (first_message (base_of w other)) empty
+  switch-by false empty = station_is_left (first_message (base_of w other)) empty
 
   switch : w.switch_made ≡ [] → v.switch_made ≡ []
   switch empty = switch-by (other == SWITCH_LINK) empty
 
   station_by : source ≢ SWITCH_LINK → Plain source w (BasePush other) v → (base_of w source).messages ≡ [] → (base_of v source).messages ≡ []
   station_by differs (as_before same nothing) empty = ap (λ (b : BaseState). b.messages) same ∙ empty
-  station_by differs (next message first is gave) empty = absurd (let both : None ≡ Some message = sym (first-none (base_of w source).messages empty) ∙ first in cc)
+  station_by differs (next message first is gave) empty = absurd (let both : None ≡ Some message = sym (first_none (base_of w source).messages empty) ∙ first in cc)
   station_by differs (ends_now down left nothing) empty = left
 
   station : source ≢ SWITCH_LINK → (base_of w source).messages ≡ [] → (base_of v source).messages ≡ []
@@ -278,8 +278,8 @@ broken_ends source other w v broken up ends = elim (cases_Bool (nat_eq other sou
 break_ends : (source other : ℕ) (w : Actors) → EndsOnce w source → EndsOnce (actors_after w (BaseDown other)) source
 unfolding event_after
 break_ends source other w ends =
-    after-taken (λ (v : Actors). EndsOnce v source) (after_break w other) w
-    (broken-leads (λ (v : Actors). EndsOnce v source) w other
+    after_taken (λ (v : Actors). EndsOnce v source) (after_break w other) w
+    (broken_leads (λ (v : Actors). EndsOnce v source) w other
     (λ up is. broken_ends source other w _ (record {
       links = refl;
       controller = refl;
@@ -328,8 +328,8 @@ take_ends : (source : ℕ) (w : Actors) (item : Item) (items : List Item) → w.
 take_ends source w item items stands ends = record {
   last = subst (EndsWithDown source) (sym inbox) stood.1;
   none_yet = λ now_up. subst (NoneIsDown source) (sym inbox) (subst (NoneIsDown source) stands (ends.none_yet (sym up ∙ now_up))).1;
-  switch_made = λ same down. turn-leads (λ (x : Actors). x.switch_made ≡ w.switch_made) target t u (λ links. refl) ∙ ends.switch_made same (sym up ∙ down);
-  station_made = λ differs down. turn-leads (λ (x : Actors). (base_of x source).messages ≡ (base_of w source).messages) target t u (λ links. refl) ∙ ends.station_made differs (sym up ∙ down);
+  switch_made = λ same down. turn_leads (λ (x : Actors). x.switch_made ≡ w.switch_made) target t u (λ links. refl) ∙ ends.switch_made same (sym up ∙ down);
+  station_made = λ differs down. turn_leads (λ (x : Actors). (base_of x source).messages ≡ (base_of w source).messages) target t u (λ links. refl) ∙ ends.station_made differs (sym up ∙ down);
   broke = λ deaf. up ∙ broke_by (hears w.controller source) refl (now deaf);
   over = λ deaf. ap (of_source source) inbox ∙ over_by (hears w.controller source) refl (now deaf);
 } where
@@ -349,13 +349,13 @@ take_ends source w item items stands ends = record {
   up = (all_join source target t.outs (record u { controller = t.next })).up
 
   inbox : v.inbox ≡ items
-  inbox = turn-leads (λ (x : Actors). x.inbox ≡ items) target t u (λ links. refl)
+  inbox = turn_leads (λ (x : Actors). x.inbox ≡ items) target t u (λ links. refl)
 
   stood : EndsWithDown source (item ∷ items)
   stood = subst (EndsWithDown source) stands ends.last
 
   now : hears v.controller source ≡ false → hears t.next source ≡ false
-  now deaf = ap (λ (c : Controller). hears c source) (sym (turn-leads (λ (x : Actors). x.controller ≡ t.next) target t u (λ links. refl))) ∙ deaf
+  now deaf = ap (λ (c : Controller). hears c source) (sym (turn_leads (λ (x : Actors). x.controller ≡ t.next) target t u (λ links. refl))) ∙ deaf
 
   down_by : item ≡ down_of source → (b : Bool) → is_up w source ≡ b → is_up w source ≡ false
   down_by is true was_up = absurd ((subst (NoneIsDown source) stands (ends.none_yet was_up)).0 is)
@@ -367,7 +367,7 @@ take_ends source w item items stands ends = record {
 
   over_by : (b : Bool) → hears w.controller source ≡ b → hears t.next source ≡ false → of_source source items ≡ []
   over_by true was deaf = stood.0 (learns w.controller item source was deaf)
-  over_by false was deaf = of-behind source item items (ap (of_source source) (sym stands) ∙ ends.over was)
+  over_by false was deaf = of_behind source item items (ap (of_source source) (sym stands) ∙ ends.over was)
 
 handle_ends : (source : ℕ) (w : Actors) → EndsOnce w source → EndsOnce (actors_after w Handle) source
 unfolding event_after
@@ -381,13 +381,13 @@ unfolding event_after
 tick_leaves source w ms =
     let t : Turn = tick ms w.controller in record {
       up = (all_join source None t.outs (record w { controller = t.next })).up;
-      hearing = ap (λ (c : Controller). hears c source) (turn-leads (λ (x : Actors). x.controller ≡ t.next) None t w (λ links. refl)) ∙ ap (λ (ls : List Bool). is_link_up ls source) (step_goes w.controller (steps.Tick ms)).links_are;
+      hearing = ap (λ (c : Controller). hears c source) (turn_leads (λ (x : Actors). x.controller ≡ t.next) None t w (λ links. refl)) ∙ ap (λ (ls : List Bool). is_link_up ls source) (step_goes w.controller (steps.Tick ms)).links_are;
       more = [];
-      inbox = turn-leads (λ (x : Actors). x.inbox ≡ w.inbox) None t w (λ links. refl) ∙ sym (append-nil w.inbox);
+      inbox = turn_leads (λ (x : Actors). x.inbox ≡ w.inbox) None t w (λ links. refl) ∙ sym (append-nil w.inbox);
       frames = tt;
       others = λ down. refl;
-      switch = λ same down empty. turn-leads (λ (x : Actors). x.switch_made ≡ w.switch_made) None t w (λ links. refl) ∙ empty;
-      station = λ differs down empty. turn-leads (λ (x : Actors). (base_of x source).messages ≡ (base_of w source).messages) None t w (λ links. refl) ∙ empty;
+      switch = λ same down empty. turn_leads (λ (x : Actors). x.switch_made ≡ w.switch_made) None t w (λ links. refl) ∙ empty;
+      station = λ differs down empty. turn_leads (λ (x : Actors). (base_of x source).messages ≡ (base_of w source).messages) None t w (λ links. refl) ∙ empty;
     }
 
 -- ---- over all events
@@ -409,10 +409,10 @@ new_messages k from [] = refl
 new_messages zero from (cell ∷ cells) = refl
 new_messages (suc k) from (cell ∷ cells) = new_messages k (from + 1) cells
 
-new-links : (count link : ℕ) → get_or (replicate count true) link false ≡ false → (get_or (replicate count new_link) link broken_link).up ≡ false
-new-links zero link deaf = refl
-new-links (suc count) zero deaf = absurd (true≢false deaf)
-new-links (suc count) (suc link) deaf = new-links count link deaf
+new_links : (count link : ℕ) → get_or (replicate count true) link false ≡ false → (get_or (replicate count new_link) link broken_link).up ≡ false
+new_links zero link deaf = refl
+new_links (suc count) zero deaf = absurd (true≢false deaf)
+new_links (suc count) (suc link) deaf = new_links count link deaf
 
 pub links_end_once_new : (settings : Parameters) (events : List Event) → LinksEndOnce settings events
 links_end_once_new settings events source = ends_all source (new_actors settings) events (record {
@@ -420,6 +420,6 @@ links_end_once_new settings events source = ends_all source (new_actors settings
   none_yet = λ up. tt;
   switch_made = λ same down. refl;
   station_made = λ differs down. new_messages (source - 1) 1 settings.cells;
-  broke = λ deaf. new-links (length settings.cells + 1) source (sym (unwrap_or-slice_get (replicate (length settings.cells + 1) true) source false) ∙ deaf);
+  broke = λ deaf. new_links (length settings.cells + 1) source (sym (unwrap_or-slice_get (replicate (length settings.cells + 1) true) source false) ∙ deaf);
   over = λ deaf. refl;
 })

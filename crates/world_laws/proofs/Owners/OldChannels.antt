@@ -2,9 +2,9 @@
 -- bring its RF CHANNEL RELEASE ACK; or it served.
 use Rattle.world_laws.proofs.Prelude.{◌≡◌, ◌≢◌, ◌⊎◌, ℕ, ◌==◌, ◌≤◌, Bool, true, cond, if◌then◌else◌, List, [], ◌∷◌, option_to_list, Contains}
 use Rattle.world_laws.proofs.Prelude.{Option, Some, None, refl, sym, ap, ◌∙◌, subst, inl, inr, cases_Bool, eqb-true, eq-eqb, Channel, Place}
-use Rattle.world_laws.proofs.Prelude.{Message, SWITCH_LINK, ChangesRoles-row, Input, Drain}
+use Rattle.world_laws.proofs.Prelude.{Message, SWITCH_LINK, changes_roles_row, Input, Drain}
 use Rattle.world_laws.proofs.Prelude.{Target, Connection, ChangesRoles, ChangesRolesBy, RoleStep, Roles}
-use Rattle.world_laws.proofs.Prelude.{after_step, roles_of, step_by, with_target, goes_on, ends, had_ended, stays, Stands, Row, IsOpen}
+use Rattle.world_laws.proofs.Prelude.{after_step, roles_of, step_by, with_target, goes_on, ends, had_ended, stays, IsValid, Row, IsOpen}
 use Rattle.world_laws.proofs.Prelude.{undone, Acts, Brought, IsAged, brought_by, brought_in, brought_with, if_held, ages, goes}
 use Rattle.world_laws.proofs.Prelude.{opens, rests, nothing, connection_of, SameRequest, Owns, OwnsOpen, aged_holds, fine_old, life_acts}
 use Rattle.world_laws.proofs.Prelude.{life_fits, life_names, life_owns, changes_of, free≢release, is_there, state_here, contains_none}
@@ -16,7 +16,7 @@ use Rattle.conn_rules.specs.declared.input.Input.TheVariants as inputs
 use Rattle.controller_model.specs.declared.step.Step.TheVariants as steps
 use Rattle.ruled_relay.specs.declared.item.What.TheVariants as whats
 use Rattle.rsl_codec.specs.declared.rsl.Rsl.TheVariants as rsl
-use Rattle.world_laws.proofs.OrderHeard.{read_known, word-known}
+use Rattle.world_laws.proofs.OrderHeard.{read_known, word_known}
 use Rattle.world_laws.proofs.OrderRows.{States}
 use Rattle.world_laws.proofs.Channels.BegunRun.{kept_some}
 
@@ -94,8 +94,8 @@ module _ (channels : States) (links : List Bool) (number k : ℕ) (d : Channel) 
   acts_freed next up before after put t (rests silent same none) fine is is_open has owns =
       let there : before ≡ Some t = sym same ∙ is in
       let misses = subst (MissesOf (inputs.ReleaseAck (place_of d))) there none in
-      let stands : Stands t = (fine_old before t t there ([], refl) fine).1 in
-      let stay : step_by (inputs.ReleaseAck (place_of d)) (roles_of t) ≡ stays = subst (ChangesRolesBy t (inputs.ReleaseAck (place_of d)) misses.0) misses.1 (ChangesRoles-row t (inputs.ReleaseAck (place_of d)) misses.0 stands) in
+      let stands : IsValid t = (fine_old before t t there ([], refl) fine).1 in
+      let stay : step_by (inputs.ReleaseAck (place_of d)) (roles_of t) ≡ stays = subst (ChangesRolesBy t (inputs.ReleaseAck (place_of d)) misses.0) misses.1 (changes_roles_row t (inputs.ReleaseAck (place_of d)) misses.0 stands) in
       freed_never (roles_of t) (subst (λ (role_step : RoleStep). Owns (with_state (place_of d) Free channels) links number (after_step role_step (roles_of t))) stay (acknowledged_owns channels links number k (place_of d) (roles_of t) state (owns t there is_open))) has
   acts_freed next up before after put t (ages old s was_time was aged silent same) fine is is_open has owns = absurd cc
   acts_freed next up before after put t (opens begins linked channel request delay is_nothing none put_is same) fine is is_open has owns = absurd cc
@@ -150,7 +150,7 @@ frame-brings c at n frame state hearing station known free =
     let made = known.station station in
     let says : rsl_in frame ≡ Some made.0 = ap rsl_in made.1 ∙ read_known made.0 made.2 in
     let is : made.0 ≡ rsl.RfChannelReleaseAck at.number = freeing_is at.number n made.0 (sym (ap (λ (o : Option Rsl). hear (acknowledgements at.number (option_to_list o)) (Releasing n)) says) ∙ free) in
-    let word : word_of at.station frame ≡ rsl_word at.station (rsl.RfChannelReleaseAck at.number) = ap (word_of at.station) made.1 ∙ word-known at.station made.0 station made.2 ∙ ap (rsl_word at.station) is in
+    let word : word_of at.station frame ≡ rsl_word at.station (rsl.RfChannelReleaseAck at.number) = ap (word_of at.station) made.1 ∙ word_known at.station made.0 station made.2 ∙ ap (rsl_word at.station) is in
     ap (λ (b : Bool). if b then brought_with c n at.station (whats.Frame frame) else nothing) hearing
     ∙ ap (brought_by c n) word
     ∙ ap (λ (s : ChannelState). if_held n (holder s) (inputs.ReleaseAck at)) state

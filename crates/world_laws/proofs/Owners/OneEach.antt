@@ -7,9 +7,9 @@ use Rattle.world_laws.proofs.Prelude.{step, after_next, after_take_down, first_o
 use Rattle.world_laws.proofs.Prelude.{RequestReference, CellParameters, Parameters, Event, Connect, BasePush, Handle, Tick, BaseDown}
 use Rattle.world_laws.proofs.Prelude.{actors_after, actors_after_all, after_connecting, said_by, pushed, after_base_push, after_break}
 use Rattle.world_laws.proofs.Prelude.{handled, station_item, switch_item, target_in, with_turn, all_steps, Actors, Mobile, base_of}
-use Rattle.world_laws.proofs.Prelude.{broken_link, mobile_of, new_actors, station_of, stations_from, with_link, Good, end-of, good-all}
-use Rattle.world_laws.proofs.Prelude.{good-new, inbox-goes, after-taken, broken-leads, connect-leads, push-leads, turn-leads}
-use Rattle.world_laws.proofs.Prelude.{LivesByTable-new, IsKnownItem, known-inbox, IsSound, sound-read, step_numbered, life, take, tick}
+use Rattle.world_laws.proofs.Prelude.{broken_link, mobile_of, new_actors, station_of, stations_from, with_link, Good, end_of, good_all}
+use Rattle.world_laws.proofs.Prelude.{good_new, inbox_goes, after_taken, broken_leads, connect_leads, push_leads, turn_leads}
+use Rattle.world_laws.proofs.Prelude.{LivesByTable-new, IsKnownItem, known_inbox, IsSound, sound_read, step_numbered, life, take, tick}
 use Rattle.world_laws.proofs.Prelude.{word_of, popped, made_by, requests_in, requests_up, said_in}
 use Rattle.controller_model.specs.declared.step.Step.TheVariants as steps
 use Rattle.ruled_relay.specs.declared.item.What.TheVariants as whats
@@ -17,7 +17,7 @@ use Rattle.world_model.specs.Life.{event_after}
 use Rattle.world_laws.specs.Owners.OneEach.{ConnectionsAnswerMobiles, ConnectionsAreOneEach, NoneIsAnsweredAgain, NoneWasAnswered}
 use Rattle.world_laws.specs.Owners.OneEach.{RequestsComeOnce}
 use Rattle.world_laws.proofs.Owners.Asking.{Begins, asking_says, step_begins}
-use Rattle.world_laws.proofs.Owners.Making.{Connects, connects, is_plain, made_set, none, plain_quiet, requests-append}
+use Rattle.world_laws.proofs.Owners.Making.{Connects, connects, is_plain, made_set, none, plain_quiet, requests_append}
 use Rattle.world_laws.proofs.Events.{snoc_actors, world}
 
 -- ---- what an event does to requests and connections
@@ -43,7 +43,7 @@ rests w v controller fewer there =
 
 pub inbox-same : (w : Actors) (event : Event) → pushed w event ≡ [] → popped w event ≡ [] → (actors_after w event).inbox ≡ w.inbox
 inbox-same w event none_pushed none_popped =
-    sym (sym (append-nil w.inbox) ∙ ap (λ (items : List Item). w.inbox ++ items) (sym none_pushed) ∙ inbox-goes w event ∙ ap (λ (items : List Item). items ++ (actors_after w event).inbox) none_popped)
+    sym (sym (append-nil w.inbox) ∙ ap (λ (items : List Item). w.inbox ++ items) (sym none_pushed) ∙ inbox_goes w event ∙ ap (λ (items : List Item). items ++ (actors_after w event).inbox) none_popped)
 
 pub plain_pushes : (w : Actors) (event : Event) → is_plain event ≡ true → (pushed w event ≡ []) × (popped w event ≡ [])
 plain_pushes w (BasePush source) is = absurd cc
@@ -68,15 +68,15 @@ unchanged w = rests w w refl (λ k. omega arith) (λ k. refl)
 connect_effect : (w : Actors) (number station : ℕ) (initial : List ℕ) (accepts : Bool) → Effect w (actors_after w (Connect number station initial accepts))
 unfolding event_after
 connect_effect w number station initial accepts =
-    after-taken (Effect w) (after_connecting w number station initial accepts) w
-    (connect-leads (Effect w) w number station initial accepts (λ may. one_connects number (connects w number station initial accepts may) refl)) (unchanged w)
+    after_taken (Effect w) (after_connecting w number station initial accepts) w
+    (connect_leads (Effect w) w number station initial accepts (λ may. one_connects number (connects w number station initial accepts may) refl)) (unchanged w)
 
 -- ---- pushes and breaks
 
-said-last : (k : ℕ) (items : List Item) (item : Item) → requests_in k (said_in (items ++ item ∷ [])) ≡ requests_in k (said_in items) + requests_in k (said_by item.what)
-said-last k items item =
+said_last : (k : ℕ) (items : List Item) (item : Item) → requests_in k (said_in (items ++ item ∷ [])) ≡ requests_in k (said_in items) + requests_in k (said_by item.what)
+said_last k items item =
     ap (requests_in k) (flat_map-append (λ (i : Item). said_by i.what) items (item ∷ []))
-    ∙ requests-append k (said_in items) (said_in (item ∷ []))
+    ∙ requests_append k (said_in items) (said_in (item ∷ []))
     ∙ ap (λ (ms : List Rsl). requests_in k (said_in items) + requests_in k ms) (append-nil (said_by item.what))
 
 first_and_behind : (messages : List Rsl) (message : Rsl) → first_of_messages messages ≡ Some message → AllByRecursion IsSound messages → (message ∷ messages_behind_first messages ≡ messages) × IsSound message
@@ -88,29 +88,29 @@ first_and_behind (first ∷ others) message is sound =
 push_effect : (w : Actors) (source : ℕ) → Good w → Effect w (actors_after w (BasePush source))
 unfolding event_after
 push_effect w source good =
-    after-taken (Effect w) (after_base_push w source) w
-    (push-leads (Effect w) w source
-    (λ first others. rests w _ refl (λ k. let said = said-last k w.inbox (switch_item first) in omega (arith, said)) (λ k. refl))
+    after_taken (Effect w) (after_base_push w source) w
+    (push_leads (Effect w) w source
+    (λ first others. rests w _ refl (λ k. let said = said_last k w.inbox (switch_item first) in omega (arith, said)) (λ k. refl))
     (λ message is.
-    let parts = first_and_behind (base_of w source).messages message is (end-of w source good).made in
-    let reads : said_by (station_item source message).what ≡ message ∷ [] = ap (λ (r : _). option_to_list (result_ok r)) (sound-read message parts.1) in
+    let parts = first_and_behind (base_of w source).messages message is (end_of w source good).made in
+    let reads : said_by (station_item source message).what ≡ message ∷ [] = ap (λ (r : _). option_to_list (result_ok r)) (sound_read message parts.1) in
     rests w _ refl
     (λ k.
-    let said = said-last k w.inbox (station_item source message) in
+    let said = said_last k w.inbox (station_item source message) in
     let one : requests_in k (said_by (station_item source message).what) ≡ requests_in k (message ∷ []) = ap (requests_in k) reads in
     let whole : requests_in k (message ∷ messages_behind_first (base_of w source).messages) ≡ requests_in k (base_of w source).messages = ap (requests_in k) parts.0 in
-    let both = requests-append k (message ∷ []) (messages_behind_first (base_of w source).messages) in
+    let both = requests_append k (message ∷ []) (messages_behind_first (base_of w source).messages) in
     let set = made_set k (requests_in k (message ∷ [])) 0 w.stations (source - 1) (record (station_of w source) { base = after_next (base_of w source) }) (omega (arith, whole, both)) in
     omega (arith, said, one, set)) (λ k. refl))) (unchanged w)
 
 break_effect : (w : Actors) (source : ℕ) → Effect w (actors_after w (BaseDown source))
 unfolding event_after
 break_effect w source =
-    after-taken (Effect w) (after_break w source) w
-    (broken-leads (Effect w) w source
-    (λ up is. rests w _ refl (λ k. let said = said-last k w.inbox (record { source = source; what = whats.Down }) in omega (arith, said)) (λ k. refl))
+    after_taken (Effect w) (after_break w source) w
+    (broken_leads (Effect w) w source
+    (λ up is. rests w _ refl (λ k. let said = said_last k w.inbox (record { source = source; what = whats.Down }) in omega (arith, said)) (λ k. refl))
     (λ up is. rests w _ refl (λ k.
-    let said = said-last k w.inbox (record { source = source; what = whats.Down }) in
+    let said = said_last k w.inbox (record { source = source; what = whats.Down }) in
     let set = made_set k 0 0 w.stations (source - 1) (record (station_of (with_link source broken_link w) source) { base = after_take_down (base_of (with_link source broken_link w) source) }) (omega arith) in
     omega (arith, said, set)) (λ k. refl))) (unchanged w)
 
@@ -155,12 +155,12 @@ begins_said c item n t known begins =
 
 take_effect : (settings : Parameters) (done : List Event) (w : Actors) (item : Item) (items : List Item) → w ≡ world settings done → w.inbox ≡ item ∷ items → Effect w (with_turn (target_in w item.source item.what) (take item w.controller) (record w { inbox = items }))
 take_effect settings done w item items is stands =
-    let known : AllByRecursion IsKnownItem (item ∷ items) = subst (AllByRecursion IsKnownItem) stands (subst (λ (x : Actors). AllByRecursion IsKnownItem x.inbox) (sym is) (known-inbox settings done)) in
-    turn-leads (Effect w) (target_in w item.source item.what) (take item w.controller) (record w { inbox = items }) (λ links.
+    let known : AllByRecursion IsKnownItem (item ∷ items) = subst (AllByRecursion IsKnownItem) stands (subst (λ (x : Actors). AllByRecursion IsKnownItem x.inbox) (sym is) (known_inbox settings done)) in
+    turn_leads (Effect w) (target_in w item.source item.what) (take item w.controller) (record w { inbox = items }) (λ links.
     takes (λ k. requests_in k (said_by item.what))
     (λ k.
     let all : requests_in k (said_in w.inbox) ≡ requests_in k (said_in (item ∷ items)) = ap (λ (xs : List Item). requests_in k (said_in xs)) stands in
-    let parts = requests-append k (said_by item.what) (said_in items) in
+    let parts = requests_append k (said_by item.what) (said_in items) in
     omega (arith, all, parts))
     (λ k. refl)
     (λ n t now. was n t (came_in settings done w (steps.Take item) is n t now) known.0))
@@ -172,7 +172,7 @@ take_effect settings done w item items is stands =
 tick_effect : (settings : Parameters) (done : List Event) (w : Actors) (ms : ℕ) → w ≡ world settings done → Effect w (actors_after w (Tick ms))
 unfolding event_after
 tick_effect settings done w ms is =
-    turn-leads (Effect w) None (tick ms w.controller) w (λ links.
+    turn_leads (Effect w) None (tick ms w.controller) w (λ links.
     takes none (λ k. omega arith) (λ k. refl) (λ n t now. was n t (came_in settings done w (steps.Tick ms) is n t now)))
   where
     never : (item : Item) → steps.Tick ms ≡ steps.Take item → ⊥
@@ -191,7 +191,7 @@ handle_effect settings done w is = by w.inbox refl where
 
 effect : (settings : Parameters) (done : List Event) (w : Actors) (event : Event) → w ≡ world settings done → Effect w (actors_after w event)
 effect settings done w (Connect number station initial accepts) is = connect_effect w number station initial accepts
-effect settings done w (BasePush source) is = push_effect w source (subst Good (sym is) (good-all (new_actors settings) done (good-new settings)))
+effect settings done w (BasePush source) is = push_effect w source (subst Good (sym is) (good_all (new_actors settings) done (good_new settings)))
 effect settings done w (BaseDown source) is = break_effect w source
 effect settings done w Handle is = handle_effect settings done w is
 effect settings done w (Tick ms) is = tick_effect settings done w ms is

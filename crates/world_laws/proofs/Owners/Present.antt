@@ -4,8 +4,8 @@ use Rattle.world_laws.proofs.Prelude.{Option, Some, refl, sym, ap, ◌∙◌, in
 use Rattle.world_laws.proofs.Prelude.{hears, ChannelState, activation_ack, Rsl, ChannelActivation, RfChannelRelease, RfChannelReleaseAck}
 use Rattle.world_laws.proofs.Prelude.{OutboxEntry, Tenure, Agrees, acknowledged_in, tenure_behind, to_come, began, begins, begins_and_ends}
 use Rattle.world_laws.proofs.Prelude.{acknowledgement, acknowledgements, due, is_active_then, rsl_in, Actors, base_of, is_active_at, is_up}
-use Rattle.world_laws.proofs.Prelude.{outbox_of, spot_at, tenure_at, Both-empty, Comes, tenure_all, tenure_then, none-due}
-use Rattle.world_model.specs.OwnerLines.Comes.{nothing, ends}
+use Rattle.world_laws.proofs.Prelude.{outbox_of, spot_at, tenure_at, both_empty, IsOwed, tenure_all, tenure_then, nothing_is_due}
+use Rattle.world_model.specs.OwnerLines.IsOwed.{nothing, ends}
 
 -- ---- what is due of a channel that is active
 
@@ -47,7 +47,7 @@ ends_alone k tenure (x ∷ xs) is = elim (one_entry k tenure (rsl_in x.out.frame
       ∙ ends_alone k tenure xs (sym (ap (λ (ms : List Rsl). ms ++ due k (is_active_then k true (rsl_in x.out.frame)) xs) stays.0 ∙ ap (λ (b : Bool). due k b xs) stays.1) ∙ is)
   | inr over ↦
       let rest : due k (is_active_then k true (rsl_in x.out.frame)) xs ≡ [] = behind_same (sym (ap (λ (ms : List Rsl). ms ++ due k (is_active_then k true (rsl_in x.out.frame)) xs) over.0) ∙ is) in
-      none-due k (is_active_then k true (rsl_in x.out.frame)) (tenure_then k true tenure (rsl_in x.out.frame)) xs rest ∙ over.1
+      nothing_is_due k (is_active_then k true (rsl_in x.out.frame)) (tenure_then k true tenure (rsl_in x.out.frame)) xs rest ∙ over.1
 ] where
   behind_same : {a b : Rsl} {others more : List Rsl} → a ∷ others ≡ b ∷ more → others ≡ more
   behind_same same = cc
@@ -63,7 +63,7 @@ tail_is : {a b : Rsl} {others more : List Rsl} → a ∷ others ≡ b ∷ more �
 tail_is same = cc
 
 last_none : (k : ℕ) (xs ds : List Rsl) → [] ≡ xs ++ ds → Last k ds
-last_none k xs ds is = none_due (Both-empty xs ds is).1
+last_none k xs ds is = none_due (both_empty xs ds is).1
 
 last_end : (k : ℕ) (xs ds : List Rsl) → RfChannelReleaseAck k ∷ [] ≡ xs ++ ds → Last k ds
 last_end k [] ds is = end_due (sym is)
@@ -77,7 +77,7 @@ last_both : (k : ℕ) (xs ds : List Rsl) → activation_ack k ∷ RfChannelRelea
 last_both k [] ds is = begin_due (RfChannelReleaseAck k ∷ []) (sym is)
 last_both k (x ∷ xs) ds is = last_end k xs ds (tail_is is)
 
-last_of : (k : ℕ) (state : ChannelState) (all xs ds : List Rsl) → Comes k state all → all ≡ xs ++ ds → Last k ds
+last_of : (k : ℕ) (state : ChannelState) (all xs ds : List Rsl) → IsOwed k state all → all ≡ xs ++ ds → Last k ds
 last_of k state all xs ds nothing is = last_none k xs ds is
 last_of k state all xs ds began is = last_none k xs ds is
 last_of k state all xs ds begins is = last_begin k xs ds is
@@ -96,6 +96,6 @@ present_last owner w at agrees hearing up active =
     ap (λ (n : ℕ). record { at = at; number = n }) (ap (λ (b : Bool). tenure_all at.number b (spot_at w at).tenure waits) active ∙ by waits (last_of at.number (channel_state w.controller at) (to_come w at ++ way.lost) front (due at.number true waits) way.comes whole))
   where
     by : (entries : List OutboxEntry) → Last at.number (due at.number true entries) → tenure_all at.number true (spot_at w at).tenure entries ≡ (spot_at w at).tenure
-    by entries (none_due is) = none-due at.number true (spot_at w at).tenure entries is
+    by entries (none_due is) = nothing_is_due at.number true (spot_at w at).tenure entries is
     by entries (end_due is) = ends_alone at.number (spot_at w at).tenure entries is
     by entries (begin_due rest is) = absurd (never_begins at.number entries rest is)

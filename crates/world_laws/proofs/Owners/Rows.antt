@@ -3,6 +3,7 @@ use Rattle.world_laws.proofs.Prelude.{◌≡◌, true, false, List, [], ◌∷�
 use Rattle.world_laws.proofs.Prelude.{new_connection, connection_of, activation_ack, Rsl, Event, Connect, BaseDown}
 use Rattle.world_laws.proofs.Prelude.{BaseTakes, BasePush, Handle, actors_after_all, channel_required, owner_in, station_item, IsMobiles}
 use Rattle.world_laws.proofs.Prelude.{is_request_of, requests_in, requests_up}
+use Rattle.octets.proofs.Hex.{hex}
 use Rattle.world_model.proofs.Worlds.{on_literals}
 use Rattle.world_laws.proofs.Owners.LinkEnds.{frame_down}
 use Rattle.world_laws.specs.Owners.LinkEnds.{EndsWithDown, LinksAreUp, down_of}
@@ -18,7 +19,7 @@ counted = refl
 
 -- mobile 7 asks for a channel
 abbrev asking : List Event
-asking = Connect 7 1 (0x05 ∷ 0x24 ∷ 0x71 ∷ []) true ∷ []
+asking = Connect 7 1 (hex "05 24 71") true ∷ []
 
 made_by_the_station : requests_up (actors_after_all begin asking) 7 ≡ 1
 unfolding on_literals begin

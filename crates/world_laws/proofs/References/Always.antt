@@ -1,11 +1,11 @@
 -- The names agree, whatever happened.
 use Rattle.world_laws.proofs.Prelude.{◌≡◌, ℕ, ◌+◌, ◌≤◌, ◌^◌, List, [], ◌∷◌, ◌++◌, length, unwrap_or, Option, Some, None, refl, sym, ap}
-use Rattle.world_laws.proofs.Prelude.{◌∙◌, subst, inl, AllByRecursion, Sccp, SWITCH_LINK, AllByRecursion-append, ComesInOctets}
+use Rattle.world_laws.proofs.Prelude.{◌∙◌, subst, inl, AllByRecursion, Sccp, SWITCH_LINK, AllByRecursion-append, IsOctetStep}
 use Rattle.world_laws.proofs.Prelude.{life_sound, Step, Controller, Item, AreAllowed, Parameters, Event, BaseTakes, BasePush, Handle}
 use Rattle.world_laws.proofs.Prelude.{SwitchTakes, SwitchDoes, Tick, BaseDown, OutboxEntry, actors_after, actors_after_all, handled}
 use Rattle.world_laws.proofs.Prelude.{target_in, after_base_takes, all_steps, first_taken, step_at, after_switch_takes, sccp_in}
-use Rattle.world_laws.proofs.Prelude.{switch_took, Actors, Link, link_of, new_actors, outbox_of, with_outbox, switch_takes-leads}
-use Rattle.world_laws.proofs.Prelude.{after-taken, LivesByTable-new, new_outbox, aerial-leads, taking-leads, ◌≢◌, up-right, OfTaken}
+use Rattle.world_laws.proofs.Prelude.{switch_took, Actors, Link, link_of, new_actors, outbox_of, with_outbox, switch_takes_leads}
+use Rattle.world_laws.proofs.Prelude.{after_taken, LivesByTable-new, new_outbox, aerial_leads, taking_leads, ◌≢◌, up_right, OfTaken}
 use Rattle.world_laws.proofs.Prelude.{other_link, is_unasked, TakesOctets, NamesAlwaysAgree, PeersDiffer}
 use Rattle.controller_model.specs.declared.step.Step.TheVariants as steps
 use Rattle.world_model.specs.Life.{event_after}
@@ -27,11 +27,11 @@ beside : (w : Actors) → IsBeside w w
 beside w = record { controller_is = refl; switch_is = refl; made_is = refl; inbox_is = refl; outbox_is = refl }
 
 beside_after : (w : Actors) (o : Option Actors) → OfTaken (IsBeside w) o → Keeps w (unwrap_or o w)
-beside_after w o leads = by_beside w (unwrap_or o w) (after-taken (IsBeside w) o w leads (beside w))
+beside_after w o leads = by_beside w (unwrap_or o w) (after_taken (IsBeside w) o w leads (beside w))
 
 beside_takes : (w : Actors) (station : ℕ) → OfTaken (IsBeside w) (after_base_takes w station)
-beside_takes w station = taking-leads (IsBeside w) w station (λ first others up _ mobiles stations.
-    record { controller_is = refl; switch_is = refl; made_is = refl; inbox_is = refl; outbox_is = same others (up-right station w up).0 })
+beside_takes w station = taking_leads (IsBeside w) w station (λ first others up _ mobiles stations.
+    record { controller_is = refl; switch_is = refl; made_is = refl; inbox_is = refl; outbox_is = same others (up_right station w up).0 })
   where
     same : (others : List OutboxEntry) → station ≢ SWITCH_LINK → outbox_of (with_outbox station others w) SWITCH_LINK ≡ outbox_of w SWITCH_LINK
     same others differs = ap (λ (l : Link). l.outbox) (other_link w SWITCH_LINK station (record (link_of w station) { outbox = others }) (λ is. differs (sym is)))
@@ -42,12 +42,12 @@ beside_takes w station = taking-leads (IsBeside w) w station (λ first others up
 pub record Before (w : Actors) (event : Event) : Type 0 where
   pub agree : NamesAgree w
   pub few : w.controller.next_number ≤ 2 ^ 24
-  pub laws : (s : Step) → ComesInOctets s → Lawful w.controller s
+  pub laws : (s : Step) → IsOctetStep s → Lawful w.controller s
   pub octets : TakesOctets w event
 
 -- the switch takes
 takes_keeps : (w : Actors) → NamesAgree w → w.controller.next_number ≤ 2 ^ 24 → Keeps w (unwrap_or (after_switch_takes w) w)
-takes_keeps w agree few = after-taken (Keeps w) (after_switch_takes w) w (switch_takes-leads (Keeps w) w (λ first others up stood.
+takes_keeps w agree few = after_taken (Keeps w) (after_switch_takes w) w (switch_takes_leads (Keeps w) w (λ first others up stood.
     let h : IsFirst w first others = record { agree = agree; few = few; up = up; stood = stood } in
     first_keeps first others h)) (keeps_itself w)
   where
@@ -62,7 +62,7 @@ takes_keeps w agree few = after-taken (Keeps w) (after_switch_takes w) w (switch
       same_controller None = refl
       same_controller (Some message) = refl
 
-handle_keeps : (w : Actors) → ((s : Step) → ComesInOctets s → Lawful w.controller s) → (items : List Item) → w.inbox ≡ items → AllByRecursion ComesInOctets (first_taken items) → Keeps w (unwrap_or (handled items w) w)
+handle_keeps : (w : Actors) → ((s : Step) → IsOctetStep s → Lawful w.controller s) → (items : List Item) → w.inbox ≡ items → AllByRecursion IsOctetStep (first_taken items) → Keeps w (unwrap_or (handled items w) w)
 handle_keeps w laws [] is own = keeps_itself w
 handle_keeps w laws (item ∷ items) is own =
     step_keeps w items (target_in w item.source item.what) (steps.Take item) (laws (steps.Take item) own.0)
@@ -78,7 +78,7 @@ keeps w SwitchTakes h = takes_keeps w h.agree h.few
 keeps w (SwitchDoes action) h = does_keeps w action
 keeps w (Tick ms) h = step_keeps w w.inbox None (steps.Tick ms) (h.laws (steps.Tick ms) h.octets.0) (λ n P confirms. confirms.waiting) (λ n P confirms r comes. absurd comes)
 keeps w (BaseDown source) h = break_keeps w source
-keeps w event h = beside_after w (event_after w event) (aerial-leads (IsBeside w) w event refl (λ mobiles stations. record { controller_is = refl; switch_is = refl; made_is = refl; inbox_is = refl; outbox_is = refl }))
+keeps w event h = beside_after w (event_after w event) (aerial_leads (IsBeside w) w event refl (λ mobiles stations. record { controller_is = refl; switch_is = refl; made_is = refl; inbox_is = refl; outbox_is = refl }))
 
 -- ---- all events
 
@@ -94,7 +94,7 @@ new_agree settings = record {
   empty : outbox_of (new_actors settings) SWITCH_LINK ≡ []
   empty = new_outbox (length settings.cells + 1) SWITCH_LINK
 
-pub before_of : (settings : Parameters) (done : List Event) (w : Actors) (event : Event) → w ≡ world settings done → AreAllowed settings → AllByRecursion ComesInOctets (all_steps (new_actors settings) done) → TakesOctets w event → NamesAgree w → Before w event
+pub before_of : (settings : Parameters) (done : List Event) (w : Actors) (event : Event) → w ≡ world settings done → AreAllowed settings → AllByRecursion IsOctetStep (all_steps (new_actors settings) done) → TakesOctets w event → NamesAgree w → Before w event
 before_of settings done w event is allowed octets own agree =
     let lives : w.controller ≡ lived settings done = ap (λ (x : Actors). x.controller) is ∙ LivesByTable-new settings done in
     record {
@@ -107,18 +107,18 @@ before_of settings done w event is allowed octets own agree =
 abbrev AgreeWithOwnPeers : Actors → Type 0
 AgreeWithOwnPeers w = NamesAgree w × HaveOwnPeers w
 
-agree_through : (settings : Parameters) (done rest : List Event) (w : Actors) → w ≡ world settings done → AreAllowed settings → AllByRecursion ComesInOctets (all_steps (new_actors settings) done) → AllByRecursion ComesInOctets (all_steps w rest) → AgreeWithOwnPeers w → AgreeWithOwnPeers (actors_after_all w rest)
+agree_through : (settings : Parameters) (done rest : List Event) (w : Actors) → w ≡ world settings done → AreAllowed settings → AllByRecursion IsOctetStep (all_steps (new_actors settings) done) → AllByRecursion IsOctetStep (all_steps w rest) → AgreeWithOwnPeers w → AgreeWithOwnPeers (actors_after_all w rest)
 agree_through settings done [] w is allowed octets later agree = agree
 agree_through settings done (event ∷ rest) w is allowed octets later agree =
-    let own = all_left ComesInOctets (step_at w event) (all_steps (actors_after w event) rest) later in
+    let own = all_left IsOctetStep (step_at w event) (all_steps (actors_after w event) rest) later in
     let kept : Keeps w (actors_after w event) = keeps w event (before_of settings done w event is allowed octets own agree.0) in
     agree_through settings (done ++ event ∷ []) rest (actors_after w event) (ap (λ (x : Actors). actors_after x event) is ∙ sym (snoc_actors (new_actors settings) done event)) allowed
-    (subst (AllByRecursion ComesInOctets) (sym (snoc_steps (new_actors settings) done event)) (AllByRecursion-append ComesInOctets (all_steps (new_actors settings) done) (step_at (world settings done) event) octets
-    (subst (λ (x : Actors). AllByRecursion ComesInOctets (step_at x event)) is own)))
-    (all_right ComesInOctets (step_at w event) (all_steps (actors_after w event) rest) later)
+    (subst (AllByRecursion IsOctetStep) (sym (snoc_steps (new_actors settings) done event)) (AllByRecursion-append IsOctetStep (all_steps (new_actors settings) done) (step_at (world settings done) event) octets
+    (subst (λ (x : Actors). AllByRecursion IsOctetStep (step_at x event)) is own)))
+    (all_right IsOctetStep (step_at w event) (all_steps (actors_after w event) rest) later)
     (kept.names agree.0, kept.peers agree.1)
 
-agree_new : (settings : Parameters) (events : List Event) → AreAllowed settings → AllByRecursion ComesInOctets (all_steps (new_actors settings) events) → AgreeWithOwnPeers (world settings events)
+agree_new : (settings : Parameters) (events : List Event) → AreAllowed settings → AllByRecursion IsOctetStep (all_steps (new_actors settings) events) → AgreeWithOwnPeers (world settings events)
 agree_new settings events allowed octets = agree_through settings [] events (new_actors settings) refl allowed tt octets (new_agree settings, tt)
 
 pub names_always_agree_new : (settings : Parameters) (events : List Event) → NamesAlwaysAgree settings events

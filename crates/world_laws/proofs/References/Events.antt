@@ -9,7 +9,7 @@ use Rattle.world_laws.proofs.Prelude.{send_fault, after_clear, assignment_reques
 use Rattle.world_laws.proofs.Prelude.{data_forms_on, dlci_for, with_stage, SwitchState, Item, Rsl, SwitchAction, Assign, Clear, Dtap}
 use Rattle.world_laws.proofs.Prelude.{OutboxEntry, after_base_push, after_break, pushed_by_station, pushed_by_switch, switch_item}
 use Rattle.world_laws.proofs.Prelude.{with_item, after_switch_does, is_layer_3, may_send_on, sent_on, Actors, Link, base_of, broken_link}
-use Rattle.world_laws.proofs.Prelude.{is_up, outbox_of, with_base, with_link, after-taken, broken-leads, changed_link, same_Some}
+use Rattle.world_laws.proofs.Prelude.{is_up, outbox_of, with_base, with_link, after_taken, broken_leads, changed_link, same_Some}
 use Rattle.world_laws.proofs.Prelude.{stage_fault, other_link, is_of_peer, is_unasked, is_asking, is_unheard, is_known}
 use Rattle.conn_rules.specs.Connection.{Connection as ControllerConnection}
 use Rattle.msc_end.specs.declared.connection.Connection.{Connection}
@@ -17,12 +17,12 @@ use Rattle.msc_end.specs.declared.connection.Stage.{Stage}
 use Rattle.msc_end.specs.Switch.{connection_of}
 use Rattle.ruled_relay.specs.declared.item.What.TheVariants as whats
 use Rattle.world_laws.specs.References.Agree.{Agrees, AsksOnce, Confirms, ConfirmsBeing, ConfirmsBy, HasAsked, IsRight, IsUnknown, Knows}
-use Rattle.world_laws.specs.References.Agree.{NamesAgree, Never, Only, Runs, StandsAt, is_over, over_after, reads_of}
+use Rattle.world_laws.specs.References.Agree.{NamesAgree, Never, Only, Runs, IsFirstAt, is_over, over_after, reads_of}
 use Rattle.world_laws.specs.References.Naming.{Reach, early, waits, due, named, cleared, gone, reach_in, reach_of}
 use Rattle.world_laws.specs.References.Reads.{AreNothing, Read}
-use Rattle.world_laws.proofs.References.Peers.{Differ, HaveOwnPeers, clear-peers, peers_of}
-use Rattle.world_laws.proofs.References.Places.{got_other, set-none}
-use Rattle.world_laws.proofs.References.Pushing.{station-item, switch-item}
+use Rattle.world_laws.proofs.References.Peers.{Differ, HaveOwnPeers, clear_peers, peers_of}
+use Rattle.world_laws.proofs.References.Places.{got_other, set_none}
+use Rattle.world_laws.proofs.References.Pushing.{confirms_station_item, confirms_switch_item}
 use Rattle.world_laws.proofs.References.Taking.{IsSame, asked_same, same_agrees, same_unknown, unasked_same}
 
 -- ---- what is kept of each connection
@@ -83,7 +83,7 @@ pub same_by : (w v : Actors) (n : ℕ) → v.controller ≡ w.controller → v.s
 same_by w v n controller switch outbox = record {
   controller_is = controller;
   none = λ none. subst (λ (s : SwitchState). find (is_of_peer n) s.connections ≡ None) (sym switch) none;
-  stands = λ place c stands. (c, subst (λ (s : SwitchState). StandsAt n place c s.connections) (sym switch) stands, refl);
+  stands = λ place c stands. (c, subst (λ (s : SwitchState). IsFirstAt n place c s.connections) (sym switch) stands, refl);
   quiet = λ quiet. subst (λ (entries : List OutboxEntry). AreNothing (reads_of n entries)) (sym outbox) quiet;
   once = λ once. subst (λ (entries : List OutboxEntry). AsksOnce n (reads_of n entries)) (sym outbox) once;
   runs = λ k over last runs. subst (λ (entries : List OutboxEntry). Runs k over (reads_of n entries) last) (sym outbox) runs;
@@ -108,11 +108,11 @@ push_switch w [] is = keeps_itself w
 push_switch w (first ∷ others) is = by_same w (with_item (switch_item first) (record w { switch_made = others })) (λ n. same_by w (with_item (switch_item first) (record w { switch_made = others })) n refl refl refl)
     (λ n P confirms.
     let made = subst (AllByRecursion (ConfirmsBy P n)) is confirms.made in
-    record { made = made.1; waiting = AllByRecursion-append (ConfirmsBeing P n) w.inbox (switch_item first ∷ []) confirms.waiting (switch-item P n first made.0, tt) }) refl refl
+    record { made = made.1; waiting = AllByRecursion-append (ConfirmsBeing P n) w.inbox (switch_item first ∷ []) confirms.waiting (confirms_switch_item P n first made.0, tt) }) refl refl
 
 push_station : (w : Actors) (source : ℕ) → source ≢ SWITCH_LINK → (o : Option Rsl) → Keeps w (unwrap_or (pushed_by_station source o w) w)
 push_station w source station None = keeps_itself w
-push_station w source station (Some message) = item_keeps w _ _ refl refl refl refl refl (λ n P. station-item P n source message station)
+push_station w source station (Some message) = item_keeps w _ _ refl refl refl refl refl (λ n P. confirms_station_item P n source message station)
 
 pub push_keeps : (w : Actors) (source : ℕ) → Keeps w (unwrap_or (after_base_push w source) w)
 push_keeps w source = by (nat_eq source SWITCH_LINK) refl where
@@ -158,7 +158,7 @@ module _ (w v : Actors) (controller : v.controller ≡ w.controller) (switch : v
     place = known.place;
     of = known.of;
     last = is_over known.of.stage;
-    stands = subst (λ (s : SwitchState). StandsAt n known.place known.of s.connections) (sym switch) known.stands;
+    stands = subst (λ (s : SwitchState). IsFirstAt n known.place known.of s.connections) (sym switch) known.stands;
     fits = known.fits;
     runs = subst (λ (entries : List OutboxEntry). Runs (REFERENCE_BASE + (known.place + 1)) (is_over known.of.stage) (reads_of n entries) (is_over known.of.stage)) (sym outbox) refl;
     confirmed = confirms n (Only (REFERENCE_BASE + (known.place + 1))) known.confirmed;
@@ -175,7 +175,7 @@ module _ (w v : Actors) (controller : v.controller ≡ w.controller) (switch : v
   }
 
 pub break_keeps : (w : Actors) (source : ℕ) → Keeps w (unwrap_or (after_break w source) w)
-break_keeps w source = after-taken (Keeps w) (after_break w source) w (broken-leads (Keeps w) w source of_switch of_station) (keeps_itself w) where
+break_keeps w source = after_taken (Keeps w) (after_break w source) w (broken_leads (Keeps w) w source of_switch of_station) (keeps_itself w) where
   of_switch : is_up w source ≡ true → source ≡ SWITCH_LINK → Keeps w (with_item (record { source = source; what = whats.Down }) (record (with_link source broken_link w) { switch_made = [] }))
   of_switch up is = cut_keeps w (with_item (record { source = source; what = whats.Down }) (record (with_link source broken_link w) { switch_made = [] })) refl refl
       (ap (λ (l : Link). l.outbox) (subst (λ (x : ℕ). get_or (set w.links source broken_link) x broken_link ≡ broken_link) is (changed_link w.links source broken_link up)))
@@ -187,8 +187,8 @@ break_keeps w source = after-taken (Keeps w) (after_break w source) w (broken-le
 -- ---- the switch acts of its own
 
 -- one connection changes, and hasn't ended before or after
-set_stands : (n place : ℕ) (c : Connection) (cs : List Connection) (i : ℕ) (x own : Connection) → slice_get cs i ≡ Some x → own.peer ≡ x.peer → is_over own.stage ≡ is_over x.stage → StandsAt n place c cs
-    → (now : Connection) × StandsAt n place now (slice_set cs i own) × (is_over now.stage ≡ is_over c.stage)
+set_stands : (n place : ℕ) (c : Connection) (cs : List Connection) (i : ℕ) (x own : Connection) → slice_get cs i ≡ Some x → own.peer ≡ x.peer → is_over own.stage ≡ is_over x.stage → IsFirstAt n place c cs
+    → (now : Connection) × IsFirstAt n place now (slice_set cs i own) × (is_over now.stage ≡ is_over c.stage)
 set_stands n place c [] i x own is peer over stands = absurd stands
 set_stands n zero c (y ∷ cs) zero x own is peer over stands =
     (own, (refl, peer ∙ ap (λ (z : Connection). z.peer) (sym (same_Some _ _ is)) ∙ stands.1), over ∙ ap (λ (z : Connection). is_over z.stage) (sym (same_Some _ _ is) ∙ stands.0))
@@ -201,7 +201,7 @@ set_stands n (suc place) c (y ∷ cs) (suc i) x own is peer over stands =
 -- the connections are others then, but stand where they stood
 record StandSame (cs now : List Connection) (n : ℕ) : Type 0 where
   none : find (is_of_peer n) cs ≡ None → find (is_of_peer n) now ≡ None
-  stands : (place : ℕ) (c : Connection) → StandsAt n place c cs → (own : Connection) × StandsAt n place own now × (is_over own.stage ≡ is_over c.stage)
+  stands : (place : ℕ) (c : Connection) → IsFirstAt n place c cs → (own : Connection) × IsFirstAt n place own now × (is_over own.stage ≡ is_over c.stage)
 
 stand_itself : (cs : List Connection) (n : ℕ) → StandSame cs cs n
 stand_itself cs n = record { none = λ none. none; stands = λ place c stands. (c, stands, refl) }
@@ -217,7 +217,7 @@ clear_stands cs number n open_is = by_number (nat_eq number 0) open_is where
   by : (o : Option Connection) → slice_get cs (number - 1) ≡ o → is_none (send_fault o) ≡ true → StandSame cs (connections_after_clear cs number o) n
   by None is unclear = stand_itself cs n
   by (Some x) is unclear = record {
-    none = λ none. set-none n cs (number - 1) (with_stage x Clearing) (got_other n cs (number - 1) x is none) none;
+    none = λ none. set_none n cs (number - 1) (with_stage x Clearing) (got_other n cs (number - 1) x is none) none;
     stands = λ place c stands. set_stands n place c cs (number - 1) x (with_stage x Clearing) is refl (sym (stage-open x unclear)) stands;
   }
 
@@ -243,7 +243,7 @@ sent_keeps w number message next stand same_peers = by (may_send_on w number) re
 
 pub does_keeps : (w : Actors) (action : SwitchAction) → Keeps w (unwrap_or (after_switch_does w action) w)
 does_keeps w (Assign number) = sent_keeps w number assignment_request w.switch (λ unclear n. stand_itself w.switch.connections n) refl
-does_keeps w (Clear number) = sent_keeps w number clear_command (after_clear w.switch number) (λ unclear n. clear_stands w.switch.connections number n unclear) (clear-peers w.switch.connections number)
+does_keeps w (Clear number) = sent_keeps w number clear_command (after_clear w.switch number) (λ unclear n. clear_stands w.switch.connections number n unclear) (clear_peers w.switch.connections number)
 does_keeps w (Dtap number sapi message) = by (is_layer_3 message) where
   by : (b : Bool) → Keeps w (unwrap_or (if b then sent_on w number (Transfer (dlci_for sapi) message) w.switch else None) w)
   by true = sent_keeps w number (Transfer (dlci_for sapi) message) w.switch (λ unclear n. stand_itself w.switch.connections n) refl

@@ -8,8 +8,8 @@ use Rattle.world_laws.proofs.Prelude.{switch_took, Actors, is_up, outbox_of, wit
 use Rattle.world_laws.proofs.Prelude.{is_unasked, is_asking, is_unheard, is_known}
 use Rattle.bssmap_codec.specs.declared.bssmap.Bssmap.TheVariants as bssmap
 use Rattle.msc_end.specs.declared.connection.Connection.{Connection}
-use Rattle.world_laws.specs.References.Agree.{Agrees, AsksOnce, ConfirmsBy, Never, HasAsked, Heeds, IsHeeded, IsKnown, IsOnItsWay, IsRight}
-use Rattle.world_laws.specs.References.Agree.{IsUnknown, NamesAgree, Runs, StandsAt, is_over, over_after, reads, reads_of}
+use Rattle.world_laws.specs.References.Agree.{Agrees, AsksOnce, ConfirmsBy, Never, HasAsked, IsAddressedTo, IsHeeded, IsKnown, IsOnItsWay, IsRight}
+use Rattle.world_laws.specs.References.Agree.{IsUnknown, NamesAgree, Runs, IsFirstAt, is_over, over_after, reads, reads_of}
 use Rattle.world_laws.specs.References.Reads.{AreNothing, IsNothing, Read, asks, carried, data_read, initial_read, nothing, sccp_read}
 use Rattle.world_laws.proofs.References.OwnTaking.{heeds_data, own_asks, own_data}
 use Rattle.world_laws.proofs.References.Peers.{Differ, HaveOwnPeers, effect_differs, peers_of}
@@ -91,7 +91,7 @@ module _ (w v : Actors) (others : List OutboxEntry) (n : ℕ) (three : n < w.con
       let kept : IsSame w v n = record {
         controller_is = now.controller_is;
         none = λ none. subst (λ (xs : List Connection). find (is_of_peer n) xs ≡ None) (sym now.conns) none;
-        stands = λ place c stands. (c, subst (StandsAt n place c) (sym now.conns) stands, refl);
+        stands = λ place c stands. (c, subst (IsFirstAt n place c) (sym now.conns) stands, refl);
         quiet = λ quiet. subst AreNothing (sym wire) (subst AreNothing stood quiet).1;
         once = λ once. subst (AsksOnce n) (sym wire) (asks_tail n (sccp_read o) (reads_of n others) is (subst (AsksOnce n) stood once));
         runs = λ k over last runs. subst (λ (xs : List Read). Runs k over xs last) (sym wire) (runs_tail k over last (sccp_read o) (reads_of n others) is (subst (λ (xs : List Read). Runs k over xs last) stood runs));
@@ -130,13 +130,13 @@ module _ (w v : Actors) (others : List OutboxEntry) (n : ℕ) (three : n < w.con
   own_asking has way (Some (DataForm1 d user)) heeds once after = absurd (data_asks d (message_in user) once)
   own_asking has way _ heeds once after = absurd (heeds tt)
 
-  initial_unheeded : (k : ℕ) (over : Bool) (s : ℕ) (q : Option Bssap) → Heeds k over (initial_read s q) → ⊥
+  initial_unheeded : (k : ℕ) (over : Bool) (s : ℕ) (q : Option Bssap) → IsAddressedTo k over (initial_read s q) → ⊥
   initial_unheeded k over s None heeds = heeds
   initial_unheeded k over s (Some (Transfer dlci message)) heeds = heeds
   initial_unheeded k over s (Some (Management (bssmap.CompleteLayer3Information cell initial))) heeds = heeds
   initial_unheeded k over s (Some (Management _)) heeds = heeds
 
-  own_form : n < w.controller.next_number → (known : IsKnown w n) (d : ℕ) (user : List ℕ) (q : Option Bssap) → message_in user ≡ q → Heeds (REFERENCE_BASE + (known.place + 1)) (is_over known.of.stage) (data_read d q)
+  own_form : n < w.controller.next_number → (known : IsKnown w n) (d : ℕ) (user : List ℕ) (q : Option Bssap) → message_in user ≡ q → IsAddressedTo (REFERENCE_BASE + (known.place + 1)) (is_over known.of.stage) (data_read d q)
       → Runs (REFERENCE_BASE + (known.place + 1)) (over_after (is_over known.of.stage) (data_read d q)) (reads_of n others) known.last → Comes (Some (DataForm1 d user))
       → Took w v n (took_connections w.switch.modulus w.switch.connections (Some (DataForm1 d user))) (took_replies w.switch.connections (Some (DataForm1 d user))) (data_read d q)
   unfolding Comes
@@ -245,9 +245,9 @@ module _ (w : Actors) (first : OutboxEntry) (others : List OutboxEntry) (h : IsF
 
   -- ---- what it took
 
-  took-taken : (n : ℕ) (o : Option Sccp) → taken_of (switch_took o w) n ≡ taken_in (find (is_of_peer n) (took_connections w.switch.modulus w.switch.connections o))
-  took-taken n None = refl
-  took-taken n (Some message) = refl
+  took_taken : (n : ℕ) (o : Option Sccp) → taken_of (switch_took o w) n ≡ taken_in (find (is_of_peer n) (took_connections w.switch.modulus w.switch.connections o))
+  took_taken n None = refl
+  took_taken n (Some message) = refl
 
   other_found : (n : ℕ) → first.out.conn ≢ n → Agrees w n → taken_in (find (is_of_peer n) taken_connections) ≡ taken_of w n
   other_found n differ (is_unasked un unknown) = ap taken_in (other_none w first.out.conn n differ effect unknown.none) ∙ sym (ap taken_in unknown.none)
@@ -262,14 +262,14 @@ module _ (w : Actors) (first : OutboxEntry) (others : List OutboxEntry) (h : IsF
 
   other_delivers : (n : ℕ) → 1 ≤ n → first.out.conn ≢ n → Delivers n
   other_delivers n from_one differ =
-      took-taken n (sccp_in first.out.frame) ∙ other_found n differ (h.agree.each n from_one) ∙ sym (append-nil (taken_of w n)) ∙ ap (λ (xs : List (List ℕ)). taken_of w n ++ xs) (sym (other_carries n first.out differ))
+      took_taken n (sccp_in first.out.frame) ∙ other_found n differ (h.agree.each n from_one) ∙ sym (append-nil (taken_of w n)) ∙ ap (λ (xs : List (List ℕ)). taken_of w n ++ xs) (sym (other_carries n first.out differ))
 
   own_delivers : (n : ℕ) → 1 ≤ n → first.out.conn ≡ n → Delivers n ⊎ (HasAsked v n × IsUnknown v n)
   own_delivers n from_one is =
       let took = own_entry n from_one is in
       let carries : carried_for n first.out ≡ carried (reads first.out) = subst (λ (x : ℕ). 1 ≤ x → IsHeeded (reads first.out) → carried_for x first.out ≡ carried (reads first.out)) is rights.0.carries_as_read from_one took.heeded in
       elim took.delivers [
-        | inl all ↦ inl (took-taken n (sccp_in first.out.frame) ∙ all ∙ ap (λ (xs : List (List ℕ)). taken_of w n ++ xs) (sym carries))
+        | inl all ↦ inl (took_taken n (sccp_in first.out.frame) ∙ all ∙ ap (λ (xs : List (List ℕ)). taken_of w n ++ xs) (sym carries))
         | inr never ↦ inr never
       ]
 

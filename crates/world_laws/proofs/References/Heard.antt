@@ -4,10 +4,10 @@ use Rattle.world_laws.proofs.Prelude.{Option, Some, None, refl, sym, ap, ◌∙�
 use Rattle.world_laws.proofs.Prelude.{eqb-false, map-append, Out, SWITCH_LINK, Due, WasAsked, Complete, State, WaitActivation}
 use Rattle.world_laws.proofs.Prelude.{WaitEstablish, WaitConfirm, Live, Closed, Removed, Connection, connection_of, Forwarded}
 use Rattle.world_laws.proofs.Prelude.{REFERENCE_BASE, AreAllowed, Parameters, Event, SwitchTakes, OutboxEntry, actors_after, sccp_in}
-use Rattle.world_laws.proofs.Prelude.{switch_took, switch_took_first, Actors, is_up, outbox_of, with_outbox, Both-empty, none-some}
-use Rattle.world_laws.proofs.Prelude.{IsBeyondAsking, IsUnconfirmed, IsUnheard, CameInOctets, DeliversFirst, carried_for, is_unasked}
-use Rattle.world_laws.proofs.Prelude.{is_asking, is_unheard, is_known, DroppedAreUnheard, HasNotAsked, IsEarlyIn, IsUnheardOf}
-use Rattle.world_laws.proofs.Prelude.{SwitchDeliversOrRefuses, UnaskedAreUnheardOf, UnheardStayUnheard}
+use Rattle.world_laws.proofs.Prelude.{switch_took, switch_took_first, Actors, is_up, outbox_of, with_outbox, both_empty, none-some}
+use Rattle.world_laws.proofs.Prelude.{IsBeyondAsking, IsUnconfirmed, IsUnknownForGood, TookOctets, DeliversFirst, carried_for, is_unasked}
+use Rattle.world_laws.proofs.Prelude.{is_asking, is_unheard, is_known, DroppedAreUnknown, HasNotAsked, IsEarlyIn, IsUnknownToSwitch}
+use Rattle.world_laws.proofs.Prelude.{SwitchDeliversOrRefuses, UnaskedAreUnknown, UnknownStayUnknown}
 use Rattle.controller_model.specs.Views.{forwarded}
 use Rattle.controller_model.specs.declared.step.Step.TheVariants as steps
 use Rattle.world_model.specs.Life.{event_after}
@@ -27,8 +27,8 @@ use Rattle.world_laws.proofs.Events.{world}
 
 -- ---- what waits for the switch, as it will read it
 
-waiting-first : (first : OutboxEntry) (others : List OutboxEntry) (n : ℕ) → waiting_in (first ∷ others) n ≡ carried_for n first.out ++ waiting_in others n
-waiting-first first others n =
+waiting_first : (first : OutboxEntry) (others : List OutboxEntry) (n : ℕ) → waiting_in (first ∷ others) n ≡ carried_for n first.out ++ waiting_in others n
+waiting_first first others n =
     ap (λ (fs : List Forwarded). map (λ f. f.message) fs) (forwarded-first first.out (map (λ entry. entry.out) others) n)
     ∙ map-append (λ (f : Forwarded). f.message) (forwarded (first.out ∷ []) n) (forwarded (map (λ entry. entry.out) others) n)
 
@@ -38,7 +38,7 @@ own_carries n out from_one is right heeded = subst (λ (x : ℕ). 1 ≤ x → Is
 no_message_waits : (n : ℕ) (entries : List OutboxEntry) → 1 ≤ n → AllByRecursion (λ entry. IsRight entry.out) entries → AreNothing (reads_of n entries) → waiting_in entries n ≡ []
 unfolding forwarded
 no_message_waits n [] from_one rights quiet = refl
-no_message_waits n (first ∷ others) from_one rights quiet = waiting-first first others n ∙ by (no_message_waits n others from_one rights.1) where
+no_message_waits n (first ∷ others) from_one rights quiet = waiting_first first others n ∙ by (no_message_waits n others from_one rights.1) where
   by : (AreNothing (reads_of n others) → waiting_in others n ≡ []) → carried_for n first.out ++ waiting_in others n ≡ []
   by rest = elim (cases_Bool (first.out.conn == n)) [
     | inl hit ↦
@@ -58,7 +58,7 @@ asks_carry n _ rest once = absurd once
 
 asks_waits : (n : ℕ) (entries : List OutboxEntry) → 1 ≤ n → AllByRecursion (λ entry. IsRight entry.out) entries → AsksOnce n (reads_of n entries) → waiting_in entries n ≡ [] → ⊥
 asks_waits n [] from_one rights once none = once
-asks_waits n (first ∷ others) from_one rights once none = by (asks_waits n others from_one rights.1) (Both-empty (carried_for n first.out) (waiting_in others n) (sym (sym (waiting-first first others n) ∙ none))) where
+asks_waits n (first ∷ others) from_one rights once none = by (asks_waits n others from_one rights.1) (both_empty (carried_for n first.out) (waiting_in others n) (sym (sym (waiting_first first others n) ∙ none))) where
   by : (AsksOnce n (reads_of n others) → waiting_in others n ≡ [] → ⊥) → (carried_for n first.out ≡ []) × (waiting_in others n ≡ []) → ⊥
   by rest empty = elim (cases_Bool (first.out.conn == n)) [
     | inl hit ↦
@@ -95,15 +95,15 @@ early_confirmed (Some s) is un = by s.state is un where
   by (Closed Complete) is un = absurd cc
   by Removed is un = absurd cc
 
-unheard_of : (w : Actors) (n : ℕ) → 1 ≤ n → NamesAgree w → IsUnknown w n → IsUnheardOf w n
+unheard_of : (w : Actors) (n : ℕ) → 1 ≤ n → NamesAgree w → IsUnknown w n → IsUnknownToSwitch w n
 unheard_of w n from_one agree unknown = record { none_taken = unknown.none; none_waits = no_message_waits n (outbox_of w SWITCH_LINK) from_one agree.right unknown.quiet }
 
-to_unheard : (w : Actors) (n : ℕ) → 1 ≤ n → NamesAgree w → HasAsked w n × IsUnknown w n → IsUnheard w n
+to_unheard : (w : Actors) (n : ℕ) → 1 ≤ n → NamesAgree w → HasAsked w n × IsUnknown w n → IsUnknownForGood w n
 to_unheard w n from_one agree has =
     let of = unheard_of w n from_one agree has.1 in
     record { past = has.0.past; none_taken = of.none_taken; none_waits = of.none_waits; unconfirmed = unconfirmed (connection_of w.controller n) has.0.asked }
 
-from_unheard : (w : Actors) (n : ℕ) → 1 ≤ n → NamesAgree w → IsUnheard w n → HasAsked w n × IsUnknown w n
+from_unheard : (w : Actors) (n : ℕ) → 1 ≤ n → NamesAgree w → IsUnknownForGood w n → HasAsked w n × IsUnknown w n
 from_unheard w n from_one agree unheard = by (agree.each n from_one) where
   beyond : w.controller.next_number ≤ n → n < w.controller.next_number → ⊥
   beyond more less = omega (arith, more, less)
@@ -117,10 +117,10 @@ from_unheard w n from_one agree unheard = by (agree.each n from_one) where
 
 -- ---- the laws
 
-names_of : (settings : Parameters) (events : List Event) → AreAllowed settings → CameInOctets settings events → NamesAgree (world settings events)
+names_of : (settings : Parameters) (events : List Event) → AreAllowed settings → TookOctets settings events → NamesAgree (world settings events)
 names_of settings events allowed octets = names_always_agree_new settings events allowed octets
 
-pub unheard_stay_unheard_new : (settings : Parameters) (events : List Event) (event : Event) → UnheardStayUnheard settings events event
+pub unheard_stay_unheard_new : (settings : Parameters) (events : List Event) (event : Event) → UnknownStayUnknown settings events event
 unheard_stay_unheard_new settings events event n allowed octets own from_one unheard =
     let w : Actors = world settings events in
     let agree : NamesAgree w = names_of settings events allowed octets in
@@ -133,8 +133,8 @@ early_in WaitActivation is = refl
 early_in WaitEstablish is = refl
 early_in _ is = absurd is
 
-reach-early : (w : Actors) (n : ℕ) → HasNotAsked w n → reach_of (connection_of w.controller n) ≡ early
-reach-early w n has = ap reach_of has.there ∙ early_in has.own.state has.is_early
+reach_early : (w : Actors) (n : ℕ) → HasNotAsked w n → reach_of (connection_of w.controller n) ≡ early
+reach_early w n has = ap reach_of has.there ∙ early_in has.own.state has.is_early
 
 early_asked : (a : Reach) → a ≡ early → IsAsked a → ⊥
 early_asked early is asked = asked
@@ -167,7 +167,7 @@ past_now w n (is_asking has way) none is = has.past
 past_now w n (is_unheard has unknown) none is = has.past
 past_now w n (is_known past known) none is = past
 
-pub unasked_are_unheard_of_new : (settings : Parameters) (events : List Event) → UnaskedAreUnheardOf settings events
+pub unasked_are_unheard_of_new : (settings : Parameters) (events : List Event) → UnaskedAreUnknown settings events
 unasked_are_unheard_of_new settings events n allowed octets from_one (inl more) =
     let w : Actors = world settings events in
     let agree : NamesAgree w = names_of settings events allowed octets in
@@ -175,15 +175,15 @@ unasked_are_unheard_of_new settings events n allowed octets from_one (inl more) 
 unasked_are_unheard_of_new settings events n allowed octets from_one (inr has) =
     let w : Actors = world settings events in
     let agree : NamesAgree w = names_of settings events allowed octets in
-    unheard_of w n from_one agree (not_asked w n (agree.each n from_one) (reach-early w n has))
+    unheard_of w n from_one agree (not_asked w n (agree.each n from_one) (reach_early w n has))
 
-pub dropped_are_unheard_new : (settings : Parameters) (events : List Event) (event : Event) → DroppedAreUnheard settings events event
+pub dropped_are_unheard_new : (settings : Parameters) (events : List Event) (event : Event) → DroppedAreUnknown settings events event
 dropped_are_unheard_new settings events event n allowed octets own from_one has closed =
     let w : Actors = world settings events in
     let agree : NamesAgree w = names_of settings events allowed octets in
     let before : Before w event = before_of settings events w event refl allowed octets own agree in
     let kept = keeps w event before in
-    let is = reach-early w n has in
+    let is = reach_early w n has in
     to_unheard (actors_after w event) n from_one (kept.names agree) (kept.dropped n from_one (record { past = past_now w n (agree.each n from_one) (λ more. ap reach_of (none_beyond w.controller n (before.laws (steps.Tick 0) tt).numbered more)) is; is_early = is; unknown = not_asked w n (agree.each n from_one) is }) closed)
 
 -- the switch takes
@@ -192,13 +192,13 @@ unfolding event_after
 taken_is w first others up stood =
     ap (λ (b : Bool). unwrap_or (if b then switch_took_first (outbox_of w SWITCH_LINK) w else None) w) up ∙ ap (λ (entries : List OutboxEntry). unwrap_or (switch_took_first entries w) w) stood
 
-delivers_first : (w : Actors) (n : ℕ) (entries : List OutboxEntry) → 1 ≤ n → NamesAgree w → w.controller.next_number ≤ 2 ^ 24 → is_up w SWITCH_LINK ≡ true → outbox_of w SWITCH_LINK ≡ entries → DeliversFirst w n entries ⊎ IsUnheard (actors_after w SwitchTakes) n
+delivers_first : (w : Actors) (n : ℕ) (entries : List OutboxEntry) → 1 ≤ n → NamesAgree w → w.controller.next_number ≤ 2 ^ 24 → is_up w SWITCH_LINK ≡ true → outbox_of w SWITCH_LINK ≡ entries → DeliversFirst w n entries ⊎ IsUnknownForGood (actors_after w SwitchTakes) n
 delivers_first w n [] from_one agree few up stood = inl tt
 delivers_first w n (first ∷ others) from_one agree few up stood =
     let h : IsFirst w first others = record { agree = agree; few = few; up = up; stood = stood } in
     elim (delivers_or w first others h n from_one) [
       | inl all ↦ inl all
-      | inr never ↦ inr (subst (λ (v : Actors). IsUnheard v n) (sym (taken_is w first others up stood)) (to_unheard (switch_took (sccp_in first.out.frame) (with_outbox SWITCH_LINK others w)) n from_one (names_after w first others h) never))
+      | inr never ↦ inr (subst (λ (v : Actors). IsUnknownForGood v n) (sym (taken_is w first others up stood)) (to_unheard (switch_took (sccp_in first.out.frame) (with_outbox SWITCH_LINK others w)) n from_one (names_after w first others h) never))
     ]
 
 pub switch_delivers_or_refuses_new : (settings : Parameters) (events : List Event) → SwitchDeliversOrRefuses settings events

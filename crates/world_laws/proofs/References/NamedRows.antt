@@ -10,7 +10,7 @@ use Rattle.world_laws.proofs.Prelude.{on_activation_nack, on_establish_indicatio
 use Rattle.world_laws.proofs.Prelude.{on_error_indication, on_connection_failure, on_dtap, on_complete, on_failure, on_release_ack, on_move}
 use Rattle.world_laws.proofs.Prelude.{on_confirm, on_refused, on_released, on_downlink, on_assignment_request, on_cipher_mode_command}
 use Rattle.world_laws.proofs.Prelude.{on_clear_command, on_drain_expiry, on_station_down, on_switch_down, Sapi, Zero, Three, INITIAL_LIMIT}
-use Rattle.world_laws.proofs.Prelude.{handing, goes_to, begin, chain_count, put_in, count, messages, with_messages}
+use Rattle.world_laws.proofs.Prelude.{handing, is_for_station, begin, chain_count, put_in, count, messages, with_messages}
 use Rattle.conn_messages.specs.declared.causes.TheConstants.{ABNORMAL_RELEASE, BSS_NOT_EQUIPPED, EQUIPMENT_FAILURE, PROTOCOL_ERROR}
 use Rattle.conn_messages.specs.declared.causes.TheConstants.{RADIO_INTERFACE_FAILURE, RADIO_INTERFACE_MESSAGE_FAILURE}
 use Rattle.conn_messages.specs.SwitchMessage.{assignment_failure, cipher_mode_reject, change_complete, release_complete, relaying}
@@ -109,8 +109,8 @@ of_failing k stage s cause = (refl, (refl, are_plain k (end_outs (Live k stage) 
 of_removing : (k : ℕ) (state : State) (s : Connection) (cause : ℕ) → Goes k (ending state s cause Removed)
 of_removing k state s cause = ends state s.serving cause
 
-without : (station : ℕ) (ms : List Message) → AreQuiet ms → AreQuiet (filter (λ message. not (goes_to station message)) ms)
-without station ms quiet = AllByRecursion-filter IsQuiet (λ message. not (goes_to station message)) ms quiet
+without : (station : ℕ) (ms : List Message) → AreQuiet ms → AreQuiet (filter (λ message. not (is_for_station station message)) ms)
+without station ms quiet = AllByRecursion-filter IsQuiet (λ message. not (is_for_station station message)) ms quiet
 
 of_hold_down : (k : ℕ) (stage : Stage) (sapi : Sapi) (message : List ℕ) (s : Connection) → IsNamed k s.state → Goes k (hold_down (Live k stage) sapi message s)
 of_hold_down k stage sapi message s own =
@@ -373,7 +373,7 @@ of_station_down input WaitEstablish s station = where_fits (IsNamedRow input Wai
 of_station_down input WaitConfirm s station = where_fits (IsNamedRow input WaitConfirm) _ (without_station station (failing WaitConfirm s EQUIPMENT_FAILURE)) (without station (failing WaitConfirm s EQUIPMENT_FAILURE).outs (ends WaitConfirm s.serving ABNORMAL_RELEASE))
 of_station_down input (Live k stage) s station =
     where_fits (Goes k) _ (without_station station (failing (Live k stage) s EQUIPMENT_FAILURE))
-    (refl, AllByRecursion-filter (IsPlain k) (λ message. not (goes_to station message)) (failing (Live k stage) s EQUIPMENT_FAILURE).outs (of_failing k stage s EQUIPMENT_FAILURE).1)
+    (refl, AllByRecursion-filter (IsPlain k) (λ message. not (is_for_station station message)) (failing (Live k stage) s EQUIPMENT_FAILURE).outs (of_failing k stage s EQUIPMENT_FAILURE).1)
 of_station_down input _ s station = tt
 
 of_switch_down : (input : Input) (state : State) (s : Connection) → In input state (on_switch_down state s)

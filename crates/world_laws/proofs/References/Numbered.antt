@@ -6,7 +6,7 @@ use Rattle.world_laws.proofs.Prelude.{Step, Take, Word, Nothing, Ping, Asks, OnC
 use Rattle.world_laws.proofs.Prelude.{Entry, Turn, turn, each, ignoring, entry_of, with_entry, channel_state, freed, with_down, aged}
 use Rattle.world_laws.proofs.Prelude.{all_aged, break_of, by_fitting, concerning, concerning_too, entry_at, expiry, frees, given, may_open}
 use Rattle.world_laws.proofs.Prelude.{measured, measures, on_decision, on_expiry, on_freed, on_report, on_state, on_what, on_word, pong}
-use Rattle.world_laws.proofs.Prelude.{step, timed, with_report, decision_over, Decision, Stay, What, RequestReference, told, word_of}
+use Rattle.world_laws.proofs.Prelude.{step, timed, with_report, decision_over, Decision, Stay, What, RequestReference, with_own_input, word_of}
 use Rattle.controller_model.specs.declared.step.Step.TheVariants.{Tick}
 use Rattle.controller_model.specs.Controller.{is_up, has_number}
 use Rattle.controller_model.specs.Life.{take, tick}
@@ -103,7 +103,7 @@ of_each : (f : Controller → Entry → Turn) → ((c : Controller) (e : Entry) 
 of_each f own c [] above = tt
 of_each f own c (x ∷ xs) above = AllByRecursion-append IsOfOne (f c x).outs (each f (f c x).next xs).outs (own c x above.0) (of_each f own (f c x).next xs above.1)
 
-of_told : (input : Input) (c : Controller) (e : Entry) → 1 ≤ e.connection.number → AreOfOne (told input c e).outs
+of_told : (input : Input) (c : Controller) (e : Entry) → 1 ≤ e.connection.number → AreOfOne (with_own_input input c e).outs
 of_told input c e least = of_fitting (turn [] c) e _ c least tt
 
 of_timed : (c : Controller) (e : Entry) → 1 ≤ e.connection.number → AreOfOne (timed c e).outs
@@ -118,7 +118,7 @@ aged_above ms (x ∷ xs) above = (above.0, aged_above ms xs above.1)
 
 of_what : (up : Bool) (source : ℕ) (what : What) (c : Controller) → IsNumbered c → AreOfOne (on_what up source what c).outs
 of_what true source (whats.Frame frame) c numbered = of_word source (word_of source frame) c numbered
-of_what true source whats.Down c numbered = of_each (told (break_of source)) (of_told (break_of source)) (with_down source c) c.entries numbered.above
+of_what true source whats.Down c numbered = of_each (with_own_input (break_of source)) (of_told (break_of source)) (with_down source c) c.entries numbered.above
 of_what false source what c numbered = tt
 
 pub outs_of_one : (c : Controller) (s : Step) → IsNumbered c → AreOfOne (step c s).outs

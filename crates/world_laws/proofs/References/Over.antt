@@ -1,12 +1,12 @@
 -- A connection that isn't open any more puts no more for the switch.
 use Rattle.world_laws.proofs.Prelude.{◌≡◌, ℕ, ◌≤◌, ◌<◌, ◌==◌, Bool, true, false, if◌then◌else◌, List, [], ◌∷◌, ◌++◌, map, Option}
 use Rattle.world_laws.proofs.Prelude.{None, refl, sym, ap, ◌∙◌, subst, arith, AllByRecursion, Out, SWITCH_LINK, AllByRecursion-filter}
-use Rattle.world_laws.proofs.Prelude.{brought_in, IsThere, connection_of, messages_on, passed_by, ComesInOctets, step_goes, life_fits}
+use Rattle.world_laws.proofs.Prelude.{brought_in, IsThere, connection_of, messages_on, passed_by, IsOctetStep, step_goes, life_fits}
 use Rattle.world_laws.proofs.Prelude.{forwarded_seen, life_sends, step_does, Forwarded, Step, Controller, each, hears, step, Sapi, Zero}
 use Rattle.world_laws.proofs.Prelude.{Three, Item, AreAllowed, Parameters, Event, Handle, Tick, OutboxEntry, Tenure, actors_after}
 use Rattle.world_laws.proofs.Prelude.{outputs, outputs_at, to_link, target_in, all_steps, first_taken, step_at, Actors}
-use Rattle.world_laws.proofs.Prelude.{is_up, new_actors, LivesByTable-new, Both-empty, step_silence, acts_usual, life, take, tick}
-use Rattle.world_laws.proofs.Prelude.{forwarded, IsOver, OverPutsNoMore, TakesOctets, carried_for, entry-out}
+use Rattle.world_laws.proofs.Prelude.{is_up, new_actors, LivesByTable-new, both_empty, step_silence, acts_usual, life, take, tick}
+use Rattle.world_laws.proofs.Prelude.{forwarded, IsOver, OverPutsNoMore, TakesOctets, carried_for, entry_out}
 use Rattle.controller_model.specs.declared.step.Step.TheVariants as steps
 use Rattle.world_model.specs.Relay.{entry_of}
 use Rattle.world_laws.proofs.SwitchTakes.{forwarded-first}
@@ -26,7 +26,7 @@ none_forwarded (f ∷ fs) none = absurd (by f.sapi (none f.sapi)) where
 each_empty : (number : ℕ) (outs : List Out) → forwarded outs number ≡ [] → AllByRecursion (λ out. carried_for number out ≡ []) outs
 each_empty number [] none = tt
 each_empty number (out ∷ outs) none =
-    let both = Both-empty (forwarded (out ∷ []) number) (forwarded outs number) (sym (sym (forwarded-first out outs number) ∙ none)) in
+    let both = both_empty (forwarded (out ∷ []) number) (forwarded outs number) (sym (sym (forwarded-first out outs number) ∙ none)) in
     (ap (map (λ (f : Forwarded). f.message)) both.0, each_empty number outs both.1)
 
 -- ---- one step
@@ -36,7 +36,7 @@ record IsSilent (number : ℕ) (c : Controller) (s : Step) : Type 0 where
   past : number < (step c s).next.next_number
   closed : IsThere (connection_of (step c s).next number) → ⊥
 
-silent_step : (p : Parameters) (ss : List Step) (s : Step) (number : ℕ) → AreAllowed p → AllByRecursion ComesInOctets ss → ComesInOctets s → 1 ≤ number → number < (life p ss).next.next_number → (IsThere (connection_of (life p ss).next number) → ⊥) → IsSilent number (life p ss).next s
+silent_step : (p : Parameters) (ss : List Step) (s : Step) (number : ℕ) → AreAllowed p → AllByRecursion IsOctetStep ss → IsOctetStep s → 1 ≤ number → number < (life p ss).next.next_number → (IsThere (connection_of (life p ss).next number) → ⊥) → IsSilent number (life p ss).next s
 silent_step p ss s number allowed octets own from_one less over =
     let c : Controller = (life p ss).next in
     let fits = life_fits p ss number from_one in
@@ -58,7 +58,7 @@ IsOverIn number c = (number < c.next_number) × (IsThere (connection_of c number
 
 entries_empty : (number : ℕ) (target : Option Tenure) (outs : List Out) → AllByRecursion (λ out. carried_for number out ≡ []) outs → AllByRecursion (λ (entry : OutboxEntry). carried_for number entry.out ≡ []) (map (entry_of target) outs)
 entries_empty number target [] none = tt
-entries_empty number target (out ∷ outs) none = (ap (carried_for number) (entry-out target out) ∙ none.0, entries_empty number target outs none.1)
+entries_empty number target (out ∷ outs) none = (ap (carried_for number) (entry_out target out) ∙ none.0, entries_empty number target outs none.1)
 
 put_empty : (number : ℕ) (b : Bool) (entries : List OutboxEntry) → AllByRecursion (λ (entry : OutboxEntry). carried_for number entry.out ≡ []) entries → AllByRecursion (λ (entry : OutboxEntry). carried_for number entry.out ≡ []) (if b then to_link SWITCH_LINK entries else [])
 put_empty number true entries none = AllByRecursion-filter (λ (entry : OutboxEntry). carried_for number entry.out ≡ []) (λ entry. entry.out.to == SWITCH_LINK) entries none
@@ -67,8 +67,8 @@ put_empty number false entries none = tt
 -- ---- the event
 
 -- the controller of a world whose steps are silent
-module _ (number : ℕ) (w : Actors) (silent : (s : Step) → ComesInOctets s → IsSilent number w.controller s) where
-  put_items : (items : List Item) → AllByRecursion ComesInOctets (first_taken items) → AllByRecursion (λ (entry : OutboxEntry). carried_for number entry.out ≡ []) (outputs_at w items)
+module _ (number : ℕ) (w : Actors) (silent : (s : Step) → IsOctetStep s → IsSilent number w.controller s) where
+  put_items : (items : List Item) → AllByRecursion IsOctetStep (first_taken items) → AllByRecursion (λ (entry : OutboxEntry). carried_for number entry.out ≡ []) (outputs_at w items)
   put_items [] own = tt
   put_items (item ∷ items) own = entries_empty number (target_in w item.source item.what) (take item w.controller).outs (silent (steps.Take item) own.0).none
 
@@ -77,7 +77,7 @@ module _ (number : ℕ) (w : Actors) (silent : (s : Step) → ComesInOctets s �
   put_event (Tick ms) own = entries_empty number None (tick ms w.controller).outs (silent (steps.Tick ms) own.0).none
   put_event _ own = tt
 
-  stays_items : IsOver w number → (items : List Item) → AllByRecursion ComesInOctets (first_taken items) → (c : Controller) → c ≡ (each step w.controller (first_taken items)).next → IsOverIn number c
+  stays_items : IsOver w number → (items : List Item) → AllByRecursion IsOctetStep (first_taken items) → (c : Controller) → c ≡ (each step w.controller (first_taken items)).next → IsOverIn number c
   stays_items over [] own c is = subst (IsOverIn number) (sym is) (over.past, over.closed)
   stays_items over (item ∷ items) own c is = let one = silent (steps.Take item) own.0 in subst (IsOverIn number) (sym is) (one.past, one.closed)
 
@@ -90,7 +90,7 @@ pub over_puts_no_more_new : (settings : Parameters) (events : List Event) (event
 over_puts_no_more_new settings events event number allowed octets own from_one over =
     let w : Actors = world settings events in
     let lives : w.controller ≡ lived settings events = LivesByTable-new settings events in
-    let silent : (s : Step) → ComesInOctets s → IsSilent number w.controller s = λ s comes. subst (λ (c : Controller). IsSilent number c s) (sym lives)
+    let silent : (s : Step) → IsOctetStep s → IsSilent number w.controller s = λ s comes. subst (λ (c : Controller). IsSilent number c s) (sym lives)
     (silent_step settings (all_steps (new_actors settings) events) s number allowed octets comes from_one
     (subst (λ (c : Controller). number < c.next_number) lives over.past) (subst (λ (c : Controller). IsThere (connection_of c number) → ⊥) lives over.closed)) in
     let after : IsOverIn number (actors_after w event).controller = stays_event number w silent over event own (actors_after w event).controller (moves settings events event ∙ ap (λ (c : Controller). (each step c (step_at w event)).next) (sym lives)) in

@@ -13,8 +13,8 @@ use Rattle.conn_rules.specs.declared.input.Input.TheVariants as inputs
 use Rattle.msc_end.specs.declared.connection.Connection.{Connection}
 use Rattle.msc_end.specs.declared.connection.Stage.{Stage}
 use Rattle.msc_end.specs.Switch.{connection_of, initial_message_of, live_reply_of, replies_by, reply_by, reply_of}
-use Rattle.world_laws.specs.References.Agree.{Confirms, ConfirmsBeing, ConfirmsBy, ConfirmsIn, HasAsked, Heeds, IsAsked, IsHeeded, IsKnown}
-use Rattle.world_laws.specs.References.Agree.{IsUnknown, Knows, Never, Only, Runs, StandsAt, is_over, over_after, reads_of}
+use Rattle.world_laws.specs.References.Agree.{Confirms, ConfirmsBeing, ConfirmsBy, ConfirmsIn, HasAsked, IsAddressedTo, IsAsked, IsHeeded, IsKnown}
+use Rattle.world_laws.specs.References.Agree.{IsUnknown, Knows, Never, Only, Runs, IsFirstAt, is_over, over_after, reads_of}
 use Rattle.world_laws.specs.References.Naming.{Reach, waits, due, named, gone, reach_of}
 use Rattle.world_laws.specs.References.Reads.{AreNothing, Read, asks, carried, data_read}
 use Rattle.world_laws.proofs.References.Places.{push_own, set_own, stands_find, stands_get, stands_peer, stands_slot}
@@ -75,7 +75,7 @@ module _ (w v : Actors) (others : List OutboxEntry) (n : ℕ) (three : n < 2 ^ 2
     place = length w.switch.connections;
     of = c;
     last = false;
-    stands = subst (StandsAt n (length w.switch.connections) c) (sym after.conns) (push_own n w.switch.connections c none is);
+    stands = subst (IsFirstAt n (length w.switch.connections) c) (sym after.conns) (push_own n w.switch.connections c none is);
     fits = fits;
     runs = subst (λ (entries : List OutboxEntry). Runs (REFERENCE_BASE + (length w.switch.connections + 1)) (is_over c.stage) (reads_of n entries) false) (sym after.rest)
         (subst (λ (s : Stage). Runs (REFERENCE_BASE + (length w.switch.connections + 1)) (is_over s) (reads_of n others) false) (sym stage) (quiet_runs (REFERENCE_BASE + (length w.switch.connections + 1)) false (reads_of n others) quiet));
@@ -135,7 +135,7 @@ pub record IsHeedful (k d : ℕ) (over : Bool) (r : Read) : Type 0 where
   pub to : d ≡ k
   pub heeded : IsHeeded r
 
-pub heeds_data : (k d : ℕ) (over : Bool) (q : Bssap) → Heeds k over (data_read d (Some q)) → IsHeedful k d over (data_read d (Some q))
+pub heeds_data : (k d : ℕ) (over : Bool) (q : Bssap) → IsAddressedTo k over (data_read d (Some q)) → IsHeedful k d over (data_read d (Some q))
 heeds_data k d over (Management (bssmap.CompleteLayer3Information cell initial)) heeds = absurd heeds
 heeds_data k d over _ heeds = record { living = heeds.0; to = heeds.1; heeded = tt }
 
@@ -155,7 +155,7 @@ module _ (w v : Actors) (others : List OutboxEntry) (n : ℕ) (past : n < w.cont
           place = known.place;
           of = next;
           last = known.last;
-          stands = subst (StandsAt n known.place next) (sym after.conns) now;
+          stands = subst (IsFirstAt n known.place next) (sym after.conns) now;
           fits = known.fits;
           runs = subst (λ (entries : List OutboxEntry). Runs (REFERENCE_BASE + (known.place + 1)) (is_over next.stage) (reads_of n entries) known.last) (sym after.rest)
               (subst (λ (b : Bool). Runs (REFERENCE_BASE + (known.place + 1)) b (reads_of n others) known.last) (ap (λ (b : Bool). over_after b r) living ∙ sym lives.stage) runs);

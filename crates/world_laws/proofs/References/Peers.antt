@@ -31,10 +31,10 @@ none_all : (n : ℕ) (cs : List Connection) → find (is_of_peer n) cs ≡ None 
 none_all n [] none = tt
 none_all n (c ∷ cs) none = let parts = none_first n c cs none in (parts.0, none_all n cs parts.1)
 
-set-peers : (cs : List Connection) (i : ℕ) (x own : Connection) → slice_get cs i ≡ Some x → own.peer ≡ x.peer → peers_of (slice_set cs i own) ≡ peers_of cs
-set-peers [] i x own got peer = refl
-set-peers (c ∷ cs) zero x own got peer = ap (λ (n : ℕ). n ∷ peers_of cs) (peer ∙ ap (λ (z : Connection). z.peer) (sym (same_Some _ _ got)))
-set-peers (c ∷ cs) (suc i) x own got peer = ap (λ (ns : List ℕ). c.peer ∷ ns) (set-peers cs i x own got peer)
+set_peers : (cs : List Connection) (i : ℕ) (x own : Connection) → slice_get cs i ≡ Some x → own.peer ≡ x.peer → peers_of (slice_set cs i own) ≡ peers_of cs
+set_peers [] i x own got peer = refl
+set_peers (c ∷ cs) zero x own got peer = ap (λ (n : ℕ). n ∷ peers_of cs) (peer ∙ ap (λ (z : Connection). z.peer) (sym (same_Some _ _ got)))
+set_peers (c ∷ cs) (suc i) x own got peer = ap (λ (ns : List ℕ). c.peer ∷ ns) (set_peers cs i x own got peer)
 
 -- what the switch does with an entry of a connection
 pub effect_differs : (m : ℕ) (cs : List Connection) {now : List Connection} {reps : List Sccp} → 1 ≤ m → Effect m cs now reps → Differ (peers_of cs) → Differ (peers_of now)
@@ -43,14 +43,14 @@ effect_differs m cs least refuses differ = differ
 effect_differs m cs least (opens c is none first second) differ =
     subst Differ (sym (map-append (λ (x : Connection). x.peer) cs (c ∷ [])))
     (subst (λ (n : ℕ). Differ (peers_of cs ++ n ∷ [])) (sym is) (differ_push (peers_of cs) m least (none_all m cs none) differ))
-effect_differs m cs least (changes i x own reps got is peer quiet) differ = subst Differ (sym (set-peers cs i x own got (peer ∙ sym is))) differ
+effect_differs m cs least (changes i x own reps got is peer quiet) differ = subst Differ (sym (set_peers cs i x own got (peer ∙ sym is))) differ
 
 -- what it does of its own
-pub clear-peers : (cs : List Connection) (number : ℕ) → peers_of (connections_after_clear cs number (connection_of cs number)) ≡ peers_of cs
-clear-peers cs number = by_number (nat_eq number 0) where
+pub clear_peers : (cs : List Connection) (number : ℕ) → peers_of (connections_after_clear cs number (connection_of cs number)) ≡ peers_of cs
+clear_peers cs number = by_number (nat_eq number 0) where
   by : (o : Option Connection) → slice_get cs (number - 1) ≡ o → peers_of (connections_after_clear cs number o) ≡ peers_of cs
   by None is = refl
-  by (Some x) is = set-peers cs (number - 1) x (with_stage x Clearing) is refl
+  by (Some x) is = set_peers cs (number - 1) x (with_stage x Clearing) is refl
 
   by_number : (b : Bool) → peers_of (connections_after_clear cs number (if b then None else slice_get cs (number - 1))) ≡ peers_of cs
   by_number true = refl

@@ -4,25 +4,25 @@ use Rattle.world_laws.proofs.Prelude.{Option, Some, None, refl, sym, ap, ◌∙�
 use Rattle.world_laws.proofs.Prelude.{REFERENCE_BASE, same_Some, is_of_peer}
 use Rattle.msc_end.specs.declared.connection.Connection.{Connection}
 use Rattle.msc_end.specs.Switch.{connection_of}
-use Rattle.world_laws.specs.References.Agree.{StandsAt}
+use Rattle.world_laws.specs.References.Agree.{IsFirstAt}
 
-pub stands_find : (n place : ℕ) (c : Connection) (cs : List Connection) → StandsAt n place c cs → find (is_of_peer n) cs ≡ Some c
+pub stands_find : (n place : ℕ) (c : Connection) (cs : List Connection) → IsFirstAt n place c cs → find (is_of_peer n) cs ≡ Some c
 stands_find n place c [] stands = absurd stands
 stands_find n zero c (x ∷ cs) stands = ap (λ (b : Bool). cond b (Some x) (find (is_of_peer n) cs)) (eq-eqb x.peer n stands.1) ∙ ap (λ (y : Connection). Some y) stands.0
 stands_find n (suc place) c (x ∷ cs) stands = ap (λ (b : Bool). cond b (Some x) (find (is_of_peer n) cs)) (ne_eqb x.peer n stands.0) ∙ stands_find n place c cs stands.1
 
-pub stands_peer : (n place : ℕ) (c : Connection) (cs : List Connection) → StandsAt n place c cs → c.peer ≡ n
+pub stands_peer : (n place : ℕ) (c : Connection) (cs : List Connection) → IsFirstAt n place c cs → c.peer ≡ n
 stands_peer n place c [] stands = absurd stands
 stands_peer n zero c (x ∷ cs) stands = subst (λ (y : Connection). y.peer ≡ n) stands.0 stands.1
 stands_peer n (suc place) c (x ∷ cs) stands = stands_peer n place c cs stands.1
 
-pub stands_get : (n place : ℕ) (c : Connection) (cs : List Connection) → StandsAt n place c cs → slice_get cs place ≡ Some c
+pub stands_get : (n place : ℕ) (c : Connection) (cs : List Connection) → IsFirstAt n place c cs → slice_get cs place ≡ Some c
 stands_get n place c [] stands = absurd stands
 stands_get n zero c (x ∷ cs) stands = ap (λ (y : Connection). Some y) stands.0
 stands_get n (suc place) c (x ∷ cs) stands = stands_get n place c cs stands.1
 
 -- the connection of its reference
-pub stands_slot : (n place : ℕ) (c : Connection) (cs : List Connection) → StandsAt n place c cs → connection_of cs (REFERENCE_BASE + (place + 1) - REFERENCE_BASE) ≡ Some c
+pub stands_slot : (n place : ℕ) (c : Connection) (cs : List Connection) → IsFirstAt n place c cs → connection_of cs (REFERENCE_BASE + (place + 1) - REFERENCE_BASE) ≡ Some c
 stands_slot n place c cs stands =
     let is : REFERENCE_BASE + (place + 1) - REFERENCE_BASE ≡ place + 1 = omega arith in
     let back : place + 1 - 1 ≡ place = omega arith in
@@ -33,12 +33,12 @@ stands_slot n place c cs stands =
 
 -- ---- one is changed
 
-pub set_own : (n place : ℕ) (c own : Connection) (cs : List Connection) → StandsAt n place c cs → own.peer ≡ n → StandsAt n place own (slice_set cs place own)
+pub set_own : (n place : ℕ) (c own : Connection) (cs : List Connection) → IsFirstAt n place c cs → own.peer ≡ n → IsFirstAt n place own (slice_set cs place own)
 set_own n place c own [] stands is = absurd stands
 set_own n zero c own (x ∷ cs) stands is = (refl, is)
 set_own n (suc place) c own (x ∷ cs) stands is = (stands.0, set_own n place c own cs stands.1 is)
 
-pub set_other : (n place : ℕ) (c : Connection) (cs : List Connection) (i : ℕ) (x own : Connection) → slice_get cs i ≡ Some x → (x.peer ≡ n → ⊥) → (own.peer ≡ n → ⊥) → StandsAt n place c cs → StandsAt n place c (slice_set cs i own)
+pub set_other : (n place : ℕ) (c : Connection) (cs : List Connection) (i : ℕ) (x own : Connection) → slice_get cs i ≡ Some x → (x.peer ≡ n → ⊥) → (own.peer ≡ n → ⊥) → IsFirstAt n place c cs → IsFirstAt n place c (slice_set cs i own)
 set_other n place c [] i x own is other also stands = absurd stands
 set_other n zero c (y ∷ cs) zero x own is other also stands = absurd (other (subst (λ (z : Connection). z.peer ≡ n) (same_Some _ _ is) stands.1))
 set_other n zero c (y ∷ cs) (suc i) x own is other also stands = (stands.0, stands.1)
@@ -60,10 +60,10 @@ none_first n x cs none = (not_first, rest (x.peer == n) none) where
 pub none_behind : (n : ℕ) (x : Connection) (cs : List Connection) → (x.peer ≡ n → ⊥) → find (is_of_peer n) cs ≡ None → find (is_of_peer n) (x ∷ cs) ≡ None
 none_behind n x cs other none = ap (λ (b : Bool). cond b (Some x) (find (is_of_peer n) cs)) (ne_eqb x.peer n other) ∙ none
 
-pub set-none : (n : ℕ) (cs : List Connection) (i : ℕ) (own : Connection) → (own.peer ≡ n → ⊥) → find (is_of_peer n) cs ≡ None → find (is_of_peer n) (slice_set cs i own) ≡ None
-set-none n [] i own other none = none
-set-none n (x ∷ cs) zero own other none = none_behind n own cs other (none_first n x cs none).1
-set-none n (x ∷ cs) (suc i) own other none = none_behind n x (slice_set cs i own) (none_first n x cs none).0 (set-none n cs i own other (none_first n x cs none).1)
+pub set_none : (n : ℕ) (cs : List Connection) (i : ℕ) (own : Connection) → (own.peer ≡ n → ⊥) → find (is_of_peer n) cs ≡ None → find (is_of_peer n) (slice_set cs i own) ≡ None
+set_none n [] i own other none = none
+set_none n (x ∷ cs) zero own other none = none_behind n own cs other (none_first n x cs none).1
+set_none n (x ∷ cs) (suc i) own other none = none_behind n x (slice_set cs i own) (none_first n x cs none).0 (set_none n cs i own other (none_first n x cs none).1)
 
 -- of its peer there is none, so the one that is changed is another's
 pub got_other : (n : ℕ) (cs : List Connection) (i : ℕ) (x : Connection) → slice_get cs i ≡ Some x → find (is_of_peer n) cs ≡ None → x.peer ≡ n → ⊥
@@ -73,12 +73,12 @@ got_other n (y ∷ cs) (suc i) x is none own = got_other n cs i x is (none_first
 
 -- ---- one more
 
-pub push_stands : (n place : ℕ) (c : Connection) (cs : List Connection) (x : Connection) → StandsAt n place c cs → StandsAt n place c (cs ++ x ∷ [])
+pub push_stands : (n place : ℕ) (c : Connection) (cs : List Connection) (x : Connection) → IsFirstAt n place c cs → IsFirstAt n place c (cs ++ x ∷ [])
 push_stands n place c [] x stands = absurd stands
 push_stands n zero c (y ∷ cs) x stands = (stands.0, stands.1)
 push_stands n (suc place) c (y ∷ cs) x stands = (stands.0, push_stands n place c cs x stands.1)
 
-pub push_own : (n : ℕ) (cs : List Connection) (x : Connection) → find (is_of_peer n) cs ≡ None → x.peer ≡ n → StandsAt n (length cs) x (cs ++ x ∷ [])
+pub push_own : (n : ℕ) (cs : List Connection) (x : Connection) → find (is_of_peer n) cs ≡ None → x.peer ≡ n → IsFirstAt n (length cs) x (cs ++ x ∷ [])
 push_own n [] x none is = (refl, is)
 push_own n (y ∷ cs) x none is = ((none_first n y cs none).0, push_own n cs x (none_first n y cs none).1 is)
 

@@ -59,10 +59,10 @@ content_kind kinds.ReleaseComplete octets m is = let a = result_map_ok (λ p. Re
 content_kind kinds.DataForm1 octets m is = form_kind octets m is
 
 -- the reading of a text is that of its content
-text-content : (message : Sccp) → sccp_reading (sccp_text message) ≡ content_at (type_of message) (content_text message)
+text_content : (message : Sccp) → sccp_reading (sccp_text message) ≡ content_at (type_of message) (content_text message)
 unfolding sccp_reading octet_at sccp_type
-text-content (ConnectionRequest source user) = refl
-text-content _ = refl
+text_content (ConnectionRequest source user) = refl
+text_content _ = refl
 
 confirm_read : (d s : ℕ) → IsReference d → IsReference s → sccp_reading (sccp_text (ConnectionConfirm d s)) ≡ Ok (ConnectionConfirm d s)
 confirm_read d s first second =
@@ -86,7 +86,7 @@ module _ (P : ℕ → Type 0) (n : ℕ) where
   of_other _ other = tt
 
   read_other : (message : Sccp) → (type_of message ≡ kinds.ConnectionConfirm → ⊥) → ConfirmsIn P n (switch_word (sccp_reading (sccp_text message)))
-  read_other message other = of_other (sccp_reading (sccp_text message)) (λ m is kind. other (sym (content_kind (type_of message) (content_text message) m (sym (text-content message) ∙ is)) ∙ kind))
+  read_other message other = of_other (sccp_reading (sccp_text message)) (λ m is kind. other (sym (content_kind (type_of message) (content_text message) m (sym (text_content message) ∙ is)) ∙ kind))
 
   read_made : (message : Sccp) → ConfirmsBy P n message → ConfirmsIn P n (switch_word (sccp_reading (sccp_text message)))
   read_made (ConnectionConfirm d s) confirms = subst (λ (r : Result Sccp InterfaceFault). ConfirmsIn P n (switch_word r)) (sym (confirm_read d s confirms.0 confirms.1)) confirms.2
@@ -96,13 +96,13 @@ module _ (P : ℕ → Type 0) (n : ℕ) where
   read_made (ReleaseComplete d s) confirms = read_other (ReleaseComplete d s) (λ is. absurd cc)
   read_made (DataForm1 d user) confirms = read_other (DataForm1 d user) (λ is. absurd cc)
 
-  pub switch-item : (message : Sccp) → ConfirmsBy P n message → ConfirmsBeing P n (switch_item message)
+  pub confirms_switch_item : (message : Sccp) → ConfirmsBy P n message → ConfirmsBeing P n (switch_item message)
   unfolding word_of
-  switch-item message confirms = read_made message confirms
+  confirms_switch_item message confirms = read_made message confirms
 
   of_station : (source : ℕ) (word : Word) → source ≢ SWITCH_LINK → IsFrom source word → ConfirmsIn P n word
   of_station source (OnConnection d input) station from = absurd (station from.0)
   of_station source _ station from = tt
 
-  pub station-item : (source : ℕ) (message : Rsl) → source ≢ SWITCH_LINK → ConfirmsBeing P n (station_item source message)
-  station-item source message station = of_station source (word_by source (station_item source message).what) station (word_from source _)
+  pub confirms_station_item : (source : ℕ) (message : Rsl) → source ≢ SWITCH_LINK → ConfirmsBeing P n (station_item source message)
+  confirms_station_item source message station = of_station source (word_by source (station_item source message).what) station (word_from source _)

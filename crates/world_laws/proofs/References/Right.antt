@@ -6,7 +6,7 @@ use Rattle.world_laws.proofs.Prelude.{result_ok, eq-eqb, ne_eqb, append-nil, map
 use Rattle.world_laws.proofs.Prelude.{InterfaceFault, Sccp, IsReference, Message, Station, Request, Data, ReleaseComplete, Out, SWITCH_LINK}
 use Rattle.world_laws.proofs.Prelude.{IsReadOf, outs_of, relayed, is_for, outs_for, IsSent, outs_own, IsText, forwarded_seen, Forwarded}
 use Rattle.world_laws.proofs.Prelude.{pong, forwarded_by, Sapi, Zero, Three, OutboxEntry, Tenure, to_link, Result, sccp_reading}
-use Rattle.world_laws.proofs.Prelude.{forwarded_in, to_switch, carried_for, entry-out}
+use Rattle.world_laws.proofs.Prelude.{forwarded_in, to_switch, carried_for, entry_out}
 use Rattle.bssmap_codec.specs.declared.bssmap.Bssmap.TheVariants as bssmap
 use Rattle.conn_messages.specs.Out.{out_of}
 use Rattle.conn_messages.specs.SwitchMessage.{clear_complete}
@@ -23,9 +23,9 @@ use Rattle.world_laws.proofs.OwnTurn.{messages_of}
 
 -- ---- what an entry carries
 
-carried-own : (n : ℕ) (out : Out) → out.conn ≡ n → out.to ≡ SWITCH_LINK → carried_for n out ≡ messages_of (forwarded_by (sccp_reading out.frame.body))
+carried_own : (n : ℕ) (out : Out) → out.conn ≡ n → out.to ≡ SWITCH_LINK → carried_for n out ≡ messages_of (forwarded_by (sccp_reading out.frame.body))
 unfolding forwarded messages_of
-carried-own n out conn to =
+carried_own n out conn to =
     ap (λ (b : Bool). map (λ (f : Forwarded). f.message) (flat_map (λ (o : Out). forwarded_by (sccp_reading o.frame.body)) (cond b (out ∷ []) []))) both
     ∙ ap (map (λ (f : Forwarded). f.message)) (append-nil (forwarded_by (sccp_reading out.frame.body)))
   where
@@ -59,14 +59,14 @@ message_carries n (Station station x) from_one sent read heeded =
     (none_forwarded (forwarded (out_of n (Station station x) ∷ []) n) (λ sapi. forwarded_seen n (out_of n (Station station x) ∷ []) (Station station x ∷ []) from_one (outs_own n (Station station x ∷ [])) (tt, tt) (sent, tt) sapi ∙ none_relayed sapi station x))
 message_carries n (Request b) from_one sent read heeded =
     let is : reads (out_of n (Request b)) ≡ initial_read n (Some b) = ap (λ (r : Result Sccp InterfaceFault). sccp_read (result_ok r)) read.1 ∙ ap (λ (r : Result Bssap InterfaceFault). initial_read n (result_ok r)) read.2 in
-    carried-own n (out_of n (Request b)) refl refl ∙ ap (λ (r : Result Sccp InterfaceFault). messages_of (forwarded_by r)) read.1 ∙ ap (λ (r : Result Bssap InterfaceFault). messages_of (forwarded_in r)) read.2
+    carried_own n (out_of n (Request b)) refl refl ∙ ap (λ (r : Result Sccp InterfaceFault). messages_of (forwarded_by r)) read.1 ∙ ap (λ (r : Result Bssap InterfaceFault). messages_of (forwarded_in r)) read.2
     ∙ initial_carries n b (subst IsHeeded is heeded) ∙ sym (ap carried is)
 message_carries n (Data d b) from_one sent read heeded =
     let is : reads (out_of n (Data d b)) ≡ data_read d (Some b) = ap (λ (r : Result Sccp InterfaceFault). sccp_read (result_ok r)) read.1 ∙ ap (λ (r : Result Bssap InterfaceFault). data_read d (result_ok r)) read.2 in
-    carried-own n (out_of n (Data d b)) refl refl ∙ ap (λ (r : Result Sccp InterfaceFault). messages_of (forwarded_by r)) read.1 ∙ ap (λ (r : Result Bssap InterfaceFault). messages_of (forwarded_in r)) read.2
+    carried_own n (out_of n (Data d b)) refl refl ∙ ap (λ (r : Result Sccp InterfaceFault). messages_of (forwarded_by r)) read.1 ∙ ap (λ (r : Result Bssap InterfaceFault). messages_of (forwarded_in r)) read.2
     ∙ data_carries d b (subst IsHeeded is heeded) ∙ sym (ap carried is)
 message_carries n (ReleaseComplete d) from_one sent read heeded =
-    carried-own n (out_of n (ReleaseComplete d)) refl refl ∙ ap (λ (r : Result Sccp InterfaceFault). messages_of (forwarded_by r)) read
+    carried_own n (out_of n (ReleaseComplete d)) refl refl ∙ ap (λ (r : Result Sccp InterfaceFault). messages_of (forwarded_by r)) read
     ∙ sym (ap (λ (r : Result Sccp InterfaceFault). carried (sccp_read (result_ok r))) read)
 
 pong-read : (to : ℕ) → reads (pong to) ≡ nothing
@@ -98,7 +98,7 @@ linked_outs : (target : Option Tenure) (outs : List Out) → map (λ (entry : Ou
 linked_outs target [] = refl
 linked_outs target (out ∷ outs) =
     first (goes_there (entry_of target out).out)
-    ∙ ap (λ (o : Out). if goes_there o then o ∷ map (λ (entry : OutboxEntry). entry.out) (to_link SWITCH_LINK (map (entry_of target) outs)) else map (λ (entry : OutboxEntry). entry.out) (to_link SWITCH_LINK (map (entry_of target) outs))) (entry-out target out)
+    ∙ ap (λ (o : Out). if goes_there o then o ∷ map (λ (entry : OutboxEntry). entry.out) (to_link SWITCH_LINK (map (entry_of target) outs)) else map (λ (entry : OutboxEntry). entry.out) (to_link SWITCH_LINK (map (entry_of target) outs))) (entry_out target out)
     ∙ ap (λ (xs : List Out). if goes_there out then out ∷ xs else xs) (linked_outs target outs)
   where
     first : (b : Bool) → map (λ (entry : OutboxEntry). entry.out) (if b then entry_of target out ∷ to_link SWITCH_LINK (map (entry_of target) outs) else to_link SWITCH_LINK (map (entry_of target) outs))

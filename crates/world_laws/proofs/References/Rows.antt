@@ -2,12 +2,13 @@
 use Rattle.world_laws.proofs.Prelude.{◌≡◌, ℕ, true, false, [], ◌∷◌, refl, ap, arith, ConnectionConfirm, connection_of, OnConnection}
 use Rattle.world_laws.proofs.Prelude.{usual_settings, Zero, Clearing, Open, Upper, Connect, AirUp, BaseTakes, BasePush, BaseDown, Handle}
 use Rattle.world_laws.proofs.Prelude.{SwitchTakes, SwitchDoes, Clear, Actors, World, new_world, outbox_of, opened, after_all, same_Some}
-use Rattle.world_laws.proofs.Prelude.{IsUnheard, IsOver, ArePeers, HasNotAsked, IsUnheardOf}
+use Rattle.world_laws.proofs.Prelude.{IsUnknownForGood, IsOver, ArePeers, HasNotAsked, IsUnknownToSwitch}
+use Rattle.octets.proofs.Hex.{hex}
 use Rattle.conn_rules.specs.declared.input.Input.TheVariants as inputs
 use Rattle.controller_model.specs.Views.{forwarded}
 use Rattle.msc_end.specs.declared.connection.Connection.{Connection}
 use Rattle.world_model.proofs.Worlds.{on_literals}
-use Rattle.world_laws.specs.References.Agree.{AsksOnce, ConfirmsBy, ConfirmsIn, Knows, Only, Runs, StandsAt, reads_of}
+use Rattle.world_laws.specs.References.Agree.{AsksOnce, ConfirmsBy, ConfirmsIn, Knows, Only, Runs, IsFirstAt, reads_of}
 use Rattle.world_laws.specs.References.Naming.{waits, named, cleared, reach_of}
 use Rattle.world_laws.specs.References.Reads.{asks, carries, clears, tells, nothing, odd}
 
@@ -15,7 +16,7 @@ use Rattle.world_laws.specs.References.Reads.{asks, carries, clears, tells, noth
 
 -- its channel is to be activated
 abbrev begun : World
-begun = after_all (new_world usual_settings) (Connect 1 1 (0x05 ∷ 0x24 ∷ 0x71 ∷ []) true ∷ BasePush 1 ∷ Handle ∷ [])
+begun = after_all (new_world usual_settings) (Connect 1 1 (hex "05 24 71") true ∷ BasePush 1 ∷ Handle ∷ [])
 
 -- the initial message is on its way to the controller
 abbrev initial : World
@@ -32,11 +33,11 @@ has_not_asked : HasNotAsked (begun).actors 1
 unfolding on_literals
 has_not_asked = record { own = _; there = refl; is_early = tt }
 
-unheard_of_before : IsUnheardOf (initial).actors 1
+unheard_of_before : IsUnknownToSwitch (initial).actors 1
 unfolding on_literals forwarded
 unheard_of_before = record { none_taken = refl; none_waits = refl }
 
-it_asks : reads_of 1 (outbox_of (asking).actors 0) ≡ asks 1 (0x05 ∷ 0x24 ∷ 0x71 ∷ []) ∷ []
+it_asks : reads_of 1 (outbox_of (asking).actors 0) ≡ asks 1 (hex "05 24 71") ∷ []
 unfolding on_literals
 it_asks = refl
 
@@ -52,18 +53,18 @@ it_is_named : reach_of (connection_of (opened).actors.controller 1) ≡ named 0x
 unfolding on_literals
 it_is_named = refl
 
-stands_first : (c : Connection) × StandsAt 1 0 c (asked).actors.switch.connections
+stands_first : (c : Connection) × IsFirstAt 1 0 c (asked).actors.switch.connections
 unfolding on_literals
 stands_first = (_, (refl, refl))
 
 -- a message of the mobile, and CLEAR COMPLETE
 abbrev speaking : World
-speaking = after_all opened (Upper 1 Zero (0x03 ∷ 0x05 ∷ []) ∷ AirUp 1 Zero ∷ BasePush 1 ∷ Handle ∷ [])
+speaking = after_all opened (Upper 1 Zero (hex "03 05") ∷ AirUp 1 Zero ∷ BasePush 1 ∷ Handle ∷ [])
 
 abbrev clearing : World
 clearing = after_all speaking (SwitchDoes (Clear 1) ∷ BasePush 0 ∷ Handle ∷ [])
 
-it_carries_and_clears : reads_of 1 (outbox_of (clearing).actors 0) ≡ carries 0x800001 (0x03 ∷ 0x45 ∷ []) ∷ clears 0x800001 ∷ []
+it_carries_and_clears : reads_of 1 (outbox_of (clearing).actors 0) ≡ carries 0x800001 (hex "03 45") ∷ clears 0x800001 ∷ []
 unfolding on_literals
 it_carries_and_clears = refl
 
@@ -79,7 +80,7 @@ it_is_over = record { past = omega arith; closed = λ there. there }
 abbrev cut_off : World
 cut_off = after_all initial (BaseDown 0 ∷ Handle ∷ [])
 
-it_is_unheard : IsUnheard (cut_off).actors 1
+it_is_unheard : IsUnknownForGood (cut_off).actors 1
 unfolding on_literals forwarded
 it_is_unheard = record { past = omega arith; none_taken = refl; none_waits = refl; unconfirmed = tt }
 
@@ -128,10 +129,10 @@ comes_with_its_reference confirms = absurd (omega (arith, confirms refl))
 abbrev of_peer : ℕ → Connection
 of_peer number = record { peer = number; stage = Open; reception = record { modulus = 4; taken = [] }; number = 0x800001 }
 
-stands_behind_another : StandsAt 7 1 (of_peer 7) (of_peer 8 ∷ of_peer 7 ∷ [])
+stands_behind_another : IsFirstAt 7 1 (of_peer 7) (of_peer 8 ∷ of_peer 7 ∷ [])
 stands_behind_another = ((λ same. absurd (omega (arith, same))), (refl, refl))
 
-not_behind_its_own : StandsAt 7 1 (of_peer 7) (of_peer 7 ∷ of_peer 7 ∷ []) → ⊥
+not_behind_its_own : IsFirstAt 7 1 (of_peer 7) (of_peer 7 ∷ of_peer 7 ∷ []) → ⊥
 not_behind_its_own stands = stands.0 refl
 
 -- a second one of its peer isn't the one of its peer

@@ -4,10 +4,10 @@ use Rattle.world_laws.proofs.Prelude.{◌∙◌, subst, arith, inl, inr, cases_B
 use Rattle.world_laws.proofs.Prelude.{AllByRecursion-append, connection_of, REFERENCE_BASE, SwitchState, Actors, outbox_of, is_of_peer}
 use Rattle.world_laws.proofs.Prelude.{is_unasked, is_asking, is_unheard, is_known}
 use Rattle.world_laws.specs.References.Agree.{Agrees, AsksOnce, Confirms, HasAsked, IsAsked, IsKnown, IsOnItsWay, IsUnknown, Knows, Never}
-use Rattle.world_laws.specs.References.Agree.{Only, Runs, StandsAt, is_over, over_after, reads_of}
-use Rattle.world_laws.specs.References.Naming.{ArePlain, AreQuiet, Goes, IsAsking, IsClearing, IsUnnamed, Reach, early, waits, due, named}
+use Rattle.world_laws.specs.References.Agree.{Only, Runs, IsFirstAt, is_over, over_after, reads_of}
+use Rattle.world_laws.specs.References.Naming.{ArePlain, AreQuiet, StepsTo, IsAsking, IsClearing, IsUnnamed, Reach, early, waits, due, named}
 use Rattle.world_laws.specs.References.Naming.{cleared, gone, reach_of}
-use Rattle.world_laws.specs.References.Naming.Goes.{stays, leaves, fails, asks, confirmed, speaks, clears}
+use Rattle.world_laws.specs.References.Naming.StepsTo.{stays, leaves, fails, asks, confirmed, speaks, clears}
 use Rattle.world_laws.specs.References.Reads.{AreNothing, ArePlainReads, IsNothing, Read, asks as read_asks, carries as read_carries}
 use Rattle.world_laws.specs.References.Reads.{clears as read_clears, tells as read_tells, nothing as read_nothing}
 use Rattle.world_laws.proofs.References.Goings.{Begins}
@@ -137,7 +137,7 @@ module _ (w v : Actors) (n : ℕ) (put : List Message) (more : List Read) (grows
   })
 
   module _ (came : ℕ → Type 0) (told : (P : ℕ → Type 0) → Confirms P w n → (r : ℕ) → came r → P r) where
-    goes_early : n < w.controller.next_number → IsUnknown w n → {a b : Reach} → early ≡ a → reach_of (connection_of v.controller n) ≡ b → Goes came put a b → Agrees v n
+    goes_early : n < w.controller.next_number → IsUnknown w n → {a b : Reach} → early ≡ a → reach_of (connection_of v.controller n) ≡ b → StepsTo came put a b → Agrees v n
     goes_early past unknown from to (stays quiet) = is_unasked (inr (past_more past, to ∙ sym from)) (unknown_more unknown (says.quiet quiet))
     goes_early past unknown from to (leaves quiet) = is_unheard (has_asked past gone to tt) (unknown_more unknown (says.quiet quiet))
     goes_early past unknown {a} from to (fails un_a un_b quiet) = absurd (early_unnamed a from un_a)
@@ -146,7 +146,7 @@ module _ (w v : Actors) (n : ℕ) (put : List Message) (more : List Read) (grows
     goes_early past unknown from to (speaks {reference = k} plain) = absurd (early_named k from)
     goes_early past unknown from to (clears {reference = k} clearing) = absurd (early_named k from)
 
-    goes_asked : {a b : Reach} → Confirms Never w n → IsAsked a → Goes came put a b → IsAsked b × AreNothing more
+    goes_asked : {a b : Reach} → Confirms Never w n → IsAsked a → StepsTo came put a b → IsAsked b × AreNothing more
     goes_asked un asked (stays quiet) = (asked, says.quiet quiet)
     goes_asked un asked (leaves quiet) = (tt, says.quiet quiet)
     goes_asked {b = b} un asked (fails un_a un_b quiet) = (asked_unnamed b un_b, says.quiet quiet)
@@ -180,7 +180,7 @@ module _ (w v : Actors) (n : ℕ) (put : List Message) (more : List Read) (grows
     quiet_on : (known : IsKnown w n) (b : Reach) → Knows (REFERENCE_BASE + (known.place + 1)) known.last b → AreNothing more → RunsOn known b
     quiet_on known b knows quiet = record { then_last = known.last; on = quiet_runs (REFERENCE_BASE + (known.place + 1)) known.last more quiet; knows_then = knows }
 
-    goes_known : (known : IsKnown w n) {a b : Reach} → Knows (REFERENCE_BASE + (known.place + 1)) known.last a → Goes came put a b → RunsOn known b
+    goes_known : (known : IsKnown w n) {a b : Reach} → Knows (REFERENCE_BASE + (known.place + 1)) known.last a → StepsTo came put a b → RunsOn known b
     goes_known known {a} knows (stays quiet) = quiet_on known a knows (says.quiet quiet)
     goes_known known knows (leaves quiet) = quiet_on known gone tt (says.quiet quiet)
     goes_known known {a} {b} knows (fails un_a un_b quiet) = quiet_on known b (unnamed_knows (REFERENCE_BASE + (known.place + 1)) known.last b un_b (knows_unnamed (REFERENCE_BASE + (known.place + 1)) known.last a un_a knows)) (says.quiet quiet)
@@ -198,7 +198,7 @@ module _ (w v : Actors) (n : ℕ) (put : List Message) (more : List Read) (grows
       place = known.place;
       of = known.of;
       last = on.then_last;
-      stands = subst (λ (s : SwitchState). StandsAt n known.place known.of s.connections) (sym grows.same) known.stands;
+      stands = subst (λ (s : SwitchState). IsFirstAt n known.place known.of s.connections) (sym grows.same) known.stands;
       fits = known.fits;
       runs = subst (λ (xs : List Read). Runs (REFERENCE_BASE + (known.place + 1)) (is_over known.of.stage) xs on.then_last) (sym grows.all)
           (runs_more (REFERENCE_BASE + (known.place + 1)) (is_over known.of.stage) known.last on.then_last (reads_of n (outbox_of w SWITCH_LINK)) more known.runs on.on);
@@ -207,12 +207,12 @@ module _ (w v : Actors) (n : ℕ) (put : List Message) (more : List Read) (grows
     }
 
     -- one that wasn't there, or is gone, stays so
-    goes_beyond : w.controller.next_number ≤ n → reach_of (connection_of w.controller n) ≡ gone → IsUnknown w n → Goes came put (reach_of (connection_of w.controller n)) (reach_of (connection_of v.controller n)) → Agrees v n
+    goes_beyond : w.controller.next_number ≤ n → reach_of (connection_of w.controller n) ≡ gone → IsUnknown w n → StepsTo came put (reach_of (connection_of w.controller n)) (reach_of (connection_of v.controller n)) → Agrees v n
     goes_beyond beyond none unknown goes =
-        let on = goes_asked {a = gone} {b = reach_of (connection_of v.controller n)} unknown.unconfirmed tt (subst (λ (a : Reach). Goes came put a (reach_of (connection_of v.controller n))) none goes) in
+        let on = goes_asked {a = gone} {b = reach_of (connection_of v.controller n)} unknown.unconfirmed tt (subst (λ (a : Reach). StepsTo came put a (reach_of (connection_of v.controller n))) none goes) in
         goes_none unknown (reach_of (connection_of v.controller n)) refl on.0 on.1
 
-    pub goes_agree : (w.controller.next_number ≤ n → reach_of (connection_of w.controller n) ≡ gone) → Goes came put (reach_of (connection_of w.controller n)) (reach_of (connection_of v.controller n)) → Agrees w n → Agrees v n
+    pub goes_agree : (w.controller.next_number ≤ n → reach_of (connection_of w.controller n) ≡ gone) → StepsTo came put (reach_of (connection_of w.controller n)) (reach_of (connection_of v.controller n)) → Agrees w n → Agrees v n
     goes_agree none goes (is_unasked (inl beyond) unknown) = goes_beyond beyond (none beyond) unknown goes
     goes_agree none goes (is_unasked (inr (past, is)) unknown) = goes_early past unknown (sym is) refl goes
     goes_agree none goes (is_asking has way) =
@@ -224,13 +224,13 @@ module _ (w v : Actors) (n : ℕ) (put : List Message) (more : List Read) (grows
     goes_agree none goes (is_known past known) = is_known (past_more past) (known_more known (reach_of (connection_of v.controller n)) refl (goes_known known known.knows goes))
 
     -- one that the switch never hears of stays so
-    pub goes_unheard : Goes came put (reach_of (connection_of w.controller n)) (reach_of (connection_of v.controller n)) → HasAsked w n → IsUnknown w n → HasAsked v n × IsUnknown v n
+    pub goes_unheard : StepsTo came put (reach_of (connection_of w.controller n)) (reach_of (connection_of v.controller n)) → HasAsked w n → IsUnknown w n → HasAsked v n × IsUnknown v n
     goes_unheard goes has unknown =
         let on = goes_asked unknown.unconfirmed has.asked goes in
         (has_asked has.past (reach_of (connection_of v.controller n)) refl on.0, unknown_more unknown on.1)
 
     -- one that didn't ask stays so, or asks, or goes with nothing on its way
-    pub early_goes : n < w.controller.next_number → IsUnknown w n → {a b : Reach} → early ≡ a → reach_of (connection_of v.controller n) ≡ b → Goes came put a b → (reach_of (connection_of v.controller n) ≡ early) ⊎ (reach_of (connection_of v.controller n) ≡ waits) ⊎ (HasAsked v n × IsUnknown v n)
+    pub early_goes : n < w.controller.next_number → IsUnknown w n → {a b : Reach} → early ≡ a → reach_of (connection_of v.controller n) ≡ b → StepsTo came put a b → (reach_of (connection_of v.controller n) ≡ early) ⊎ (reach_of (connection_of v.controller n) ≡ waits) ⊎ (HasAsked v n × IsUnknown v n)
     early_goes past unknown from to (stays quiet) = inl (to ∙ sym from)
     early_goes past unknown from to (leaves quiet) = inr (inr (has_asked past gone to tt, unknown_more unknown (says.quiet quiet)))
     early_goes past unknown {a} from to (fails un_a un_b quiet) = absurd (early_unnamed a from un_a)

@@ -5,11 +5,11 @@ use Rattle.world_laws.proofs.Prelude.{cases_Bool, eqb-true, map-append, filter-a
 use Rattle.world_laws.proofs.Prelude.{AllByRecursion-filter, AllByRecursion-so, Input, Due, WasAsked, Complete, State}
 use Rattle.world_laws.proofs.Prelude.{Closed, Removed, Connection, IsOpen, ActsOn, IsBrought, brought_by}
 use Rattle.world_laws.proofs.Prelude.{brought_in, brought_with, if_held, IsThere, connection_of, is_for, outs_for, word_by, IsNumbered}
-use Rattle.world_laws.proofs.Prelude.{ComesInOctets, IsSent, step_goes, find_below, life_acts, life_fits, IsText, life_sends, IsAtPlace}
+use Rattle.world_laws.proofs.Prelude.{IsOctetStep, IsSent, step_goes, find_below, life_acts, life_fits, IsText, life_sends, IsAtPlace}
 use Rattle.world_laws.proofs.Prelude.{word_from, Step, Take, Word, OnChannel, Reports, OnConnection, Controller, Entry}
 use Rattle.world_laws.proofs.Prelude.{channel_state, holder, hears, break_of, step, SwitchState, Item, What, AreAllowed, Parameters}
-use Rattle.world_laws.proofs.Prelude.{OutboxEntry, Tenure, to_link, with_turn, Actors, is_up, outbox_of, turn-leads, all_join, IsBelow}
-use Rattle.world_laws.proofs.Prelude.{IsFrom, step_numbered, life, word_of, entry-out}
+use Rattle.world_laws.proofs.Prelude.{OutboxEntry, Tenure, to_link, with_turn, Actors, is_up, outbox_of, turn_leads, all_join, IsBelow}
+use Rattle.world_laws.proofs.Prelude.{IsFrom, step_numbered, life, word_of, entry_out}
 use Rattle.conn_rules.specs.declared.input.Input.TheVariants as inputs
 use Rattle.controller_model.specs.LifeLaws.Acts.{comes, nothing}
 use Rattle.controller_model.proofs.LifeLaws.SeenFrames.{texts_back, texts_of}
@@ -17,7 +17,7 @@ use Rattle.ruled_relay.specs.declared.item.What.TheVariants as whats
 use Rattle.world_model.specs.Relay.{entry_of}
 use Rattle.world_laws.specs.References.Agree.{Agrees, Confirms, ConfirmsBeing, ConfirmsBy, ConfirmsIn, HasAsked, IsRight, IsUnknown, reads}
 use Rattle.world_laws.specs.References.Agree.{reads_of}
-use Rattle.world_laws.specs.References.Naming.{Goes, early, waits, gone, reach_in, reach_of}
+use Rattle.world_laws.specs.References.Naming.{StepsTo, early, waits, gone, reach_in, reach_of}
 use Rattle.world_laws.specs.References.Reads.{AreNothing, ArePlainReads, Read}
 use Rattle.world_laws.proofs.References.Events.{IsEarly, Keeps, early_there}
 use Rattle.world_laws.proofs.References.Goings.{Begins, acts_go}
@@ -94,7 +94,7 @@ pub record Lawful (c : Controller) (s : Step) : Type 0 where
   pub sent : AllByRecursion IsSent (step c s).outs
   pub rises : c.next_number ≤ (step c s).next.next_number
 
-pub lawful_step : (p : Parameters) (ss : List Step) (s : Step) → AreAllowed p → AllByRecursion ComesInOctets ss → ComesInOctets s → Lawful (life p ss).next s
+pub lawful_step : (p : Parameters) (ss : List Step) (s : Step) → AreAllowed p → AllByRecursion IsOctetStep ss → IsOctetStep s → Lawful (life p ss).next s
 lawful_step p ss s allowed octets own =
     let numbered = (life_fits p ss 1 (omega arith)).numbered in
     record {
@@ -107,8 +107,8 @@ lawful_step p ss s allowed octets own =
 
 -- ---- what is put
 
-reads-append : (n : ℕ) (entries more : List OutboxEntry) → reads_of n (entries ++ more) ≡ reads_of n entries ++ reads_of n more
-reads-append n entries more =
+reads_append : (n : ℕ) (entries more : List OutboxEntry) → reads_of n (entries ++ more) ≡ reads_of n entries ++ reads_of n more
+reads_append n entries more =
     ap (λ (xs : List Out). map reads (outs_for n xs)) (map-append (λ (entry : OutboxEntry). entry.out) entries more)
     ∙ ap (map reads) (filter-append (is_for n) (map (λ entry. entry.out) entries) (map (λ entry. entry.out) more))
     ∙ map-append reads (outs_for n (map (λ entry. entry.out) entries)) (outs_for n (map (λ entry. entry.out) more))
@@ -129,7 +129,7 @@ says_by n put false more texts is = record {
 
 rights_of : (target : Option Tenure) (outs : List Out) → AreOfOne outs → AllByRecursion IsSent outs → AllByRecursion (λ (entry : OutboxEntry). IsRight entry.out) (map (entry_of target) outs)
 rights_of target [] one sent = tt
-rights_of target (out ∷ outs) one sent = (subst IsRight (sym (entry-out target out)) (right_out out one.0 sent.0), rights_of target outs one.1 sent.1)
+rights_of target (out ∷ outs) one sent = (subst IsRight (sym (entry_out target out)) (right_out out one.0 sent.0), rights_of target outs one.1 sent.1)
 
 put_rights : (b : Bool) (entries : List OutboxEntry) → AllByRecursion (λ (entry : OutboxEntry). IsRight entry.out) entries → AllByRecursion (λ (entry : OutboxEntry). IsRight entry.out) (if b then to_link SWITCH_LINK entries else [])
 put_rights true entries rights = AllByRecursion-filter (λ (entry : OutboxEntry). IsRight entry.out) (λ entry. entry.out.to == SWITCH_LINK) entries rights
@@ -158,7 +158,7 @@ module _ (w : Actors) (items : List Item) (target : Option Tenure) (s : Step) (l
   Turned u = (u.switch ≡ w.switch) × (u.switch_made ≡ w.switch_made) × (u.inbox ≡ items) × (u.controller ≡ (step w.controller s).next)
 
   turned : Turned v
-  turned = turn-leads Turned target (step w.controller s) (record w { inbox = items }) (λ links. (refl, refl, refl, refl))
+  turned = turn_leads Turned target (step w.controller s) (record w { inbox = items }) (λ links. (refl, refl, refl, refl))
 
   abbrev more_entries : List OutboxEntry
   more_entries = if is_up w SWITCH_LINK then to_link SWITCH_LINK (map (entry_of target) (step w.controller s).outs) else []
@@ -185,7 +185,7 @@ module _ (w : Actors) (items : List Item) (target : Option Tenure) (s : Step) (l
     grows : Grows w v n (reads_of n more_entries)
     grows = record {
       same = turned.0;
-      all = ap (reads_of n) joined ∙ reads-append n (outbox_of w SWITCH_LINK) more_entries;
+      all = ap (reads_of n) joined ∙ reads_append n (outbox_of w SWITCH_LINK) more_entries;
       numbers = subst (λ (c : Controller). w.controller.next_number ≤ c.next_number) (sym controller_is) laws.rises;
       there = λ is. subst (λ (c : Controller). n < c.next_number) (sym controller_is) (past_early (step w.controller s).next n laws.then_numbered (subst (λ (c : Controller). reach_of (connection_of c n) ≡ early) controller_is is));
     }
@@ -199,8 +199,8 @@ module _ (w : Actors) (items : List Item) (target : Option Tenure) (s : Step) (l
     abbrev came : ℕ → Type 0
     came r = IsBrought (brought_in w.controller n s) (inputs.ConnectionConfirm r)
 
-    went : Begins w.controller.next_number n put (connection_of w.controller n) (connection_of v.controller n) ⊎ Goes came put (reach_of (connection_of w.controller n)) (reach_of (connection_of v.controller n))
-    went = subst (λ (c : Controller). Begins w.controller.next_number n put (connection_of w.controller n) (connection_of c n) ⊎ Goes came put (reach_of (connection_of w.controller n)) (reach_of (connection_of c n))) (sym controller_is)
+    went : Begins w.controller.next_number n put (connection_of w.controller n) (connection_of v.controller n) ⊎ StepsTo came put (reach_of (connection_of w.controller n)) (reach_of (connection_of v.controller n))
+    went = subst (λ (c : Controller). Begins w.controller.next_number n put (connection_of w.controller n) (connection_of c n) ⊎ StepsTo came put (reach_of (connection_of w.controller n)) (reach_of (connection_of c n))) (sym controller_is)
         (acts_go came (λ r is. is) (laws.acts n from_one).acts)
 
     step_agrees : Agrees w n → Agrees v n

@@ -8,10 +8,10 @@ use Rattle.world_laws.proofs.Prelude.{switch_took, Actors, Link, is_up, link_of,
 use Rattle.world_laws.proofs.Prelude.{taken_of, is_unasked, is_asking, is_unheard, is_known}
 use Rattle.msc_end.specs.declared.connection.Connection.{Connection}
 use Rattle.world_laws.specs.References.Agree.{Agrees, AsksOnce, Confirms, ConfirmsBeing, ConfirmsBy, HasAsked, IsAsked, IsHeeded, IsUnasked}
-use Rattle.world_laws.specs.References.Agree.{IsUnknown, Knows, Never, Only, Runs, StandsAt, is_over, reads_of}
+use Rattle.world_laws.specs.References.Agree.{IsUnknown, Knows, Never, Only, Runs, IsFirstAt, is_over, reads_of}
 use Rattle.world_laws.specs.References.Naming.{early, reach_of}
 use Rattle.world_laws.specs.References.Reads.{AreNothing, IsNothing, Read, asks, carried, nothing}
-use Rattle.world_laws.proofs.References.Places.{push_none, push_stands, set-none, set_other}
+use Rattle.world_laws.proofs.References.Places.{push_none, push_stands, set_none, set_other}
 
 -- ---- after it
 
@@ -84,9 +84,9 @@ module _ (w : Actors) (m n : ℕ) (differ : m ≢ n) where
   other_none same none = none
   other_none refuses none = none
   other_none (opens c is empty first second) none = push_none n w.switch.connections c (λ own. differ (sym is ∙ own)) none
-  other_none (changes i x own reps got is same_peer quiet) none = set-none n w.switch.connections i own (λ mine. differ (sym same_peer ∙ mine)) none
+  other_none (changes i x own reps got is same_peer quiet) none = set_none n w.switch.connections i own (λ mine. differ (sym same_peer ∙ mine)) none
 
-  pub other_stands : {cs : List Connection} {reps : List Sccp} → Effect m w.switch.connections cs reps → (place : ℕ) (c : Connection) → StandsAt n place c w.switch.connections → StandsAt n place c cs
+  pub other_stands : {cs : List Connection} {reps : List Sccp} → Effect m w.switch.connections cs reps → (place : ℕ) (c : Connection) → IsFirstAt n place c w.switch.connections → IsFirstAt n place c cs
   other_stands same place c stands = stands
   other_stands refuses place c stands = stands
   other_stands (opens x is empty first second) place c stands = push_stands n place c w.switch.connections x stands
@@ -104,7 +104,7 @@ unasked_same w v n is (inr has) = inr (subst (λ (c : Controller). (n < c.next_n
 pub record IsSame (w v : Actors) (n : ℕ) : Type 0 where
   pub controller_is : v.controller ≡ w.controller
   pub none : find (is_of_peer n) w.switch.connections ≡ None → find (is_of_peer n) v.switch.connections ≡ None
-  pub stands : (place : ℕ) (c : Connection) → StandsAt n place c w.switch.connections → (own : Connection) × StandsAt n place own v.switch.connections × (is_over own.stage ≡ is_over c.stage)
+  pub stands : (place : ℕ) (c : Connection) → IsFirstAt n place c w.switch.connections → (own : Connection) × IsFirstAt n place own v.switch.connections × (is_over own.stage ≡ is_over c.stage)
   pub quiet : AreNothing (reads_of n (outbox_of w SWITCH_LINK)) → AreNothing (reads_of n (outbox_of v SWITCH_LINK))
   pub once : AsksOnce n (reads_of n (outbox_of w SWITCH_LINK)) → AsksOnce n (reads_of n (outbox_of v SWITCH_LINK))
   pub runs : (k : ℕ) (over last : Bool) → Runs k over (reads_of n (outbox_of w SWITCH_LINK)) last → Runs k over (reads_of n (outbox_of v SWITCH_LINK)) last
@@ -135,7 +135,7 @@ pub other_same : {w v : Actors} {others : List OutboxEntry} {cs : List Connectio
 other_same {w} {v} m n differ after effect same_reads = record {
   controller_is = after.controller_is;
   none = λ none. subst (λ (xs : List Connection). find (is_of_peer n) xs ≡ None) (sym after.conns) (other_none w m n differ effect none);
-  stands = λ place c stands. (c, subst (StandsAt n place c) (sym after.conns) (other_stands w m n differ effect place c stands), refl);
+  stands = λ place c stands. (c, subst (IsFirstAt n place c) (sym after.conns) (other_stands w m n differ effect place c stands), refl);
   quiet = λ quiet. subst AreNothing (sym same_wire) quiet;
   once = λ once. subst (AsksOnce n) (sym same_wire) once;
   runs = λ k over last runs. subst (λ (xs : List Read). Runs k over xs last) (sym same_wire) runs;

@@ -9,7 +9,7 @@ use Rattle.conn_rules.specs.declared.input.Input.TheVariants as inputs
 use Rattle.conn_rules.specs.Table.{row_of}
 use Rattle.ruled_relay.specs.declared.item.What.TheVariants as whats
 use Rattle.rsl_codec.specs.declared.rsl.Rsl.TheVariants as rsl
-use Rattle.world_laws.proofs.OrderHeard.{read_known, word-known}
+use Rattle.world_laws.proofs.OrderHeard.{read_known, word_known}
 use Rattle.world_laws.proofs.OwnerRun.{source_or}
 
 abbrev pub IsOneOut : List Out → Type 0
@@ -44,7 +44,7 @@ one_frame : (w : Actors) (source : ℕ) (frame : Frame) (up : Bool) → source �
 one_frame w source frame false station known = inr (inl refl)
 one_frame w source frame true station (m, is, read, no_nack) =
     let says : rsl_in frame ≡ Some m = ap rsl_in is ∙ read_known m read in
-    let word : word_of source frame ≡ rsl_word source m = ap (word_of source) is ∙ word-known source m station read in
+    let word : word_of source frame ≡ rsl_word source m = ap (word_of source) is ∙ word_known source m station read in
     subst (λ (o : Option Rsl). (acknowledged_tenure w source o ≡ None) ⊎ IsOneOut (on_word source (word_of source frame) w.controller).outs) (sym says)
     (subst (λ (x : Word). (acknowledged_tenure w source (Some m) ≡ None) ⊎ IsOneOut (on_word source x w.controller).outs) (sym word) (one_message w source m))
 

@@ -7,14 +7,14 @@ use Rattle.world_laws.proofs.Prelude.{on_activation_ack, IsSent, ChannelState, F
 use Rattle.world_laws.proofs.Prelude.{channel_state, entry_of, ignoring, hears, place_at, place_of, by_fitting, concerning, entry_at}
 use Rattle.world_laws.proofs.Prelude.{on_state, on_what, on_word, row_in, rsl_word, Frame, What, DataMessage, Rsl, AirMessage, Tenure}
 use Rattle.world_laws.proofs.Prelude.{acknowledged_tenure, target_in, rsl_in, Actors, IsKnown, IsKnownItem, entries_to, said_to, if_is}
-use Rattle.world_laws.proofs.Prelude.{out_of, word_of, leading, leading_by, leading_from_outbox, entry-out}
+use Rattle.world_laws.proofs.Prelude.{out_of, word_of, leading, leading_by, leading_from_outbox, entry_out}
 use Rattle.conn_rules.specs.declared.input.Input.TheVariants as inputs
 use Rattle.conn_rules.specs.Table.{row_of}
 use Rattle.ruled_relay.specs.declared.item.What.TheVariants as whats
 use Rattle.rsl_codec.specs.declared.common_channel.ImmediateAssignment.{ImmediateAssignment as Assignment}
 use Rattle.rsl_codec.specs.declared.rsl.Rsl.TheVariants as rsl
 use Rattle.world_model.specs.Relay.{commands, entry_of as outbox_entry}
-use Rattle.world_laws.proofs.OrderHeard.{read_known, word-known}
+use Rattle.world_laws.proofs.OrderHeard.{read_known, word_known}
 use Rattle.world_laws.proofs.OwnerRun.{source_or}
 use Rattle.world_laws.proofs.Targets.FreeQuiet.{leads_none}
 use Rattle.world_laws.proofs.OrderLeads.{no_request, request_place}
@@ -72,7 +72,7 @@ ack_frame : (at : Place) (w : Actors) (source : ℕ) (frame : Frame) (up : Bool)
 ack_frame at w source frame false station known = inr (λ sent. tt)
 ack_frame at w source frame true station (m, is, read, no_nack) =
     let says : rsl_in frame ≡ Some m = ap rsl_in is ∙ read_known m read in
-    let word : word_of source frame ≡ rsl_word source m = ap (word_of source) is ∙ word-known source m station read in
+    let word : word_of source frame ≡ rsl_word source m = ap (word_of source) is ∙ word_known source m station read in
     subst (λ (o : Option Rsl). (acknowledged_tenure w source o ≡ None) ⊎ AllLead at w.controller (on_word source (word_of source frame) w.controller).outs) (sym says)
     (subst (λ (x : Word). (acknowledged_tenure w source (Some m) ≡ None) ⊎ AllLead at w.controller (on_word source x w.controller).outs) (sym word) (ack_message at w source m))
 
@@ -85,10 +85,10 @@ ack_item at w source (whats.Frame frame) known = elim (source_or source) [
 
 -- ---- where nobody serves on the channel, no command goes there
 
-entry-none : (at : Place) (target : Option Tenure) (out : Out) → (target ≡ None) ⊎ ((d : DataMessage) → said_to at out ≡ Some (rsl.DataRequest d) → d.channel ≡ at.number → ⊥) → (out.to == at.station) ≡ true → leading_from_outbox at.number (outbox_entry target out) ≡ []
-entry-none at None out why to = leads_none at.number (rsl_in out.frame)
-entry-none at (Some tenure) out (inl none) to = absurd cc
-entry-none at (Some tenure) out (inr silent) to = by (rsl_in out.frame) refl where
+entry_none : (at : Place) (target : Option Tenure) (out : Out) → (target ≡ None) ⊎ ((d : DataMessage) → said_to at out ≡ Some (rsl.DataRequest d) → d.channel ≡ at.number → ⊥) → (out.to == at.station) ≡ true → leading_from_outbox at.number (outbox_entry target out) ≡ []
+entry_none at None out why to = leads_none at.number (rsl_in out.frame)
+entry_none at (Some tenure) out (inl none) to = absurd cc
+entry_none at (Some tenure) out (inr silent) to = by (rsl_in out.frame) refl where
   target : Option Tenure
   target = if commands (rsl_in out.frame) then Some tenure else None
 
@@ -99,9 +99,9 @@ entry-none at (Some tenure) out (inr silent) to = by (rsl_in out.frame) refl whe
     inner false miss = refl
   by _ is = refl
 
-pub entries-none : (at : Place) (target : Option Tenure) (outs : List Out) → (target ≡ None) ⊎ AllByRecursion (λ out. (d : DataMessage) → said_to at out ≡ Some (rsl.DataRequest d) → d.channel ≡ at.number → ⊥) outs → flat_map (leading_from_outbox at.number) (entries_to at target outs) ≡ []
-entries-none at target [] why = refl
-entries-none at target (out ∷ outs) why = by (out.to == at.station) refl (ap (λ (o : Out). o.to == at.station) (entry-out target out)) (entries-none at target outs (behind why)) where
+pub entries_none : (at : Place) (target : Option Tenure) (outs : List Out) → (target ≡ None) ⊎ AllByRecursion (λ out. (d : DataMessage) → said_to at out ≡ Some (rsl.DataRequest d) → d.channel ≡ at.number → ⊥) outs → flat_map (leading_from_outbox at.number) (entries_to at target outs) ≡ []
+entries_none at target [] why = refl
+entries_none at target (out ∷ outs) why = by (out.to == at.station) refl (ap (λ (o : Out). o.to == at.station) (entry_out target out)) (entries_none at target outs (behind why)) where
   behind : (target ≡ None) ⊎ AllByRecursion (λ x. (d : DataMessage) → said_to at x ≡ Some (rsl.DataRequest d) → d.channel ≡ at.number → ⊥) (out ∷ outs) → (target ≡ None) ⊎ AllByRecursion (λ x. (d : DataMessage) → said_to at x ≡ Some (rsl.DataRequest d) → d.channel ≡ at.number → ⊥) outs
   behind (inl none) = inl none
   behind (inr all) = inr all.1
@@ -113,5 +113,5 @@ entries-none at target (out ∷ outs) why = by (out.to == at.station) refl (ap (
   by : (b : Bool) → (out.to == at.station) ≡ b → ((outbox_entry target out).out.to == at.station) ≡ (out.to == at.station) → flat_map (leading_from_outbox at.number) (entries_to at target outs) ≡ [] → flat_map (leading_from_outbox at.number) (cond ((outbox_entry target out).out.to == at.station) (outbox_entry target out ∷ entries_to at target outs) (entries_to at target outs)) ≡ []
   by true to same rest =
       ap (λ (b : Bool). flat_map (leading_from_outbox at.number) (cond b (outbox_entry target out ∷ entries_to at target outs) (entries_to at target outs))) (same ∙ to)
-      ∙ ap (λ (xs : List AirMessage). xs ++ flat_map (leading_from_outbox at.number) (entries_to at target outs)) (entry-none at target out (first why) to) ∙ rest
+      ∙ ap (λ (xs : List AirMessage). xs ++ flat_map (leading_from_outbox at.number) (entries_to at target outs)) (entry_none at target out (first why) to) ∙ rest
   by false to same rest = ap (λ (b : Bool). flat_map (leading_from_outbox at.number) (cond b (outbox_entry target out ∷ entries_to at target outs) (entries_to at target outs))) (same ∙ to) ∙ rest

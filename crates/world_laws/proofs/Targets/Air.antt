@@ -4,7 +4,7 @@ use Rattle.world_laws.proofs.Prelude.{List, [], ◌∷◌, ◌++◌, filter, get
 use Rattle.world_laws.proofs.Prelude.{eqb-true, Place, SWITCH_LINK, CHANNEL_NUMBERS, place_at, BaseState, after_activate, after_release}
 use Rattle.world_laws.proofs.Prelude.{after_tell, is_active, Rsl, CellParameters, Parameters, Event, actors_after, Actors, Spot, base_of}
 use Rattle.world_laws.proofs.Prelude.{is_active_at, new_actors, new_spot, no_station, spot_at, stations_from, with_base, with_spot}
-use Rattle.world_laws.proofs.Prelude.{base-elsewhere, base-with_spot, reached-up, up-right, spot-with_base, true≢false, Respots}
+use Rattle.world_laws.proofs.Prelude.{base-elsewhere, base_with_spot, reached_up, up_right, spot_with_base, true≢false, Respots}
 use Rattle.world_laws.proofs.Prelude.{event-keeps, airs, asks_up, counts, goes_down, is_left, short_up}
 use Rattle.world_laws.proofs.Targets.Places.{base_cases, is_place, same_place, spot-apart, spot_here}
 
@@ -34,7 +34,7 @@ any_filter c k (x ∷ xs) other = by (x == c) refl (any_filter c k xs other) whe
 
 idle_based : (n : ℕ) (base : BaseState) (u : Actors) → ((k : ℕ) → is_active base.active k ≡ false → is_active (base_of u n).active k ≡ false) → IdleAir u → IdleAir (with_base n base u)
 idle_based n base u fewer all at at_is idle =
-    ap (λ (s : Spot). s.air) (spot-with_base n base u at)
+    ap (λ (s : Spot). s.air) (spot_with_base n base u at)
     ∙ all at at_is (elim (base_cases u n at.station base) [
       | inl here ↦ ap (λ (b : BaseState). is_active b.active at.number) here.1 ∙ fewer at.number (sym (ap (λ (b : BaseState). is_active b.active at.number) here.0) ∙ idle)
       | inr same ↦ sym (ap (λ (b : BaseState). is_active b.active at.number) same) ∙ idle
@@ -47,7 +47,7 @@ idle_told n message u all = idle_based n (after_tell (base_of u n) message) u (�
 
 idle_spot : (p : Place) (spot : Spot) (u : Actors) → p.station ≢ SWITCH_LINK → (is_active_at u p ≡ false → spot.air ≡ []) → ((at : Place) → at.station ≢ SWITCH_LINK → is_place at p ≡ false → is_active_at u at ≡ false → (spot_at u at).air ≡ []) → IdleAir (with_spot p spot u)
 idle_spot p spot u p_is here others at at_is idle =
-    let was : is_active_at u at ≡ false = sym (ap (λ (b : BaseState). is_active b.active at.number) (base-with_spot p spot u at.station)) ∙ idle in
+    let was : is_active_at u at ≡ false = sym (ap (λ (b : BaseState). is_active b.active at.number) (base_with_spot p spot u at.station)) ∙ idle in
     elim (cases_Bool (is_place at p)) [
       | inl hit ↦
           let same : at ≡ p = same_place at p hit in
@@ -65,7 +65,7 @@ idle_spotted p spot u p_is here all = idle_spot p spot u p_is here (λ at at_is 
 -- where a channel isn't active, nothing goes there, and nothing stood there
 respot_idle : {w u : Actors} {event : Event} {at : Place} {spot : Spot} → Respots w u event at spot → at.station ≢ SWITCH_LINK → IdleAir u → is_active_at u at ≡ false → spot.air ≡ []
 respot_idle (short_up number tenure reached) at_is all idle = all tenure.at at_is idle
-respot_idle {u = u} (goes_down tenure first others reached stood) at_is all idle = absurd (true≢false (sym (reached-up u tenure reached).1 ∙ idle))
+respot_idle {u = u} (goes_down tenure first others reached stood) at_is all idle = absurd (true≢false (sym (reached_up u tenure reached).1 ∙ idle))
 respot_idle (is_left number tenure reached) at_is all idle = refl
 respot_idle (counts number report tenure reached) at_is all idle = all tenure.at at_is idle
 respot_idle (airs station d taken active) at_is all idle = absurd (true≢false (sym active ∙ idle))
@@ -95,13 +95,13 @@ idle_step w event = event-keeps IdleAir w event (record {
   pops = λ station others _ all. all;
   activates = λ u s a taken _ all.
       let base : BaseState = after_activate (base_of u s) a.channel in
-      idle_spotted (place_at s a.channel) _ (with_base s base u) (up-right s w taken.up).0 (λ _. refl)
+      idle_spotted (place_at s a.channel) _ (with_base s base u) (up_right s w taken.up).0 (λ _. refl)
       (idle_based s base u (λ k is. any_front k (base_of u s).active (a.channel ∷ []) is) all);
   releases = λ u s channel taken all.
       let base : BaseState = after_release (base_of u s) channel in
-      let s_is = (up-right s w taken.up).0 in
+      let s_is = (up_right s w taken.up).0 in
       idle_spot (place_at s channel) _ (with_base s base u) s_is (λ _. refl)
-      (λ at at_is miss idle. ap (λ (x : Spot). x.air) (spot-with_base s base u at) ∙ all at at_is (was_idle s channel u at s_is at_is miss idle));
+      (λ at at_is miss idle. ap (λ (x : Spot). x.air) (spot_with_base s base u at) ∙ all at at_is (was_idle s channel u at s_is at_is miss idle));
 }) (record {
   rest = λ u inbox controller switch made links all. all;
   next = λ source message _ all. idle_based source _ w (λ k is. is) all;
@@ -110,15 +110,15 @@ idle_step w event = event-keeps IdleAir w event (record {
 
 -- ---- at the beginning
 
-new-air : (count k : ℕ) → (get_or (replicate count new_spot) k new_spot).air ≡ []
-new-air zero k = refl
-new-air (suc count) zero = refl
-new-air (suc count) (suc k) = new-air count k
+new_air : (count k : ℕ) → (get_or (replicate count new_spot) k new_spot).air ≡ []
+new_air zero k = refl
+new_air (suc count) zero = refl
+new_air (suc count) (suc k) = new_air count k
 
-new-airs : (from : ℕ) (cells : List CellParameters) (j k : ℕ) → (get_or (get_or (stations_from from cells) j no_station).spots k new_spot).air ≡ []
-new-airs from [] j k = refl
-new-airs from (cell ∷ cells) zero k = new-air CHANNEL_NUMBERS k
-new-airs from (cell ∷ cells) (suc j) k = new-airs (from + 1) cells j k
+new_airs : (from : ℕ) (cells : List CellParameters) (j k : ℕ) → (get_or (get_or (stations_from from cells) j no_station).spots k new_spot).air ≡ []
+new_airs from [] j k = refl
+new_airs from (cell ∷ cells) zero k = new_air CHANNEL_NUMBERS k
+new_airs from (cell ∷ cells) (suc j) k = new_airs (from + 1) cells j k
 
 pub idle_air_new : (settings : Parameters) → IdleAir (new_actors settings)
-idle_air_new settings at at_is idle = new-airs 1 settings.cells (at.station - 1) at.number
+idle_air_new settings at at_is idle = new_airs 1 settings.cells (at.station - 1) at.number

@@ -5,12 +5,12 @@ use Rattle.world_laws.proofs.Prelude.{Assignment, Handover, Channel, Place, Mess
 use Rattle.world_laws.proofs.Prelude.{is_for, outs_for, IsSent, ChannelState, Free, InUse, Releasing, channel_state, hears, place_of}
 use Rattle.world_laws.proofs.Prelude.{Tenures, Activation, Rsl, ChannelActivation, RfChannelRelease, RfChannelReleaseAck, AirMessage}
 use Rattle.world_laws.proofs.Prelude.{Tenure, Agrees, to_come, began, begins, begins_and_ends, acknowledgements, due, Actors, is_active_at}
-use Rattle.world_laws.proofs.Prelude.{is_up, outbox_of, Both-empty, Goes, Passes, Runs, said_to, runs, first_passes, activates, over}
-use Rattle.world_laws.proofs.Prelude.{passes, releases, IsOne, hear, acks-append, AllByRecursion-filter, out_of, Comes, acknowledgements_up}
+use Rattle.world_laws.proofs.Prelude.{is_up, outbox_of, both_empty, Goes, Passes, Runs, said_to, runs, first_passes, activates, over}
+use Rattle.world_laws.proofs.Prelude.{passes, releases, IsOne, hear, acks_append, AllByRecursion-filter, out_of, IsOwed, acknowledgements_up}
 use Rattle.world_laws.proofs.Prelude.{is_release_ack, messages_up, brings, coming_up, going_down, leading_from_air, leading_from_outbox}
 use Rattle.world_laws.proofs.Prelude.{IsSettled, StandWithin, is_ending}
-use Rattle.world_model.specs.OwnerLines.Comes.{nothing, ends}
-use Rattle.world_laws.proofs.Acknowledged.{coming-read}
+use Rattle.world_model.specs.OwnerLines.IsOwed.{nothing, ends}
+use Rattle.world_laws.proofs.Acknowledged.{coming_read}
 use Rattle.world_laws.proofs.Framing.{all_right}
 use Rattle.world_laws.proofs.OrderTexts.{seen_activation}
 use Rattle.world_laws.proofs.Targets.FreeQuiet.{alone, hear_free}
@@ -65,7 +65,7 @@ activated_free n change c outs put firsts state end sent is ordered goes = by st
 
 -- ---- a channel that is free, or whose end is on its way
 
-comes_end : (k channel : ℕ) (state : ChannelState) (all rest : List Rsl) → Comes k state all → all ≡ RfChannelReleaseAck channel ∷ rest → rest ≡ []
+comes_end : (k channel : ℕ) (state : ChannelState) (all rest : List Rsl) → IsOwed k state all → all ≡ RfChannelReleaseAck channel ∷ rest → rest ≡ []
 comes_end k channel state all rest nothing is = absurd cc
 comes_end k channel state all rest began is = absurd cc
 comes_end k channel state all rest begins is = absurd cc
@@ -105,7 +105,7 @@ module _ (owner : Tenure → ℕ) (w : Actors) (at : Place) (agrees : Agrees own
     ]
 
     acks_go : acknowledgements_up w at ≡ acknowledgements k read ++ acknowledgements k (messages_up v n)
-    acks_go = ap (acknowledgements k) goes ∙ acks-append k read (messages_up v n)
+    acks_go = ap (acknowledgements k) goes ∙ acks_append k read (messages_up v n)
 
     pub freed_down : going_down w at ≡ []
     freed_down = elim frees [
@@ -120,13 +120,13 @@ module _ (owner : Tenure → ℕ) (w : Actors) (at : Place) (agrees : Agrees own
         let all : to_come w at ++ way.lost ≡ RfChannelReleaseAck channel ∷ rest =
         ap (λ (xs : List Rsl). xs ++ way.lost) (up_first w at ∙ ap (λ (xs : List Rsl). xs ++ due k (is_active_at w at) (outbox_of w n)) (acks_go ∙ ap (λ (xs : List Rsl). xs ++ acknowledgements k (messages_up v n)) is))
         ∙ ap (λ (xs : List Rsl). RfChannelReleaseAck channel ∷ xs) (append_assoc (acknowledgements k (messages_up v n)) (due k (is_active_at w at) (outbox_of w n)) way.lost) in
-        (Both-empty (acknowledgements k (messages_up v n)) (due k (is_active_at w at) (outbox_of w n) ++ way.lost) (sym (comes_end k channel (channel_state w.controller at) (to_come w at ++ way.lost) rest way.comes all))).0
+        (both_empty (acknowledgements k (messages_up v n)) (due k (is_active_at w at) (outbox_of w n) ++ way.lost) (sym (comes_end k channel (channel_state w.controller at) (to_come w at ++ way.lost) rest way.comes all))).0
 
     pub freed_silent : coming_up v at ≡ []
-    freed_silent = coming-read v at ∙ elim frees [
+    freed_silent = coming_read v at ∙ elim frees [
       | inl was ↦
-          let empty : flat_map (brings k) read ++ flat_map (brings k) (messages_up v n) ≡ [] = sym (flat_map-append (brings k) read (messages_up v n)) ∙ ap (flat_map (brings k)) (sym goes) ∙ sym (coming-read w at) ∙ settled.silent hearing was in
-          (Both-empty (flat_map (brings k) read) (flat_map (brings k) (messages_up v n)) (sym empty)).1
+          let empty : flat_map (brings k) read ++ flat_map (brings k) (messages_up v n) ≡ [] = sym (flat_map-append (brings k) read (messages_up v n)) ∙ ap (flat_map (brings k)) (sym goes) ∙ sym (coming_read w at) ∙ settled.silent hearing was in
+          (both_empty (flat_map (brings k) read) (flat_map (brings k) (messages_up v n)) (sym empty)).1
       | inr acks ↦
           nothing_before k (messages_up v n) []
           (subst (λ (ms : List Rsl). Tenures k false ms ways.end) (sym (append-nil (messages_up v n))) (behind_end k acks.0 read (messages_up v n) (subst (λ (ms : List Rsl). Tenures k ways.within ms ways.end) goes ways.stand) acks.1))

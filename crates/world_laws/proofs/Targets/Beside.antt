@@ -7,8 +7,8 @@ use Rattle.world_laws.proofs.Prelude.{after_tell, data_indication, establish_ind
 use Rattle.world_laws.proofs.Prelude.{after_frame, after_frame_at, frame_answer, MobileState, Rsl, Event, AirUp, Command, Seat, On}
 use Rattle.world_laws.proofs.Prelude.{Moving, Tenure, actors_after, first_in, after_air_up, brought, complete, frame_in, framed}
 use Rattle.world_laws.proofs.Prelude.{signalling_brought, Actors, Mobile, base_of, has_number, is_active_at, is_reached, is_station_up}
-use Rattle.world_laws.proofs.Prelude.{is_up, mobile_of, put_back, tenure_at, with_base, Good, reached-up, up-right, air_up-leads}
-use Rattle.world_laws.proofs.Prelude.{after-taken, Both-empty, down-after, reached-station, false≢true, same_Some, apart_behind}
+use Rattle.world_laws.proofs.Prelude.{is_up, mobile_of, put_back, tenure_at, with_base, Good, reached_up, up_right, air_up_leads}
+use Rattle.world_laws.proofs.Prelude.{after_taken, both_empty, down_after, reached_station, false≢true, same_Some, apart_behind}
 use Rattle.world_laws.proofs.Prelude.{messages_in, brings_up, coming_up, made_of, commanded_target, IsAlone, IsElsewhere, LinedUp, Sits}
 use Rattle.world_laws.proofs.Prelude.{came, BeginWith, IsAwaited, IsFreshIn, IsLedBy, IsOnPlace}
 use Rattle.conn_rules.specs.Streams.{target_in}
@@ -19,7 +19,7 @@ use Rattle.world_model.specs.Life.{event_after}
 use Rattle.world_laws.specs.Seated.Sits.{stays}
 use Rattle.world_laws.proofs.AirUp.{frame_lent}
 use Rattle.world_laws.proofs.Framing.{all_right}
-use Rattle.world_laws.proofs.Projecting.{active_there, coming-told}
+use Rattle.world_laws.proofs.Projecting.{active_there, coming_told}
 use Rattle.world_laws.proofs.Targets.Comings.{Comes, coming, comes_step, elsewhere_coming, is_frame, is_relays, short_coming}
 use Rattle.world_laws.proofs.Targets.Comings.Comes.{begun, same}
 use Rattle.world_laws.proofs.Targets.Downs.{none_down}
@@ -35,7 +35,7 @@ there_coming w p at frame at_is up active = by p.opens where
 
   telling : (message : Rsl) → (if at.station == at.station then made_of at.number (message ∷ []) else []) ≡ brings_up frame ∷ [] → coming at (with_base at.station (after_tell base message) w) ≡ coming at w ++ frame ∷ []
   telling message is =
-      ap messages_in (coming-told w w at.station at (after_tell base message) (message ∷ []) at_is up (λ k. refl) refl refl (inl (active_there w at active)) ∙ ap (λ (xs : List Brought). coming_up w at ++ xs) is)
+      ap messages_in (coming_told w w at.station at (after_tell base message) (message ∷ []) at_is up (λ k. refl) refl refl (inl (active_there w at active)) ∙ ap (λ (xs : List Brought). coming_up w at ++ xs) is)
       ∙ messages_in-append (coming_up w at) (brings_up frame ∷ [])
 
   two : (a b : Bool) → a ≡ true → b ≡ true → (if a then (if b then brings_up frame ∷ [] else []) ++ [] else []) ≡ brings_up frame ∷ []
@@ -106,8 +106,8 @@ module _ {m : ℕ} (w : Actors) (event : Event) (mobile : ℕ) (p : Mobile) (s :
   seat_prepared _ tenure command is sits = absurd cc
 
   frame_prepared : (c : Channel) → target_in s.state ≡ c ∷ [] → commanded_target s.state ≡ None → (number : ℕ) (sapi : Sapi) → coming (place_of c) w ≡ [] → coming (place_of c) (unwrap_or (after_air_up w number sapi) w) ≡ []
-  frame_prepared c is idle number sapi none = after-taken (λ u. coming (place_of c) u ≡ []) (after_air_up w number sapi) w
-      (air_up-leads (λ u. coming (place_of c) u ≡ []) w number sapi (λ x tenure command frame acts seat lent reached. by sapi x tenure command frame acts seat reached ∙ none)) none where
+  frame_prepared c is idle number sapi none = after_taken (λ u. coming (place_of c) u ≡ []) (after_air_up w number sapi) w
+      (air_up_leads (λ u. coming (place_of c) u ≡ []) w number sapi (λ x tenure command frame acts seat lent reached. by sapi x tenure command frame acts seat reached ∙ none)) none where
         at_is : c.station ≢ SWITCH_LINK
         at_is = (subst (AllByRecursion (λ d. d.station ≢ SWITCH_LINK)) is rest_placed.1).0
 
@@ -119,7 +119,7 @@ module _ {m : ℕ} (w : Actors) (event : Event) (mobile : ℕ) (p : Mobile) (s :
 
         by : (sapi : Sapi) (x : Mobile) (tenure : Tenure) (command : Option Command) (frame : List ℕ) → mobile_of w number ≡ Some x → x.seat ≡ On tenure command → is_reached w tenure ≡ true → coming (place_of c) (brought w x tenure.at sapi frame) ≡ coming (place_of c) w
         by Three x tenure command frame acts seat reached = short_coming (place_of c) w x tenure.at frame
-        by Zero x tenure command frame acts seat reached = elsewhere_coming (place_of c) w x tenure.at frame at_is (reached-station w tenure reached) (away x tenure command acts seat reached)
+        by Zero x tenure command frame acts seat reached = elsewhere_coming (place_of c) w x tenure.at frame at_is (reached_station w tenure reached) (away x tenure command acts seat reached)
 
   silent_prepared : (c : Channel) → target_in s.state ≡ c ∷ [] → commanded_target s.state ≡ None → (e : Event) → e ≡ event → coming (place_of c) w ≡ [] → coming (place_of c) (actors_after w e) ≡ []
   unfolding event_after
@@ -127,7 +127,7 @@ module _ {m : ℕ} (w : Actors) (event : Event) (mobile : ℕ) (p : Mobile) (s :
   silent_prepared c is idle e now none = by (comes_step (place_of c) w e (subst (AllByRecursion (λ d. d.station ≢ SWITCH_LINK)) is rest_placed.1).0 good (ap is_relays now ∙ beside) refl) where
     by : Comes (place_of c) w (actors_after w e) → coming (place_of c) (actors_after w e) ≡ []
     by (same stays_so) = stays_so ∙ none
-    by (begun down rest all) = (Both-empty (coming (place_of c) (actors_after w e)) rest (sym none ∙ all)).0
+    by (begun down rest all) = (both_empty (coming (place_of c) (actors_after w e)) rest (sym none ∙ all)).0
 
   awaited : (c : Channel) → target_in s.state ≡ c ∷ [] → commanded_target s.state ≡ None → IsAwaited w c → IsAwaited v c
   awaited c is idle a = record {
@@ -175,7 +175,7 @@ module _ {m : ℕ} (w : Actors) (event : Event) (mobile : ℕ) (p : Mobile) (s :
     still_up up = by (is_up w t.channel.station) refl where
       by : (b : Bool) → is_up w t.channel.station ≡ b → is_up w t.channel.station ≡ true
       by true there = there
-      by false down = absurd (false≢true (sym (down-after t.channel.station w event down) ∙ up))
+      by false down = absurd (false≢true (sym (down_after t.channel.station w event down) ∙ up))
 
     -- ---- no frame
 
@@ -208,23 +208,23 @@ module _ {m : ℕ} (w : Actors) (event : Event) (mobile : ℕ) (p : Mobile) (s :
     there_led : (x : Mobile) (tenure : Tenure) (command : Option Command) (frame : List ℕ) → x ≡ p → x.seat ≡ On tenure command → tenure ≡ tenure_at w at → frame_in (frame_answer x.end Zero) ≡ Some frame → is_reached w tenure ≡ true → (y : Mobile) → IsLedBy (brought w x tenure.at Zero frame) y t
     there_led x tenure command frame own seat there lent reached y =
         let here : tenure.at ≡ at = ap (λ (k : Tenure). k.at) there in
-        let up : is_station_up w tenure.at.station ≡ true = (reached-up w tenure reached).0 in
+        let up : is_station_up w tenure.at.station ≡ true = (reached_up w tenure reached).0 in
         let all : coming at (brought w x tenure.at Zero frame) ≡ coming at w ++ frame ∷ [] =
-        subst (λ (z : Place). coming z (brought w x tenure.at Zero frame) ≡ coming z w ++ frame ∷ []) here (there_coming w x tenure.at frame (reached-station w tenure reached) up (reached-up w tenure reached).1) in
+        subst (λ (z : Place). coming z (brought w x tenure.at Zero frame) ≡ coming z w ++ frame ∷ []) here (there_coming w x tenure.at frame (reached_station w tenure reached) up (reached_up w tenure reached).1) in
         record {
           first = subst (BeginWith text) (sym all) (begin_last text frame (coming at w) (λ none. lent_first x.end.zero frame text (frame_lent x.end frame lent).lent
               (ap (λ (z : Mobile). first_in (to_be_taken z.end.zero)) own
-              ∙ led.gives none (ap (λ (z : Place). is_up w z.station) (sym here) ∙ (up-right tenure.at.station w up).1) (subst (λ (z : Seat). IsOnPlace z at) (sym seat ∙ ap (λ (z : Mobile). z.seat) own) here))) led.first);
+              ∙ led.gives none (ap (λ (z : Place). is_up w z.station) (sym here) ∙ (up_right tenure.at.station w up).1) (subst (λ (z : Seat). IsOnPlace z at) (sym seat ∙ ap (λ (z : Mobile). z.seat) own) here))) led.first);
           gives = λ none up_then. absurd (none_last (coming at w) frame (sym all ∙ none));
         }
 
     frame_led : (number : ℕ) (sapi : Sapi) (y : Mobile) → mobile_of (unwrap_or (after_air_up w number sapi) w) mobile ≡ Some y → IsLedBy (unwrap_or (after_air_up w number sapi) w) y t
-    frame_led number sapi y found_y = after-taken P (after_air_up w number sapi) w (air_up-leads P w number sapi (λ x tenure command frame acts seat lent reached. by sapi x tenure command frame acts seat lent reached)) (λ z found_z. subst (λ (k : Mobile). IsLedBy w k t) (same_Some _ _ (sym found ∙ found_z)) led) y found_y where
+    frame_led number sapi y found_y = after_taken P (after_air_up w number sapi) w (air_up_leads P w number sapi (λ x tenure command frame acts seat lent reached. by sapi x tenure command frame acts seat lent reached)) (λ z found_z. subst (λ (k : Mobile). IsLedBy w k t) (same_Some _ _ (sym found ∙ found_z)) led) y found_y where
       P : Actors → Type 0
       P u = (z : Mobile) → mobile_of u mobile ≡ Some z → IsLedBy u z t
 
       on_serving : (x : Mobile) (tenure : Tenure) (command : Option Command) (frame : List ℕ) → mobile_of w number ≡ Some x → x.seat ≡ On tenure command → is_reached w tenure ≡ true → is_place tenure.at at ≡ false → P (brought w x tenure.at Zero frame)
-      on_serving x tenure command frame acts seat reached away = elsewhere_led number x (record (framed x Zero) { opens = false }) (brought w x tenure.at Zero frame) acts refl refl (elsewhere_coming at w x tenure.at frame at_is (reached-station w tenure reached) away) refl
+      on_serving x tenure command frame acts seat reached away = elsewhere_led number x (record (framed x Zero) { opens = false }) (brought w x tenure.at Zero frame) acts refl refl (elsewhere_coming at w x tenure.at frame at_is (reached_station w tenure reached) away) refl
           (λ own on. absurd (false≢true (sym away ∙ there (subst (λ (z : Seat). IsOnPlace z at) seat on)))) where
             there : tenure.at ≡ at → is_place tenure.at at ≡ true
             there same_place = ap (λ (z : Place). is_place z at) same_place ∙ ap (λ (b : Bool). b && (at.number == at.number)) (eq-eqb at.station at.station refl) ∙ eq-eqb at.number at.number refl

@@ -5,9 +5,9 @@ use Rattle.world_laws.proofs.Prelude.{append-nil, Place, SWITCH_LINK, place_at, 
 use Rattle.world_laws.proofs.Prelude.{messages_behind_first, Rsl, Event, BasePush, Handle, SwitchTakes, SwitchDoes, Tick, BaseDown}
 use Rattle.world_laws.proofs.Prelude.{OutboxEntry, actors_after, after_base_push, after_handle, after_tick, after_break, sccp_in}
 use Rattle.world_laws.proofs.Prelude.{after_switch_takes, after_switch_does, Actors, Link, Spot, base_of, broken_link, is_up, link_of}
-use Rattle.world_laws.proofs.Prelude.{with_base, with_outbox, with_spot, Plain, base-elsewhere, base-with_spot, up-right, as_before}
-use Rattle.world_laws.proofs.Prelude.{ends_now, handle-leads, push-leads, broken-leads, switch_takes-leads, switch_took-leads, does-leads}
-use Rattle.world_laws.proofs.Prelude.{after-taken, handle-turned, tick-turned, air-after, is_on_air, true≢false, breaking, up_and_down}
+use Rattle.world_laws.proofs.Prelude.{with_base, with_outbox, with_spot, Plain, base-elsewhere, base_with_spot, up_right, as_before}
+use Rattle.world_laws.proofs.Prelude.{ends_now, handle_leads, push_leads, broken_leads, switch_takes_leads, switch_took-leads, does_leads}
+use Rattle.world_laws.proofs.Prelude.{after_taken, handle_turned, tick-turned, air_after, is_on_air, true≢false, breaking, up_and_down}
 use Rattle.world_laws.proofs.Prelude.{is_station_up}
 use Rattle.world_model.specs.Honest.{given}
 use Rattle.world_model.specs.Life.{event_after}
@@ -31,7 +31,7 @@ based : {n : ℕ} {w u : Actors} (m : ℕ) (base : BaseState) → base.active �
 based {n} {w} {u} m base same c = record { up = c.up; active = λ down. base-same (λ (b : BaseState). b.active) u m n base same ∙ c.active down }
 
 spotted : {n : ℕ} {w u : Actors} (p : Place) (spot : Spot) → Calm n w u → Calm n w (with_spot p spot u)
-spotted {n} {w} {u} p spot c = record { up = c.up; active = λ down. ap (λ (b : BaseState). b.active) (base-with_spot p spot u n) ∙ c.active down }
+spotted {n} {w} {u} p spot c = record { up = c.up; active = λ down. ap (λ (b : BaseState). b.active) (base_with_spot p spot u n) ∙ c.active down }
 
 boxed : {n : ℕ} {w : Actors} (m : ℕ) (entries : List OutboxEntry) → Calm n w (with_outbox m entries w)
 boxed {n} {w} m entries = record { up = set-same (λ (l : Link). l.up) w.links broken_link m n (record (link_of w m) { outbox = entries }) refl; active = λ _. refl }
@@ -41,7 +41,7 @@ plain : {n : ℕ} {w v : Actors} → v.links ≡ w.links → v.stations ≡ w.st
 plain {n} {w} {v} links stations = record { up = ap (λ (u : Actors). is_up u n) (ap (λ (ls : List Link). record w { links = ls }) links); active = λ _. ap (λ (ss : List _). (base_of (record w { stations = ss }) n).active) stations }
 
 air_calm : (n : ℕ) (w : Actors) (event : Event) → n ≢ 0 → is_on_air event ≡ true → Calm n w (actors_after w event)
-air_calm n w event n_is on = air-after (Calm n w) w event on (record {
+air_calm n w event n_is on = air_after (Calm n w) w event on (record {
   puts = λ u number p q _ _ _ c. record { up = c.up; active = c.active };
   joins = λ number initial accepts _ c. record { up = c.up; active = c.active };
   tells = λ u m message _ _ c. based m _ refl c;
@@ -53,11 +53,11 @@ air_calm n w event n_is on = air-after (Calm n w) w event on (record {
   -- a station whose link is down takes nothing
   away : (u : Actors) (s : ℕ) (base : BaseState) → is_station_up w s ≡ true → Calm n w u → is_up w n ≡ false → (base_of (with_base s base u) n).active ≡ (base_of w n).active
   away u s base up c down =
-      let s_is = up-right s w up in
+      let s_is = up_right s w up in
       ap (λ (b : BaseState). b.active) (base-elsewhere u n s base n_is s_is.0 (λ same. up_and_down s_is.1 (sym (ap (is_up w) same) ∙ down))) ∙ c.active down
 
 calm : (n : ℕ) (w : Actors) (o : Option Actors) → OfTaken (Calm n w) o → Calm n w (unwrap_or o w)
-calm n w o leads = after-taken (Calm n w) o w leads (calm_itself n w)
+calm n w o leads = after_taken (Calm n w) o w leads (calm_itself n w)
 
 abbrev pub is_break : Event → Bool
 is_break (BaseDown source) = true
@@ -66,13 +66,13 @@ is_break _ = false
 pub calm_step : (n : ℕ) (w : Actors) (event : Event) → n ≢ 0 → is_break event ≡ false → Calm n w (actors_after w event)
 unfolding event_after FromAir OfTaken
 calm_step n w (BasePush source) n_is no_break =
-    calm n w (after_base_push w source) (push-leads (Calm n w) w source (λ first others. plain refl refl) (λ message _. let c = based {n = n} {w = w} {u = w} source _ refl (calm_itself n w) in record { up = c.up; active = c.active }))
+    calm n w (after_base_push w source) (push_leads (Calm n w) w source (λ first others. plain refl refl) (λ message _. let c = based {n = n} {w = w} {u = w} source _ refl (calm_itself n w) in record { up = c.up; active = c.active }))
 calm_step n w Handle n_is no_break =
-    calm n w (after_handle w) (handle-leads (Calm n w) w (λ item items is.
-    let turned = handle-turned w (place_at n 0) item items is in record { up = turned.up; active = λ _. ap (λ (b : BaseState). b.active) turned.base }))
+    calm n w (after_handle w) (handle_leads (Calm n w) w (λ item items is.
+    let turned = handle_turned w (place_at n 0) item items is in record { up = turned.up; active = λ _. ap (λ (b : BaseState). b.active) turned.base }))
 calm_step n w SwitchTakes n_is no_break =
-    calm n w (after_switch_takes w) (switch_takes-leads (Calm n w) w (λ first others _ _. let c = boxed {n = n} {w = w} SWITCH_LINK others in switch_took-leads (Calm n w) (with_outbox SWITCH_LINK others w) (sccp_in first.out.frame) c (λ next made. record { up = c.up; active = c.active })))
-calm_step n w (SwitchDoes action) n_is no_break = calm n w (after_switch_does w action) (does-leads (Calm n w) w action (λ next made. plain refl refl))
+    calm n w (after_switch_takes w) (switch_takes_leads (Calm n w) w (λ first others _ _. let c = boxed {n = n} {w = w} SWITCH_LINK others in switch_took-leads (Calm n w) (with_outbox SWITCH_LINK others w) (sccp_in first.out.frame) c (λ next made. record { up = c.up; active = c.active })))
+calm_step n w (SwitchDoes action) n_is no_break = calm n w (after_switch_does w action) (does_leads (Calm n w) w action (λ next made. plain refl refl))
 calm_step n w (Tick ms) n_is no_break =
     calm n w (after_tick w ms) (let turned = tick-turned w (place_at n 0) ms in record { up = turned.up; active = λ _. ap (λ (b : BaseState). b.active) turned.base })
 calm_step n w (BaseDown source) n_is no_break = absurd (true≢false no_break)
@@ -81,7 +81,7 @@ calm_step n w event n_is no_break = air_calm n w event n_is refl
 -- a break leaves what is active
 break_active : (n source : ℕ) (w : Actors) → (base_of (actors_after w (BaseDown source)) n).active ≡ (base_of w n).active
 unfolding event_after
-break_active n source w = after-taken Same (after_break w source) w (broken-leads Same w source (λ _ _. refl) (λ _ _. base-same (λ (b : BaseState). b.active) w source n _ refl)) refl where
+break_active n source w = after_taken Same (after_break w source) w (broken_leads Same w source (λ _ _. refl) (λ _ _. base-same (λ (b : BaseState). b.active) w source n _ refl)) refl where
   Same : Actors → Type 0
   Same v = (base_of v n).active ≡ (base_of w n).active
 

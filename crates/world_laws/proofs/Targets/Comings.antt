@@ -7,17 +7,17 @@ use Rattle.world_laws.proofs.Prelude.{sapi_of, FIRST_SDCCH, MAIN_LINK_SAPI_3, SA
 use Rattle.world_laws.proofs.Prelude.{BasePush, Handle, SwitchTakes, SwitchDoes, Tick, BaseDown, actors_after, brought}
 use Rattle.world_laws.proofs.Prelude.{short_message_brought, signalling_brought, link_answer, sccp_in, after_switch_takes}
 use Rattle.world_laws.proofs.Prelude.{after_switch_does, Actors, Mobile, Spot, base_of, is_up, spot_at, with_base, with_outbox, with_spot}
-use Rattle.world_laws.proofs.Prelude.{Good, Plain, base-elsewhere, as_before, ends_now, switch_takes-leads, switch_took-leads, does-leads}
-use Rattle.world_laws.proofs.Prelude.{after-taken, Tells, air-after, is_on_air, true≢false, messages_in, brings_up, ends_up, popped}
+use Rattle.world_laws.proofs.Prelude.{Good, Plain, base-elsewhere, as_before, ends_now, switch_takes_leads, switch_took-leads, does_leads}
+use Rattle.world_laws.proofs.Prelude.{after_taken, Tells, air_after, is_on_air, true≢false, messages_in, brings_up, ends_up, popped}
 use Rattle.world_laws.proofs.Prelude.{breaking, pushing, OfTaken, messages_up, read_of, brings, brings_in, coming_up, made_of, of_main}
 use Rattle.world_laws.specs.LineUp.Places.{Item as Brought}
 use Rattle.world_laws.proofs.LineUp.Lines.{messages_in-append}
 use Rattle.world_model.specs.Honest.{given}
 use Rattle.world_model.specs.Life.{event_after}
 use Rattle.world_model.proofs.Honesty.Plain.{next}
-use Rattle.world_laws.proofs.Acknowledged.{coming-read}
-use Rattle.world_laws.proofs.Projecting.{coming-same, made-append}
-use Rattle.world_laws.proofs.Quiet.{coming-with_spot}
+use Rattle.world_laws.proofs.Acknowledged.{coming_read}
+use Rattle.world_laws.proofs.Projecting.{coming_same, made_append}
+use Rattle.world_laws.proofs.Quiet.{coming_with_spot}
 use Rattle.world_laws.proofs.Targets.Calm.{first_and_behind}
 use Rattle.world_laws.proofs.Targets.Places.{base_cases, is_place}
 use Rattle.world_laws.proofs.Targets.Ways.{goes_read}
@@ -31,13 +31,13 @@ coming at w = messages_in (coming_up w at)
 
 pub made_coming : (at : Place) (m : ℕ) (base : BaseState) (ms : List Rsl) (u : Actors) → base.messages ≡ (base_of u m).messages ++ ms → messages_in (made_of at.number ms) ≡ [] → coming at (with_base m base u) ≡ coming at u
 made_coming at m base ms u made none = elim (base_cases u m at.station base) [
-  | inr same ↦ ap messages_in (coming-same u (with_base m base u) at refl same)
+  | inr same ↦ ap messages_in (coming_same u (with_base m base u) at refl same)
   | inl here ↦
       let inbox : List Brought = flat_map (brings_in at) u.inbox in
       let old : List Brought = made_of at.number (base_of u at.station).messages in
       ap (λ (b : BaseState). messages_in (inbox ++ made_of at.number b.messages)) here.0
       ∙ ap (λ (xs : List Rsl). messages_in (inbox ++ made_of at.number xs)) (made ∙ ap (λ (b : BaseState). b.messages ++ ms) (sym here.1))
-      ∙ ap (λ (xs : List Brought). messages_in (inbox ++ xs)) (made-append at.number (base_of u at.station).messages ms)
+      ∙ ap (λ (xs : List Brought). messages_in (inbox ++ xs)) (made_append at.number (base_of u at.station).messages ms)
       ∙ ap messages_in (sym (append_assoc inbox old (made_of at.number ms)))
       ∙ messages_in-append (inbox ++ old) (made_of at.number ms)
       ∙ ap (λ (xs : List (List ℕ)). messages_in (inbox ++ old) ++ xs) none
@@ -48,7 +48,7 @@ told_coming : (at : Place) (m : ℕ) (message : Rsl) (u : Actors) → messages_i
 told_coming at m message u none = made_coming at m (after_tell (base_of u m) message) (message ∷ []) u refl none
 
 spot-coming : (at p : Place) (spot : Spot) (u : Actors) → coming at (with_spot p spot u) ≡ coming at u
-spot-coming at p spot u = ap messages_in (coming-with_spot u p spot at)
+spot-coming at p spot u = ap messages_in (coming_with_spot u p spot at)
 
 -- which messages bring none
 established_none : (k channel : ℕ) (sapi : Sapi) → messages_in (made_of k (establish_indication channel sapi None ∷ [])) ≡ []
@@ -99,7 +99,7 @@ other_none k channel message xs other = ap (λ (b : Bool). messages_in ((if b th
 
 pub elsewhere_coming : (at : Place) (w : Actors) (p : Mobile) (here : Place) (frame : List ℕ) → at.station ≢ 0 → here.station ≢ 0 → is_place here at ≡ false → coming at (brought w p here Zero frame) ≡ coming at w
 elsewhere_coming at w p here frame at_is here_is other = elim (cases_Bool (nat_eq here.station at.station)) [
-  | inr station ↦ ap messages_in (coming-same w (with_base here.station (signalling_brought (base_of w here.station) here.number p.opens frame) w) at refl (base-elsewhere w at.station here.station _ at_is here_is (λ same. eqb-false here.station at.station station (sym same))))
+  | inr station ↦ ap messages_in (coming_same w (with_base here.station (signalling_brought (base_of w here.station) here.number p.opens frame) w) at refl (base-elsewhere w at.station here.station _ at_is here_is (λ same. eqb-false here.station at.station station (sym same))))
   | inl station ↦ by p.opens (sym (ap (λ (b : Bool). b && nat_eq here.number at.number) station) ∙ other)
 ] where
   by : (b : Bool) → nat_eq here.number at.number ≡ false → coming at (with_base here.station (signalling_brought (base_of w here.station) here.number b frame) w) ≡ coming at w
@@ -114,7 +114,7 @@ pub data Comes (at : Place) (w v : Actors) : Type 0 where
   begun : is_up v at.station ≡ false → (rest : List (List ℕ)) → coming at w ≡ coming at v ++ rest → Comes at w v
 
 up_same : (at : Place) (w v : Actors) → messages_up w at.station ≡ messages_up v at.station → Comes at w v
-up_same at w v is = same (ap messages_in (coming-read v at ∙ ap (flat_map (brings at.number)) (sym is) ∙ sym (coming-read w at)))
+up_same at w v is = same (ap messages_in (coming_read v at ∙ ap (flat_map (brings at.number)) (sym is) ∙ sym (coming_read w at)))
 
 -- what stands in the inbox then
 inbox-then : (n : ℕ) (w : Actors) (event : Event) → n ≢ 0 → Good w → popped w event ≡ [] → flat_map (read_of n) (actors_after w event).inbox ≡ flat_map (read_of n) w.inbox ++ given n w event
@@ -137,9 +137,9 @@ plain_coming at w event at_is good none (ends_now down left nothing) =
     let made : List Rsl = (base_of w at.station).messages in
     let now : messages_up v at.station ≡ inbox = ap (λ (ms : List Rsl). ms ++ (base_of v at.station).messages) (inbox-then at.station w event at_is good none ∙ ap (λ (ms : List Rsl). inbox ++ ms) nothing ∙ append-nil inbox) ∙ ap (λ (ms : List Rsl). inbox ++ ms) left ∙ append-nil inbox in
     begun down (messages_in (flat_map (brings at.number) made))
-    (ap messages_in (coming-read w at ∙ flat_map-append (brings at.number) inbox made) ∙ messages_in-append (flat_map (brings at.number) inbox) (flat_map (brings at.number) made)
+    (ap messages_in (coming_read w at ∙ flat_map-append (brings at.number) inbox made) ∙ messages_in-append (flat_map (brings at.number) inbox) (flat_map (brings at.number) made)
     ∙ ap (λ (ms : List Rsl). messages_in (flat_map (brings at.number) ms) ++ messages_in (flat_map (brings at.number) made)) (sym now)
-    ∙ ap (λ (xs : List Brought). messages_in xs ++ messages_in (flat_map (brings at.number) made)) (sym (coming-read v at)))
+    ∙ ap (λ (xs : List Brought). messages_in xs ++ messages_in (flat_map (brings at.number) made)) (sym (coming_read v at)))
 
 -- ---- each event but a frame in the air, and the controller's
 
@@ -153,7 +153,7 @@ is_frame (AirUp number sapi) = true
 is_frame _ = false
 
 stays : (at : Place) (w : Actors) (o : Option Actors) → OfTaken (λ v. coming at v ≡ coming at w) o → Comes at w (unwrap_or o w)
-stays at w o leads = same (after-taken (λ v. coming at v ≡ coming at w) o w leads refl)
+stays at w o leads = same (after_taken (λ v. coming at v ≡ coming at w) o w leads refl)
 
 tells_none : {w : Actors} {event : Event} {n : ℕ} {message : Rsl} (k : ℕ) → is_frame event ≡ false → Tells w event n message → messages_in (made_of k (message ∷ [])) ≡ []
 tells_none k b (opens_with number p tenure frame lent) = absurd cc
@@ -164,7 +164,7 @@ tells_none k b (answers station l answer taken) = answer-none k l.channel answer
 tells_none k b _ = refl
 
 air_comes : (at : Place) (w : Actors) (event : Event) → is_on_air event ≡ true → is_frame event ≡ false → Comes at w (actors_after w event)
-air_comes at w event on b = same (air-after (λ v. coming at v ≡ coming at w) w event on (record {
+air_comes at w event on b = same (air_after (λ v. coming at v ≡ coming at w) w event on (record {
   puts = λ u number p q _ _ _ is. is;
   joins = λ number initial accepts _ is. is;
   tells = λ u n message _ how is. told_coming at n message u (tells_none at.number b how) ∙ is;
@@ -183,8 +183,8 @@ unfolding event_after
 comes_step at w (BasePush source) at_is good a b = plain_coming at w (BasePush source) at_is good refl (pushing at.station source w at_is)
 comes_step at w Handle at_is good a b = absurd (true≢false a)
 comes_step at w SwitchTakes at_is good a b =
-    stays at w (after_switch_takes w) (switch_takes-leads (λ v. coming at v ≡ coming at w) w (λ first others _ _. switch_took-leads (λ v. coming at v ≡ coming at w) (with_outbox SWITCH_LINK others w) (sccp_in first.out.frame) refl (λ nexts made. refl)))
-comes_step at w (SwitchDoes action) at_is good a b = stays at w (after_switch_does w action) (does-leads (λ v. coming at v ≡ coming at w) w action (λ nexts made. refl))
+    stays at w (after_switch_takes w) (switch_takes_leads (λ v. coming at v ≡ coming at w) w (λ first others _ _. switch_took-leads (λ v. coming at v ≡ coming at w) (with_outbox SWITCH_LINK others w) (sccp_in first.out.frame) refl (λ nexts made. refl)))
+comes_step at w (SwitchDoes action) at_is good a b = stays at w (after_switch_does w action) (does_leads (λ v. coming at v ≡ coming at w) w action (λ nexts made. refl))
 comes_step at w (Tick ms) at_is good a b = absurd (true≢false a)
 comes_step at w (BaseDown source) at_is good a b = plain_coming at w (BaseDown source) at_is good refl (breaking at.station source w at_is)
 comes_step at w event at_is good a b = air_comes at w event refl b

@@ -4,14 +4,14 @@ use Rattle.world_laws.proofs.Prelude.{Option, Some, None, refl, sym, ap, ◌∙�
 use Rattle.world_laws.proofs.Prelude.{Assignment, Handover, Place, SWITCH_LINK, Target, changes_by, is_target_at, is_dtap, same_change}
 use Rattle.world_laws.proofs.Prelude.{brought_by, brought_in, brought_with, if_held, nothing, ChannelState, InUse, Take, OnChannel}
 use Rattle.world_laws.proofs.Prelude.{channel_state, holder, hears, place_at, place_of, data_word, rsl_word, sapi_of, Sapi, Zero, Frame}
-use Rattle.world_laws.proofs.Prelude.{Item, DataMessage, Rsl, complete, rsl_in, Actors, base_of, IsKnownItem, Both-empty, same_Some, comes}
+use Rattle.world_laws.proofs.Prelude.{Item, DataMessage, Rsl, complete, rsl_in, Actors, base_of, IsKnownItem, both_empty, same_Some, comes}
 use Rattle.world_laws.proofs.Prelude.{word_of, RrCause, messages_in, ends_up, messages_up, read_of, brings, brings_if, brings_in}
 use Rattle.world_laws.proofs.Prelude.{of_establishment, of_main, initial_by, initials_up, BeginWith}
 use Rattle.conn_rules.specs.declared.input.Input.TheVariants as inputs
 use Rattle.ruled_relay.specs.declared.item.What.TheVariants as whats
 use Rattle.rsl_codec.specs.declared.rsl.Rsl.TheVariants as rsl
 use Rattle.world_model.proofs.Worlds.{on_literals}
-use Rattle.world_laws.proofs.OrderHeard.{read_known, word-known}
+use Rattle.world_laws.proofs.OrderHeard.{read_known, word_known}
 use Rattle.world_laws.proofs.Targets.RoleGoes.{role}
 
 -- ---- what COMPLETE says
@@ -21,14 +21,14 @@ unfolding on_literals
 complete_word at Assignment = (record { 0 = NORMAL_EVENT }, refl)
 complete_word at Handover = (record { 0 = NORMAL_EVENT }, refl)
 
-same-changes : (change : Change) → same_change change change ≡ true
-same-changes Assignment = refl
-same-changes Handover = refl
+same_changes : (change : Change) → same_change change change ≡ true
+same_changes Assignment = refl
+same_changes Handover = refl
 
 pub hits : (t : Target) → is_target_at (place_of t.channel) (Some (role t true)) && changes_by t.change (Some (role t true)) ≡ true
 hits t =
     ap (λ (b : Bool). (b && (t.channel.number == t.channel.number)) && same_change t.change t.change) (eq-eqb t.channel.station t.channel.station refl)
-    ∙ ap (λ (b : Bool). b && same_change t.change t.change) (eq-eqb t.channel.number t.channel.number refl) ∙ same-changes t.change
+    ∙ ap (λ (b : Bool). b && same_change t.change t.change) (eq-eqb t.channel.number t.channel.number refl) ∙ same_changes t.change
 
 -- ---- a message of the channel that brings something
 
@@ -76,7 +76,7 @@ module _ (w : Actors) (source : ℕ) (frame : Frame) (items : List Item) (stands
       ap (λ (xs : List Item). flat_map (read_of at.station) xs ++ (base_of w at.station).messages) stands
       ∙ ap (λ (b : Bool). ((if b then option_to_list (rsl_in frame) else []) ++ flat_map (read_of at.station) items) ++ (base_of w at.station).messages) (eq-eqb source at.station here)
       ∙ ap (λ (o : Option Rsl). (option_to_list o ++ flat_map (read_of at.station) items) ++ (base_of w at.station).messages) says in
-      (Both-empty (initial_by at.number m) (flat_map (initial_by at.number) (flat_map (read_of at.station) items ++ (base_of w at.station).messages)) (sym (ap (flat_map (initial_by at.number)) (sym read) ∙ none))).0
+      (both_empty (initial_by at.number m) (flat_map (initial_by at.number) (flat_map (read_of at.station) items ++ (base_of w at.station).messages)) (sym (ap (flat_map (initial_by at.number)) (sym read) ∙ none))).0
 
   says_data : (m : Rsl) → source ≡ at.station → rsl_in frame ≡ Some m → messages_in (brings at.number m) ≡ messages_in (brings_in at (record { source = source; what = whats.Frame frame })) → Brings-data at.number m → Says
   says_data m here says same (as_data d is on zero one) =
@@ -84,7 +84,7 @@ module _ (w : Actors) (source : ℕ) (frame : Frame) (items : List Item) (stands
       let other : source ≢ SWITCH_LINK = (λ switch. station_is (sym here ∙ switch)) in
       let made = known.station other in
       let word : word_of source frame ≡ rsl_word source (rsl.DataIndication d) =
-      ap (word_of source) made.1 ∙ word-known source made.0 other made.2 ∙ ap (rsl_word source) (same_Some _ _ (sym (ap rsl_in made.1 ∙ read_known made.0 made.2) ∙ says ∙ ap (λ (x : Rsl). Some x) is)) in
+      ap (word_of source) made.1 ∙ word_known source made.0 other made.2 ∙ ap (rsl_word source) (same_Some _ _ (sym (ap rsl_in made.1 ∙ read_known made.0 made.2) ∙ says ∙ ap (λ (x : Rsl). Some x) is)) in
       let place : place_at source d.channel ≡ at = ap (λ (k : ℕ). place_at k d.channel) here ∙ ap (place_at at.station) on in
       let complete_is = complete_word at t.change in
       let told : word_of source frame ≡ OnChannel at (inputs.Complete at t.change complete_is.0) =

@@ -3,8 +3,8 @@
 use Rattle.world_laws.proofs.Prelude.{◌≡◌, ◌≢◌, inl, inr, ℕ, Bool, true, false, if◌then◌else◌, List, [], ◌∷◌, ◌++◌, Option, refl, sym, ap}
 use Rattle.world_laws.proofs.Prelude.{◌∙◌, subst, cases_Bool, eq-eqb, flat_map-append, append-nil, flat_map, Place, place_at, BaseState}
 use Rattle.world_laws.proofs.Prelude.{Event, Handle, Tick, AirMessage, OutboxEntry, Tenure, actors_after, outputs, put, taken, to_link}
-use Rattle.world_laws.proofs.Prelude.{rsl_in, Actors, Link, Spot, is_up, outbox_of, spot_at, with_base, with_spot, up-right, Both-empty}
-use Rattle.world_laws.proofs.Prelude.{outbox-step, OutboxStep, breaks, spot-with_base, Respots, event-keeps, going_down, leading}
+use Rattle.world_laws.proofs.Prelude.{rsl_in, Actors, Link, Spot, is_up, outbox_of, spot_at, with_base, with_spot, up_right, both_empty}
+use Rattle.world_laws.proofs.Prelude.{outbox-step, OutboxStep, breaks, spot_with_base, Respots, event-keeps, going_down, leading}
 use Rattle.world_laws.proofs.Prelude.{leading_by, leading_from_air, leading_from_outbox, airs, asks_up, counts, goes_down, is_left}
 use Rattle.world_laws.proofs.Prelude.{short_up}
 use Rattle.world_model.proofs.Outboxes.Step.{goes}
@@ -17,7 +17,7 @@ abbrev pub NoAir : Place → Actors → Type 0
 NoAir at w = flat_map leading_from_air (spot_at w at).air ≡ []
 
 noair_based : (at : Place) (m : ℕ) (base : BaseState) (u : Actors) → NoAir at u → NoAir at (with_base m base u)
-noair_based at m base u none = ap (λ (s : Spot). flat_map leading_from_air s.air) (spot-with_base m base u at) ∙ none
+noair_based at m base u none = ap (λ (s : Spot). flat_map leading_from_air s.air) (spot_with_base m base u at) ∙ none
 
 noair_spotted : (at p : Place) (spot : Spot) (u : Actors) → at.station ≢ 0 → p.station ≢ 0 → (at ≡ p → flat_map leading_from_air spot.air ≡ []) → NoAir at u → NoAir at (with_spot p spot u)
 noair_spotted at p spot u at_is p_is here none = elim (cases_Bool (is_place at p)) [
@@ -33,10 +33,10 @@ noair_spotted at p spot u at_is p_is here none = elim (cases_Bool (is_place at p
 -- ---- each event
 
 behind_none : (first : AirMessage) (others : List AirMessage) → flat_map leading_from_air (first ∷ others) ≡ [] → flat_map leading_from_air others ≡ []
-behind_none first others none = (Both-empty (leading_from_air first) (flat_map leading_from_air others) (sym none)).1
+behind_none first others none = (both_empty (leading_from_air first) (flat_map leading_from_air others) (sym none)).1
 
 first-none : (k : ℕ) (entries : List OutboxEntry) (first : OutboxEntry) (others : List OutboxEntry) → entries ≡ first ∷ others → flat_map (leading_from_outbox k) entries ≡ [] → leading_by k first.target (rsl_in first.out.frame) ≡ []
-first-none k entries first others is none = (Both-empty (leading_from_outbox k first) (flat_map (leading_from_outbox k) others) (sym (ap (flat_map (leading_from_outbox k)) (sym is) ∙ none))).0
+first-none k entries first others is none = (both_empty (leading_from_outbox k first) (flat_map (leading_from_outbox k) others) (sym (ap (flat_map (leading_from_outbox k)) (sym is) ∙ none))).0
 
 -- the entry that is taken leads nowhere on the channel
 respot_none : {w u : Actors} {event : Event} {p : Place} {spot : Spot} (at : Place) → flat_map (leading_from_outbox at.number) (outbox_of w at.station) ≡ [] → NoAir p u → at ≡ p → Respots w u event p spot → flat_map leading_from_air spot.air ≡ []
@@ -61,8 +61,8 @@ noair_step at w event at_is outbox = event-keeps (NoAir at) w event (record {
   tells = λ u n message _ _ none. noair_based at n _ u none;
   spots = λ u p spot p_is how none. noair_spotted at p spot u at_is p_is (λ is. respot_none at outbox (subst (λ (q : Place). NoAir q u) is none) is how) none;
   pops = λ station others _ none. none;
-  activates = λ u s a taken _ none. emptied u s a.channel _ _ (up-right s w taken.up).0 refl none;
-  releases = λ u s channel taken none. emptied u s channel _ _ (up-right s w taken.up).0 refl none;
+  activates = λ u s a taken _ none. emptied u s a.channel _ _ (up_right s w taken.up).0 refl none;
+  releases = λ u s channel taken none. emptied u s channel _ _ (up_right s w taken.up).0 refl none;
 }) (record {
   rest = λ u inbox controller switch made links none. none;
   next = λ source message _ none. noair_based at source _ w none;
@@ -86,12 +86,12 @@ no_puts n w event other = by (is_up w n) where
   by false = refl
 
 none_behind : (k : ℕ) (xs ys : List OutboxEntry) → flat_map (leading_from_outbox k) (xs ++ ys) ≡ [] → flat_map (leading_from_outbox k) ys ≡ []
-none_behind k xs ys none = (Both-empty (flat_map (leading_from_outbox k) xs) (flat_map (leading_from_outbox k) ys) (sym (sym (flat_map-append (leading_from_outbox k) xs ys) ∙ none))).1
+none_behind k xs ys none = (both_empty (flat_map (leading_from_outbox k) xs) (flat_map (leading_from_outbox k) ys) (sym (sym (flat_map-append (leading_from_outbox k) xs ys) ∙ none))).1
 
 pub none_down : (at : Place) (w : Actors) (event : Event) → at.station ≢ 0 → is_relays event ≡ false → going_down w at ≡ [] → going_down (actors_after w event) at ≡ []
 none_down at w event at_is other none =
     let v : Actors = actors_after w event in
-    let parts = Both-empty (flat_map leading_from_air (spot_at w at).air) (flat_map (leading_from_outbox at.number) (outbox_of w at.station)) (sym none) in
+    let parts = both_empty (flat_map leading_from_air (spot_at w at).air) (flat_map (leading_from_outbox at.number) (outbox_of w at.station)) (sym none) in
     ap (λ (xs : List AirMessage). xs ++ flat_map (leading_from_outbox at.number) (outbox_of v at.station)) (noair_step at w event at_is parts.1 parts.0) ∙ by (outbox-step at.station w event) parts.1 where
       by : OutboxStep at.station w event (actors_after w event) → flat_map (leading_from_outbox at.number) (outbox_of w at.station) ≡ [] → flat_map (leading_from_outbox at.number) (outbox_of (actors_after w event) at.station) ≡ []
       by (goes up all) empty =

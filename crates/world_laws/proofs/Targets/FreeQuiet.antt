@@ -1,16 +1,16 @@
 -- In every run channels are settled, and so free ones are quiet.
 use Rattle.world_laws.proofs.Prelude.{◌≡◌, ◌⊎◌, inl, inr, ℕ, ◌+◌, ◌-◌, ◌==◌, ◌≤◌, Bool, true, false, cond, if◌then◌else◌, unwrap_or, List}
 use Rattle.world_laws.proofs.Prelude.{[], ◌∷◌, ◌++◌, map, length, Option, Some, None, refl, sym, ap, ◌∙◌, subst, arith, eqb-true, flat_map}
-use Rattle.world_laws.proofs.Prelude.{AllByRecursion, Place, Out, ComesInOctets, ChannelState, Free, Releasing, Take, Controller, Turn}
+use Rattle.world_laws.proofs.Prelude.{AllByRecursion, Place, Out, IsOctetStep, ChannelState, Free, Releasing, Take, Controller, Turn}
 use Rattle.world_laws.proofs.Prelude.{channel_state, hears, BaseState, is_active, Item, DataMessage, Rsl, DataRequest, RfChannelReleaseAck}
 use Rattle.world_laws.proofs.Prelude.{AreAllowed, Parameters, Event, BaseTakes, Handle, AirMessage, OutboxEntry, Tenure, actors_after}
 use Rattle.world_laws.proofs.Prelude.{actors_after_all, Agrees, AllAgree, active_behind, is_in_use, to_come, owner_in, acknowledgements}
 use Rattle.world_laws.proofs.Prelude.{due, outputs, put, to_link, handled, target_in, with_turn, rsl_in, all_steps, first_taken, step_at}
-use Rattle.world_laws.proofs.Prelude.{Actors, base_of, is_active_at, is_up, new_actors, outbox_of, good-new, LivesByTable-new, Both-empty}
-use Rattle.world_laws.proofs.Prelude.{new_outbox, Rests, beside-rests, IsKnownItem, known-inbox, Goes, Runs, entries_to, runs, first_passes}
-use Rattle.world_laws.proofs.Prelude.{activates, over, passes, releases, Right, handle-turned, heard_of, kinds, right-step, there-of}
+use Rattle.world_laws.proofs.Prelude.{Actors, base_of, is_active_at, is_up, new_actors, outbox_of, good_new, LivesByTable-new, both_empty}
+use Rattle.world_laws.proofs.Prelude.{new_outbox, Rests, beside_rests, IsKnownItem, known_inbox, Goes, Runs, entries_to, runs, first_passes}
+use Rattle.world_laws.proofs.Prelude.{activates, over, passes, releases, Right, handle_turned, heard_of, kinds, right_step, there_of}
 use Rattle.world_laws.proofs.Prelude.{tick-turned, IsOne, Serves, hear, length-stations_from, true≢false, life, tick, new_base, popped}
-use Rattle.world_laws.proofs.Prelude.{new_ends, AllAgree-new, new-down, takes-rests, HaveSpots-new, acknowledgements_up, messages_up}
+use Rattle.world_laws.proofs.Prelude.{new_ends, AllAgree-new, new_down, takes_rests, HaveSpots-new, acknowledgements_up, messages_up}
 use Rattle.world_laws.proofs.Prelude.{read_of, brings, coming_up, leading, leading_by, leading_from_air, leading_from_outbox, messages_in}
 use Rattle.world_laws.proofs.Prelude.{ChannelsAreSettled, FreeChannelsAreQuiet, IsQuiet, IsSettled, StandWithin}
 use Rattle.controller_model.specs.Life.{take}
@@ -18,7 +18,7 @@ use Rattle.world_model.specs.declared.event.Event.TheVariants as events
 use Rattle.world_model.specs.Life.{event_after}
 use Rattle.world_model.specs.Relay.{commands, entry_of}
 use Rattle.world_model.proofs.OwnerRuns.{Follows, ServesAt}
-use Rattle.world_laws.proofs.Acknowledged.{coming-read}
+use Rattle.world_laws.proofs.Acknowledged.{coming_read}
 use Rattle.world_laws.proofs.OrderServes.{Lawful, LeadsOwn}
 use Rattle.world_laws.proofs.OwnerRun.{item_leads, lawful_life, life-settings, serves_event, snoc_steps}
 use Rattle.world_laws.proofs.Targets.AckOne.{IsOneOut, one_item}
@@ -35,7 +35,7 @@ use Rattle.world_laws.proofs.Framing.{all_left, all_right}
 pub quiet_of : (owner : Tenure → ℕ) (w : Actors) (at : Place) → Agrees owner w at → (is_up w at.station ≡ false → outbox_of w at.station ≡ []) → IsSettled w at → hears w.controller at.station ≡ true → channel_state w.controller at ≡ Free → IsQuiet w at
 quiet_of owner w at agrees none settled hearing free = record {
   nothing_comes = ap messages_in silent;
-  none_opens = initials_none at.number (messages_up w at.station) (sym (coming-read w at) ∙ silent);
+  none_opens = initials_none at.number (messages_up w at.station) (sym (coming_read w at) ∙ silent);
   none_commanded = ap (λ (air : List AirMessage). flat_map leading_from_air air ++ flat_map (leading_from_outbox at.number) (outbox_of w at.station)) (settled.air idle) ∙ by (is_up w at.station) refl;
 } where
   silent : coming_up w at ≡ []
@@ -48,7 +48,7 @@ quiet_of owner w at agrees none settled hearing free = record {
   nothing_due =
       let way = agrees.way hearing in
       let empty = comes_free at.number (channel_state w.controller at) (to_come w at ++ way.lost) way.comes free in
-      (Both-empty (acknowledgements_up w at) (due at.number (is_active_at w at) (outbox_of w at.station)) (sym (sym (up_first w at) ∙ (Both-empty (to_come w at) way.lost (sym empty)).0))).1
+      (both_empty (acknowledgements_up w at) (due at.number (is_active_at w at) (outbox_of w at.station)) (sym (sym (up_first w at) ∙ (both_empty (to_come w at) way.lost (sym empty)).0))).1
 
   by : (b : Bool) → is_up w at.station ≡ b → flat_map (leading_from_outbox at.number) (outbox_of w at.station) ≡ []
   by false down = ap (flat_map (leading_from_outbox at.number)) (none down)
@@ -159,11 +159,11 @@ record Works (w : Actors) (event : Event) (at : Place) : Type 0 where
 works_rests : (w : Actors) (event : Event) (at : Place) → Rests at w event → Works w event at
 works_rests w event at rests = record { puts = puts_rests w event at rests.outputs; frees = frees_rests w event at rests }
 
-module _ (settings : Parameters) (owner : Tenure → ℕ) (done : List Event) (w : Actors) (is : w ≡ world settings done) (allowed : AreAllowed settings) (octets : AllByRecursion ComesInOctets (all_steps (new_actors settings) done)) where
+module _ (settings : Parameters) (owner : Tenure → ℕ) (done : List Event) (w : Actors) (is : w ≡ world settings done) (allowed : AreAllowed settings) (octets : AllByRecursion IsOctetStep (all_steps (new_actors settings) done)) where
   lives : w.controller ≡ (life settings (all_steps (new_actors settings) done)).next
   lives = ap (λ (x : Actors). x.controller) is ∙ LivesByTable-new settings done
 
-  works_handle : AllAgree settings owner w → AllByRecursion ComesInOctets (first_taken w.inbox) → ServesAt settings owner w Handle → (at : Place) → 1 ≤ at.station → at.station ≤ length settings.cells → Works w Handle at
+  works_handle : AllAgree settings owner w → AllByRecursion IsOctetStep (first_taken w.inbox) → ServesAt settings owner w Handle → (at : Place) → 1 ≤ at.station → at.station ≤ length settings.cells → Works w Handle at
   unfolding ServesAt event_after take
   works_handle agree own serves at least most = by w.inbox refl where
     n : ℕ
@@ -193,17 +193,17 @@ module _ (settings : Parameters) (owner : Tenure → ℕ) (done : List Event) (w
       serving = serves item items stands at least most
 
       frees : Frees w Handle at
-      frees = frees_by owner w Handle at target t (heard_of at item) (ap (λ (u : Actors). u.controller) same ∙ (handle-turned w at item items stands).controller) serving (handle-turned w at item items stands).one
+      frees = frees_by owner w Handle at target t (heard_of at item) (ap (λ (u : Actors). u.controller) same ∙ (handle_turned w at item items stands).controller) serving (handle_turned w at item items stands).one
           (heard_read at item ∙ ap (λ (all : List Item). acknowledgements at.number (flat_map (read_of n) (first_here all))) (sym stands)) where
             first_here : List Item → List Item
             first_here [] = []
             first_here (x ∷ xs) = x ∷ []
 
       laws : Lawful w.controller (Take item)
-      laws = subst (λ (c : Controller). Lawful c (Take item)) (sym lives) (lawful_life settings (all_steps (new_actors settings) done) (Take item) allowed octets (subst (λ (xs : List Item). AllByRecursion ComesInOctets (first_taken xs)) stands own).0)
+      laws = subst (λ (c : Controller). Lawful c (Take item)) (sym lives) (lawful_life settings (all_steps (new_actors settings) done) (Take item) allowed octets (subst (λ (xs : List Item). AllByRecursion IsOctetStep (first_taken xs)) stands own).0)
 
       known : IsKnownItem item
-      known = (subst (AllByRecursion IsKnownItem) stands (subst (λ (x : Actors). AllByRecursion IsKnownItem x.inbox) (sym is) (known-inbox settings done))).0
+      known = (subst (AllByRecursion IsKnownItem) stands (subst (λ (x : Actors). AllByRecursion IsKnownItem x.inbox) (sym is) (known_inbox settings done))).0
 
       entries : StandWithin at.number (active_behind w at) (if is_up w n then entries_to at target t.outs else [])
       entries = by_link (is_up w n) (hears t.next n) refl refl where
@@ -233,23 +233,23 @@ module _ (settings : Parameters) (owner : Tenure → ℕ) (done : List Event) (w
     tick_controller : (actors_after w (events.Tick ms)).controller ≡ (tick ms w.controller).next
     tick_controller = (tick-turned w at ms).controller
 
-  works_event : (event : Event) (later : List Event) → AllByRecursion ComesInOctets (step_at w event) → Right settings owner w (event ∷ later) → (at : Place) → 1 ≤ at.station → at.station ≤ length settings.cells → Works w event at
-  works_event event later own right at least most = kinds (λ (e : Event). AllByRecursion ComesInOctets (step_at w e) → ServesAt settings owner w e → Works w e at)
-      (λ e beside _ _. works_rests w e at (beside-rests at w e beside (there-of settings owner w (event ∷ later) at right least most)))
+  works_event : (event : Event) (later : List Event) → AllByRecursion IsOctetStep (step_at w event) → Right settings owner w (event ∷ later) → (at : Place) → 1 ≤ at.station → at.station ≤ length settings.cells → Works w event at
+  works_event event later own right at least most = kinds (λ (e : Event). AllByRecursion IsOctetStep (step_at w e) → ServesAt settings owner w e → Works w e at)
+      (λ e beside _ _. works_rests w e at (beside_rests at w e beside (there_of settings owner w (event ∷ later) at right least most)))
       (λ octets_now serves. works_handle right.agree octets_now serves at least most)
       (λ ms _ serves. works_tick ms serves at least most)
-      (λ station _ _. works_rests w (BaseTakes station) at (takes-rests owner at w station (there-of settings owner w (event ∷ later) at right least most) right.spots (right.agree at least most)))
+      (λ station _ _. works_rests w (BaseTakes station) at (takes_rests owner at w station (there_of settings owner w (event ∷ later) at right least most) right.spots (right.agree at least most)))
       event own (serves_event settings owner done w event is allowed octets own right.agree)
 
-  keeps_step : (event : Event) (later : List Event) → AllByRecursion ComesInOctets (step_at w event) → Keeps settings owner w (event ∷ later) → Keeps settings owner (actors_after w event) later
+  keeps_step : (event : Event) (later : List Event) → AllByRecursion IsOctetStep (step_at w event) → Keeps settings owner w (event ∷ later) → Keeps settings owner (actors_after w event) later
   keeps_step event later own keeps =
-      let right : Right settings owner (actors_after w event) later = right-step settings owner w event later (serves_event settings owner done w event is allowed octets own keeps.right.agree) keeps.right in
+      let right : Right settings owner (actors_after w event) later = right_step settings owner w event later (serves_event settings owner done w event is allowed octets own keeps.right.agree) keeps.right in
       let air : IdleAir (actors_after w event) = idle_step w event keeps.air in
       record {
         right = right;
         air = air;
         settled = λ at least most.
-            let there = there-of settings owner w (event ∷ later) at keeps.right least most in
+            let there = there_of settings owner w (event ∷ later) at keeps.right least most in
             let works = works_event event later own keeps.right at least most in
             settled_after owner w event at (record {
               least = there.station;
@@ -267,13 +267,13 @@ module _ (settings : Parameters) (owner : Tenure → ℕ) (done : List Event) (w
 
 -- ---- all events
 
-keeps_through : (settings : Parameters) (owner : Tenure → ℕ) (done rest : List Event) (w : Actors) → w ≡ world settings done → AreAllowed settings → AllByRecursion ComesInOctets (all_steps (new_actors settings) done) → AllByRecursion ComesInOctets (all_steps w rest) → Keeps settings owner w rest → Keeps settings owner (actors_after_all w rest) []
+keeps_through : (settings : Parameters) (owner : Tenure → ℕ) (done rest : List Event) (w : Actors) → w ≡ world settings done → AreAllowed settings → AllByRecursion IsOctetStep (all_steps (new_actors settings) done) → AllByRecursion IsOctetStep (all_steps w rest) → Keeps settings owner w rest → Keeps settings owner (actors_after_all w rest) []
 keeps_through settings owner done [] w is allowed octets later keeps = keeps
 keeps_through settings owner done (event ∷ rest) w is allowed octets later keeps =
-    let own = all_left ComesInOctets (step_at w event) (all_steps (actors_after w event) rest) later in
+    let own = all_left IsOctetStep (step_at w event) (all_steps (actors_after w event) rest) later in
     keeps_through settings owner (done ++ event ∷ []) rest (actors_after w event) (ap (λ (x : Actors). actors_after x event) is ∙ sym (snoc_actors (new_actors settings) done event)) allowed
-    (snoc_steps ComesInOctets (new_actors settings) done event octets (subst (λ (x : Actors). AllByRecursion ComesInOctets (step_at x event)) is own))
-    (all_right ComesInOctets (step_at w event) (all_steps (actors_after w event) rest) later)
+    (snoc_steps IsOctetStep (new_actors settings) done event octets (subst (λ (x : Actors). AllByRecursion IsOctetStep (step_at x event)) is own))
+    (all_right IsOctetStep (step_at w event) (all_steps (actors_after w event) rest) later)
     (keeps_step settings owner done w is allowed octets event rest own keeps)
 
 keeps_new : (settings : Parameters) (events : List Event) → Keeps settings (owner_in (new_actors settings) events) (new_actors settings) events
@@ -283,11 +283,11 @@ keeps_new settings events =
     record {
       right = record {
         agree = AllAgree-new settings (owner_in w events);
-        good = good-new settings;
+        good = good_new settings;
         spots = HaveSpots-new settings;
         stations = length-stations_from 1 settings.cells;
         none = λ link down. new_outbox (length settings.cells + 1) link;
-        beyond = λ link less. new-down (length settings.cells + 1) link (omega (arith, less));
+        beyond = λ link less. new_down (length settings.cells + 1) link (omega (arith, less));
         follows = λ t least most up later. refl;
       };
       air = idle_air_new settings;
@@ -302,7 +302,7 @@ keeps_new settings events =
     }
 
 -- in every run
-pub keeps_run : (settings : Parameters) (events : List Event) → AreAllowed settings → AllByRecursion ComesInOctets (all_steps (new_actors settings) events) → Keeps settings (owner_in (new_actors settings) events) (world settings events) []
+pub keeps_run : (settings : Parameters) (events : List Event) → AreAllowed settings → AllByRecursion IsOctetStep (all_steps (new_actors settings) events) → Keeps settings (owner_in (new_actors settings) events) (world settings events) []
 keeps_run settings events allowed octets = keeps_through settings (owner_in (new_actors settings) events) [] events (new_actors settings) refl allowed tt octets (keeps_new settings events)
 
 pub free_channels_are_quiet_new : (settings : Parameters) (events : List Event) → FreeChannelsAreQuiet settings events
@@ -320,7 +320,7 @@ pub record Known (settings : Parameters) (events : List Event) (at : Place) : Ty
   pub none : is_up (world settings events) at.station ≡ false → outbox_of (world settings events) at.station ≡ []
   pub settled : IsSettled (world settings events) at
 
-pub known_new : (settings : Parameters) (events : List Event) (at : Place) → AreAllowed settings → AllByRecursion ComesInOctets (all_steps (new_actors settings) events) → 1 ≤ at.station → at.station ≤ length settings.cells → Known settings events at
+pub known_new : (settings : Parameters) (events : List Event) (at : Place) → AreAllowed settings → AllByRecursion IsOctetStep (all_steps (new_actors settings) events) → 1 ≤ at.station → at.station ≤ length settings.cells → Known settings events at
 known_new settings events at allowed octets least most =
     let keeps = keeps_run settings events allowed octets in
     record { agrees = keeps.right.agree at least most; none = keeps.right.none at.station; settled = keeps.settled at least most }

@@ -3,11 +3,11 @@ use Rattle.world_laws.proofs.Prelude.{◌≡◌, ◌≢◌, ◌⊎◌, inl, inr,
 use Rattle.world_laws.proofs.Prelude.{◌++◌, length, Option, Some, None, refl, sym, ap, ◌∙◌, subst, append_assoc, eq-eqb, flat_map-append}
 use Rattle.world_laws.proofs.Prelude.{flat_map, AllByRecursion, Channel, Place, Message, Out, SWITCH_LINK, change_activation}
 use Rattle.world_laws.proofs.Prelude.{Preparing, Changing, State, Live, Target, Connection, TargetRole, orders, roles_of}
-use Rattle.world_laws.proofs.Prelude.{target_channels, target_role, Stands, IsApart, IsOpen, undone, ActsOn, brought_in, connection_of}
+use Rattle.world_laws.proofs.Prelude.{target_channels, target_role, IsValid, IsApart, IsOpen, undone, ActsOn, brought_in, connection_of}
 use Rattle.world_laws.proofs.Prelude.{Owns, OwnsOpen, is_link_up, AreUsed, Ready, Free, InUse, Step, Controller, Entry, channel_state}
 use Rattle.world_laws.proofs.Prelude.{hears, place_of, state_in, step, DataMessage, Rsl, DataRequest, Parameters, AirMessage, OutboxEntry}
 use Rattle.world_laws.proofs.Prelude.{Seat, On, Tenure, to_be_taken, first_in, complete, Agrees, acknowledgements}
-use Rattle.world_laws.proofs.Prelude.{Actors, Mobile, Spot, has_number, is_up, mobile_of, outbox_of, spot_at, Both-empty, said_to, Serves}
+use Rattle.world_laws.proofs.Prelude.{Actors, Mobile, Spot, has_number, is_up, mobile_of, outbox_of, spot_at, both_empty, said_to, Serves}
 use Rattle.world_laws.proofs.Prelude.{Turned, hear, same_Some, false≢true, apart_behind, free≢use, Items, messages_in, messages_up}
 use Rattle.world_laws.proofs.Prelude.{coming_up, going_down, leading_from_air, leading_from_outbox, commanded_target, IsHad, LinedUp, Sits}
 use Rattle.world_laws.proofs.Prelude.{BeginWith, IsAwaited, IsFreshIn, IsLedBy, IsOnPlace, IsSettled}
@@ -16,7 +16,7 @@ use Rattle.world_laws.proofs.LineUp.Lines.{messages_in-append}
 use Rattle.world_laws.specs.Seated.Sits.{stays}
 use Rattle.world_laws.proofs.Framing.{all_right}
 use Rattle.world_laws.proofs.OrderServes.{Lawful, use_free}
-use Rattle.world_laws.proofs.Targets.AckServes.{LeadsOn, ServesOn, entries-none}
+use Rattle.world_laws.proofs.Targets.AckServes.{LeadsOn, ServesOn, entries_none}
 use Rattle.world_laws.proofs.Targets.Begun.{activated_free, freed_down, freed_silent}
 use Rattle.world_laws.proofs.Targets.RoleGoes.{IsComplete, RoleGoes, acts_role, role}
 use Rattle.world_laws.proofs.Targets.RoleGoes.RoleGoes.{keeps, commanded, idle, begins}
@@ -79,7 +79,7 @@ pub owns_of : (c : Controller) (number : ℕ) (x : Connection) → Ready c → c
 owns_of c number x ready there is_open = subst (OwnsOpen c.channels c.links number) there (ready.holds.each number) is_open
 
 module _ {m : ℕ} (settings : Parameters) (owner : Tenure → ℕ) (w v : Actors) (st : Step) (target : Option Tenure) (heard : Place → List Rsl) (items : Place → List Items) (read : ℕ → List Rsl) (turn : TurnOf w v st target heard items read) (before : (at : Place) → 1 ≤ at.station → at.station ≤ length settings.cells → Before owner w st target heard at) (laws : Lawful w.controller st) (ready_then : Ready v.controller) (used_then : AreUsed v.controller) (same_settings : v.controller.settings ≡ settings)
-    (mobile : ℕ) (p : Mobile) (s s2 : Connection) (found : mobile_of w mobile ≡ Some p) (lined : LinedUp m w p s) (had : IsHad w s) (had_then : IsHad v s2) (number : s2.number ≡ s.number) (stands : Stands s) (acts : ActsOn s.number w.controller st) (fresh : IsFreshIn w p s.state)
+    (mobile : ℕ) (p : Mobile) (s s2 : Connection) (found : mobile_of w mobile ≡ Some p) (lined : LinedUp m w p s) (had : IsHad w s) (had_then : IsHad v s2) (number : s2.number ≡ s.number) (stands : IsValid s) (acts : ActsOn s.number w.controller st) (fresh : IsFreshIn w p s.state)
     (completes : (t : Target) → target_role s.state ≡ Some (role t true) → IsLedBy w p t → (messages_in (items (place_of t.channel)) ≡ [] → ⊥) → IsComplete (brought_in w.controller s.number st) (target_role s.state)) (q : Mobile) (found_then : mobile_of v mobile ≡ Some q) where
   abbrev n : ℕ
   n = s.number
@@ -117,7 +117,7 @@ module _ {m : ℕ} (settings : Parameters) (owner : Tenure → ℕ) (w v : Actor
     ]
 
     by : (b : Bool) → is_up w at.station ≡ b → flat_map (leading_from_outbox at.number) (turn.turned at).entries ≡ []
-    by true up = ap (flat_map (leading_from_outbox at.number)) ((turn.turned at).joins up) ∙ entries-none at target (step w.controller st).outs why
+    by true up = ap (flat_map (leading_from_outbox at.number)) ((turn.turned at).joins up) ∙ entries_none at target (step w.controller st).outs why
     by false down = ap (flat_map (leading_from_outbox at.number)) ((turn.turned at).down down)
 
   -- nobody serves on a channel that is the connection's, but isn't its serving one
@@ -138,11 +138,11 @@ module _ {m : ℕ} (settings : Parameters) (owner : Tenure → ℕ) (w v : Actor
 
   -- ---- the target stays prepared
 
-  coming-parts : (at : Place) → messages_in (coming_up w at) ≡ messages_in (items at) ++ messages_in (coming_up v at)
-  coming-parts at = ap messages_in (turn.comes at) ∙ messages_in-append (items at) (coming_up v at)
+  coming_parts : (at : Place) → messages_in (coming_up w at) ≡ messages_in (items at) ++ messages_in (coming_up v at)
+  coming_parts at = ap messages_in (turn.comes at) ∙ messages_in-append (items at) (coming_up v at)
 
   silent_then : (at : Place) → messages_in (coming_up w at) ≡ [] → messages_in (coming_up v at) ≡ []
-  silent_then at none = (Both-empty (messages_in (items at)) (messages_in (coming_up v at)) (sym (sym (coming-parts at) ∙ none))).1
+  silent_then at none = (both_empty (messages_in (items at)) (messages_in (coming_up v at)) (sym (sym (coming_parts at) ∙ none))).1
 
   awaited_then : (t : Target) → target_role s.state ≡ Some (role t false) → IsAwaited w t.channel → IsAwaited v t.channel
   awaited_then t is a = record {
@@ -176,7 +176,7 @@ module _ {m : ℕ} (settings : Parameters) (owner : Tenure → ℕ) (w v : Actor
     by : (xs : List (List ℕ)) → messages_in (items at) ≡ xs → IsLedBy v q t
     by (x ∷ xs) some = absurd (no_complete (completes t is led (λ none. let both : x ∷ xs ≡ [] = sym some ∙ none in absurd cc)))
     by [] none_came =
-        let same : messages_in (coming_up v at) ≡ messages_in (coming_up w at) = ap (λ (xs : List (List ℕ)). xs ++ messages_in (coming_up v at)) (sym none_came) ∙ sym (coming-parts at) in
+        let same : messages_in (coming_up v at) ≡ messages_in (coming_up w at) = ap (λ (xs : List (List ℕ)). xs ++ messages_in (coming_up v at)) (sym none_came) ∙ sym (coming_parts at) in
         record {
           first = subst (BeginWith (complete t.change)) (sym same) led.first;
           gives = subst (λ (x : Mobile). messages_in (coming_up v at) ≡ [] → is_up v t.channel.station ≡ true → IsOnPlace x.seat at → first_in (to_be_taken x.end.zero) ≡ Some (complete t.change)) (sym same_mobile)

@@ -7,8 +7,8 @@ use Rattle.world_laws.proofs.Prelude.{place_of, RrMessage, AssignmentCommand, Ha
 use Rattle.world_laws.proofs.Prelude.{is_flow_message, with_number, Empty, Reached, Whereabouts, lent_message, to_be_taken, waits}
 use Rattle.world_laws.proofs.Prelude.{DataLinkState, after_acked, after_acked_at, after_number, after_queue, MobileState, Event, AirMessage}
 use Rattle.world_laws.proofs.Prelude.{Command, Seat, Asking, On, Moving, Tenure, actors_after, first_in, complete, connected, controlled}
-use Rattle.world_laws.proofs.Prelude.{hearing, remembering, Actors, Mobile, has_number, mobile_of, put_back, back-found, back-other}
-use Rattle.world_laws.proofs.Prelude.{found-number, Becomes, became-number, event-keeps, hearing-end, same_Some, found-front, Result}
+use Rattle.world_laws.proofs.Prelude.{hearing, remembering, Actors, Mobile, has_number, mobile_of, put_back, back_found, back_other}
+use Rattle.world_laws.proofs.Prelude.{number_found, Becomes, became_number, event-keeps, hearing-end, same_Some, found_front, Result}
 use Rattle.world_laws.proofs.Prelude.{rr_reading, after_load_from, Sits, between, IsOnPlace}
 use Rattle.link_model.specs.declared.air_link.Air.{Air}
 use Rattle.link_model.specs.AirLink.{after_ack, offered_message}
@@ -24,13 +24,13 @@ Gives text at p = IsOnPlace p.seat at → first_in (to_be_taken p.end.zero) ≡ 
 
 -- ---- its data link
 
-first-behind : {X : Type 0} (xs ys : List X) (x : X) → first_in xs ≡ Some x → first_in (xs ++ ys) ≡ Some x
-first-behind [] ys x is = absurd cc
-first-behind (y ∷ xs) ys x is = is
+first_behind : {X : Type 0} (xs ys : List X) (x : X) → first_in xs ≡ Some x → first_in (xs ++ ys) ≡ Some x
+first_behind [] ys x is = absurd cc
+first_behind (y ∷ xs) ys x is = is
 
 waiting_first : (link : DataLinkState) (message text : List ℕ) → first_in (to_be_taken link) ≡ Some text → first_in (to_be_taken (waits link message)) ≡ Some text
 waiting_first link message text is =
-    ap first_in (sym (append_assoc (option_to_list (offered_message link.air)) link.waiting (message ∷ []))) ∙ first-behind (to_be_taken link) (message ∷ []) text is
+    ap first_in (sym (append_assoc (option_to_list (offered_message link.air)) link.waiting (message ∷ []))) ∙ first_behind (to_be_taken link) (message ∷ []) text is
 
 queued_first : (e : MobileState) (sapi : Sapi) (message text : List ℕ) → first_in (to_be_taken e.zero) ≡ Some text → first_in (to_be_taken (after_queue e sapi message).zero) ≡ Some text
 queued_first e sapi message text is = by (is_flow_message message) sapi where
@@ -39,8 +39,8 @@ queued_first e sapi message text is = by (is_flow_message message) sapi where
   by false Zero = waiting_first e.zero message text is
   by false Three = is
 
-acked-first : (e : MobileState) (sapi : Sapi) (text : List ℕ) → first_in (to_be_taken e.zero) ≡ Some text → first_in (to_be_taken (after_acked e sapi).zero) ≡ Some text
-acked-first e sapi text is = by e.place sapi where
+acked_first : (e : MobileState) (sapi : Sapi) (text : List ℕ) → first_in (to_be_taken e.zero) ≡ Some text → first_in (to_be_taken (after_acked e sapi).zero) ≡ Some text
+acked_first e sapi text is = by e.place sapi where
   air : (a : Air) → e.zero.air ≡ a → first_in (option_to_list (offered_message (after_ack a)) ++ e.zero.waiting) ≡ Some text
   air Empty same = ap (λ (x : Air). first_in (option_to_list (offered_message x) ++ e.zero.waiting)) (sym same) ∙ is
   air _ same = ap (λ (x : Air). first_in (option_to_list (offered_message x) ++ e.zero.waiting)) (sym same) ∙ is
@@ -97,14 +97,14 @@ module _ (w : Actors) (mobile : ℕ) (p : Mobile) (text : List ℕ) (at : Place)
     | inl hit ↦
         let one : number ≡ mobile = eqb-true number mobile hit in
         let own : before ≡ p = same_Some _ _ (sym acts ∙ ap (mobile_of w) one ∙ found) in
-        let named : after.number ≡ mobile = same ∙ found-number number w.mobiles before acts ∙ one in
+        let named : after.number ≡ mobile = same ∙ number_found number w.mobiles before acts ∙ one in
         let there : find (has_number mobile) (put_back after ms) ≡ Some after =
         ap (λ (n : ℕ). find (has_number n) (put_back after ms)) (sym named)
-        ∙ back-found after ms p (ap (find (has_number after.number)) mobiles ∙ ap (λ (n : ℕ). find (has_number n) w.mobiles) named ∙ found) in
+        ∙ back_found after ms p (ap (find (has_number after.number)) mobiles ∙ ap (λ (n : ℕ). find (has_number n) w.mobiles) named ∙ found) in
         subst (Gives text at) (same_Some _ _ (sym there ∙ is)) (h own)
     | inr miss ↦
         let there : find (has_number mobile) (put_back after ms) ≡ Some p =
-        back-other after ms mobile (λ named. eqb-false number mobile miss (sym (same ∙ found-number number w.mobiles before acts) ∙ named))
+        back_other after ms mobile (λ named. eqb-false number mobile miss (sym (same ∙ number_found number w.mobiles before acts) ∙ named))
         ∙ ap (find (has_number mobile)) mobiles ∙ found in
         subst (Gives text at) (same_Some _ _ (sym there ∙ is)) gives
   ]
@@ -135,7 +135,7 @@ module _ (w : Actors) (mobile : ℕ) (p : Mobile) (text : List ℕ) (at : Place)
 
     still_gives : {number : ℕ} {event : Event} {x q : Mobile} → x ≡ p → is_frame event ≡ false → Becomes w number event x q → Gives text at q
     still_gives own b (queues sapi message x may) = λ on. queued_first x.end sapi message text (subst (Gives text at) (sym own) gives on)
-    still_gives own b (is_acked sapi x) = λ on. acked-first x.end sapi text (subst (Gives text at) (sym own) gives on)
+    still_gives own b (is_acked sapi x) = λ on. acked_first x.end sapi text (subst (Gives text at) (sym own) gives on)
     still_gives own b (hears x tenure command first others seat reached stood) = λ on.
         ap (λ (e : MobileState). first_in (to_be_taken e.zero)) (hearing-end x first) ∙ subst (Gives text at) (sym own) gives (hearing_on x first at on)
     still_gives own b (misses x) = subst (Gives text at) (sym own) gives
@@ -149,9 +149,9 @@ module _ (w : Actors) (mobile : ℕ) (p : Mobile) (text : List ℕ) (at : Place)
 
     pub gives_step : (event : Event) → is_frame event ≡ false → Still (actors_after w event)
     gives_step event b = event-keeps Still w event (record {
-      puts = λ u number x q acts mobiles how _. still_put u.mobiles number x q acts (became-number how) mobiles (λ own. still_gives own b how);
+      puts = λ u number x q acts mobiles how _. still_put u.mobiles number x q acts (became_number how) mobiles (λ own. still_gives own b how);
       joins = λ number initial accepts _ _ q is.
-          subst (Gives text at) (same_Some _ _ (sym (found-front mobile p w.mobiles (connected w.modulus number initial accepts ∷ []) found) ∙ is)) gives;
+          subst (Gives text at) (same_Some _ _ (sym (found_front mobile p w.mobiles (connected w.modulus number initial accepts ∷ []) found) ∙ is)) gives;
       tells = λ u n message _ _ so. so;
       spots = λ u here spot _ _ so. so;
       pops = λ station others _ so. so;

@@ -1,10 +1,10 @@
 -- What a step of the controller does to the target of one connection.
 use Rattle.world_laws.proofs.Prelude.{◌≡◌, ℕ, ◌&&◌, not, Bool, true, false, if◌then◌else◌, List, [], ◌∷◌, ◌++◌, Option, Some, None, refl}
 use Rattle.world_laws.proofs.Prelude.{sym, ap, ◌∙◌, subst, and_parts, Change, Channel, Place, Message, change_activation}
-use Rattle.world_laws.proofs.Prelude.{ChangesRoles-row, Input, Target, Connection, drain_at, ChangesRoles, ChangesRolesBy, GoesOn}
+use Rattle.world_laws.proofs.Prelude.{changes_roles_row, Input, Target, Connection, drain_at, ChangesRoles, ChangesRolesBy, RemainsOpen}
 use Rattle.world_laws.proofs.Prelude.{RoleStep, Roles, TargetRole, after_step, awaits_at, begin_orders, changes_by, completed}
 use Rattle.world_laws.proofs.Prelude.{is_target_at, leaves_at, orders, roles_of, step_by, step_orders, target_role, with_target, goes_on}
-use Rattle.world_laws.proofs.Prelude.{ends, had_ended, stays, commands, completes, goes_back, leaves, Stands, Row, IsOpen, Acts, Brought}
+use Rattle.world_laws.proofs.Prelude.{ends, had_ended, stays, commands, completes, goes_back, leaves, IsValid, Row, IsOpen, Acts, Brought}
 use Rattle.world_laws.proofs.Prelude.{FitsNone, IsBrought, rests, ages, opens, goes, aged_holds, pass_stands, changes_of, same_Some}
 use Rattle.world_laws.proofs.Prelude.{commanded_role, RrCause, comes}
 use Rattle.conn_rules.specs.declared.input.Input.TheVariants as inputs
@@ -65,7 +65,7 @@ completed-none None roles is = is
 
 -- ---- a row
 
-row_goes : (s x s2 : Connection) (input : Input) (brought : Brought) (offer : Option Channel) (r : Row) (put : List Message) → roles_of x ≡ roles_of s → r.next ≡ s2 → IsBrought brought input → put ≡ r.outs → GoesOn (step_by input (roles_of x)) (roles_of x) x.down input offer r → RoleGoes s s2 brought put
+row_goes : (s x s2 : Connection) (input : Input) (brought : Brought) (offer : Option Channel) (r : Row) (put : List Message) → roles_of x ≡ roles_of s → r.next ≡ s2 → IsBrought brought input → put ≡ r.outs → RemainsOpen (step_by input (roles_of x)) (roles_of x) x.down input offer r → RoleGoes s s2 brought put
 row_goes s x s2 input brought offer r put same next brought_is put_is on = by on.begun on.roles on.ordered where
   old : (roles_of x).target ≡ target_role s.state
   old = ap (λ (roles : Roles). roles.target) same
@@ -94,12 +94,12 @@ row_goes s x s2 input brought offer r put same next brought_is put_is on = by on
 
 -- ---- a step
 
-pub acts_role : (number next : ℕ) (up : Bool) (brought : Brought) (before : Option Connection) (put : List Message) (after : Option Connection) (s s2 : Connection) → Acts number next up brought before put after → before ≡ Some s → after ≡ Some s2 → Stands s → IsOpen s.state → IsOpen s2.state → RoleGoes s s2 brought put
+pub acts_role : (number next : ℕ) (up : Bool) (brought : Brought) (before : Option Connection) (put : List Message) (after : Option Connection) (s s2 : Connection) → Acts number next up brought before put after → before ≡ Some s → after ≡ Some s2 → IsValid s → IsOpen s.state → IsOpen s2.state → RoleGoes s s2 brought put
 acts_role number next up brought before put after s s2 (rests nothing same fits) was is stands is_open open_then = keeps (ap (λ (y : Connection). target_role y.state) (same_Some _ _ (sym is ∙ same ∙ was))) none where
   none : IsComplete brought (target_role s.state) → ⊥
   none (at, change, cause, came, hit) =
       let misses = subst (λ (o : Option Connection). FitsNone (comes (inputs.Complete at change cause)) o) was (subst (λ (b : Brought). FitsNone b before) came fits) in
-      let stays_so : step_by (inputs.Complete at change cause) (roles_of s) ≡ stays = subst (ChangesRolesBy s (inputs.Complete at change cause) misses.0) misses.1 (ChangesRoles-row s (inputs.Complete at change cause) misses.0 stands) in
+      let stays_so : step_by (inputs.Complete at change cause) (roles_of s) ≡ stays = subst (ChangesRolesBy s (inputs.Complete at change cause) misses.0) misses.1 (changes_roles_row s (inputs.Complete at change cause) misses.0 stands) in
       let both : completes ≡ stays = sym (complete_step at change cause (roles_of s) hit) ∙ stays_so in
       absurd cc
 acts_role number next up brought before put after s s2 (ages old x passing had aged nothing now) was is stands is_open open_then =
@@ -108,7 +108,7 @@ acts_role number next up brought before put after s s2 (ages old x passing had a
       none (at, change, cause, came, hit) = let both : comes (inputs.Complete at change cause) ≡ passes = sym came ∙ passing in absurd cc
 acts_role number next up brought before put after s s2 (opens here link channel request delay nothing none said now) was is stands is_open open_then = absurd (let both : None ≡ Some s = sym none ∙ was in cc)
 acts_role number next up brought before put after s s2 (goes old x input offer r had aged came fits said now) was is stands is_open open_then =
-    by (changes_of x input offer r (aged_holds Stands pass_stands old x aged (subst Stands (sym own) stands)) fits) where
+    by (changes_of x input offer r (aged_holds IsValid pass_stands old x aged (subst IsValid (sym own) stands)) fits) where
       own : old ≡ s
       own = same_Some _ _ (sym had ∙ was)
 

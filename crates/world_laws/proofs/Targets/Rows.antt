@@ -5,6 +5,7 @@ use Rattle.world_laws.proofs.Prelude.{Reached, data_indication, establish_indica
 use Rattle.world_laws.proofs.Prelude.{BasePush, BaseTakes, Handle, SwitchDoes, Assign, Seat, Asking, On, Gone, complete, station_item}
 use Rattle.world_laws.proofs.Prelude.{Actors, Mobile, World, new_actors, outbox_of, opened, after_all, idle_link, BeginWith, IsAwaited}
 use Rattle.world_laws.proofs.Prelude.{IsFreshIn, IsLedBy, IsOnPlace, IsQuiet, StandWithin, is_ending}
+use Rattle.octets.proofs.Hex.{hex}
 use Rattle.mobile_end.specs.declared.mobile_end.Place.TheVariants.{OnChannel}
 use Rattle.world_model.proofs.Worlds.{on_literals}
 use Rattle.world_laws.proofs.Usual.{channel, to_0a}
@@ -26,7 +27,7 @@ with_inbox (first ∷ []) = record (new_actors usual_settings) { inbox = station
 with_inbox (first ∷ second ∷ others) = record (new_actors usual_settings) { inbox = station_item 1 first ∷ station_item 1 second ∷ [] }
 
 abbrev text : List ℕ
-text = 0x03 ∷ 0x45 ∷ []
+text = hex "03 45"
 
 -- ---- quiet channels
 

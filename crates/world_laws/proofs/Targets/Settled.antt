@@ -3,28 +3,28 @@ use Rattle.world_laws.proofs.Prelude.{◌≡◌, ◌≢◌, ◌⊎◌, inl, inr,
 use Rattle.world_laws.proofs.Prelude.{ap, ◌∙◌, subst, flat_map-append, append-nil, flat_map, list_any, Place, ChannelState, Free, InUse}
 use Rattle.world_laws.proofs.Prelude.{Releasing, channel_state, hears, is_active, activation_ack, Tenures, Rsl, RfChannelReleaseAck, Event}
 use Rattle.world_laws.proofs.Prelude.{Tenure, actors_after, Agrees, active_behind, is_in_use, to_come, began, begins, begins_and_ends}
-use Rattle.world_laws.proofs.Prelude.{acknowledgements, due, put, taken, Actors, Link, is_active_at, is_up, outbox_of, Good, Both-empty}
-use Rattle.world_laws.proofs.Prelude.{outbox-step, OutboxStep, breaks, acks-append, pipe-step, PipeStep, flows, stops, false≢true, Comes}
+use Rattle.world_laws.proofs.Prelude.{acknowledgements, due, put, taken, Actors, Link, is_active_at, is_up, outbox_of, Good, both_empty}
+use Rattle.world_laws.proofs.Prelude.{outbox-step, OutboxStep, breaks, acks_append, pipe-step, PipeStep, flows, stops, false≢true, IsOwed}
 use Rattle.world_laws.proofs.Prelude.{popped, acknowledgements_up, is_release_ack, messages_up, read_of, brings, coming_up, IsSettled}
 use Rattle.world_laws.proofs.Prelude.{StandWithin, is_ending}
-use Rattle.world_model.specs.OwnerLines.Comes.{nothing, ends}
+use Rattle.world_model.specs.OwnerLines.IsOwed.{nothing, ends}
 use Rattle.world_model.proofs.Outboxes.Step.{goes}
-use Rattle.world_laws.proofs.Acknowledged.{coming-read}
+use Rattle.world_laws.proofs.Acknowledged.{coming_read}
 use Rattle.world_laws.proofs.Targets.Air.{IdleAir}
 use Rattle.world_laws.proofs.Targets.Calm.{down_active}
-use Rattle.world_laws.proofs.Targets.Ways.{WaysStand, any-middle, behind_end, nothing_before, still_within, ways_down}
+use Rattle.world_laws.proofs.Targets.Ways.{WaysStand, any_middle, behind_end, nothing_before, still_within, ways_down}
 use Rattle.world_laws.proofs.Targets.Within.{still_all, within_append, within_behind}
 use Rattle.world_laws.proofs.Channels.RoleAcks.{up_first}
 
 -- ---- what comes of a channel that is free, or whose end is on its way
 
 -- behind it nothing is due, and the channel isn't in use
-pub comes_idle : (k : ℕ) (state : ChannelState) (all xs ys : List Rsl) → Comes k state all → all ≡ xs ++ ys → (state ≡ Free) ⊎ (list_any is_release_ack xs ≡ true) → (ys ≡ []) × (is_in_use state ≡ false)
-comes_idle k Free all xs ys nothing is why = ((Both-empty xs ys is).1, refl)
+pub comes_idle : (k : ℕ) (state : ChannelState) (all xs ys : List Rsl) → IsOwed k state all → all ≡ xs ++ ys → (state ≡ Free) ⊎ (list_any is_release_ack xs ≡ true) → (ys ≡ []) × (is_in_use state ≡ false)
+comes_idle k Free all xs ys nothing is why = ((both_empty xs ys is).1, refl)
 comes_idle k (InUse number) all xs ys comes is (inl free) = absurd cc
 comes_idle k (InUse number) all [] ys comes is (inr any) = absurd cc
 comes_idle k (InUse number) all (x ∷ xs) ys began is (inr any) = absurd cc
-comes_idle k (InUse number) all (x ∷ xs) ys begins is (inr any) = absurd (none xs any first (Both-empty xs ys cc).0) where
+comes_idle k (InUse number) all (x ∷ xs) ys begins is (inr any) = absurd (none xs any first (both_empty xs ys cc).0) where
   first : activation_ack k ≡ x
   first = cc
 
@@ -32,13 +32,13 @@ comes_idle k (InUse number) all (x ∷ xs) ys begins is (inr any) = absurd (none
   none zs any is_ack empty = absurd (false≢true (sym (ap (list_any is_release_ack) empty) ∙ ap (λ (m : Rsl). is_release_ack m || list_any is_release_ack zs) is_ack ∙ any))
 comes_idle k (Releasing number) all xs ys comes is (inl free) = absurd cc
 comes_idle k (Releasing number) all [] ys comes is (inr any) = absurd cc
-comes_idle k (Releasing number) all (x ∷ xs) ys ends is (inr any) = ((Both-empty xs ys cc).1, refl)
+comes_idle k (Releasing number) all (x ∷ xs) ys ends is (inr any) = ((both_empty xs ys cc).1, refl)
 comes_idle k (Releasing number) all (x ∷ []) ys begins_and_ends is (inr any) = absurd (false≢true (ap (λ (m : Rsl). is_release_ack m || false) first ∙ any)) where
   first : activation_ack k ≡ x
   first = cc
-comes_idle k (Releasing number) all (x ∷ y ∷ xs) ys begins_and_ends is (inr any) = ((Both-empty xs ys cc).1, refl)
+comes_idle k (Releasing number) all (x ∷ y ∷ xs) ys begins_and_ends is (inr any) = ((both_empty xs ys cc).1, refl)
 
-pub comes_free : (k : ℕ) (state : ChannelState) (all : List Rsl) → Comes k state all → state ≡ Free → all ≡ []
+pub comes_free : (k : ℕ) (state : ChannelState) (all : List Rsl) → IsOwed k state all → state ≡ Free → all ≡ []
 comes_free k Free all nothing is = refl
 comes_free k _ all comes is = absurd cc
 
@@ -98,13 +98,13 @@ module _ (owner : Tenure → ℕ) (w : Actors) (event : Event) (at : Place) (a :
   none_acks hearing free =
       let way = a.agrees.way hearing in
       let none : to_come v at ++ way.lost ≡ [] = comes_free k (channel_state v.controller at) (to_come v at ++ way.lost) way.comes free in
-      (Both-empty (acknowledgements_up v at) (due k (is_active_at v at) (outbox_of v n)) (sym (sym (up_first v at) ∙ (Both-empty (to_come v at) way.lost (sym none)).0))).0
+      (both_empty (acknowledgements_up v at) (due k (is_active_at v at) (outbox_of v n)) (sym (sym (up_first v at) ∙ (both_empty (to_come v at) way.lost (sym none)).0))).0
 
   silent_up : hears v.controller n ≡ true → is_up v n ≡ true → channel_state v.controller at ≡ Free → coming_up v at ≡ []
   silent_up hearing up free =
       let none = none_acks hearing free in
       let outside : a.after.within ≡ false = still_within k (messages_up v n) a.after.stand none ∙ a.after.now up ∙ idle_up hearing up (inl free) in
-      coming-read v at ∙ nothing_before k (messages_up v n) [] (subst (λ (ms : List Rsl). Tenures k false ms a.after.end) (sym (append-nil (messages_up v n))) (subst (λ (b : Bool). Tenures k b (messages_up v n) a.after.end) outside a.after.stand)) none
+      coming_read v at ∙ nothing_before k (messages_up v n) [] (subst (λ (ms : List Rsl). Tenures k false ms a.after.end) (sym (append-nil (messages_up v n))) (subst (λ (b : Bool). Tenures k b (messages_up v n) a.after.end) outside a.after.stand)) none
 
   -- ---- once it is down
 
@@ -117,14 +117,14 @@ module _ (owner : Tenure → ℕ) (w : Actors) (event : Event) (at : Place) (a :
 
     acks_go : acknowledgements_up w at ≡ acknowledgements k read ++ (acknowledgements_up v at ++ acknowledgements k gone.0)
     acks_go =
-        ap (acknowledgements k) gone.1 ∙ acks-append k read (messages_up v n ++ gone.0)
-        ∙ ap (λ (ms : List Rsl). acknowledgements k read ++ ms) (acks-append k (messages_up v n) gone.0)
+        ap (acknowledgements k) gone.1 ∙ acks_append k read (messages_up v n ++ gone.0)
+        ∙ ap (λ (ms : List Rsl). acknowledgements k read ++ ms) (acks_append k (messages_up v n) gone.0)
 
     was_ending : (channel : ℕ) → acknowledgements k read ≡ RfChannelReleaseAck channel ∷ [] → is_ending w at ≡ true
     was_ending channel is = ap (list_any is_release_ack) (acks_go ∙ ap (λ (ms : List Rsl). ms ++ (acknowledgements_up v at ++ acknowledgements k gone.0)) is)
 
     still_ending : is_ending v at ≡ true → is_ending w at ≡ true
-    still_ending is = ap (list_any is_release_ack) acks_go ∙ any-middle (acknowledgements k read) (acknowledgements_up v at) (acknowledgements k gone.0) is
+    still_ending is = ap (list_any is_release_ack) acks_go ∙ any_middle (acknowledgements k read) (acknowledgements_up v at) (acknowledgements k gone.0) is
 
     idle_down : hears v.controller n ≡ true → (channel_state v.controller at ≡ Free) ⊎ (is_ending v at ≡ true) → is_active_at v at ≡ false
     idle_down hearing why =
@@ -143,11 +143,11 @@ module _ (owner : Tenure → ℕ) (w : Actors) (event : Event) (at : Place) (a :
         ∙ ap (λ (xs : List _). flat_map (brings k) read ++ xs) (flat_map-append (brings k) (messages_up v n) gone.0)
 
     silent_down : hears v.controller n ≡ true → channel_state v.controller at ≡ Free → coming_up v at ≡ []
-    silent_down hearing free = coming-read v at ∙ elim (a.frees.freed hearing free) [
+    silent_down hearing free = coming_read v at ∙ elim (a.frees.freed hearing free) [
       | inl was ↦
-          let none : flat_map (brings k) (messages_up w n) ≡ [] = sym (coming-read w at) ∙ settled.silent (a.frees.hearing hearing) was in
-          let behind = (Both-empty (flat_map (brings k) read) (flat_map (brings k) (messages_up v n) ++ flat_map (brings k) gone.0) (sym none ∙ brings-go)).1 in
-          (Both-empty (flat_map (brings k) (messages_up v n)) (flat_map (brings k) gone.0) (sym behind)).0
+          let none : flat_map (brings k) (messages_up w n) ≡ [] = sym (coming_read w at) ∙ settled.silent (a.frees.hearing hearing) was in
+          let behind = (both_empty (flat_map (brings k) read) (flat_map (brings k) (messages_up v n) ++ flat_map (brings k) gone.0) (sym none ∙ brings-go)).1 in
+          (both_empty (flat_map (brings k) (messages_up v n)) (flat_map (brings k) gone.0) (sym behind)).0
       | inr acks ↦
           nothing_before k (messages_up v n) gone.0 (behind_end k acks.0 read (messages_up v n ++ gone.0) (subst (λ (ms : List Rsl). Tenures k a.before.within ms a.before.end) gone.1 a.before.stand) acks.1) (none_acks hearing free)
     ]

@@ -2,16 +2,16 @@
 use Rattle.world_laws.proofs.Prelude.{◌≡◌, ◌≢◌, ◌⊎◌, inl, inr, ℕ, suc, ◌≤◌, ◌&&◌, Bool, true, false, cond, filter, unwrap_or, List, [], ◌∷◌}
 use Rattle.world_laws.proofs.Prelude.{◌++◌, length, Option, Some, None, refl, sym, ap, ◌∙◌, subst, append_assoc, arith, flat_map}
 use Rattle.world_laws.proofs.Prelude.{AllByRecursion, Channel, Place, SWITCH_LINK, Preparing, Changing, State, Live, Target, Connection}
-use Rattle.world_laws.proofs.Prelude.{TargetRole, changes_by, is_target_at, roles_of, target_channels, target_role, Stands, undone, ActsOn}
-use Rattle.world_laws.proofs.Prelude.{brought_in, connection_of, Owns, is_link_up, ComesInOctets, AreUsed, life_acts, life_ready, life_uses}
+use Rattle.world_laws.proofs.Prelude.{TargetRole, changes_by, is_target_at, roles_of, target_channels, target_role, IsValid, undone, ActsOn}
+use Rattle.world_laws.proofs.Prelude.{brought_in, connection_of, Owns, is_link_up, IsOctetStep, AreUsed, life_acts, life_ready, life_uses}
 use Rattle.world_laws.proofs.Prelude.{Ready, InUse, Step, Take, Controller, channel_state, hears, place_at, place_of, state_in, step}
 use Rattle.world_laws.proofs.Prelude.{is_control, Item, What, Rsl, AreAllowed, Parameters, Event, BaseTakes, Handle, Tick, Tenure}
 use Rattle.world_laws.proofs.Prelude.{actors_after, complete, owner_in, acknowledgements, handled, tenure_in, with_turn, all_steps}
-use Rattle.world_laws.proofs.Prelude.{first_taken, step_at, Actors, Mobile, base_of, mobile_of, modulus_in, new_actors, spot_at, turn-leads}
-use Rattle.world_laws.proofs.Prelude.{LivesByTable-new, IsKnownItem, known-inbox, handle-turned, heard_of, tick-turned, beside-step, Serves}
-use Rattle.world_laws.proofs.Prelude.{same_Some, control-complete, kept-controller, life, tick, Brings, controls_of, messages_in}
-use Rattle.world_laws.proofs.Prelude.{messages_up, read_of, brings_in, coming_up, going_down, awaited_in, commanded_target, IsLed, Lives}
-use Rattle.world_laws.proofs.Prelude.{TargetIsFresh, initials_up, CameInOctets, IsHad, IsAlone, commanded_channels, BeginWith, FreshTells}
+use Rattle.world_laws.proofs.Prelude.{first_taken, step_at, Actors, Mobile, base_of, mobile_of, modulus_in, new_actors, spot_at, turn_leads}
+use Rattle.world_laws.proofs.Prelude.{LivesByTable-new, IsKnownItem, known_inbox, handle_turned, heard_of, tick-turned, beside_step, Serves}
+use Rattle.world_laws.proofs.Prelude.{same_Some, control_complete, kept_controller, life, tick, Brings, controls_of, messages_in}
+use Rattle.world_laws.proofs.Prelude.{messages_up, read_of, brings_in, coming_up, going_down, awaited_in, commanded_target, IsLed, IsOpenAndLinedUp}
+use Rattle.world_laws.proofs.Prelude.{TargetIsFresh, initials_up, TookOctets, IsHad, IsAlone, commanded_channels, BeginWith, FreshTells}
 use Rattle.world_laws.proofs.Prelude.{IsFreshIn, IsLedBy, TargetsStayFresh}
 use Rattle.conn_rules.specs.Streams.{target_in}
 use Rattle.controller_model.specs.declared.step.Step.TheVariants as steps
@@ -40,10 +40,10 @@ use Rattle.world_laws.proofs.Events.{snoc_actors, snoc_steps, world}
 same_controller : (w : Actors) (event : Event) → is_relays event ≡ false → (actors_after w event).controller ≡ w.controller
 same_controller w Handle is = absurd cc
 same_controller w (Tick ms) is = absurd cc
-same_controller w (BaseTakes station) is = kept-controller w station
-same_controller w e is = (beside-step w e refl).controller
+same_controller w (BaseTakes station) is = kept_controller w station
+same_controller w e is = (beside_step w e refl).controller
 
-module _ (settings : Parameters) (events : List Event) (event : Event) (mobile : ℕ) (s s2 : Connection) (q : Mobile) (allowed : AreAllowed settings) (octets_all : CameInOctets settings (events ++ event ∷ [])) (lives : Lives (modulus_in settings) (world settings events) mobile s) (alone : IsAlone (world settings events) mobile s)
+module _ (settings : Parameters) (events : List Event) (event : Event) (mobile : ℕ) (s s2 : Connection) (q : Mobile) (allowed : AreAllowed settings) (octets_all : TookOctets settings (events ++ event ∷ [])) (lives : IsOpenAndLinedUp (modulus_in settings) (world settings events) mobile s) (alone : IsAlone (world settings events) mobile s)
     (fresh : IsFreshIn (world settings events) lives.lined.one s.state) (number : s2.number ≡ s.number) (had_then : IsHad (actors_after (world settings events) event) s2) (found_then : mobile_of (actors_after (world settings events) event) mobile ≡ Some q) where
   abbrev w : Actors
   w = world settings events
@@ -57,14 +57,14 @@ module _ (settings : Parameters) (events : List Event) (event : Event) (mobile :
   abbrev p : Mobile
   p = lives.lined.one
 
-  all_octets : AllByRecursion ComesInOctets (all_steps (new_actors settings) events ++ step_at w event)
-  all_octets = subst (AllByRecursion ComesInOctets) (snoc_steps (new_actors settings) events event) octets_all
+  all_octets : AllByRecursion IsOctetStep (all_steps (new_actors settings) events ++ step_at w event)
+  all_octets = subst (AllByRecursion IsOctetStep) (snoc_steps (new_actors settings) events event) octets_all
 
-  octets : AllByRecursion ComesInOctets (all_steps (new_actors settings) events)
-  octets = all_left ComesInOctets (all_steps (new_actors settings) events) (step_at w event) all_octets
+  octets : AllByRecursion IsOctetStep (all_steps (new_actors settings) events)
+  octets = all_left IsOctetStep (all_steps (new_actors settings) events) (step_at w event) all_octets
 
-  own_octets : AllByRecursion ComesInOctets (step_at w event)
-  own_octets = all_right ComesInOctets (all_steps (new_actors settings) events) (step_at w event) all_octets
+  own_octets : AllByRecursion IsOctetStep (step_at w event)
+  own_octets = all_right IsOctetStep (all_steps (new_actors settings) events) (step_at w event) all_octets
 
   keeps : Keeps settings owner w []
   keeps = keeps_run settings events allowed octets
@@ -97,10 +97,10 @@ module _ (settings : Parameters) (events : List Event) (event : Event) (mobile :
   acts_on : (st : Step) → ActsOn s.number w.controller st
   acts_on st = subst (λ (c : Controller). ActsOn s.number c st) (sym by_life) (life_acts settings (all_steps (new_actors settings) events) st s.number lives.had.from_one)
 
-  laws_on : (st : Step) → ComesInOctets st → Lawful w.controller st
+  laws_on : (st : Step) → IsOctetStep st → Lawful w.controller st
   laws_on st own = subst (λ (c : Controller). Lawful c st) (sym by_life) (lawful_life settings (all_steps (new_actors settings) events) st allowed octets own)
 
-  stands : Stands s
+  stands : IsValid s
   stands = connections_stand_new settings events s.number s lives.had.there
 
   before_of : (st : Step) (target : Option Tenure) (heard : Place → List Rsl) → ((at : Place) → 1 ≤ at.station → at.station ≤ length settings.cells → Serves owner w at target (step w.controller st) (heard at)) → (at : Place) → 1 ≤ at.station → at.station ≤ length settings.cells → Before owner w st target heard at
@@ -133,20 +133,20 @@ module _ (settings : Parameters) (events : List Event) (event : Event) (mobile :
     then = handled_by w item items
 
     known : IsKnownItem item
-    known = (subst (AllByRecursion IsKnownItem) stood (known-inbox settings events)).0
+    known = (subst (AllByRecursion IsKnownItem) stood (known_inbox settings events)).0
 
     turn_of : Lawful w.controller (Take item) → TurnOf w then (Take item) (tenure_in w source what) (λ at. heard_of at item) (λ at. brings_in at item) (λ n. read_of n item)
     unfolding take
     turn_of laws = record {
-      next = (handle-turned w (place_at 0 0) item items stood).controller;
-      mobiles = turn-leads (λ u. u.mobiles ≡ w.mobiles) (tenure_in w source what) (take item w.controller) (record w { inbox = items }) (λ links. refl);
-      turned = λ at. handle-turned w at item items stood;
-      spots = λ at. turn-leads (λ u. spot_at u at ≡ spot_at w at) (tenure_in w source what) (take item w.controller) (record w { inbox = items }) (λ links. refl);
+      next = (handle_turned w (place_at 0 0) item items stood).controller;
+      mobiles = turn_leads (λ u. u.mobiles ≡ w.mobiles) (tenure_in w source what) (take item w.controller) (record w { inbox = items }) (λ links. refl);
+      turned = λ at. handle_turned w at item items stood;
+      spots = λ at. turn_leads (λ u. spot_at u at ≡ spot_at w at) (tenure_in w source what) (take item w.controller) (record w { inbox = items }) (λ links. refl);
       comes = λ at. first_coming w item items at stood;
       ways = λ n.
           ap (λ (xs : List Item). flat_map (read_of n) xs ++ (base_of w n).messages) stood
           ∙ append_assoc (read_of n item) (flat_map (read_of n) items) (base_of w n).messages
-          ∙ turn-leads (λ u. read_of n item ++ messages_up (record w { inbox = items }) n ≡ read_of n item ++ messages_up u n) (tenure_in w source what) (take item w.controller) (record w { inbox = items }) (λ links. refl);
+          ∙ turn_leads (λ u. read_of n item ++ messages_up (record w { inbox = items }) n ≡ read_of n item ++ messages_up u n) (tenure_in w source what) (take item w.controller) (record w { inbox = items }) (λ links. refl);
       heard_is = λ at. ap (acknowledgements at.number) (said-read at.station item);
       leads = λ at. elim (ack_item at w source what known) [
         | inl none ↦ inl none
@@ -164,7 +164,7 @@ module _ (settings : Parameters) (events : List Event) (event : Event) (mobile :
           led.first (λ none. some (ap (λ (x : What). messages_in (brings_in (place_of t.channel) (record { source = source; what = x }))) same ∙ none)) in
           (place_of t.channel, t.change, says.0, ap (λ (x : What). brought_in w.controller s.number (Take (record { source = source; what = x }))) same ∙ says.1, subst (λ (o : Option TargetRole). is_target_at (place_of t.channel) o && changes_by t.change o ≡ true) (sym is) (hits t))
 
-    handled_fresh : ComesInOctets (Take item) → ((at : Place) → 1 ≤ at.station → at.station ≤ length settings.cells → Serves owner w at (tenure_in w source what) (take item w.controller) (heard_of at item)) → v ≡ then → IsFreshIn then q s2.state
+    handled_fresh : IsOctetStep (Take item) → ((at : Place) → 1 ≤ at.station → at.station ≤ length settings.cells → Serves owner w at (tenure_in w source what) (take item w.controller) (heard_of at item)) → v ≡ then → IsFreshIn then q s2.state
     handled_fresh own serves same =
         let laws = laws_on (Take item) own in
         turn_fresh settings owner w then (Take item) (tenure_in w source what) (λ at. heard_of at item) (λ at. brings_in at item) (λ n. read_of n item) (turn_of laws) (before_of (Take item) (tenure_in w source what) (λ at. heard_of at item) serves) laws
@@ -180,7 +180,7 @@ module _ (settings : Parameters) (events : List Event) (event : Event) (mobile :
     now = ap (actors_after w) is
 
     serving : ServesAt settings owner w Handle
-    serving = serves_event settings owner events w Handle refl allowed octets (subst (λ (e : Event). AllByRecursion ComesInOctets (step_at w e)) is own_octets) keeps.right.agree
+    serving = serves_event settings owner events w Handle refl allowed octets (subst (λ (e : Event). AllByRecursion IsOctetStep (step_at w e)) is own_octets) keeps.right.agree
 
     by : (items : List Item) → w.inbox ≡ items → IsFreshIn v q s2.state
     by [] empty =
@@ -190,7 +190,7 @@ module _ (settings : Parameters) (events : List Event) (event : Event) (mobile :
         subst (λ (u : Actors). IsFreshIn u q s2.state) (sym same) (subst (λ (x : Mobile). IsFreshIn w x s2.state) (sym who) (subst (λ (x : Connection). IsFreshIn w p x.state) (sym one) fresh))
     by (item ∷ items) stood =
         let same : v ≡ handled_by w item items = now ∙ ap (λ (all : List Item). unwrap_or (handled all w) w) stood in
-        let own : ComesInOctets (Take item) = (subst (λ (all : List Item). AllByRecursion ComesInOctets (first_taken all)) stood (subst (λ (e : Event). AllByRecursion ComesInOctets (step_at w e)) is own_octets)).0 in
+        let own : IsOctetStep (Take item) = (subst (λ (all : List Item). AllByRecursion IsOctetStep (first_taken all)) stood (subst (λ (e : Event). AllByRecursion IsOctetStep (step_at w e)) is own_octets)).0 in
         subst (λ (u : Actors). IsFreshIn u q s2.state) (sym same) (handled_fresh item.source item.what items stood own (λ at least most. serving item items stood at least most) same)
 
   tick_fresh : (ms : ℕ) → event ≡ Tick ms → IsFreshIn v q s2.state
@@ -198,16 +198,16 @@ module _ (settings : Parameters) (events : List Event) (event : Event) (mobile :
   tick_fresh ms is =
       let then : Actors = with_turn None (tick ms w.controller) w in
       let same : v ≡ then = ap (actors_after w) is in
-      let own : ComesInOctets (steps.Tick ms) = tt in
+      let own : IsOctetStep (steps.Tick ms) = tt in
       let laws = laws_on (steps.Tick ms) own in
-      let serving : ServesAt settings owner w (Tick ms) = serves_event settings owner events w (Tick ms) refl allowed octets (subst (λ (e : Event). AllByRecursion ComesInOctets (step_at w e)) is own_octets) keeps.right.agree in
+      let serving : ServesAt settings owner w (Tick ms) = serves_event settings owner events w (Tick ms) refl allowed octets (subst (λ (e : Event). AllByRecursion IsOctetStep (step_at w e)) is own_octets) keeps.right.agree in
       let turn : TurnOf w then (steps.Tick ms) None (λ at. []) (λ at. []) (λ n. []) = record {
         next = (tick-turned w (place_at 0 0) ms).controller;
-        mobiles = turn-leads (λ u. u.mobiles ≡ w.mobiles) None (tick ms w.controller) w (λ links. refl);
+        mobiles = turn_leads (λ u. u.mobiles ≡ w.mobiles) None (tick ms w.controller) w (λ links. refl);
         turned = λ at. tick-turned w at ms;
-        spots = λ at. turn-leads (λ u. spot_at u at ≡ spot_at w at) None (tick ms w.controller) w (λ links. refl);
-        comes = λ at. turn-leads (λ u. coming_up w at ≡ coming_up u at) None (tick ms w.controller) w (λ links. refl);
-        ways = λ n. turn-leads (λ u. messages_up w n ≡ messages_up u n) None (tick ms w.controller) w (λ links. refl);
+        spots = λ at. turn_leads (λ u. spot_at u at ≡ spot_at w at) None (tick ms w.controller) w (λ links. refl);
+        comes = λ at. turn_leads (λ u. coming_up w at ≡ coming_up u at) None (tick ms w.controller) w (λ links. refl);
+        ways = λ n. turn_leads (λ u. messages_up w n ≡ messages_up u n) None (tick ms w.controller) w (λ links. refl);
         heard_is = λ at. refl;
         leads = λ at. inl refl;
       } in
@@ -245,5 +245,5 @@ fresh_tells_new w p s fresh = by s.state refl fresh where
 
   by : (state : State) → s.state ≡ state → IsFreshIn w p state → TargetIsFresh w s
   by (Live reference (Preparing target)) is a = tells (target.channel ∷ []) [] (ap awaited_in is) (ap (λ (x : State). commanded_channels (commanded_target x)) is) (a.silent, tt) (a.uncommanded, tt) tt
-  by (Live reference (Changing target)) is led = tells [] (target.channel ∷ []) (ap awaited_in is) (ap (λ (x : State). commanded_channels (commanded_target x)) is) tt tt (led_of (complete target.change) (coming_up w (place_of target.channel)) (control-complete target.change) led.first, tt)
+  by (Live reference (Changing target)) is led = tells [] (target.channel ∷ []) (ap awaited_in is) (ap (λ (x : State). commanded_channels (commanded_target x)) is) tt tt (led_of (complete target.change) (coming_up w (place_of target.channel)) (control_complete target.change) led.first, tt)
   by _ is so = tells [] [] (ap awaited_in is) (ap (λ (x : State). commanded_channels (commanded_target x)) is) tt tt tt

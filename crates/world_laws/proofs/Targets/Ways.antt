@@ -3,8 +3,8 @@ use Rattle.world_laws.proofs.Prelude.{◌≡◌, ◌≢◌, ℕ, ◌-◌, ◌==�
 use Rattle.world_laws.proofs.Prelude.{◌∙◌, subst, append_assoc, eq-eqb, flat_map-append, append-nil, flat_map, list_any, Place, Tenures}
 use Rattle.world_laws.proofs.Prelude.{tenure_brings, apart, sapi_of, Item, What, Rsl, Parameters, Event, actors_after}
 use Rattle.world_laws.proofs.Prelude.{said, said_by, acknowledgements, all_popped, pushed, Actors, base_of, is_active_at, is_up}
-use Rattle.world_laws.proofs.Prelude.{new_actors, Good, inbox-goes, Both-empty, is_active, BaseState, false≢true, messages_in, popped, Kept}
-use Rattle.world_laws.proofs.Prelude.{kept-all, new_ends, tenures-kept, new_base, is_release_ack, messages_up, read_by, read_of, brings}
+use Rattle.world_laws.proofs.Prelude.{new_actors, Good, inbox_goes, both_empty, is_active, BaseState, false≢true, messages_in, popped, Kept}
+use Rattle.world_laws.proofs.Prelude.{kept_all, new_ends, tenures_kept, new_base, is_release_ack, messages_up, read_by, read_of, brings}
 use Rattle.world_laws.proofs.Prelude.{of_establishment, initial_by}
 use Rattle.link_model.specs.Tenures.Tenures.{over, begins, ends}
 use Rattle.world_laws.specs.LineUp.Places.{Item as Brought}
@@ -14,7 +14,7 @@ use Rattle.world_model.specs.Honest.{all_given, given}
 use Rattle.world_model.proofs.Honesty.Kept.{works, rested}
 use Rattle.link_model.specs.BaseCalls.{messages_given}
 use Rattle.link_model.proofs.Tenures.{Tenures-given}
-use Rattle.world_laws.proofs.Acknowledged.{apart_brings, behind, bound, given-read, pushed-read, unbound, brought_unbound}
+use Rattle.world_laws.proofs.Acknowledged.{apart_brings, behind, bound, given_read, pushed-read, unbound, brought_unbound}
 use Rattle.world_laws.proofs.Targets.Calm.{down_made}
 use Rattle.world_laws.proofs.Events.{world}
 
@@ -38,7 +38,7 @@ pub goes_read : (n : ℕ) (w : Actors) (event : Event) → n ≢ 0 → Good w �
 goes_read n w event n_is good =
     ap (λ (ms : List Rsl). flat_map (read_of n) w.inbox ++ ms) (sym (pushed-read n w event n_is good))
     ∙ sym (flat_map-append (read_of n) w.inbox (pushed w event))
-    ∙ ap (flat_map (read_of n)) (inbox-goes w event)
+    ∙ ap (flat_map (read_of n)) (inbox_goes w event)
     ∙ flat_map-append (read_of n) (popped w event) (actors_after w event).inbox
 
 -- of a station whose link is down then, what the controller takes was on its way, and then what is
@@ -103,7 +103,7 @@ pub record WaysStand (w : Actors) (at : Place) : Type 0 where
   pub now : is_up w at.station ≡ true → end ≡ is_active_at w at
 
 pub ways_stand_new : (settings : Parameters) (events : List Event) (at : Place) → at.station ≢ 0 → WaysStand (world settings events) at
-ways_stand_new settings events at at_is = by (kept-all at.station [] (new_actors settings) events at_is (works ends_at.0 [] ends_at.1 refl)) where
+ways_stand_new settings events at at_is = by (kept_all at.station [] (new_actors settings) events at_is (works ends_at.0 [] ends_at.1 refl)) where
   ends_at : (station : ℕ) × (base_of (new_actors settings) at.station ≡ new_base station)
   ends_at = new_ends settings.cells 1 (at.station - 1)
 
@@ -117,7 +117,7 @@ ways_stand_new settings events at at_is = by (kept-all at.station [] (new_actors
   popped_all = flat_map (read_of at.station) (all_popped (new_actors settings) events)
 
   whole : gave ++ (base_of w at.station).messages ≡ popped_all ++ messages_up w at.station
-  whole = ap (λ (ms : List Rsl). ms ++ (base_of w at.station).messages) (given-read settings events at.station at_is) ∙ append_assoc popped_all (flat_map (read_of at.station) w.inbox) (base_of w at.station).messages
+  whole = ap (λ (ms : List Rsl). ms ++ (base_of w at.station).messages) (given_read settings events at.station at_is) ∙ append_assoc popped_all (flat_map (read_of at.station) w.inbox) (base_of w at.station).messages
 
   of : (end : Bool) → Tenures at.number false (gave ++ (base_of w at.station).messages) end → (is_up w at.station ≡ true → end ≡ is_active_at w at) → WaysStand w at
   of end t now =
@@ -131,37 +131,37 @@ ways_stand_new settings events at at_is = by (kept-all at.station [] (new_actors
       (subst (λ (b : BaseState). Tenures at.number false (messages_given (new_base station) calls ++ b.messages) (is_active b.active at.number)) (sym is) (Tenures-given at.number station calls)))
       (λ _. refl)
   by (rested down left tenures) =
-      let t = tenures-kept at.station at.number gave w (rested down left tenures) in
+      let t = tenures_kept at.station at.number gave w (rested down left tenures) in
       of t.0 t.1 (λ up. absurd (false≢true (sym down ∙ up)))
 
 -- ---- lists of acknowledgements
 
-pub any-append : (xs ys : List Rsl) → list_any is_release_ack (xs ++ ys) ≡ list_any is_release_ack xs || list_any is_release_ack ys
-any-append [] ys = refl
-any-append (x ∷ xs) ys = by (is_release_ack x) (any-append xs ys) where
+pub any_append : (xs ys : List Rsl) → list_any is_release_ack (xs ++ ys) ≡ list_any is_release_ack xs || list_any is_release_ack ys
+any_append [] ys = refl
+any_append (x ∷ xs) ys = by (is_release_ack x) (any_append xs ys) where
   by : (b : Bool) → list_any is_release_ack (xs ++ ys) ≡ list_any is_release_ack xs || list_any is_release_ack ys → b || list_any is_release_ack (xs ++ ys) ≡ (b || list_any is_release_ack xs) || list_any is_release_ack ys
   by true rest = refl
   by false rest = rest
 
-pub any-middle : (xs ys zs : List Rsl) → list_any is_release_ack ys ≡ true → list_any is_release_ack (xs ++ (ys ++ zs)) ≡ true
-any-middle xs ys zs is = any-append xs (ys ++ zs) ∙ by (list_any is_release_ack xs) where
+pub any_middle : (xs ys zs : List Rsl) → list_any is_release_ack ys ≡ true → list_any is_release_ack (xs ++ (ys ++ zs)) ≡ true
+any_middle xs ys zs is = any_append xs (ys ++ zs) ∙ by (list_any is_release_ack xs) where
   inner : list_any is_release_ack (ys ++ zs) ≡ true
-  inner = any-append ys zs ∙ ap (λ (b : Bool). b || list_any is_release_ack zs) is
+  inner = any_append ys zs ∙ ap (λ (b : Bool). b || list_any is_release_ack zs) is
 
   by : (b : Bool) → b || list_any is_release_ack (ys ++ zs) ≡ true
   by true = refl
   by false = inner
 
 -- where nothing comes, no initial message comes
-initial-none : (k : ℕ) (m : Rsl) → brings k m ≡ [] → initial_by k m ≡ []
-initial-none k (rsl.EstablishIndication e) none = by (e.channel == k) none where
+initial_none : (k : ℕ) (m : Rsl) → brings k m ≡ [] → initial_by k m ≡ []
+initial_none k (rsl.EstablishIndication e) none = by (e.channel == k) none where
   by : (b : Bool) → (if b then of_establishment (sapi_of e.link) e.l3 else []) ≡ [] → (if b then messages_in (of_establishment (sapi_of e.link) e.l3) else []) ≡ []
   by true is = ap messages_in is
   by false is = refl
-initial-none k _ none = refl
+initial_none k _ none = refl
 
 pub initials_none : (k : ℕ) (ms : List Rsl) → flat_map (brings k) ms ≡ [] → flat_map (initial_by k) ms ≡ []
 initials_none k [] none = refl
 initials_none k (m ∷ ms) none =
-    let parts = Both-empty (brings k m) (flat_map (brings k) ms) (sym none) in
-    ap (λ (xs : List (List ℕ)). xs ++ flat_map (initial_by k) ms) (initial-none k m parts.0) ∙ initials_none k ms parts.1
+    let parts = both_empty (brings k m) (flat_map (brings k) ms) (sym none) in
+    ap (λ (xs : List (List ℕ)). xs ++ flat_map (initial_by k) ms) (initial_none k m parts.0) ∙ initials_none k ms parts.1

@@ -2,7 +2,7 @@
 use Rattle.world_laws.proofs.Prelude.{◌≡◌, ℕ, ◌==◌, ◌&&◌, ◌||◌, not, Bool, true, false, if◌then◌else◌, List, [], ◌∷◌, ◌++◌, Option, Some}
 use Rattle.world_laws.proofs.Prelude.{refl, sym, ap, ◌∙◌, subst, flat_map, AllByRecursion, activation_ack, Rsl, ChannelActivation}
 use Rattle.world_laws.proofs.Prelude.{RfChannelRelease, RfChannelReleaseAck, AirMessage, OutboxEntry, acknowledgement, active_all, due}
-use Rattle.world_laws.proofs.Prelude.{is_active_then, rsl_in, Both-empty, leading_from_outbox, StandWithin}
+use Rattle.world_laws.proofs.Prelude.{is_active_then, rsl_in, both_empty, leading_from_outbox, StandWithin}
 
 pub within_append : (k : ℕ) (active : Bool) (xs ys : List OutboxEntry) → StandWithin k active xs → StandWithin k (active_all k active xs) ys → StandWithin k active (xs ++ ys)
 within_append k active [] ys here rest = rest
@@ -36,7 +36,7 @@ pub still_all : (k : ℕ) (active : Bool) (xs : List OutboxEntry) → due k acti
 still_all k active [] none = refl
 still_all k active (x ∷ xs) none =
     let o : Option Rsl = rsl_in x.out.frame in
-    let parts = Both-empty (acknowledgement k active o) (due k (is_active_then k active o) xs) (sym none) in
+    let parts = both_empty (acknowledgement k active o) (due k (is_active_then k active o) xs) (sym none) in
     let still : is_active_then k active o ≡ active = still_then k active o parts.0 in
     ap (λ (b : Bool). active_all k b xs) still ∙ still_all k active xs (subst (λ (b : Bool). due k b xs ≡ []) still parts.1)
 
@@ -45,7 +45,7 @@ pub none_leads : (k : ℕ) (xs : List OutboxEntry) → due k false xs ≡ [] →
 none_leads k [] none within = refl
 none_leads k (x ∷ xs) none within =
     let o : Option Rsl = rsl_in x.out.frame in
-    let parts = Both-empty (acknowledgement k false o) (due k (is_active_then k false o) xs) (sym none) in
+    let parts = both_empty (acknowledgement k false o) (due k (is_active_then k false o) xs) (sym none) in
     let still : is_active_then k false o ≡ false = still_then k false o parts.0 in
     ap (λ (ys : List AirMessage). ys ++ flat_map (leading_from_outbox k) xs) (within.0 refl)
     ∙ none_leads k xs (subst (λ (b : Bool). due k b xs ≡ []) still parts.1) (subst (λ (b : Bool). StandWithin k b xs) still within.1)

@@ -1,13 +1,16 @@
 -- What becomes of a connection that is coming, event by event.
 use Rattle.std.specs.Prelude.{◌≡◌, ◌⊎◌, ℕ, Bool, true, false, List, [], find, None, Result, Ok}
 use Rattle.std.specs.List.{AllByRecursion}
-use Rattle.world_laws.specs.Prelude.{SWITCH_LINK, WaitEstablish, Connection, place_of, RrMessage, RrFault, rr_reading, AreAllowed}
-use Rattle.world_laws.specs.Prelude.{Parameters, Event, BaseTakes, Handle, SwitchTakes, Tick, AirMessage, actors_after, actors_after_all}
-use Rattle.world_laws.specs.Prelude.{Actors, is_station_up, is_up, modulus_in, new_actors, outbox_of, spot_at}
+use Rattle.world_laws.specs.Prelude.{SWITCH_LINK, WaitEstablish, Connection, place_of, RrMessage}
+use Rattle.world_laws.specs.Prelude.{RrFault, rr_reading, AreAllowed}
+use Rattle.world_laws.specs.Prelude.{Parameters, Event, BaseTakes, Handle, SwitchTakes, Tick}
+use Rattle.world_laws.specs.Prelude.{AirMessage, actors_after}
+use Rattle.world_laws.specs.Prelude.{Actors, is_station_up, is_up, modulus_in, outbox_of, spot_at}
+use Rattle.world_laws.specs.Runs.{world}
 use Rattle.conn_rules.specs.Streams.{is_dtap}
 use Rattle.dtap_codec.specs.declared.rr.RrMessage.TheVariants.{ChannelRelease}
 use Rattle.world_laws.specs.LineUps.{is_of_peer, waiting_of}
-use Rattle.world_laws.specs.Lives.{IsUnheard}
+use Rattle.world_laws.specs.AccountedFor.{IsUnknownForGood}
 use Rattle.world_laws.specs.Seated.{AreActiveAt, IsAlone}
 use Rattle.world_laws.specs.Staying.{AreLinedUp, DeliversFirst}
 use Rattle.world_laws.specs.Access.Coming.{IsComing}
@@ -28,12 +31,16 @@ pub record IsKnown (m : ℕ) (w : Actors) (mobile : ℕ) (s : Connection) : Type
   pub kept : AllByRecursion LetsNoneGo (spot_at w (place_of s.serving)).air
   -- its channel is active, once its activation was acknowledged; and stations that take keep what
   -- is lined up
-  pub active : (station : ℕ) → is_station_up w station ≡ true → s.state ≡ WaitEstablish → AreActiveAt station w s
-  pub stations : (station one : ℕ) (t : Connection) → AreActiveAt station w t → AreLinedUp m w one t → AreLinedUp m (actors_after w (BaseTakes station)) one t
+  pub active : (station : ℕ) → is_station_up w station ≡ true → s.state ≡ WaitEstablish
+      → AreActiveAt station w s
+  pub stations : (station one : ℕ) (t : Connection) → AreActiveAt station w t → AreLinedUp m w one t
+      → AreLinedUp m (actors_after w (BaseTakes station)) one t
   -- the switch has none for it, nothing of it waits there, and what waits is taken as it was put
   pub none_taken : find (is_of_peer s.number) w.switch.connections ≡ None
   pub none_waits : waiting_of w s.number ≡ []
-  pub delivers : is_up w SWITCH_LINK ≡ true → DeliversFirst w s.number (outbox_of w SWITCH_LINK) ⊎ IsUnheard (actors_after w SwitchTakes) s.number
+  pub delivers : is_up w SWITCH_LINK ≡ true
+      → DeliversFirst w s.number (outbox_of w SWITCH_LINK)
+      ⊎ IsUnknownForGood (actors_after w SwitchTakes) s.number
 
 -- ---- at the events of others
 
@@ -46,6 +53,7 @@ is_of_others _ = true
 -- it is coming, whatever happened before
 abbrev pub OthersKeepComing : Parameters → List Event → Event → Type 0
 OthersKeepComing settings events event =
-    (mobile : ℕ) (s : Connection) → is_of_others event ≡ true → AreAllowed settings → IsKnown (modulus_in settings) (actors_after_all (new_actors settings) events) mobile s
-    → IsComing (modulus_in settings) (actors_after_all (new_actors settings) events) mobile s
-    → IsComing (modulus_in settings) (actors_after (actors_after_all (new_actors settings) events) event) mobile s
+    (mobile : ℕ) (s : Connection) → is_of_others event ≡ true → AreAllowed settings
+    → IsKnown (modulus_in settings) (world settings events) mobile s
+    → IsComing (modulus_in settings) (world settings events) mobile s
+    → IsComing (modulus_in settings) (actors_after (world settings events) event) mobile s

@@ -1,12 +1,15 @@
 -- A connection begins: its mobile is to come to it.
 use Rattle.std.specs.Prelude.{◌≡◌, ℕ, ◌≤◌, List, [], ◌∷◌, ◌++◌, Some, None}
 use Rattle.std.specs.List.{AllByRecursion}
-use Rattle.world_laws.specs.Prelude.{Place, Connection, connection_of, place_of, RelayItem, AreAllowed, Parameters, Event, Handle, Asking}
-use Rattle.world_laws.specs.Prelude.{actors_after, actors_after_all, rsl_in, Actors, Mobile, mobile_of, modulus_in, new_actors, outbox_of}
+use Rattle.world_laws.specs.Prelude.{Place, Connection, connection_of, place_of, RelayItem}
+use Rattle.world_laws.specs.Prelude.{AreAllowed, Parameters, Event, Handle, Asking}
+use Rattle.world_laws.specs.Prelude.{actors_after, rsl_in, Actors, Mobile, mobile_of, modulus_in}
+use Rattle.world_laws.specs.Prelude.{outbox_of}
+use Rattle.world_laws.specs.Runs.{world}
 use Rattle.world_laws.specs.LineUp.Places.{messages_in}
 use Rattle.world_laws.specs.ComingUp.{coming_up}
 use Rattle.world_laws.specs.GoingDown.{going_down}
-use Rattle.world_laws.specs.OthersFrame.{CameInOctets}
+use Rattle.world_laws.specs.OthersFrame.{TookOctets}
 use Rattle.world_laws.specs.Access.Coming.{IsComing, IsNew}
 use Rattle.world_laws.specs.Access.Requested.{AssignsAnother}
 use Rattle.world_laws.specs.Owners.OneEach.{IsUnanswered}
@@ -18,7 +21,8 @@ pub record AwaitsChannel (m : ℕ) (w : Actors) (mobile : ℕ) : Type 0 where
   pub found : mobile_of w mobile ≡ Some one
   pub asking : one.seat ≡ Asking
   pub new : IsNew m one
-  pub untold : (station : ℕ) → AllByRecursion (λ entry. AssignsAnother mobile (rsl_in entry.out.frame)) (outbox_of w station)
+  pub untold : (station : ℕ) → AllByRecursion
+      (λ entry. AssignsAnother mobile (rsl_in entry.out.frame)) (outbox_of w station)
 
 -- no message comes of a channel, and no command goes down there
 pub record IsQuietAt (w : Actors) (at : Place) : Type 0 where
@@ -29,8 +33,13 @@ pub record IsQuietAt (w : Actors) (at : Place) : Type 0 where
 -- yet, and its channel was quiet.
 abbrev pub ConnectionsBeginForTheirMobile : Parameters → List Event → Type 0
 ConnectionsBeginForTheirMobile settings events =
-    (s : Connection) (item : RelayItem) (items : List RelayItem) → AreAllowed settings → CameInOctets settings (events ++ Handle ∷ []) → (actors_after_all (new_actors settings) events).inbox ≡ item ∷ items → 1 ≤ s.number
-    → connection_of (actors_after_all (new_actors settings) events).controller s.number ≡ None → connection_of (actors_after (actors_after_all (new_actors settings) events) Handle).controller s.number ≡ Some s
-    → AwaitsChannel (modulus_in settings) (actors_after_all (new_actors settings) events) s.request.access → IsQuietAt (actors_after_all (new_actors settings) events) (place_of s.serving)
-    → IsUnanswered (actors_after_all (new_actors settings) events) s.request.access
-    → IsComing (modulus_in settings) (actors_after (actors_after_all (new_actors settings) events) Handle) s.request.access s
+    (s : Connection) (item : RelayItem) (items : List RelayItem) → AreAllowed settings
+    → TookOctets settings (events ++ Handle ∷ [])
+    → (world settings events).inbox ≡ item ∷ items → 1 ≤ s.number
+    → connection_of (world settings events).controller s.number ≡ None
+    → connection_of (actors_after (world settings events) Handle).controller s.number ≡ Some s
+    → AwaitsChannel (modulus_in settings) (world settings events) s.request.access
+    → IsQuietAt (world settings events) (place_of s.serving)
+    → IsUnanswered (world settings events) s.request.access
+    → IsComing (modulus_in settings)
+    (actors_after (world settings events) Handle) s.request.access s

@@ -1,9 +1,12 @@
 -- A connection that is coming: it has its channel, and hasn't asked the switch for its connection
 -- yet. How its mobile comes to it.
-use Rattle.std.specs.Prelude.{◌≡◌, ℕ, ◌+◌, ◌≤◌, ◌==◌, if◌then◌else◌, true, false, List, [], ◌∷◌, length, slice_index_or, Option, Some, None, Result, Ok}
+use Rattle.std.specs.Prelude.{◌≡◌, ℕ, ◌+◌, ◌≤◌, ◌==◌, if◌then◌else◌, true, false, List, [], ◌∷◌}
+use Rattle.std.specs.Prelude.{length, slice_index_or, Option, Some, None, Result, Ok}
 use Rattle.std.specs.List.{AllByRecursion, flat_map}
-use Rattle.world_laws.specs.Prelude.{WaitEstablish, Place, Connection, place_of, sapi_of, RrMessage, RrFault, rr_reading, to_be_taken}
-use Rattle.world_laws.specs.Prelude.{GoesOn, Rsl, OutboxEntry, Asking, On, rsl_in, Actors, Mobile, mobile_of, outbox_of, tenure_at}
+use Rattle.world_laws.specs.Prelude.{WaitEstablish, Place, Connection, place_of, sapi_of, RrMessage}
+use Rattle.world_laws.specs.Prelude.{RrFault, rr_reading, to_be_taken}
+use Rattle.world_laws.specs.Prelude.{RunsToEnd, Rsl, OutboxEntry, Asking, On, rsl_in, Actors, Mobile}
+use Rattle.world_laws.specs.Prelude.{mobile_of, outbox_of, tenure_at}
 use Rattle.controller_model.specs.Controller.{place_at}
 use Rattle.dtap_codec.specs.declared.rr.RrMessage.TheVariants.{ImmediateAssignment}
 use Rattle.world_laws.specs.LineUp.Places.{controls_of, messages_in}
@@ -11,7 +14,7 @@ use Rattle.rsl_codec.specs.declared.rsl.Rsl.TheVariants.{DataIndication, Immedia
 use Rattle.world_laws.specs.Acknowledged.{messages_up}
 use Rattle.world_laws.specs.ComingUp.{coming_up, of_main}
 use Rattle.world_laws.specs.GoingDown.{going_down}
-use Rattle.world_laws.specs.Lives.{initials_up}
+use Rattle.world_laws.specs.AccountedFor.{initials_up}
 use Rattle.world_laws.specs.OthersFrame.{IsHad}
 use Rattle.world_laws.specs.Seated.{LinedUp}
 use Rattle.world_laws.specs.References.Taken.{IsEarlyIn}
@@ -27,12 +30,13 @@ behind_first (_ ∷ messages) = messages
 -- sent, whatever that is, and gives no message of radio resource management behind it
 pub record IsNew (m : ℕ) (p : Mobile) : Type 0 where
   pub opens : p.opens ≡ true
-  pub goes_on : GoesOn m p.end.sent [] p.end.zero
+  pub goes_on : RunsToEnd m p.end.sent [] p.end.zero
   pub no_control : controls_of (behind_first (to_be_taken p.end.zero)) ≡ 0
 
 -- what a DATA INDICATION of SAPI 0 brings of a channel
 abbrev pub data_by : ℕ → Rsl → List (List ℕ)
-data_by channel (DataIndication d) = if d.channel == channel then messages_in (of_main (sapi_of d.link) d.l3) else []
+data_by channel (DataIndication d) =
+    if d.channel == channel then messages_in (of_main (sapi_of d.link) d.l3) else []
 data_by channel _ = []
 
 -- the messages on their way up from a channel that aren't initial ones
@@ -43,14 +47,18 @@ data_up w at = flat_map (data_by at.number) (messages_up w at.station)
 -- one initial message is on its way. Behind the initial message, which may be any, none of radio
 -- resource management is on its way up or to be taken of its link.
 pub data BeginsOnce (w : Actors) (p : Mobile) (at : Place) : Type 0 where
-  to_begin : p.opens ≡ true → messages_in (coming_up w at) ≡ [] → controls_of (behind_first (to_be_taken p.end.zero)) ≡ 0 → BeginsOnce w p at
-  began : p.opens ≡ false → length (initials_up w at) ≤ 1 → controls_of (data_up w at) + controls_of (to_be_taken p.end.zero) ≡ 0 → BeginsOnce w p at
+  to_begin : p.opens ≡ true → messages_in (coming_up w at) ≡ []
+      → controls_of (behind_first (to_be_taken p.end.zero)) ≡ 0 → BeginsOnce w p at
+  began : p.opens ≡ false → length (initials_up w at) ≤ 1 → controls_of (data_up w at)
+      + controls_of (to_be_taken p.end.zero) ≡ 0 → BeginsOnce w p at
 
 -- It asks for a channel, and the serving channel is quiet; or it is on the serving channel in its
 -- present tenure, lined up with the connection.
-pub data Comes (m : ℕ) (w : Actors) (s : Connection) (p : Mobile) : Type 0 where
-  asks : p.seat ≡ Asking → IsNew m p → messages_in (coming_up w (place_of s.serving)) ≡ [] → going_down w (place_of s.serving) ≡ [] → Comes m w s p
-  arrived : s.state ≡ WaitEstablish → p.seat ≡ On (tenure_at w (place_of s.serving)) None → LinedUp m w p s → BeginsOnce w p (place_of s.serving) → Comes m w s p
+pub data IsAccessing (m : ℕ) (w : Actors) (s : Connection) (p : Mobile) : Type 0 where
+  asks : p.seat ≡ Asking → IsNew m p → messages_in (coming_up w (place_of s.serving)) ≡ []
+      → going_down w (place_of s.serving) ≡ [] → IsAccessing m w s p
+  arrived : s.state ≡ WaitEstablish → p.seat ≡ On (tenure_at w (place_of s.serving)) None
+      → LinedUp m w p s → BeginsOnce w p (place_of s.serving) → IsAccessing m w s p
 
 -- ---- who is told its channel
 
@@ -62,7 +70,8 @@ Assigns mobile s station (Ok (ImmediateAssignment channel request advance)) =
 Assigns mobile s station _ = Unit {0}
 
 abbrev pub AssignsBy : ℕ → Connection → ℕ → Option Rsl → Type 0
-AssignsBy mobile s station (Some (ImmediateAssignCommand i)) = Assigns mobile s station (rr_reading i.information)
+AssignsBy mobile s station (Some (ImmediateAssignCommand i)) =
+    Assigns mobile s station (rr_reading i.information)
 AssignsBy mobile s station _ = Unit {0}
 
 abbrev pub AssignsIn : ℕ → Connection → ℕ → OutboxEntry → Type 0
@@ -70,7 +79,8 @@ AssignsIn mobile s station entry = AssignsBy mobile s station (rsl_in entry.out.
 
 -- in what waits for each station
 abbrev pub AreAssigned : Actors → ℕ → Connection → Type 0
-AreAssigned w mobile s = (station : ℕ) → AllByRecursion (AssignsIn mobile s station) (outbox_of w station)
+AreAssigned w mobile s =
+    (station : ℕ) → AllByRecursion (AssignsIn mobile s station) (outbox_of w station)
 
 -- ---- the connection
 
@@ -82,5 +92,5 @@ pub record IsComing (m : ℕ) (w : Actors) (mobile : ℕ) (s : Connection) : Typ
   pub asked : s.request.access ≡ mobile
   pub one : Mobile
   pub found : mobile_of w mobile ≡ Some one
-  pub comes : Comes m w s one
+  pub comes : IsAccessing m w s one
   pub assigned : AreAssigned w mobile s

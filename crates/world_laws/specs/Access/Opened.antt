@@ -1,7 +1,8 @@
 -- A mobile sends its initial message once.
 use Rattle.std.specs.Prelude.{◌≡◌, ℕ, List}
-use Rattle.world_laws.specs.Prelude.{Connection, Parameters, Event, actors_after, actors_after_all, modulus_in, new_actors}
-use Rattle.world_laws.specs.Lives.{HasOpened, Lives, TargetIsFresh}
+use Rattle.world_laws.specs.Prelude.{Connection, Parameters, Event, actors_after, modulus_in}
+use Rattle.world_laws.specs.Runs.{world}
+use Rattle.world_laws.specs.AccountedFor.{HasOpened, IsOpenAndLinedUp, TargetIsFresh}
 use Rattle.world_laws.specs.OthersFrame.{IsHad}
 use Rattle.world_laws.specs.Seated.{IsAlone}
 use Rattle.world_laws.specs.Staying.{AreLinedUp}
@@ -10,7 +11,11 @@ use Rattle.world_laws.specs.Staying.{AreLinedUp}
 -- channels after an event either, where nothing came of a target that is new.
 abbrev pub OpenedStayOpened : Parameters → List Event → Event → Type 0
 OpenedStayOpened settings events event =
-    (mobile : ℕ) (s next : Connection) → Lives (modulus_in settings) (actors_after_all (new_actors settings) events) mobile s → IsAlone (actors_after_all (new_actors settings) events) mobile s
-    → next.number ≡ s.number → IsHad (actors_after (actors_after_all (new_actors settings) events) event) next → TargetIsFresh (actors_after (actors_after_all (new_actors settings) events) event) next
-    → (lined : AreLinedUp (modulus_in settings) (actors_after (actors_after_all (new_actors settings) events) event) mobile next)
-    → HasOpened (actors_after (actors_after_all (new_actors settings) events) event) lined.one next
+    (mobile : ℕ) (s next : Connection)
+    → IsOpenAndLinedUp (modulus_in settings) (world settings events) mobile s
+    → IsAlone (world settings events) mobile s
+    → next.number ≡ s.number → IsHad (actors_after (world settings events) event) next
+    → TargetIsFresh (actors_after (world settings events) event) next
+    → (lined : AreLinedUp (modulus_in settings)
+    (actors_after (world settings events) event) mobile next)
+    → HasOpened (actors_after (world settings events) event) lined.one next

@@ -1,13 +1,17 @@
 -- What becomes of a connection that is coming when the controller takes a step.
-use Rattle.std.specs.Prelude.{◌≡◌, ◌≢◌, ℕ, true, false, List, [], ◌∷◌, ◌++◌, option_map, slice_index_or, Option, Some, Result, Ok}
+use Rattle.std.specs.Prelude.{◌≡◌, ◌≢◌, ℕ, true, false, List, [], ◌∷◌, ◌++◌, option_map}
+use Rattle.std.specs.Prelude.{slice_index_or, Option, Some, Result, Ok}
 use Rattle.std.specs.List.{AllByRecursion}
-use Rattle.world_laws.specs.Prelude.{Out, SWITCH_LINK, WaitConfirm, Connection, IsThere, connection_of, place_of, RrMessage, RrFault}
-use Rattle.world_laws.specs.Prelude.{rr_reading, Rsl, AreAllowed, Parameters, Event, Tenure, actors_after, actors_after_all, mobile_on}
-use Rattle.world_laws.specs.Prelude.{rsl_in, Actors, is_up, modulus_in, new_actors, tenure_at}
+use Rattle.world_laws.specs.Prelude.{Out, SWITCH_LINK, WaitConfirm, Connection, IsThere}
+use Rattle.world_laws.specs.Prelude.{connection_of, place_of, RrMessage, RrFault}
+use Rattle.world_laws.specs.Prelude.{rr_reading, Rsl, AreAllowed, Parameters, Event, Tenure}
+use Rattle.world_laws.specs.Prelude.{actors_after, mobile_on}
+use Rattle.world_laws.specs.Prelude.{rsl_in, Actors, is_up, modulus_in, tenure_at}
+use Rattle.world_laws.specs.Runs.{world}
 use Rattle.dtap_codec.specs.declared.rr.RrMessage.TheVariants.{ImmediateAssignment}
 use Rattle.rsl_codec.specs.declared.rsl.Rsl.TheVariants.{ImmediateAssignCommand}
-use Rattle.world_laws.specs.Lives.{AcksAgree, Lives}
-use Rattle.world_laws.specs.OthersFrame.{CameInOctets}
+use Rattle.world_laws.specs.AccountedFor.{AcksAgree, IsOpenAndLinedUp}
+use Rattle.world_laws.specs.OthersFrame.{TookOctets}
 use Rattle.world_laws.specs.Staying.{IsForOthers}
 use Rattle.world_laws.specs.Access.Arriving.{IsKnown, is_of_others}
 use Rattle.world_laws.specs.Access.Coming.{IsComing}
@@ -16,47 +20,62 @@ use Rattle.world_laws.specs.Access.Coming.{IsComing}
 
 -- It is still coming; or it asked the switch for its connection, lives, and its mobile is on its
 -- channel; or it is gone.
-pub data Came (Comes : Actors → ℕ → Connection → Type 0) (m : ℕ) (w : Actors) (mobile number : ℕ) : Type 0 where
-  comes : (next : Connection) → next.number ≡ number → Comes w mobile next → Came Comes m w mobile number
-  requests : (next : Connection) → next.number ≡ number → next.state ≡ WaitConfirm → Lives m w mobile next → option_map (λ p. p.number) (mobile_on w (tenure_at w (place_of next.serving))) ≡ Some mobile → Came Comes m w mobile number
-  goes : (IsThere (connection_of w.controller number) → ⊥) → Came Comes m w mobile number
+pub data HasAccess (Comes : Actors → ℕ → Connection → Type 0) (m : ℕ) (w : Actors)
+    (mobile number : ℕ) : Type 0 where
+  comes : (next : Connection) → next.number ≡ number → Comes w mobile next
+      → HasAccess Comes m w mobile number
+  requests : (next : Connection) → next.number ≡ number → next.state ≡ WaitConfirm
+      → IsOpenAndLinedUp m w mobile next → option_map (λ p. p.number)
+      (mobile_on w (tenure_at w (place_of next.serving))) ≡ Some mobile
+      → HasAccess Comes m w mobile number
+  goes : (IsThere (connection_of w.controller number) → ⊥) → HasAccess Comes m w mobile number
 
 -- ---- what the controller puts for others
 
 -- an IMMEDIATE ASSIGNMENT names another mobile
 abbrev pub NamesAnother : ℕ → Result RrMessage RrFault → Type 0
-NamesAnother mobile (Ok (ImmediateAssignment channel request advance)) = slice_index_or request 0 0 ≢ mobile
+NamesAnother mobile (Ok (ImmediateAssignment channel request advance)) =
+    slice_index_or request 0 0 ≢ mobile
 NamesAnother mobile _ = Unit {0}
 
 abbrev pub AssignsAnother : ℕ → Option Rsl → Type 0
-AssignsAnother mobile (Some (ImmediateAssignCommand i)) = NamesAnother mobile (rr_reading i.information)
+AssignsAnother mobile (Some (ImmediateAssignCommand i)) =
+    NamesAnother mobile (rr_reading i.information)
 AssignsAnother mobile _ = Unit {0}
 
 -- what isn't the connection's carries none of its messages and no command on its channel, and
 -- assigns none to its mobile
-pub record IsBeside (target : Option Tenure) (mobile : ℕ) (s : Connection) (out : Out) : Type 0 where
+pub record IsBeside (target : Option Tenure) (mobile : ℕ) (s : Connection)
+    (out : Out) : Type 0 where
   pub for_others : IsForOthers target s out
   pub assigns : AssignsAnother mobile (rsl_in out.frame)
 
 abbrev pub AreBeside : Option Tenure → ℕ → Connection → List Out → Type 0
-AreBeside target mobile s outs = AllByRecursion (λ out. out.conn ≢ s.number → IsBeside target mobile s out) outs
+AreBeside target mobile s outs =
+    AllByRecursion (λ out. out.conn ≢ s.number → IsBeside target mobile s out) outs
 
 -- what isn't its
 abbrev pub AreForOthers : Option Tenure → Connection → List Out → Type 0
-AreForOthers target s outs = AllByRecursion (λ out. out.conn ≢ s.number → IsForOthers target s out) outs
+AreForOthers target s outs =
+    AllByRecursion (λ out. out.conn ≢ s.number → IsForOthers target s out) outs
 
 -- connections of the same mobile are the same one
 abbrev pub AreOneEach : Actors → Type 0
 AreOneEach w =
-    (number other : ℕ) (s t : Connection) → connection_of w.controller number ≡ Some s → connection_of w.controller other ≡ Some t → s.request.access ≡ t.request.access → number ≡ other
+    (number other : ℕ) (s t : Connection) → connection_of w.controller number ≡ Some s
+    → connection_of w.controller other ≡ Some t → s.request.access ≡ t.request.access
+    → number ≡ other
 
 -- ---- when the controller handles an item, or time passes for it
 
 -- whatever happened before, while the link of the switch is up
 abbrev pub ControllerBringsComing : Parameters → List Event → Event → Type 0
 ControllerBringsComing settings events event =
-    (mobile : ℕ) (s : Connection) → is_of_others event ≡ false → AreAllowed settings → CameInOctets settings (events ++ event ∷ [])
-    → is_up (actors_after_all (new_actors settings) events) SWITCH_LINK ≡ true
-    → IsKnown (modulus_in settings) (actors_after_all (new_actors settings) events) mobile s → AcksAgree (actors_after_all (new_actors settings) events) s → AreOneEach (actors_after_all (new_actors settings) events)
-    → IsComing (modulus_in settings) (actors_after_all (new_actors settings) events) mobile s
-    → Came (IsComing (modulus_in settings)) (modulus_in settings) (actors_after (actors_after_all (new_actors settings) events) event) mobile s.number
+    (mobile : ℕ) (s : Connection) → is_of_others event ≡ false → AreAllowed settings
+    → TookOctets settings (events ++ event ∷ [])
+    → is_up (world settings events) SWITCH_LINK ≡ true
+    → IsKnown (modulus_in settings) (world settings events) mobile s
+    → AcksAgree (world settings events) s → AreOneEach (world settings events)
+    → IsComing (modulus_in settings) (world settings events) mobile s
+    → HasAccess (IsComing (modulus_in settings)) (modulus_in settings)
+    (actors_after (world settings events) event) mobile s.number

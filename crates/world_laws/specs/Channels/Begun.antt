@@ -1,11 +1,13 @@
 -- Where the mobile of a connection may be, its channel is active.
 use Rattle.std.specs.Prelude.{◌≡◌, ℕ, true, List, [], ◌∷◌}
 use Rattle.std.specs.List.{AllByRecursion}
-use Rattle.world_laws.specs.Prelude.{Channel, State, WaitActivation, WaitEstablish, Closed, Removed, Connection, place_of, AreAllowed}
-use Rattle.world_laws.specs.Prelude.{Parameters, Event, actors_after_all, Actors, is_station_up, new_actors}
+use Rattle.world_laws.specs.Prelude.{Channel, State, WaitActivation, WaitEstablish, Closed, Removed}
+use Rattle.world_laws.specs.Prelude.{Connection, place_of, AreAllowed}
+use Rattle.world_laws.specs.Prelude.{Parameters, Event, Actors, is_station_up}
+use Rattle.world_laws.specs.Runs.{world}
 use Rattle.world_model.specs.OwnerLines.{to_come}
 use Rattle.world_laws.specs.LineUps.{commanded_target}
-use Rattle.world_laws.specs.OthersFrame.{CameInOctets, IsHad}
+use Rattle.world_laws.specs.OthersFrame.{TookOctets, IsHad}
 use Rattle.world_laws.specs.OwnFrame.{IsRequested}
 use Rattle.world_laws.specs.Seated.{AreActiveAt, commanded_channels}
 
@@ -23,17 +25,21 @@ HasBegun w s = AllByRecursion (λ c. to_come w (place_of c) ≡ []) (begun_in s.
 
 abbrev pub BegunIsTaken : Parameters → List Event → Type 0
 BegunIsTaken settings events =
-    (s : Connection) → AreAllowed settings → CameInOctets settings events → IsHad (actors_after_all (new_actors settings) events) s → HasBegun (actors_after_all (new_actors settings) events) s
+    (s : Connection) → AreAllowed settings → TookOctets settings events
+    → IsHad (world settings events) s → HasBegun (world settings events) s
 
 -- So these channels are active at a station that is up: of a connection that asked the switch for
 -- its connection, the serving one, and the target to which its mobile was commanded.
 abbrev pub ServedAreActive : Parameters → List Event → Type 0
 ServedAreActive settings events =
-    (station : ℕ) (s : Connection) → AreAllowed settings → CameInOctets settings events → IsHad (actors_after_all (new_actors settings) events) s → IsRequested s.state
-    → is_station_up (actors_after_all (new_actors settings) events) station ≡ true → AreActiveAt station (actors_after_all (new_actors settings) events) s
+    (station : ℕ) (s : Connection) → AreAllowed settings → TookOctets settings events
+    → IsHad (world settings events) s → IsRequested s.state
+    → is_station_up (world settings events) station ≡ true
+    → AreActiveAt station (world settings events) s
 
 -- And of a connection whose channel is established, which hasn't asked yet, the serving one.
 abbrev pub EstablishedAreActive : Parameters → List Event → Type 0
 EstablishedAreActive settings events =
-    (station : ℕ) (s : Connection) → AreAllowed settings → CameInOctets settings events → IsHad (actors_after_all (new_actors settings) events) s → s.state ≡ WaitEstablish
-    → is_station_up (actors_after_all (new_actors settings) events) station ≡ true → AreActiveAt station (actors_after_all (new_actors settings) events) s
+    (station : ℕ) (s : Connection) → AreAllowed settings → TookOctets settings events → IsHad (world settings events) s → s.state ≡ WaitEstablish
+    → is_station_up (world settings events) station ≡ true
+    → AreActiveAt station (world settings events) s

@@ -2,20 +2,23 @@
 -- happened.
 use Rattle.std.specs.Prelude.{◌≡◌, ◌≤◌, true, false, List, [], ◌∷◌, length}
 use Rattle.std.specs.List.{AllByRecursion}
-use Rattle.world_laws.specs.Prelude.{Place, Connection, target_in, Free, channel_state, hears, place_of, AreAllowed, Parameters, Event}
-use Rattle.world_laws.specs.Prelude.{actors_after_all, Actors, new_actors}
+use Rattle.world_laws.specs.Prelude.{Place, Connection, target_in, Free, channel_state, hears}
+use Rattle.world_laws.specs.Prelude.{place_of, AreAllowed, Parameters, Event}
+use Rattle.world_laws.specs.Prelude.{Actors}
+use Rattle.world_laws.specs.Runs.{world}
 use Rattle.world_laws.specs.Acknowledged.{acknowledgements_up}
 use Rattle.world_laws.specs.ComingUp.{coming_up}
 use Rattle.world_laws.specs.LineUps.{is_ended}
-use Rattle.world_laws.specs.Lives.{AcksAgree}
-use Rattle.world_laws.specs.OthersFrame.{CameInOctets, IsHad}
+use Rattle.world_laws.specs.AccountedFor.{AcksAgree}
+use Rattle.world_laws.specs.OthersFrame.{TookOctets, IsHad}
 use Rattle.world_laws.specs.Staying.{EndLast}
 
 -- The acknowledgements on their way agree with the roles of the channels. So it is with settings
 -- that are allowed, where what came was octets.
 abbrev pub AcknowledgementsAgree : Parameters → List Event → Type 0
 AcknowledgementsAgree settings events =
-    (s : Connection) → AreAllowed settings → CameInOctets settings events → IsHad (actors_after_all (new_actors settings) events) s → AcksAgree (actors_after_all (new_actors settings) events) s
+    (s : Connection) → AreAllowed settings → TookOctets settings events
+    → IsHad (world settings events) s → AcksAgree (world settings events) s
 
 -- nothing is on its way up of a channel: no acknowledgement, and nothing that it brings
 pub record IsSilent (w : Actors) (at : Place) : Type 0 where
@@ -26,9 +29,11 @@ pub record IsSilent (w : Actors) (at : Place) : Type 0 where
 -- station broke
 abbrev pub FreeAreSilent : Parameters → List Event → Type 0
 FreeAreSilent settings events =
-    (at : Place) → AreAllowed settings → CameInOctets settings events → 1 ≤ at.station → at.station ≤ length settings.cells
-    → hears (actors_after_all (new_actors settings) events).controller at.station ≡ true → channel_state (actors_after_all (new_actors settings) events).controller at ≡ Free
-    → IsSilent (actors_after_all (new_actors settings) events) at
+    (at : Place) → AreAllowed settings → TookOctets settings events → 1 ≤ at.station
+    → at.station ≤ length settings.cells
+    → hears (world settings events).controller at.station ≡ true
+    → channel_state (world settings events).controller at ≡ Free
+    → IsSilent (world settings events) at
 
 -- ---- what comes of them
 
@@ -40,4 +45,5 @@ pub record ChannelsEnd (w : Actors) (s : Connection) : Type 0 where
 
 abbrev pub OldChannelsEnd : Parameters → List Event → Type 0
 OldChannelsEnd settings events =
-    (s : Connection) → AreAllowed settings → CameInOctets settings events → IsHad (actors_after_all (new_actors settings) events) s → ChannelsEnd (actors_after_all (new_actors settings) events) s
+    (s : Connection) → AreAllowed settings → TookOctets settings events
+    → IsHad (world settings events) s → ChannelsEnd (world settings events) s

@@ -4,7 +4,7 @@
 use Rattle.std.specs.Prelude.{true, false, List, ◌∷◌, ◌++◌}
 use Rattle.world_laws.specs.LineUp.Places.{Item, Tenure, LineUp, with_items}
 use Rattle.world_laws.specs.LineUp.Places.Seat.{on_target}
-use Rattle.world_laws.specs.LineUp.Alive.{Stays}
+use Rattle.world_laws.specs.LineUp.Alive.{IsHereOrGone}
 
 -- of this channel no more will come
 abbrev pub lost : Tenure → List Item → Tenure
@@ -12,8 +12,25 @@ lost t items = record t { items = items; is_lost = true }
 
 pub data BreakStep : LineUp → LineUp → Type 0 where
   breaks_serving : (l : LineUp) (t : Tenure) (items dropped : List Item) →
-      BreakStep (record l { serving = with_items t (items ++ dropped) }) (record l { serving = lost t items; is_intact = false })
-  breaks_target : (l : LineUp) (t : Tenure) (items dropped : List Item) → Stays on_target l.seat →
-      BreakStep (record l { target = with_items t (items ++ dropped) }) (record l { target = lost t items; is_intact = false })
-  breaks_old : (l : LineUp) (before : List Tenure) (t : Tenure) (after : List Tenure) (items dropped : List Item) →
-      BreakStep (record l { old = before ++ with_items t (items ++ dropped) ∷ after }) (record l { old = before ++ lost t items ∷ after; is_intact = false })
+      BreakStep (record l {
+        serving =
+            with_items t (items ++ dropped);
+      }) (record l {
+        serving = lost t items;
+        is_intact = false;
+      })
+  breaks_target : (l : LineUp) (t : Tenure) (items dropped : List Item) → IsHereOrGone on_target l.seat →
+      BreakStep (record l {
+        target =
+            with_items t (items ++ dropped);
+      }) (record l { target = lost t items; is_intact = false })
+  breaks_old : (l : LineUp) (before : List Tenure) (t : Tenure) (after : List Tenure)
+      (items dropped : List Item) →
+      BreakStep (record l {
+        old =
+            before ++ with_items t (items ++ dropped) ∷ after;
+      }) (record l {
+        old = before
+            ++ lost t items ∷ after;
+        is_intact = false;
+      })

@@ -27,7 +27,12 @@ pub data ChangeStep : LineUp → LineUp → Type 0 where
       ChangeStep (record l { is_opening = false; is_changing = false }) (record l { is_opening = false; is_changing = true; commands = 1 })
   -- COMPLETE of the target: it serves, and the channel that served is the youngest of the old ones
   completes : (l : LineUp) (t : Tenure) (x : List ℕ) (items : List Item) → is_control x ≡ true →
-      ChangeStep (record l { is_changing = true; is_confirmed = true; target = with_items t (brought x ∷ items) })
+      ChangeStep (record l {
+        is_changing =
+            true;
+        is_confirmed = true;
+        target = with_items t (brought x ∷ items);
+      })
       (record l {
         is_changing = false;
         is_confirmed = true;
@@ -41,11 +46,24 @@ pub data ChangeStep : LineUp → LineUp → Type 0 where
       ChangeStep (record l { is_changing = true; serving = with_items t (brought x ∷ items) })
       (record l { is_changing = false; serving = with_items t items; target = fresh })
   -- the station of an old channel releases it: its RF CHANNEL RELEASE ACK comes last
-  is_released : (l : LineUp) (before : List Tenure) (t : Tenure) (after : List Tenure) → t.is_lost ≡ false →
-      ChangeStep (record l { old = before ++ t ∷ after }) (record l { old = before ++ with_items t (t.items ++ released ∷ []) ∷ after })
+  is_released : (l : LineUp) (before : List Tenure) (t : Tenure) (after : List Tenure)
+      → t.is_lost ≡ false →
+      ChangeStep (record l {
+        old =
+            before ++ t ∷ after;
+      }) (record l {
+        old = before
+            ++ with_items t (t.items ++ released ∷ []) ∷ after;
+      })
   -- that RF CHANNEL RELEASE ACK is taken
   releases : (l : LineUp) (before : List Tenure) (t : Tenure) (after : List Tenure) →
-      ChangeStep (record l { old = before ++ with_items t (released ∷ []) ∷ after }) (record l { old = before ++ done t ∷ after })
+      ChangeStep (record l {
+        old =
+            before ++ with_items t (released ∷ []) ∷ after;
+      }) (record l {
+        old = before
+            ++ done t ∷ after;
+      })
   -- the oldest one is released and leaves: what was held of the next is relayed
   leaves_to_old : (l : LineUp) (hold : List (List ℕ)) (next : Tenure) (others : List Tenure) →
       ChangeStep (record l { is_confirmed = true; old = ended hold ∷ next ∷ others })
@@ -53,4 +71,10 @@ pub data ChangeStep : LineUp → LineUp → Type 0 where
   -- or of the serving channel, where it was the last one
   leaves_to_serving : (l : LineUp) (hold : List (List ℕ)) →
       ChangeStep (record l { is_confirmed = true; old = ended hold ∷ [] })
-      (record l { is_confirmed = true; old = []; serving = emptied l.serving; out = l.out ++ l.serving.hold })
+      (record l {
+        is_confirmed =
+            true;
+        old = [];
+        serving = emptied l.serving;
+        out = l.out ++ l.serving.hold;
+      })

@@ -3,7 +3,8 @@ use Rattle.std.specs.Prelude.{◌≡◌, ℕ, ◌%◌, true, false, Some, List, 
 use Rattle.world_laws.specs.Prelude.{is_flow_message, is_control}
 use Rattle.dtap_codec.specs.Number.{with_number}
 use Rattle.dtap_codec.specs.Places.{IsClear}
-use Rattle.mobile_end.specs.DataLink.{waits, lent_message, after_lending, after_acknowledgement, after_resume}
+use Rattle.mobile_end.specs.DataLink.{waits, lent_message, after_lending, after_acknowledgement}
+use Rattle.mobile_end.specs.DataLink.{after_resume}
 use Rattle.world_laws.specs.LineUp.Places.{LineUp, with_items}
 use Rattle.world_laws.specs.LineUp.Places.Item.{brought}
 use Rattle.world_laws.specs.LineUp.Places.Seat.{on_serving, on_target, moving, gone}
@@ -11,30 +12,57 @@ use Rattle.world_laws.specs.LineUp.Places.Seat.{on_serving, on_target, moving, g
 pub data MobileStep (m : ℕ) : LineUp → LineUp → Type 0 where
   -- its upper layers send a message of the flow, which waits with the number of its place
   sends_numbered : (l : LineUp) (x : List ℕ) → IsClear x →
-      MobileStep m l (record l { sent = l.sent ++ x ∷ []; link = waits l.link (with_number (length l.sent % m) x) })
+      MobileStep m l (record l {
+        sent =
+            l.sent ++ x ∷ [];
+        link = waits l.link (with_number (length l.sent % m) x);
+      })
   -- or a message of another protocol
   sends_other : (l : LineUp) (x : List ℕ) → is_flow_message x ≡ false → is_control x ≡ false →
       MobileStep m l (record l { link = waits l.link x })
   -- the station of the serving channel takes a message from the air, and makes an item of it
-  taken_on_serving : (l : LineUp) (x : List ℕ) → lent_message l.link ≡ Some x → l.serving.is_lost ≡ false →
+  taken_on_serving : (l : LineUp) (x : List ℕ) → lent_message l.link ≡ Some x
+      → l.serving.is_lost ≡ false →
       MobileStep m (record l { seat = on_serving })
-      (record l { seat = on_serving; link = after_lending l.link; serving = with_items l.serving (l.serving.items ++ brought x ∷ []) })
+      (record l {
+        seat =
+            on_serving;
+        link = after_lending l.link;
+        serving = with_items l.serving (l.serving.items
+            ++ brought x ∷ []);
+      })
   -- or that of the target
-  taken_on_target : (l : LineUp) (x : List ℕ) → lent_message l.link ≡ Some x → l.target.is_lost ≡ false →
+  taken_on_target : (l : LineUp) (x : List ℕ) → lent_message l.link ≡ Some x
+      → l.target.is_lost ≡ false →
       MobileStep m (record l { seat = on_target })
-      (record l { seat = on_target; link = after_lending l.link; target = with_items l.target (l.target.items ++ brought x ∷ []) })
+      (record l {
+        seat =
+            on_target;
+        link = after_lending l.link;
+        target = with_items l.target (l.target.items
+            ++ brought x ∷ []);
+      })
   -- the station acknowledges what it took
   acknowledged : (l : LineUp) → MobileStep m l (record l { link = after_acknowledgement l.link })
   -- the mobile follows the COMMAND and leaves the serving channel
-  follows_command : (l : LineUp) → MobileStep m (record l { seat = on_serving; commands = 1 }) (record l { seat = moving; commands = 0 })
+  follows_command : (l : LineUp) → MobileStep m (record l { seat = on_serving; commands = 1 })
+      (record l { seat = moving; commands = 0 })
   -- no COMMAND reaches it any more
   loses_command : (l : LineUp) → MobileStep m l (record l { commands = 0 })
   -- it arrives on the target: COMPLETE comes first, then what wasn't acknowledged
   arrives : (l : LineUp) (complete : List ℕ) → is_control complete ≡ true →
-      MobileStep m (record l { seat = moving }) (record l { seat = on_target; link = after_resume l.link complete })
+      MobileStep m (record l {
+        seat =
+            moving;
+      }) (record l { seat = on_target; link = after_resume l.link complete })
   -- or it returns to the serving channel: FAILURE comes first
   returns : (l : LineUp) (failure : List ℕ) → is_control failure ≡ true →
-      MobileStep m (record l { seat = moving }) (record l { seat = on_serving; link = after_resume l.link failure })
+      MobileStep m (record l {
+        seat =
+            moving;
+      }) (record l { seat = on_serving; link = after_resume l.link failure })
   -- CHANNEL RELEASE reaches it on the serving channel, or on the target
-  dismissed_from_serving : (l : LineUp) → MobileStep m (record l { seat = on_serving }) (record l { seat = gone; is_intact = false })
-  dismissed_from_target : (l : LineUp) → MobileStep m (record l { seat = on_target }) (record l { seat = gone; is_intact = false })
+  dismissed_from_serving : (l : LineUp)
+      → MobileStep m (record l { seat = on_serving }) (record l { seat = gone; is_intact = false })
+  dismissed_from_target : (l : LineUp)
+      → MobileStep m (record l { seat = on_target }) (record l { seat = gone; is_intact = false })

@@ -8,33 +8,84 @@ use Rattle.world_laws.specs.LineUp.Places.Item.{brought}
 pub data RelayStep : LineUp → LineUp → Type 0 where
   -- where no old channel drains, a message of the serving channel is relayed
   relays_serving : (l : LineUp) (t : Tenure) (x : List ℕ) (items : List Item) →
-      RelayStep (record l { is_confirmed = true; old = []; serving = with_items t (brought x ∷ items) })
-      (record l { is_confirmed = true; old = []; serving = with_items t items; out = l.out ++ x ∷ [] })
+      RelayStep (record l {
+        is_confirmed =
+            true;
+        old = [];
+        serving = with_items t (brought x ∷ items);
+      })
+      (record l {
+        is_confirmed =
+            true;
+        old = [];
+        serving = with_items t items;
+        out = l.out ++ x ∷ [];
+      })
   -- before CC it is held
   holds_before_confirm : (l : LineUp) (t : Tenure) (x : List ℕ) (items : List Item) →
-      RelayStep (record l { is_confirmed = false; old = []; serving = with_items t (brought x ∷ items) })
+      RelayStep (record l {
+        is_confirmed =
+            false;
+        old = [];
+        serving = with_items t (brought x ∷ items);
+      })
       (record l { is_confirmed = false; old = []; serving = holding t x items })
   -- and while an old channel drains
-  holds_serving : (l : LineUp) (oldest : Tenure) (others : List Tenure) (t : Tenure) (x : List ℕ) (items : List Item) →
+  holds_serving : (l : LineUp) (oldest : Tenure) (others : List Tenure) (t : Tenure) (x : List ℕ)
+      (items : List Item) →
       RelayStep (record l { old = oldest ∷ others; serving = with_items t (brought x ∷ items) })
       (record l { old = oldest ∷ others; serving = holding t x items })
   -- a message of the oldest channel is relayed
-  relays_oldest : (l : LineUp) (t : Tenure) (others : List Tenure) (x : List ℕ) (items : List Item) →
-      RelayStep (record l { old = with_items t (brought x ∷ items) ∷ others }) (record l { old = with_items t items ∷ others; out = l.out ++ x ∷ [] })
+  relays_oldest : (l : LineUp) (t : Tenure) (others : List Tenure) (x : List ℕ)
+      (items : List Item) →
+      RelayStep (record l {
+        old =
+            with_items t (brought x ∷ items) ∷ others;
+      }) (record l {
+        old = with_items t items
+            ∷ others;
+        out = l.out ++ x ∷ [];
+      })
   -- one of an old channel behind it is held
-  holds_old : (l : LineUp) (oldest : Tenure) (before : List Tenure) (t : Tenure) (after : List Tenure) (x : List ℕ) (items : List Item) →
+  holds_old : (l : LineUp) (oldest : Tenure) (before : List Tenure) (t : Tenure)
+      (after : List Tenure) (x : List ℕ) (items : List Item) →
       RelayStep (record l { old = oldest ∷ (before ++ with_items t (brought x ∷ items) ∷ after) })
       (record l { old = oldest ∷ (before ++ holding t x items ∷ after) })
   -- a message that isn't of the flow may be dropped
-  ignores_serving : (l : LineUp) (t : Tenure) (x : List ℕ) (items : List Item) → is_flow_message x ≡ false →
-      RelayStep (record l { serving = with_items t (brought x ∷ items) }) (record l { serving = with_items t items })
-  ignores_old : (l : LineUp) (before : List Tenure) (t : Tenure) (after : List Tenure) (x : List ℕ) (items : List Item) → is_flow_message x ≡ false →
-      RelayStep (record l { old = before ++ with_items t (brought x ∷ items) ∷ after }) (record l { old = before ++ with_items t items ∷ after })
-  ignores_target : (l : LineUp) (t : Tenure) (x : List ℕ) (items : List Item) → is_flow_message x ≡ false →
-      RelayStep (record l { target = with_items t (brought x ∷ items) }) (record l { target = with_items t items })
+  ignores_serving : (l : LineUp) (t : Tenure) (x : List ℕ) (items : List Item)
+      → is_flow_message x ≡ false →
+      RelayStep (record l {
+        serving =
+            with_items t (brought x ∷ items);
+      }) (record l { serving = with_items t items })
+  ignores_old : (l : LineUp) (before : List Tenure) (t : Tenure) (after : List Tenure) (x : List ℕ)
+      (items : List Item) → is_flow_message x ≡ false →
+      RelayStep (record l {
+        old =
+            before ++ with_items t (brought x ∷ items) ∷ after;
+      }) (record l {
+        old = before
+            ++ with_items t items ∷ after;
+      })
+  ignores_target : (l : LineUp) (t : Tenure) (x : List ℕ) (items : List Item)
+      → is_flow_message x ≡ false →
+      RelayStep (record l {
+        target =
+            with_items t (brought x ∷ items);
+      }) (record l { target = with_items t items })
   -- CC: what was held is relayed
   confirms : (l : LineUp) (t : Tenure) →
-      RelayStep (record l { is_confirmed = false; old = []; serving = t }) (record l { is_confirmed = true; old = []; serving = emptied t; out = l.out ++ t.hold })
+      RelayStep (record l {
+        is_confirmed =
+            false;
+        old = [];
+        serving = t;
+      }) (record l {
+        is_confirmed = true;
+        old = [];
+        serving = emptied t;
+        out = l.out ++ t.hold;
+      })
   -- the switch takes the first message of its outbox
   switch_takes : (l : LineUp) (x : List ℕ) (out : List (List ℕ)) →
       RelayStep (record l { out = x ∷ out }) (record l { out = out; taken = l.taken ++ x ∷ [] })

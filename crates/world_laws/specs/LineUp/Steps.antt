@@ -14,4 +14,5 @@ pub data Step (m : ℕ) : LineUp → LineUp → Type 0 where
 
 pub data Steps (m : ℕ) : LineUp → LineUp → Type 0 where
   none : (l : LineUp) → Steps m l l
-  first : {before next after : LineUp} → Step m before next → Steps m next after → Steps m before after
+  first : {before next after : LineUp} → Step m before next → Steps m next after
+      → Steps m before after

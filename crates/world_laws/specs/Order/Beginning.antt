@@ -1,8 +1,9 @@
 -- A connection begins coming.
 use Rattle.std.specs.Prelude.{◌≡◌, ℕ, ◌≤◌, List, [], ◌∷◌, ◌++◌, Some}
-use Rattle.world_laws.specs.Prelude.{WaitActivation, Connection, place_of, AreAllowed, Parameters, Event, actors_after, actors_after_all}
-use Rattle.world_laws.specs.Prelude.{Actors, Mobile, mobile_of, modulus_in, new_actors}
-use Rattle.world_laws.specs.OthersFrame.{CameInOctets, IsHad}
+use Rattle.world_laws.specs.Prelude.{WaitActivation, Connection, place_of, AreAllowed, Parameters, Event, actors_after}
+use Rattle.world_laws.specs.Prelude.{Actors, Mobile, mobile_of, modulus_in}
+use Rattle.world_laws.specs.Runs.{world}
+use Rattle.world_laws.specs.OthersFrame.{TookOctets, IsHad}
 use Rattle.world_laws.specs.Access.Coming.{IsComing}
 use Rattle.world_laws.specs.Order.Unanswered.{IsAsItConnected, NoneNames}
 use Rattle.world_laws.specs.Targets.Quiet.{IsQuiet}
@@ -28,13 +29,17 @@ pub data HasBegun (IsSo : Actors → Connection → Type 0) (w : Actors) (number
 -- whatever happened before, one that was still to begin begins so at an event, or is still to begin
 abbrev pub ConnectionsBegin : Parameters → List Event → Event → Type 0
 ConnectionsBegin settings events event =
-    (number : ℕ) → AreAllowed settings → CameInOctets settings (events ++ event ∷ []) → 1 ≤ number → (actors_after_all (new_actors settings) events).controller.next_number ≤ number
-    → HasBegun (Begins (modulus_in settings) events) (actors_after (actors_after_all (new_actors settings) events) event) number
+    (number : ℕ) → AreAllowed settings → TookOctets settings (events ++ event ∷ []) → 1 ≤ number
+    → (world settings events).controller.next_number ≤ number
+    → HasBegun (Begins (modulus_in settings) events)
+    (actors_after (world settings events) event) number
 
 -- ---- it is coming
 
 -- so it is coming to its mobile, whatever message the mobile begins with
 abbrev pub ConnectionsBeginComing : Parameters → List Event → Event → Type 0
 ConnectionsBeginComing settings events event =
-    (number : ℕ) → AreAllowed settings → CameInOctets settings (events ++ event ∷ []) → 1 ≤ number → (actors_after_all (new_actors settings) events).controller.next_number ≤ number
-    → HasBegun (λ w s. IsComing (modulus_in settings) w s.request.access s) (actors_after (actors_after_all (new_actors settings) events) event) number
+    (number : ℕ) → AreAllowed settings → TookOctets settings (events ++ event ∷ []) → 1 ≤ number
+    → (world settings events).controller.next_number ≤ number
+    → HasBegun (λ w s. IsComing (modulus_in settings) w s.request.access s)
+    (actors_after (world settings events) event) number

@@ -1,19 +1,21 @@
 -- What the order of a run rests on, event by event: what holds of each world of the run, and of
 -- each event.
 use Rattle.std.specs.Prelude.{◌≡◌, ◌⊎◌, ℕ, ◌≤◌, ◌<◌, true, false, Option, Some, None}
-use Rattle.world_laws.specs.Prelude.{SWITCH_LINK, WaitConfirm, Connection, IsThere, connection_of, Event, BaseTakes}
-use Rattle.world_laws.specs.Prelude.{SwitchTakes, actors_after, Actors, Mobile, is_station_up, is_up, mobile_of, outbox_of}
+use Rattle.world_laws.specs.Prelude.{SWITCH_LINK, WaitConfirm, Connection, IsThere, connection_of}
+use Rattle.world_laws.specs.Prelude.{Event, BaseTakes}
+use Rattle.world_laws.specs.Prelude.{SwitchTakes, actors_after, Actors, Mobile, is_station_up}
+use Rattle.world_laws.specs.Prelude.{is_up, mobile_of, outbox_of}
 use Rattle.world_laws.specs.Ended.{PutsNoMore}
-use Rattle.world_laws.specs.Lives.{AcksAgree, HasOpened, IsUnheard, Lives, TargetIsFresh}
+use Rattle.world_laws.specs.AccountedFor.{AcksAgree, HasOpened, IsUnknownForGood, IsOpenAndLinedUp, TargetIsFresh}
 use Rattle.world_laws.specs.OthersFrame.{IsHad}
 use Rattle.world_laws.specs.OwnFrame.{IsRequested}
 use Rattle.world_laws.specs.Seated.{AreActiveAt, IsAlone}
 use Rattle.world_laws.specs.Staying.{AreLinedUp, DeliversFirst, EndLast}
-use Rattle.world_laws.specs.References.Taken.{ArePeers, IsUnheardOf}
+use Rattle.world_laws.specs.References.Taken.{ArePeers, IsUnknownToSwitch}
 use Rattle.world_laws.specs.Order.Openers.{has_asked}
-use Rattle.world_laws.specs.Handling.Faring.{FaresOn, is_of_controller}
+use Rattle.world_laws.specs.Handling.OpenOrEnded.{IsOpenOrEnded, is_of_controller}
 use Rattle.world_laws.specs.Order.Beginning.{HasBegun}
-use Rattle.world_laws.specs.Access.Requested.{Came}
+use Rattle.world_laws.specs.Access.Requested.{HasAccess}
 use Rattle.world_laws.specs.Order.Standing.{IsComingTo, IsFresh}
 
 -- ---- words
@@ -36,16 +38,23 @@ pub record Holds (m : ℕ) (w : Actors) : Type 0 where
   pub alone : (s : Connection) → IsHad w s → IsAlone w s.request.access s
   pub agree : (s : Connection) → IsHad w s → AcksAgree w s
   pub end_last : (s : Connection) → IsHad w s → EndLast w s
-  pub active : (s : Connection) (station : ℕ) → IsHad w s → IsRequested s.state → is_station_up w station ≡ true → AreActiveAt station w s
-  pub stations : (station mobile : ℕ) (s : Connection) → AreActiveAt station w s → AreLinedUp m w mobile s → AreLinedUp m (actors_after w (BaseTakes station)) mobile s
+  pub active : (s : Connection) (station : ℕ) → IsHad w s → IsRequested s.state
+      → is_station_up w station ≡ true → AreActiveAt station w s
+  pub stations : (station mobile : ℕ) (s : Connection) → AreActiveAt station w s
+      → AreLinedUp m w mobile s → AreLinedUp m (actors_after w (BaseTakes station)) mobile s
   -- of the switch: what it has of numbers that haven't asked it, what it takes, and whose its
   -- connections are
-  pub not_given : (number : ℕ) → 1 ≤ number → w.controller.next_number ≤ number → IsUnheardOf w number
-  pub not_asked : (number : ℕ) → 1 ≤ number → IsAsking (connection_of w.controller number) → IsUnheardOf w number
-  pub delivers : (number : ℕ) → 1 ≤ number → is_up w SWITCH_LINK ≡ true → DeliversFirst w number (outbox_of w SWITCH_LINK) ⊎ IsUnheard (actors_after w SwitchTakes) number
+  pub not_given : (number : ℕ) → 1 ≤ number → w.controller.next_number ≤ number
+      → IsUnknownToSwitch w number
+  pub not_asked : (number : ℕ) → 1 ≤ number → IsAsking (connection_of w.controller number)
+      → IsUnknownToSwitch w number
+  pub delivers : (number : ℕ) → 1 ≤ number → is_up w SWITCH_LINK ≡ true
+      → DeliversFirst w number (outbox_of w SWITCH_LINK)
+      ⊎ IsUnknownForGood (actors_after w SwitchTakes) number
   pub peers : ArePeers w
   -- a connection that is coming is had, and hasn't asked
-  pub is_coming : (mobile : ℕ) (s : Connection) → IsComingTo m w mobile s → IsHad w s × (has_asked s.state ≡ false)
+  pub is_coming : (mobile : ℕ) (s : Connection) → IsComingTo m w mobile s
+      → IsHad w s × (has_asked s.state ≡ false)
   -- the target of one that just asked is fresh, and so it is silent before the COMMAND
   pub fresh_first : (p : Mobile) (s : Connection) → s.state ≡ WaitConfirm → IsFresh w p s
   pub fresh_tells : (p : Mobile) (s : Connection) → IsFresh w p s → TargetIsFresh w s
@@ -53,13 +62,26 @@ pub record Holds (m : ℕ) (w : Actors) : Type 0 where
 -- ---- of each event
 
 pub record HoldsAt (m : ℕ) (w : Actors) (event : Event) : Type 0 where
-  pub stays_unheard : (number : ℕ) → 1 ≤ number → IsUnheard w number → IsUnheard (actors_after w event) number
-  pub stays_over : (number : ℕ) → 1 ≤ number → number < w.controller.next_number → (IsThere (connection_of w.controller number) → ⊥) → IsOver w event number
-  pub goes_unheard : (number : ℕ) → 1 ≤ number → IsAsking (connection_of w.controller number) → (IsThere (connection_of (actors_after w event).controller number) → ⊥) → IsUnheard (actors_after w event) number
-  pub fresh : (mobile : ℕ) (s next : Connection) (q : Mobile) → (l : Lives m w mobile s) → IsAlone w mobile s → AcksAgree w s → IsFresh w l.lined.one s → next.number ≡ s.number → IsHad (actors_after w event) next
+  pub stays_unheard : (number : ℕ) → 1 ≤ number → IsUnknownForGood w number
+      → IsUnknownForGood (actors_after w event) number
+  pub stays_over : (number : ℕ) → 1 ≤ number → number < w.controller.next_number
+      → (IsThere (connection_of w.controller number) → ⊥) → IsOver w event number
+  pub goes_unheard : (number : ℕ) → 1 ≤ number → IsAsking (connection_of w.controller number)
+      → (IsThere (connection_of (actors_after w event).controller number) → ⊥)
+      → IsUnknownForGood (actors_after w event) number
+  pub fresh : (mobile : ℕ) (s next : Connection) (q : Mobile) → (l : IsOpenAndLinedUp m w mobile s)
+      → IsAlone w mobile s → AcksAgree w s → IsFresh w l.lined.one s → next.number ≡ s.number
+      → IsHad (actors_after w event) next
       → mobile_of (actors_after w event) mobile ≡ Some q → IsFresh (actors_after w event) q next
-  pub opened : (mobile : ℕ) (s next : Connection) → Lives m w mobile s → IsAlone w mobile s → AcksAgree w s → next.number ≡ s.number → IsHad (actors_after w event) next → TargetIsFresh (actors_after w event) next
-      → (lined : AreLinedUp m (actors_after w event) mobile next) → HasOpened (actors_after w event) lined.one next
-  pub handled : (mobile : ℕ) (s : Connection) → is_of_controller event ≡ true → Lives m w mobile s → AcksAgree w s → is_up w SWITCH_LINK ≡ true → FaresOn m (actors_after w event) mobile s
-  pub begun : (number : ℕ) → 1 ≤ number → is_up w SWITCH_LINK ≡ true → w.controller.next_number ≤ number → HasBegun (λ v s. IsComingTo m v s.request.access s) (actors_after w event) number
-  pub came : (mobile : ℕ) (s : Connection) → is_up w SWITCH_LINK ≡ true → IsComingTo m w mobile s → Came (IsComingTo m) m (actors_after w event) mobile s.number
+  pub opened : (mobile : ℕ) (s next : Connection) → IsOpenAndLinedUp m w mobile s → IsAlone w mobile s
+      → AcksAgree w s → next.number ≡ s.number → IsHad (actors_after w event) next
+      → TargetIsFresh (actors_after w event) next
+      → (lined : AreLinedUp m (actors_after w event) mobile next)
+      → HasOpened (actors_after w event) lined.one next
+  pub handled : (mobile : ℕ) (s : Connection) → is_of_controller event ≡ true → IsOpenAndLinedUp m w mobile s
+      → AcksAgree w s → is_up w SWITCH_LINK ≡ true → IsOpenOrEnded m (actors_after w event) mobile s
+  pub begun : (number : ℕ) → 1 ≤ number → is_up w SWITCH_LINK ≡ true
+      → w.controller.next_number ≤ number
+      → HasBegun (λ v s. IsComingTo m v s.request.access s) (actors_after w event) number
+  pub came : (mobile : ℕ) (s : Connection) → is_up w SWITCH_LINK ≡ true → IsComingTo m w mobile s
+      → HasAccess (IsComingTo m) m (actors_after w event) mobile s.number

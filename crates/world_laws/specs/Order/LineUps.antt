@@ -1,13 +1,16 @@
 -- In each run: where each connection stands, and how the places of its mobile's messages rise, from
 -- the switch down to the mobile.
-use Rattle.std.specs.Prelude.{◌≡◌, ◌⊎◌, ℕ, ◌≤◌, true, if◌then◌else◌, length, List, [], ◌++◌, Option, Some}
-use Rattle.world_laws.specs.Prelude.{SWITCH_LINK, Connection, to_be_taken, AreAllowed, Parameters, Event, actors_after_all}
+use Rattle.std.specs.Prelude.{◌≡◌, ◌⊎◌, ℕ, ◌≤◌, true, if◌then◌else◌, length, List, [], ◌++◌, Option}
+use Rattle.std.specs.Prelude.{Some}
+use Rattle.world_laws.specs.Prelude.{SWITCH_LINK, Connection, to_be_taken, AreAllowed, Parameters}
+use Rattle.world_laws.specs.Prelude.{Event}
 use Rattle.world_laws.specs.Prelude.{Actors, is_up, modulus_in, new_actors}
+use Rattle.world_laws.specs.Runs.{world}
 use Rattle.world_laws.specs.LineUp.Places.{LineUp, flow}
 use Rattle.world_laws.specs.LineUp.Order.{IsInOrder, coming}
 use Rattle.mobile_end.specs.DataLink.{outstanding_messages}
 use Rattle.world_laws.specs.LineUps.{line_up, taken_of}
-use Rattle.world_laws.specs.Lives.{IsUnheard, Lives}
+use Rattle.world_laws.specs.AccountedFor.{IsUnknownForGood, IsOpenAndLinedUp}
 use Rattle.world_laws.specs.OthersFrame.{IsHad}
 use Rattle.world_laws.specs.OwnFrame.{IsRequested}
 use Rattle.world_laws.specs.Order.OctetEvents.{AreOctetEvents}
@@ -20,7 +23,8 @@ use Rattle.world_laws.specs.Order.Standing.{Standing}
 abbrev pub AllNumbersStand : Parameters → List Event → Type 0
 AllNumbersStand settings events =
     (number : ℕ) → AreAllowed settings → AreOctetEvents events → 1 ≤ number
-    → Standing (modulus_in settings) (actors_after_all (new_actors settings) events) (first_served (new_actors settings) events number) number
+    → Standing (modulus_in settings) (world settings events)
+    (first_served (new_actors settings) events number) number
 
 -- ---- how the places rise
 
@@ -46,14 +50,16 @@ pub record PlacesRise (m : ℕ) (taken : List (List ℕ)) (l : LineUp) : Type 0 
 pub record IsLinedUp (m : ℕ) (w : Actors) (opener : Option ℕ) (s : Connection) : Type 0 where
   pub mobile : ℕ
   pub opened : opener ≡ Some mobile
-  pub lives : Lives m w mobile s
+  pub lives : IsOpenAndLinedUp m w mobile s
   pub places : PlacesRise m (taken_of w s.number) (line_up w lives.lined.one s)
 
 -- Whatever happened, while the link of the switch is up: of each connection that asked the switch
 -- for its connection, and is open. Or the switch refused it, and never hears of it.
 abbrev pub AllPlacesRise : Parameters → List Event → Type 0
 AllPlacesRise settings events =
-    (s : Connection) → AreAllowed settings → AreOctetEvents events → is_up (actors_after_all (new_actors settings) events) SWITCH_LINK ≡ true
-    → IsHad (actors_after_all (new_actors settings) events) s → IsRequested s.state
-    → IsLinedUp (modulus_in settings) (actors_after_all (new_actors settings) events) (first_served (new_actors settings) events s.number) s
-    ⊎ IsUnheard (actors_after_all (new_actors settings) events) s.number
+    (s : Connection) → AreAllowed settings → AreOctetEvents events
+    → is_up (world settings events) SWITCH_LINK ≡ true
+    → IsHad (world settings events) s → IsRequested s.state
+    → IsLinedUp (modulus_in settings) (world settings events)
+    (first_served (new_actors settings) events s.number) s
+    ⊎ IsUnknownForGood (world settings events) s.number

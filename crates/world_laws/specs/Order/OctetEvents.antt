@@ -2,8 +2,10 @@
 use Rattle.std.specs.Prelude.{◌≡◌, ◌≢◌, ℕ, ◌<◌, List, [], ◌∷◌, ◌++◌, Option, Some}
 use Rattle.std.specs.List.{AllByRecursion}
 use Rattle.bssmap_codec.specs.declared.bssap.Bssap.{Bssap}
-use Rattle.world_laws.specs.Prelude.{Management, Sccp, SWITCH_LINK, Item, AreAllowed, Parameters, Event, OutboxEntry, actors_after_all}
+use Rattle.world_laws.specs.Prelude.{Management, Sccp, SWITCH_LINK, Item, AreAllowed, Parameters}
+use Rattle.world_laws.specs.Prelude.{Event, OutboxEntry}
 use Rattle.world_laws.specs.Prelude.{sccp_in, new_actors}
+use Rattle.world_laws.specs.Runs.{world}
 use Rattle.bssmap_codec.specs.declared.bssmap.Bssmap.TheVariants.{ClearRequest}
 use Rattle.bssmap_codec.specs.declared.sccp.Sccp.TheVariants.{ConnectionRequest, DataForm1}
 use Rattle.bssmap_codec.specs.Reference.{IsReference}
@@ -14,7 +16,7 @@ use Rattle.world_model.specs.declared.event.Event.TheVariants.{Upper, Connect, S
 use Rattle.world_model.specs.declared.event.SwitchAction.{SwitchAction}
 use Rattle.world_model.specs.declared.event.SwitchAction.TheVariants.{Dtap}
 use Rattle.world_model.specs.Queues.{all_pushed, put}
-use Rattle.world_laws.specs.OthersFrame.{CameInOctets}
+use Rattle.world_laws.specs.OthersFrame.{TookOctets}
 
 abbrev pub IsOctetAction : SwitchAction → Type 0
 IsOctetAction (Dtap connection sapi message) = AreOctets message
@@ -37,12 +39,14 @@ abbrev pub IsOctetItem : Item → Type 0
 IsOctetItem item = item.source ≢ SWITCH_LINK → IsOfOctets item.what
 
 abbrev pub StationsGiveOctets : Parameters → List Event → Type 0
-StationsGiveOctets settings events = AreOctetEvents events → AllByRecursion IsOctetItem (all_pushed (new_actors settings) events)
+StationsGiveOctets settings events =
+    AreOctetEvents events → AllByRecursion IsOctetItem (all_pushed (new_actors settings) events)
 
 -- What the switch reads of what is put for it has a reference in CR, and a cause of one octet in a
 -- CLEAR REQUEST.
 abbrev pub HasFairCause : Option Bssap → Type 0
-HasFairCause (Some (Management (ClearRequest cause))) = (octet : ℕ) × (octet < 256) × (cause.0 ≡ octet ∷ [])
+HasFairCause (Some (Management (ClearRequest cause))) =
+    (octet : ℕ) × (octet < 256) × (cause.0 ≡ octet ∷ [])
 HasFairCause _ = Unit {0}
 
 abbrev pub IsFair : Option Sccp → Type 0
@@ -57,8 +61,11 @@ IsFairEntry entry = IsFair (sccp_in entry.out.frame)
 -- octets
 abbrev pub PutsFairly : Parameters → Type 0
 PutsFairly settings =
-    AreAllowed settings → (events : List Event) (event : Event) → CameInOctets settings (events ++ event ∷ []) → AllByRecursion IsFairEntry (put SWITCH_LINK (actors_after_all (new_actors settings) events) event)
+    AreAllowed settings → (events : List Event) (event : Event)
+    → TookOctets settings (events ++ event ∷ [])
+    → AllByRecursion IsFairEntry (put SWITCH_LINK (world settings events) event)
 
 -- So all that comes to the controller is of octets.
 abbrev pub ComeInOctets : Parameters → List Event → Type 0
-ComeInOctets settings events = AreAllowed settings → AreOctetEvents events → CameInOctets settings events
+ComeInOctets settings events =
+    AreAllowed settings → AreOctetEvents events → TookOctets settings events

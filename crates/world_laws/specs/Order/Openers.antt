@@ -1,8 +1,10 @@
 -- Whose connection it is: the mobile on whose channel the controller first had it asked for at the
 -- switch.
-use Rattle.std.specs.Prelude.{ℕ, Bool, true, false, Option, None, option_map, List, [], ◌∷◌, if◌then◌else◌}
+use Rattle.std.specs.Prelude.{ℕ, Bool, true, false, Option, None, option_map, List, [], ◌∷◌}
+use Rattle.std.specs.Prelude.{if◌then◌else◌}
 use Rattle.std.specs.Option.{option_and_then, option_or}
-use Rattle.world_laws.specs.Prelude.{State, WaitActivation, WaitEstablish, Connection, place_of, Event, actors_after, mobile_on, Actors}
+use Rattle.world_laws.specs.Prelude.{State, WaitActivation, WaitEstablish, Connection, place_of}
+use Rattle.world_laws.specs.Prelude.{Event, actors_after, mobile_on, Actors}
 use Rattle.world_laws.specs.Prelude.{tenure_at}
 use Rattle.controller_model.specs.Controller.{entry_of}
 
@@ -14,12 +16,16 @@ has_asked _ = true
 
 -- the mobile on the serving channel of such a connection
 abbrev pub served : Actors → Connection → Option ℕ
-served w s = if has_asked s.state then option_map (λ p. p.number) (mobile_on w (tenure_at w (place_of s.serving))) else None
+served w s =
+    if has_asked s.state then option_map (λ p. p.number)
+    (mobile_on w (tenure_at w (place_of s.serving))) else None
 
 abbrev pub served_by : Actors → ℕ → Option ℕ
-served_by w number = option_and_then (λ entry. served w entry.connection) (entry_of w.controller number)
+served_by w number =
+    option_and_then (λ entry. served w entry.connection) (entry_of w.controller number)
 
 -- where the controller's connection has first one
 abbrev pub first_served : Actors → List Event → ℕ → Option ℕ
 first_served w [] number = served_by w number
-first_served w (event ∷ events) number = option_or (served_by w number) (first_served (actors_after w event) events number)
+first_served w (event ∷ events) number =
+    option_or (served_by w number) (first_served (actors_after w event) events number)

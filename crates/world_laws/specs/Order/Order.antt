@@ -1,11 +1,13 @@
 -- The order of a run, end to end, and what it rests on.
 use Rattle.std.specs.Prelude.{◌≡◌, ℕ, ◌≤◌, false, Option, Some, IsSome, List, [], ◌∷◌, ◌++◌}
 use Rattle.std.specs.Option.{option_and_then}
-use Rattle.world_laws.specs.Prelude.{SWITCH_LINK, AreAllowed, Parameters, Event, actors_after_all, Actors, is_up, modulus_in, new_actors}
+use Rattle.world_laws.specs.Prelude.{SWITCH_LINK, AreAllowed, Parameters, Event, actors_after_all}
+use Rattle.world_laws.specs.Prelude.{Actors, is_up, modulus_in, new_actors}
+use Rattle.world_laws.specs.Runs.{world}
 use Rattle.msc_end.specs.Switch.{connection_of}
 use Rattle.octets.specs.Lists.{IsPrefix}
 use Rattle.world_model.specs.Views.{accepted, progress_of, sent}
-use Rattle.world_laws.specs.OthersFrame.{CameInOctets}
+use Rattle.world_laws.specs.OthersFrame.{TookOctets}
 use Rattle.world_laws.specs.Order.OctetEvents.{AreOctetEvents}
 use Rattle.world_laws.specs.Order.Facts.{Holds, HoldsAt}
 use Rattle.world_laws.specs.Order.Openers.{first_served}
@@ -15,10 +17,13 @@ use Rattle.world_laws.specs.Order.Standing.{OnceDown, Standing}
 
 -- the mobile whose connection of the switch it is, after these events
 abbrev pub opener_of : Actors → List Event → ℕ → Option ℕ
-opener_of begin events connection = option_and_then (λ c. first_served begin events c.peer) (connection_of (actors_after_all begin events).switch.connections connection)
+opener_of begin events connection =
+    option_and_then (λ c. first_served begin events c.peer)
+    (connection_of (actors_after_all begin events).switch.connections connection)
 
 -- the list is the beginning of what the mobile sent whose connection this is
-pub record IsBeginningOfSent (begin : Actors) (events : List Event) (connection : ℕ) (list : List (List ℕ)) : Type 0 where
+pub record IsBeginningOfSent (begin : Actors) (events : List Event) (connection : ℕ)
+    (list : List (List ℕ)) : Type 0 where
   pub mobile : ℕ
   pub opened : opener_of begin events connection ≡ Some mobile
   pub sent_list : List (List ℕ)
@@ -28,27 +33,36 @@ pub record IsBeginningOfSent (begin : Actors) (events : List Event) (connection 
 -- What the switch accepts of each connection is a prefix of what its mobile sent, and no gap is
 -- ever judged.
 pub record IsInOrderFor (begin : Actors) (events : List Event) : Type 0 where
-  pub in_order : (connection : ℕ) (list : List (List ℕ)) → accepted (actors_after_all begin events) connection ≡ Some list → IsBeginningOfSent begin events connection list
-  pub no_gap : (connection : ℕ) (progress : Option ℕ) → progress_of (actors_after_all begin events) connection ≡ Some progress → IsSome progress
+  pub in_order : (connection : ℕ) (list : List (List ℕ))
+      → accepted (actors_after_all begin events) connection ≡ Some list
+      → IsBeginningOfSent begin events connection list
+  pub no_gap : (connection : ℕ) (progress : Option ℕ)
+      → progress_of (actors_after_all begin events) connection ≡ Some progress → IsSome progress
 
 -- ---- what it rests on
 
 -- In each run of these settings in which what comes is octets: what holds of its world, and of each
 -- event after it.
 pub record Facts (settings : Parameters) : Type 0 where
-  pub holds : (events : List Event) → AreAllowed settings → CameInOctets settings events → Holds (modulus_in settings) (actors_after_all (new_actors settings) events)
-  pub holds_at : (events : List Event) (event : Event) → AreAllowed settings → CameInOctets settings (events ++ event ∷ []) → HoldsAt (modulus_in settings) (actors_after_all (new_actors settings) events) event
+  pub holds : (events : List Event) → AreAllowed settings → TookOctets settings events
+      → Holds (modulus_in settings) (world settings events)
+  pub holds_at : (events : List Event) (event : Event) → AreAllowed settings
+      → TookOctets settings (events ++ event ∷ [])
+      → HoldsAt (modulus_in settings) (world settings events) event
 
 -- ---- from the one to the other
 
 -- each number stands
 abbrev pub NumbersStand : Parameters → List Event → Type 0
 NumbersStand settings events =
-    (number : ℕ) → Facts settings → AreAllowed settings → CameInOctets settings events → 1 ≤ number
-    → Standing (modulus_in settings) (actors_after_all (new_actors settings) events) (first_served (new_actors settings) events number) number
+    (number : ℕ) → Facts settings → AreAllowed settings → TookOctets settings events → 1 ≤ number
+    → Standing (modulus_in settings) (world settings events)
+    (first_served (new_actors settings) events number) number
 
 abbrev pub RunsAreInOrder : Parameters → List Event → Type 0
-RunsAreInOrder settings events = Facts settings → AreAllowed settings → CameInOctets settings events → IsInOrderFor (new_actors settings) events
+RunsAreInOrder settings events =
+    Facts settings → AreAllowed settings → TookOctets settings events
+    → IsInOrderFor (new_actors settings) events
 
 -- It all holds: so each run is in order, with settings that are allowed and events of octets.
 abbrev pub AllRunsAreInOrder : Parameters → List Event → Type 0
@@ -57,6 +71,8 @@ AllRunsAreInOrder settings events = AreAllowed settings → AreOctetEvents event
 -- Of a connection whose switch's link is down it rests on nothing.
 abbrev pub CutNumbersStay : Parameters → List Event → Event → Type 0
 CutNumbersStay settings events event =
-    (number : ℕ) → is_up (actors_after_all (new_actors settings) events) SWITCH_LINK ≡ false
-    → OnceDown (modulus_in settings) (actors_after_all (new_actors settings) events) (first_served (new_actors settings) events number) number
-    → OnceDown (modulus_in settings) (actors_after_all (new_actors settings) (events ++ event ∷ [])) (first_served (new_actors settings) (events ++ event ∷ []) number) number
+    (number : ℕ) → is_up (world settings events) SWITCH_LINK ≡ false
+    → OnceDown (modulus_in settings) (world settings events)
+    (first_served (new_actors settings) events number) number
+    → OnceDown (modulus_in settings) (world settings (events
+    ++ event ∷ [])) (first_served (new_actors settings) (events ++ event ∷ []) number) number

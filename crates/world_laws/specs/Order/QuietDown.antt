@@ -1,11 +1,14 @@
 -- The serving channel of a connection that is coming stays quiet: nothing is in its air.
-use Rattle.std.specs.Prelude.{◌≡◌, ℕ, ◌==◌, Bool, true, false, List, [], ◌∷◌, ◌++◌, Option, Some, None}
+use Rattle.std.specs.Prelude.{◌≡◌, ℕ, ◌==◌, Bool, true, false, List, [], ◌∷◌, ◌++◌, Option, Some}
+use Rattle.std.specs.Prelude.{None}
 use Rattle.std.specs.List.{AllByRecursion}
-use Rattle.world_laws.specs.Prelude.{Place, Connection, connection_of, place_of, Rsl, AreAllowed, Parameters, Event, OutboxEntry}
-use Rattle.world_laws.specs.Prelude.{actors_after_all, rsl_in, Actors, is_active_at, new_actors, outbox_of, spot_at}
+use Rattle.world_laws.specs.Prelude.{Place, Connection, connection_of, place_of, Rsl, AreAllowed}
+use Rattle.world_laws.specs.Prelude.{Parameters, Event, OutboxEntry}
+use Rattle.world_laws.specs.Prelude.{rsl_in, Actors, is_active_at, outbox_of, spot_at}
+use Rattle.world_laws.specs.Runs.{world}
 use Rattle.rsl_codec.specs.declared.radio_link.Data.{Data as DataMessage}
 use Rattle.rsl_codec.specs.declared.rsl.Rsl.TheVariants.{ChannelActivation, DataRequest}
-use Rattle.world_laws.specs.OthersFrame.{CameInOctets, IsHad}
+use Rattle.world_laws.specs.OthersFrame.{TookOctets, IsHad}
 use Rattle.world_laws.specs.Access.Arriving.{LetsNoneGo}
 use Rattle.world_laws.specs.References.Taken.{IsEarlyIn}
 
@@ -22,8 +25,12 @@ activates channel _ = false
 
 -- an activation of the channel waits, and behind the first one no DATA REQUEST for it
 pub data Waits (channel : ℕ) : List OutboxEntry → Type 0 where
-  here : {entry : OutboxEntry} {entries : List OutboxEntry} → activates channel (rsl_in entry.out.frame) ≡ true → AllByRecursion (NoDataEntry channel) entries → Waits channel (entry ∷ entries)
-  later : {entry : OutboxEntry} {entries : List OutboxEntry} → activates channel (rsl_in entry.out.frame) ≡ false → Waits channel entries → Waits channel (entry ∷ entries)
+  here : {entry : OutboxEntry} {entries : List OutboxEntry}
+      → activates channel (rsl_in entry.out.frame) ≡ true
+      → AllByRecursion (NoDataEntry channel) entries → Waits channel (entry ∷ entries)
+  later : {entry : OutboxEntry} {entries : List OutboxEntry}
+      → activates channel (rsl_in entry.out.frame) ≡ false → Waits channel entries
+      → Waits channel (entry ∷ entries)
 
 -- The channel's activation waits, and it isn't active; or nothing is in its air, and no DATA
 -- REQUEST for it waits.
@@ -34,18 +41,23 @@ pub data Quiet (w : Actors) (at : Place) : Type 0 where
 -- whatever happened before, a connection that hasn't asked the switch before an event and after it
 abbrev pub ChannelsStayQuiet : Parameters → List Event → Event → Type 0
 ChannelsStayQuiet settings events event =
-    (old s : Connection) → AreAllowed settings → CameInOctets settings (events ++ event ∷ []) → IsHad (actors_after_all (new_actors settings) events) old → IsEarlyIn old.state
-    → s.number ≡ old.number → IsHad (actors_after_all (new_actors settings) (events ++ event ∷ [])) s → IsEarlyIn s.state
-    → Quiet (actors_after_all (new_actors settings) events) (place_of old.serving) → Quiet (actors_after_all (new_actors settings) (events ++ event ∷ [])) (place_of s.serving)
+    (old s : Connection) → AreAllowed settings → TookOctets settings (events ++ event ∷ [])
+    → IsHad (world settings events) old → IsEarlyIn old.state
+    → s.number ≡ old.number → IsHad (world settings (events ++ event ∷ [])) s → IsEarlyIn s.state
+    → Quiet (world settings events) (place_of old.serving)
+    → Quiet (world settings (events ++ event ∷ [])) (place_of s.serving)
 
 -- and one that begins at an event, and hasn't asked the switch then
 abbrev pub ChannelsBeginQuiet : Parameters → List Event → Event → Type 0
 ChannelsBeginQuiet settings events event =
-    (s : Connection) → AreAllowed settings → CameInOctets settings (events ++ event ∷ []) → connection_of (actors_after_all (new_actors settings) events).controller s.number ≡ None
-    → IsHad (actors_after_all (new_actors settings) (events ++ event ∷ [])) s → IsEarlyIn s.state → Quiet (actors_after_all (new_actors settings) (events ++ event ∷ [])) (place_of s.serving)
+    (s : Connection) → AreAllowed settings → TookOctets settings (events ++ event ∷ [])
+    → connection_of (world settings events).controller s.number ≡ None
+    → IsHad (world settings (events ++ event ∷ [])) s → IsEarlyIn s.state
+    → Quiet (world settings (events ++ event ∷ [])) (place_of s.serving)
 
 -- so no CHANNEL RELEASE is in the air there
 abbrev pub QuietLetsNoneGo : Parameters → List Event → Type 0
 QuietLetsNoneGo settings events =
-    (s : Connection) → AreAllowed settings → CameInOctets settings events → IsHad (actors_after_all (new_actors settings) events) s → Quiet (actors_after_all (new_actors settings) events) (place_of s.serving)
-    → AllByRecursion LetsNoneGo (spot_at (actors_after_all (new_actors settings) events) (place_of s.serving)).air
+    (s : Connection) → AreAllowed settings → TookOctets settings events
+    → IsHad (world settings events) s → Quiet (world settings events) (place_of s.serving)
+    → AllByRecursion LetsNoneGo (spot_at (world settings events) (place_of s.serving)).air

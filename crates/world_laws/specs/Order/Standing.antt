@@ -2,13 +2,15 @@
 -- comes.
 use Rattle.std.specs.Prelude.{◌≡◌, ℕ, ◌≤◌, ◌<◌, true, false, List, [], Option, Some, None}
 use Rattle.std.specs.List.{AllByRecursion}
-use Rattle.world_laws.specs.Prelude.{SWITCH_LINK, Connection, IsThere, connection_of, SwitchConnection, Parameters, Event, actors_after_all}
-use Rattle.world_laws.specs.Prelude.{Actors, Mobile, is_up, modulus_in, new_actors, place_of}
+use Rattle.world_laws.specs.Prelude.{SWITCH_LINK, Connection, IsThere, connection_of}
+use Rattle.world_laws.specs.Prelude.{SwitchConnection, Parameters, Event}
+use Rattle.world_laws.specs.Prelude.{Actors, Mobile, is_up, modulus_in, place_of}
+use Rattle.world_laws.specs.Runs.{world}
 use Rattle.msc_end.specs.SwitchState.{SwitchState}
 use Rattle.world_laws.specs.Ended.{HasEnded}
 use Rattle.world_laws.specs.LineUps.{waiting_of}
-use Rattle.world_laws.specs.Lives.{IsUnheard, Lives}
-use Rattle.world_laws.specs.References.Taken.{IsUnheardOf}
+use Rattle.world_laws.specs.AccountedFor.{IsUnknownForGood, IsOpenAndLinedUp}
+use Rattle.world_laws.specs.References.Taken.{IsUnknownToSwitch}
 use Rattle.world_laws.specs.Access.Coming.{IsComing}
 use Rattle.world_laws.specs.Targets.Fresh.{IsFreshIn}
 use Rattle.world_laws.specs.Order.QuietDown.{Quiet}
@@ -26,16 +28,21 @@ IsFresh w p s = IsFreshIn w p s.state
 -- fresh; or it ended in order; or the switch never hears of it.
 pub data WhileUp (m : ℕ) (w : Actors) (opener : Option ℕ) (number : ℕ) : Type 0 where
   unborn : opener ≡ None → w.controller.next_number ≤ number → WhileUp m w opener number
-  coming : (mobile : ℕ) (s : Connection) → opener ≡ None → s.number ≡ number → IsComingTo m w mobile s → WhileUp m w opener number
-  lives : (mobile : ℕ) (s : Connection) → opener ≡ Some mobile → s.number ≡ number → (l : Lives m w mobile s) → IsFresh w l.lined.one s → WhileUp m w opener number
-  ended : (mobile : ℕ) → opener ≡ Some mobile → number < w.controller.next_number → (IsThere (connection_of w.controller number) → ⊥) → HasEnded m w mobile number → WhileUp m w opener number
-  unheard : IsUnheard w number → WhileUp m w opener number
+  coming : (mobile : ℕ) (s : Connection) → opener ≡ None → s.number ≡ number
+      → IsComingTo m w mobile s → WhileUp m w opener number
+  lives : (mobile : ℕ) (s : Connection) → opener ≡ Some mobile → s.number ≡ number
+      → (l : IsOpenAndLinedUp m w mobile s) → IsFresh w l.lined.one s → WhileUp m w opener number
+  ended : (mobile : ℕ) → opener ≡ Some mobile → number < w.controller.next_number
+      → (IsThere (connection_of w.controller number) → ⊥) → HasEnded m w mobile number
+      → WhileUp m w opener number
+  unheard : IsUnknownForGood w number → WhileUp m w opener number
 
 -- Once the link broke nothing more of it comes to the switch: what it took is in order, or there is
 -- nothing.
 pub data OnceDown (m : ℕ) (w : Actors) (opener : Option ℕ) (number : ℕ) : Type 0 where
-  silent : IsUnheardOf w number → OnceDown m w opener number
-  cut : (mobile : ℕ) → opener ≡ Some mobile → HasEnded m w mobile number → waiting_of w number ≡ [] → OnceDown m w opener number
+  silent : IsUnknownToSwitch w number → OnceDown m w opener number
+  cut : (mobile : ℕ) → opener ≡ Some mobile
+      → HasEnded m w mobile number → waiting_of w number ≡ [] → OnceDown m w opener number
 
 -- the connection of this number, whose first mobile served is this
 pub data Standing (m : ℕ) (w : Actors) (opener : Option ℕ) (number : ℕ) : Type 0 where
@@ -51,4 +58,4 @@ pub record IsOfModulus (m : ℕ) (switch : SwitchState) : Type 0 where
 
 -- whatever happened, it is the network's
 abbrev pub SwitchIsOfModulus : Parameters → List Event → Type 0
-SwitchIsOfModulus settings events = IsOfModulus (modulus_in settings) (actors_after_all (new_actors settings) events).switch
+SwitchIsOfModulus settings events = IsOfModulus (modulus_in settings) (world settings events).switch

@@ -2,10 +2,12 @@
 -- before its mobile is commanded there, and then COMPLETE comes first. That is the second thing
 -- that an honest station keeps, beside the laws of stations alone.
 use Rattle.std.specs.Prelude.{◌≡◌, ℕ, true, Option, Some, List}
-use Rattle.world_laws.specs.Prelude.{SWITCH_LINK, Live, Connection, AreAllowed, Parameters, Event, actors_after_all, Actors, is_up}
+use Rattle.world_laws.specs.Prelude.{SWITCH_LINK, Live, Connection, AreAllowed, Parameters, Event}
+use Rattle.world_laws.specs.Prelude.{Actors, is_up}
 use Rattle.world_laws.specs.Prelude.{modulus_in, new_actors}
+use Rattle.world_laws.specs.Runs.{world}
 use Rattle.conn_rules.specs.declared.state.Stage.{Stage}
-use Rattle.world_laws.specs.Lives.{Lives}
+use Rattle.world_laws.specs.AccountedFor.{IsOpenAndLinedUp}
 use Rattle.world_laws.specs.OthersFrame.{IsHad}
 use Rattle.world_laws.specs.Targets.Fresh.{IsFreshIn}
 use Rattle.world_laws.specs.Order.OctetEvents.{AreOctetEvents}
@@ -16,13 +18,15 @@ use Rattle.world_laws.specs.Order.Openers.{first_served}
 pub record IsServed (m : ℕ) (w : Actors) (opener : Option ℕ) (s : Connection) : Type 0 where
   pub mobile : ℕ
   pub opened : opener ≡ Some mobile
-  pub lives : Lives m w mobile s
+  pub lives : IsOpenAndLinedUp m w mobile s
   pub fresh : IsFreshIn w lives.lined.one s.state
 
 -- whatever happened, of each connection that the switch confirmed, while the link of the switch is
 -- up
 abbrev pub TargetsAreFresh : Parameters → List Event → Type 0
 TargetsAreFresh settings events =
-    (s : Connection) (reference : ℕ) (stage : Stage) → AreAllowed settings → AreOctetEvents events → is_up (actors_after_all (new_actors settings) events) SWITCH_LINK ≡ true
-    → IsHad (actors_after_all (new_actors settings) events) s → s.state ≡ Live reference stage
-    → IsServed (modulus_in settings) (actors_after_all (new_actors settings) events) (first_served (new_actors settings) events s.number) s
+    (s : Connection) (reference : ℕ) (stage : Stage) → AreAllowed settings → AreOctetEvents events
+    → is_up (world settings events) SWITCH_LINK ≡ true
+    → IsHad (world settings events) s → s.state ≡ Live reference stage
+    → IsServed (modulus_in settings) (world settings events)
+    (first_served (new_actors settings) events s.number) s

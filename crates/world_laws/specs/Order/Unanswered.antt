@@ -2,21 +2,27 @@
 use Rattle.std.specs.Prelude.{◌≡◌, ℕ, Bool, true, List, ◌∷◌, ◌++◌, Some}
 use Rattle.std.specs.List.{AllByRecursion}
 use Rattle.mobile_end.specs.Lawful.{is_initial}
-use Rattle.world_laws.specs.Prelude.{AreAllowed, Parameters, Event, actors_after_all, rsl_in, Actors, Mobile, mobile_of, modulus_in}
-use Rattle.world_laws.specs.Prelude.{new_actors, outbox_of}
+use Rattle.world_laws.specs.Prelude.{AreAllowed, Parameters, Event, rsl_in, Actors, Mobile}
+use Rattle.world_laws.specs.Prelude.{mobile_of, modulus_in}
+use Rattle.world_laws.specs.Prelude.{outbox_of}
+use Rattle.world_laws.specs.Runs.{world}
 use Rattle.world_model.specs.declared.event.Event.TheVariants.{Connect}
 use Rattle.world_model.specs.Mobiles.{connected}
-use Rattle.world_laws.specs.OthersFrame.{CameInOctets}
+use Rattle.world_laws.specs.OthersFrame.{TookOctets}
 use Rattle.world_laws.specs.Access.Requested.{AssignsAnother}
 use Rattle.world_laws.specs.Owners.OneEach.{IsUnanswered}
 
 -- up to now, at no moment of the run
 abbrev pub WasNeverAnswered : Parameters → List Event → ℕ → Type 0
-WasNeverAnswered settings events mobile = (before after : List Event) → events ≡ before ++ after → IsUnanswered (actors_after_all (new_actors settings) before) mobile
+WasNeverAnswered settings events mobile =
+    (before after : List Event) → events ≡ before ++ after
+    → IsUnanswered (world settings before) mobile
 
 -- no IMMEDIATE ASSIGNMENT that waits for a station names it
 abbrev pub NoneNames : Actors → ℕ → Type 0
-NoneNames w mobile = (station : ℕ) → AllByRecursion (λ entry. AssignsAnother mobile (rsl_in entry.out.frame)) (outbox_of w station)
+NoneNames w mobile =
+    (station : ℕ) → AllByRecursion (λ entry. AssignsAnother mobile (rsl_in entry.out.frame))
+    (outbox_of w station)
 
 -- It connected in this run, with an initial message, and is as it was then: it asks for a channel,
 -- and sent nothing.
@@ -38,4 +44,6 @@ pub record StillAsks (m : ℕ) (events : List Event) (w : Actors) (mobile : ℕ)
 -- whatever happened
 abbrev pub UnansweredMobilesAsk : Parameters → List Event → Type 0
 UnansweredMobilesAsk settings events =
-    (mobile : ℕ) → AreAllowed settings → CameInOctets settings events → WasNeverAnswered settings events mobile → StillAsks (modulus_in settings) events (actors_after_all (new_actors settings) events) mobile
+    (mobile : ℕ) → AreAllowed settings → TookOctets settings events
+    → WasNeverAnswered settings events mobile
+    → StillAsks (modulus_in settings) events (world settings events) mobile

@@ -1,27 +1,33 @@
 -- The channels of an open connection are its mobile's alone.
 use Rattle.std.specs.Prelude.{◌≡◌, ℕ, true, List}
 use Rattle.std.specs.List.{AllByRecursion}
-use Rattle.world_laws.specs.Prelude.{Channel, Connection, used_channels, place_of, AreAllowed, Parameters, Event, Tenure, actors_after_all}
+use Rattle.world_laws.specs.Prelude.{Channel, Connection, used_channels, place_of, AreAllowed}
+use Rattle.world_laws.specs.Prelude.{Parameters, Event, Tenure}
 use Rattle.world_laws.specs.Prelude.{Actors, is_active_at, is_up, new_actors, tenure_at}
+use Rattle.world_laws.specs.Runs.{world}
 use Rattle.world_model.specs.OwnerLines.{tenure_behind}
 use Rattle.world_model.specs.Owners.{owner_in}
-use Rattle.world_laws.specs.OthersFrame.{CameInOctets, IsHad}
+use Rattle.world_laws.specs.OthersFrame.{TookOctets, IsHad}
 use Rattle.world_laws.specs.Seated.{IsAlone}
 
 -- While the link of its station is up, the last tenure of the channel is the mobile's; and the
 -- channel's present one is the last, where the channel is active.
 pub record IsMobiles (owner : Tenure → ℕ) (w : Actors) (mobile : ℕ) (c : Channel) : Type 0 where
   pub last : is_up w c.station ≡ true → owner (tenure_behind w (place_of c)) ≡ mobile
-  pub present : is_up w c.station ≡ true → is_active_at w (place_of c) ≡ true → tenure_behind w (place_of c) ≡ tenure_at w (place_of c)
+  pub present : is_up w c.station ≡ true → is_active_at w (place_of c) ≡ true
+      → tenure_behind w (place_of c) ≡ tenure_at w (place_of c)
 
 -- each channel that a connection uses, whatever events happened
 abbrev pub ChannelsAreMobiles : Parameters → List Event → Type 0
 ChannelsAreMobiles settings events =
-    (s : Connection) → AreAllowed settings → CameInOctets settings events → IsHad (actors_after_all (new_actors settings) events) s
-    → AllByRecursion (IsMobiles (owner_in (new_actors settings) events) (actors_after_all (new_actors settings) events) s.request.access) (used_channels s)
+    (s : Connection) → AreAllowed settings → TookOctets settings events
+    → IsHad (world settings events) s
+    → AllByRecursion (IsMobiles (owner_in (new_actors settings) events)
+    (world settings events) s.request.access) (used_channels s)
 
 -- so no other mobile is on one of them
 abbrev pub ConnectionsAreAlone : Parameters → List Event → Type 0
 ConnectionsAreAlone settings events =
-    (s : Connection) → AreAllowed settings → CameInOctets settings events → IsHad (actors_after_all (new_actors settings) events) s
-    → IsAlone (actors_after_all (new_actors settings) events) s.request.access s
+    (s : Connection) → AreAllowed settings → TookOctets settings events
+    → IsHad (world settings events) s
+    → IsAlone (world settings events) s.request.access s

@@ -1,8 +1,10 @@
 -- The links of a connection's channels are up; and nothing comes of a link behind its end.
 use Rattle.std.specs.Prelude.{◌≡◌, ◌≢◌, ℕ, true, false, List, [], ◌∷◌}
 use Rattle.std.specs.List.{AllByRecursion}
-use Rattle.world_laws.specs.Prelude.{SWITCH_LINK, Connection, used_channels, hears, Item, AreAllowed, Parameters, Event, actors_after_all}
-use Rattle.world_laws.specs.Prelude.{Actors, base_of, is_up, new_actors}
+use Rattle.world_laws.specs.Prelude.{SWITCH_LINK, Connection, used_channels, hears, Item}
+use Rattle.world_laws.specs.Prelude.{AreAllowed, Parameters, Event}
+use Rattle.world_laws.specs.Prelude.{Actors, base_of, is_up}
+use Rattle.world_laws.specs.Runs.{world}
 use Rattle.ruled_relay.specs.declared.item.What.TheVariants as whats
 use Rattle.world_model.specs.Queues.{of_source}
 use Rattle.world_laws.specs.OthersFrame.{IsHad}
@@ -18,7 +20,8 @@ pub record LinksAreUp (w : Actors) (s : Connection) : Type 0 where
 -- whatever events happened
 abbrev pub LinksOfChannelsAreUp : Parameters → List Event → Type 0
 LinksOfChannelsAreUp settings events =
-    (s : Connection) → AreAllowed settings → IsHad (actors_after_all (new_actors settings) events) s → LinksAreUp (actors_after_all (new_actors settings) events) s
+    (s : Connection) → AreAllowed settings → IsHad (world settings events) s
+    → LinksAreUp (world settings events) s
 
 -- ---- the end of a link
 
@@ -38,11 +41,12 @@ pub record EndsOnce (w : Actors) (source : ℕ) : Type 0 where
   pub none_yet : is_up w source ≡ true → AllByRecursion (λ item. item ≢ down_of source) w.inbox
   -- of a link that is down nothing is made
   pub switch_made : source ≡ SWITCH_LINK → is_up w source ≡ false → w.switch_made ≡ []
-  pub station_made : source ≢ SWITCH_LINK → is_up w source ≡ false → (base_of w source).messages ≡ []
+  pub station_made : source ≢ SWITCH_LINK → is_up w source ≡ false
+      → (base_of w source).messages ≡ []
   -- once the controller learned of it, it is down, and nothing of the source stands in the inbox
   pub broke : hears w.controller source ≡ false → is_up w source ≡ false
   pub over : hears w.controller source ≡ false → of_source source w.inbox ≡ []
 
 -- whatever events happened, of the switch and of each station
 abbrev pub LinksEndOnce : Parameters → List Event → Type 0
-LinksEndOnce settings events = (source : ℕ) → EndsOnce (actors_after_all (new_actors settings) events) source
+LinksEndOnce settings events = (source : ℕ) → EndsOnce (world settings events) source

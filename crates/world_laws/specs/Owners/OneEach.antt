@@ -1,8 +1,10 @@
 -- Each mobile asks for a channel once, and one connection at most is the answer to it.
-use Rattle.std.specs.Prelude.{◌≡◌, ◌≢◌, ℕ, ◌+◌, ◌≤◌, ◌==◌, Bool, false, if◌then◌else◌, List, [], ◌∷◌, ◌++◌, Some}
+use Rattle.std.specs.Prelude.{◌≡◌, ◌≢◌, ℕ, ◌+◌, ◌≤◌, ◌==◌, Bool, false, if◌then◌else◌, List, []}
+use Rattle.std.specs.Prelude.{◌∷◌, ◌++◌, Some}
 use Rattle.std.specs.List.{flat_map}
-use Rattle.world_laws.specs.Prelude.{Connection, connection_of, Item, Rsl, Parameters, Event, actors_after_all, Actors, Mobile, mobile_of}
-use Rattle.world_laws.specs.Prelude.{new_actors}
+use Rattle.world_laws.specs.Prelude.{Connection, connection_of, Item, Rsl, Parameters, Event}
+use Rattle.world_laws.specs.Prelude.{Actors, Mobile, mobile_of}
+use Rattle.world_laws.specs.Runs.{world}
 use Rattle.rsl_codec.specs.declared.rsl.Rsl.TheVariants.{ChannelRequired}
 use Rattle.world_model.specs.OwnerLines.{said_by}
 use Rattle.world_model.specs.World.{Station}
@@ -27,11 +29,14 @@ made_by stations = flat_map (λ station. station.base.messages) stations
 
 -- how many requests of a mobile are on their way
 abbrev pub requests_up : Actors → ℕ → ℕ
-requests_up w mobile = requests_in mobile (said_in w.inbox) + requests_in mobile (made_by w.stations)
+requests_up w mobile =
+    requests_in mobile (said_in w.inbox) + requests_in mobile (made_by w.stations)
 
 -- no connection is the answer to it
 abbrev pub IsUnanswered : Actors → ℕ → Type 0
-IsUnanswered w mobile = (number : ℕ) (s : Connection) → connection_of w.controller number ≡ Some s → s.request.access ≢ mobile
+IsUnanswered w mobile =
+    (number : ℕ) (s : Connection) → connection_of w.controller number ≡ Some s
+    → s.request.access ≢ mobile
 
 -- ---- whatever happened
 
@@ -44,13 +49,16 @@ pub record AnswersMobile (w : Actors) (s : Connection) : Type 0 where
 
 abbrev pub ConnectionsAnswerMobiles : Parameters → List Event → Type 0
 ConnectionsAnswerMobiles settings events =
-    (number : ℕ) (s : Connection) → connection_of (actors_after_all (new_actors settings) events).controller number ≡ Some s → AnswersMobile (actors_after_all (new_actors settings) events) s
+    (number : ℕ) (s : Connection) → connection_of (world settings events).controller number ≡ Some s
+    → AnswersMobile (world settings events) s
 
 -- connections of the same mobile are the same one
 abbrev pub ConnectionsAreOneEach : Parameters → List Event → Type 0
 ConnectionsAreOneEach settings events =
-    (number other : ℕ) (s t : Connection) → connection_of (actors_after_all (new_actors settings) events).controller number ≡ Some s
-    → connection_of (actors_after_all (new_actors settings) events).controller other ≡ Some t → s.request.access ≡ t.request.access → number ≡ other
+    (number other : ℕ) (s t : Connection)
+    → connection_of (world settings events).controller number ≡ Some s
+    → connection_of (world settings events).controller other ≡ Some t
+    → s.request.access ≡ t.request.access → number ≡ other
 
 -- A request that is on its way is of a mobile that is there. It is the only one of it, and no
 -- connection is the answer yet.
@@ -62,17 +70,22 @@ pub record AsksOnce (w : Actors) (mobile : ℕ) : Type 0 where
   pub unanswered : IsUnanswered w mobile
 
 abbrev pub RequestsComeOnce : Parameters → List Event → Type 0
-RequestsComeOnce settings events = (mobile : ℕ) → 1 ≤ requests_up (actors_after_all (new_actors settings) events) mobile → AsksOnce (actors_after_all (new_actors settings) events) mobile
+RequestsComeOnce settings events =
+    (mobile : ℕ) → 1 ≤ requests_up (world settings events) mobile
+    → AsksOnce (world settings events) mobile
 
 -- ---- and what happened before
 
 -- where a request is on its way no connection was ever the answer
 abbrev pub NoneWasAnswered : Parameters → List Event → List Event → Type 0
 NoneWasAnswered settings before after =
-    (mobile : ℕ) → 1 ≤ requests_up (actors_after_all (new_actors settings) (before ++ after)) mobile → IsUnanswered (actors_after_all (new_actors settings) before) mobile
+    (mobile : ℕ) → 1 ≤ requests_up (world settings (before ++ after)) mobile
+    → IsUnanswered (world settings before) mobile
 
 -- a connection of a mobile that had one is that one
 abbrev pub NoneIsAnsweredAgain : Parameters → List Event → List Event → Type 0
 NoneIsAnsweredAgain settings before after =
-    (number other : ℕ) (s t : Connection) → connection_of (actors_after_all (new_actors settings) before).controller number ≡ Some s
-    → connection_of (actors_after_all (new_actors settings) (before ++ after)).controller other ≡ Some t → s.request.access ≡ t.request.access → number ≡ other
+    (number other : ℕ) (s t : Connection)
+    → connection_of (world settings before).controller number ≡ Some s
+    → connection_of (world settings (before ++ after)).controller other ≡ Some t
+    → s.request.access ≡ t.request.access → number ≡ other

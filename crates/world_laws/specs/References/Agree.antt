@@ -1,8 +1,10 @@
 -- How the switch's connections, what is on its way to the switch and the controller's connections
 -- agree by references.
-use Rattle.std.specs.Prelude.{◌≡◌, ◌⊎◌, ℕ, zero, suc, ◌+◌, ◌≤◌, ◌<◌, Bool, true, false, List, [], ◌∷◌, map, find, None}
+use Rattle.std.specs.Prelude.{◌≡◌, ◌⊎◌, ℕ, zero, suc, ◌+◌, ◌≤◌, ◌<◌, Bool, true, false, List, []}
+use Rattle.std.specs.Prelude.{◌∷◌, map, find, None}
 use Rattle.std.specs.List.{AllByRecursion}
-use Rattle.world_laws.specs.Prelude.{Sccp, Out, SWITCH_LINK, connection_of, word_by, Word, OnConnection, Item, OutboxEntry, sccp_in, Actors}
+use Rattle.world_laws.specs.Prelude.{Sccp, Out, SWITCH_LINK, connection_of, word_by, Word}
+use Rattle.world_laws.specs.Prelude.{OnConnection, Item, OutboxEntry, sccp_in, Actors}
 use Rattle.world_laws.specs.Prelude.{outbox_of}
 use Rattle.bssmap_codec.specs.declared.sccp.Sccp.TheVariants.{ConnectionConfirm}
 use Rattle.bssmap_codec.specs.Reference.{IsReference}
@@ -14,8 +16,10 @@ use Rattle.msc_end.specs.declared.connection.Stage.TheVariants.{Ended}
 use Rattle.msc_end.specs.declared.parameters.TheConstants.{REFERENCE_BASE}
 use Rattle.world_laws.specs.LineUps.{is_of_peer}
 use Rattle.world_laws.specs.Staying.{carried_for}
-use Rattle.world_laws.specs.References.Naming.{Reach, early, waits, due, named, cleared, gone, reach_of}
-use Rattle.world_laws.specs.References.Reads.{AreNothing, Read, asks, carries, clears, tells, nothing, odd, carried, sccp_read}
+use Rattle.world_laws.specs.References.Naming.{Reach, early, waits, due, named, cleared, gone}
+use Rattle.world_laws.specs.References.Naming.{reach_of}
+use Rattle.world_laws.specs.References.Reads.{AreNothing, Read, asks, carries, clears, tells}
+use Rattle.world_laws.specs.References.Reads.{nothing, odd, carried, sccp_read}
 
 -- ---- what is on its way to the switch
 
@@ -35,12 +39,12 @@ AsksOnce number (_ ∷ rest) = ⊥
 
 -- DT1 to this reference, and none behind CLEAR COMPLETE: whether that was taken before, and whether
 -- it was put
-abbrev pub Heeds : ℕ → Bool → Read → Type 0
-Heeds reference over nothing = Unit {0}
-Heeds reference over (carries destination message) = (over ≡ false) × (destination ≡ reference)
-Heeds reference over (tells destination) = (over ≡ false) × (destination ≡ reference)
-Heeds reference over (clears destination) = (over ≡ false) × (destination ≡ reference)
-Heeds reference over _ = ⊥
+abbrev pub IsAddressedTo : ℕ → Bool → Read → Type 0
+IsAddressedTo reference over nothing = Unit {0}
+IsAddressedTo reference over (carries destination message) = (over ≡ false) × (destination ≡ reference)
+IsAddressedTo reference over (tells destination) = (over ≡ false) × (destination ≡ reference)
+IsAddressedTo reference over (clears destination) = (over ≡ false) × (destination ≡ reference)
+IsAddressedTo reference over _ = ⊥
 
 abbrev pub over_after : Bool → Read → Bool
 over_after over (clears destination) = true
@@ -48,17 +52,20 @@ over_after over _ = over
 
 abbrev pub Runs : ℕ → Bool → List Read → Bool → Type 0
 Runs reference over [] last = over ≡ last
-Runs reference over (r ∷ rest) last = Heeds reference over r × Runs reference (over_after over r) rest last
+Runs reference over (r ∷ rest) last =
+    IsAddressedTo reference over r × Runs reference (over_after over r) rest last
 
 -- ---- CC on its way
 
 -- where it is the connection's, its reference is one of these
 abbrev pub ConfirmsBy : (ℕ → Type 0) → ℕ → Sccp → Type 0
-ConfirmsBy P number (ConnectionConfirm destination source) = IsReference destination × IsReference source × (destination ≡ number → P source)
+ConfirmsBy P number (ConnectionConfirm destination source) =
+    IsReference destination × IsReference source × (destination ≡ number → P source)
 ConfirmsBy P number _ = Unit {0}
 
 abbrev pub ConfirmsIn : (ℕ → Type 0) → ℕ → Word → Type 0
-ConfirmsIn P number (OnConnection destination (inputs.ConnectionConfirm source)) = destination ≡ number → P source
+ConfirmsIn P number (OnConnection destination (inputs.ConnectionConfirm source)) =
+    destination ≡ number → P source
 ConfirmsIn P number _ = Unit {0}
 
 abbrev pub ConfirmsBeing : (ℕ → Type 0) → ℕ → Item → Type 0
@@ -81,10 +88,10 @@ is_over Ended = true
 is_over _ = false
 
 -- the first connection of this peer stands at this place
-abbrev pub StandsAt : ℕ → ℕ → Connection → List Connection → Type 0
-StandsAt number place c [] = ⊥
-StandsAt number zero c (x ∷ xs) = (x ≡ c) × (x.peer ≡ number)
-StandsAt number (suc place) c (x ∷ xs) = (x.peer ≡ number → ⊥) × StandsAt number place c xs
+abbrev pub IsFirstAt : ℕ → ℕ → Connection → List Connection → Type 0
+IsFirstAt number place c [] = ⊥
+IsFirstAt number zero c (x ∷ xs) = (x ≡ c) × (x.peer ≡ number)
+IsFirstAt number (suc place) c (x ∷ xs) = (x.peer ≡ number → ⊥) × IsFirstAt number place c xs
 
 -- ---- the controller's connection
 
@@ -121,15 +128,19 @@ pub record IsKnown (w : Actors) (number : ℕ) : Type 0 where
   pub place : ℕ
   pub of : Connection
   pub last : Bool
-  pub stands : StandsAt number place of w.switch.connections
+  pub stands : IsFirstAt number place of w.switch.connections
   pub fits : IsReference (REFERENCE_BASE + (place + 1))
-  pub runs : Runs (REFERENCE_BASE + (place + 1)) (is_over of.stage) (reads_of number (outbox_of w SWITCH_LINK)) last
+  pub runs : Runs (REFERENCE_BASE + (place
+      + 1)) (is_over of.stage) (reads_of number (outbox_of w SWITCH_LINK)) last
   pub confirmed : Confirms (Only (REFERENCE_BASE + (place + 1))) w number
-  pub knows : Knows (REFERENCE_BASE + (place + 1)) last (reach_of (connection_of w.controller number))
+  pub knows : Knows (REFERENCE_BASE
+      + (place + 1)) last (reach_of (connection_of w.controller number))
 
 -- it isn't there yet, or didn't ask
 abbrev pub IsUnasked : Actors → ℕ → Type 0
-IsUnasked w number = (w.controller.next_number ≤ number) ⊎ ((number < w.controller.next_number) × (reach_of (connection_of w.controller number) ≡ early))
+IsUnasked w number =
+    (w.controller.next_number ≤ number)
+    ⊎ ((number < w.controller.next_number) × (reach_of (connection_of w.controller number) ≡ early))
 
 pub record HasAsked (w : Actors) (number : ℕ) : Type 0 where
   pub past : number < w.controller.next_number
@@ -147,7 +158,8 @@ IsHeeded odd = ⊥
 IsHeeded _ = Unit {0}
 
 pub record IsRight (out : Out) : Type 0 where
-  pub carries_as_read : 1 ≤ out.conn → IsHeeded (reads out) → carried_for out.conn out ≡ carried (reads out)
+  pub carries_as_read : 1 ≤ out.conn → IsHeeded (reads out)
+      → carried_for out.conn out ≡ carried (reads out)
   pub beside : out.conn ≡ 0 → reads out ≡ nothing
 
 pub record NamesAgree (w : Actors) : Type 0 where

@@ -2,12 +2,15 @@
 -- that CC told, after CLEAR COMPLETE.
 use Rattle.std.specs.Prelude.{◌≡◌, ℕ, List, [], ◌∷◌, ◌++◌, Option, Some, None}
 use Rattle.std.specs.List.{AllByRecursion}
-use Rattle.world_laws.specs.Prelude.{Management, Input, State, WaitActivation, WaitEstablish, WaitConfirm, Live, Closed, Removed}
+use Rattle.world_laws.specs.Prelude.{Management, Input, State, WaitActivation, WaitEstablish}
+use Rattle.world_laws.specs.Prelude.{WaitConfirm, Live, Closed, Removed}
 use Rattle.world_laws.specs.Prelude.{Connection, Row}
-use Rattle.bssmap_codec.specs.declared.bssmap.Bssmap.TheVariants.{ClearComplete, CompleteLayer3Information}
+use Rattle.bssmap_codec.specs.declared.bssmap.Bssmap.TheVariants.{ClearComplete}
+use Rattle.bssmap_codec.specs.declared.bssmap.Bssmap.TheVariants.{CompleteLayer3Information}
 use Rattle.bssmap_codec.specs.declared.values.CellIdentifier.{CellIdentifier}
 use Rattle.conn_messages.specs.declared.message.Message.{Message}
-use Rattle.conn_messages.specs.declared.message.Message.TheVariants.{Station, Request, Data, ReleaseComplete}
+use Rattle.conn_messages.specs.declared.message.Message.TheVariants.{Station, Request, Data}
+use Rattle.conn_messages.specs.declared.message.Message.TheVariants.{ReleaseComplete}
 use Rattle.conn_messages.specs.SwitchMessage.{clear_complete}
 use Rattle.conn_rules.specs.declared.input.Input.TheVariants as inputs
 use Rattle.conn_rules.specs.declared.state.Clearing.TheVariants.{Due, Asked as WasAsked, Complete}
@@ -58,8 +61,10 @@ abbrev pub FromWaiting : Input → List Message → State → Type 0
 FromWaiting input put WaitConfirm = AreQuiet put
 FromWaiting input put (Closed (Due cause)) = AreQuiet put
 FromWaiting input put Removed = AreQuiet put
-FromWaiting input put (Live reference stage) = (input ≡ inputs.ConnectionConfirm reference) × ArePlain reference put
-FromWaiting input put (Closed (WasAsked reference)) = (input ≡ inputs.ConnectionConfirm reference) × ArePlain reference put
+FromWaiting input put (Live reference stage) =
+    (input ≡ inputs.ConnectionConfirm reference) × ArePlain reference put
+FromWaiting input put (Closed (WasAsked reference)) =
+    (input ≡ inputs.ConnectionConfirm reference) × ArePlain reference put
 FromWaiting input put _ = ⊥
 
 -- with the reference of the switch
@@ -126,11 +131,13 @@ IsUnnamed due = Unit {0}
 IsUnnamed _ = ⊥
 
 -- One step of a connection, with what it puts, where CC with such a reference may have come.
-pub data Goes (came : ℕ → Type 0) (put : List Message) : Reach → Reach → Type 0 where
-  stays : {a : Reach} → AreQuiet put → Goes came put a a
-  leaves : {a : Reach} → AreQuiet put → Goes came put a gone
-  fails : {a b : Reach} → IsUnnamed a → IsUnnamed b → AreQuiet put → Goes came put a b
-  asks : IsAsking put → Goes came put early waits
-  confirmed : {a : Reach} (reference : ℕ) → IsUnnamed a → came reference → ArePlain reference put → Goes came put a (named reference)
-  speaks : {reference : ℕ} → ArePlain reference put → Goes came put (named reference) (named reference)
-  clears : {reference : ℕ} → IsClearing reference put → Goes came put (named reference) cleared
+pub data StepsTo (came : ℕ → Type 0) (put : List Message) : Reach → Reach → Type 0 where
+  stays : {a : Reach} → AreQuiet put → StepsTo came put a a
+  leaves : {a : Reach} → AreQuiet put → StepsTo came put a gone
+  fails : {a b : Reach} → IsUnnamed a → IsUnnamed b → AreQuiet put → StepsTo came put a b
+  asks : IsAsking put → StepsTo came put early waits
+  confirmed : {a : Reach} (reference : ℕ) → IsUnnamed a → came reference → ArePlain reference put
+      → StepsTo came put a (named reference)
+  speaks : {reference : ℕ} → ArePlain reference put
+      → StepsTo came put (named reference) (named reference)
+  clears : {reference : ℕ} → IsClearing reference put → StepsTo came put (named reference) cleared

@@ -1,11 +1,13 @@
 -- A connection that isn't open any more puts no more for the switch.
 use Rattle.std.specs.Prelude.{ℕ, ◌≤◌, ◌<◌, List}
 use Rattle.std.specs.List.{AllByRecursion}
-use Rattle.world_laws.specs.Prelude.{IsThere, connection_of, ComesInOctets, AreAllowed, Parameters, Event, actors_after, actors_after_all}
-use Rattle.world_laws.specs.Prelude.{Actors, new_actors}
+use Rattle.world_laws.specs.Prelude.{IsThere, connection_of, IsOctetStep, AreAllowed, Parameters}
+use Rattle.world_laws.specs.Prelude.{Event, actors_after}
+use Rattle.world_laws.specs.Prelude.{Actors}
+use Rattle.world_laws.specs.Runs.{world}
 use Rattle.world_model.specs.Steps.{step_at}
 use Rattle.world_laws.specs.Ended.{PutsNoMore}
-use Rattle.world_laws.specs.OthersFrame.{CameInOctets}
+use Rattle.world_laws.specs.OthersFrame.{TookOctets}
 
 -- it was there, and is closed or gone
 pub record IsOver (w : Actors) (number : ℕ) : Type 0 where
@@ -14,11 +16,13 @@ pub record IsOver (w : Actors) (number : ℕ) : Type 0 where
 
 -- what the controller takes at this event is octets
 abbrev pub TakesOctets : Actors → Event → Type 0
-TakesOctets w event = AllByRecursion ComesInOctets (step_at w event)
+TakesOctets w event = AllByRecursion IsOctetStep (step_at w event)
 
 -- whatever happened before
 abbrev pub OverPutsNoMore : Parameters → List Event → Event → Type 0
 OverPutsNoMore settings events event =
-    (number : ℕ) → AreAllowed settings → CameInOctets settings events → TakesOctets (actors_after_all (new_actors settings) events) event → 1 ≤ number
-    → IsOver (actors_after_all (new_actors settings) events) number
-    → PutsNoMore (actors_after_all (new_actors settings) events) number event × IsOver (actors_after (actors_after_all (new_actors settings) events) event) number
+    (number : ℕ) → AreAllowed settings → TookOctets settings events
+    → TakesOctets (world settings events) event → 1 ≤ number
+    → IsOver (world settings events) number
+    → PutsNoMore (world settings events) number event
+    × IsOver (actors_after (world settings events) event) number

@@ -5,7 +5,8 @@ use Rattle.bssmap_codec.specs.declared.bssap.Bssap.{Bssap}
 use Rattle.world_laws.specs.Prelude.{Management, Sccp}
 use Rattle.bssmap_codec.specs.declared.bssap.Bssap.TheVariants.{Transfer}
 use Rattle.bssmap_codec.specs.declared.bssmap.Bssmap.{Bssmap}
-use Rattle.bssmap_codec.specs.declared.bssmap.Bssmap.TheVariants.{ClearComplete, CompleteLayer3Information}
+use Rattle.bssmap_codec.specs.declared.bssmap.Bssmap.TheVariants.{ClearComplete}
+use Rattle.bssmap_codec.specs.declared.bssmap.Bssmap.TheVariants.{CompleteLayer3Information}
 use Rattle.bssmap_codec.specs.declared.sccp.Sccp.TheVariants.{ConnectionRequest, DataForm1}
 use Rattle.msc_end.specs.Switch.{message_in}
 
@@ -32,7 +33,8 @@ data_read destination (Some (Management message)) = management_read destination 
 data_read destination (Some (Transfer dlci message)) = carries destination message
 
 abbrev pub initial_read : ℕ → Option Bssap → Read
-initial_read source (Some (Management (CompleteLayer3Information cell initial))) = asks source initial
+initial_read source (Some (Management (CompleteLayer3Information cell initial))) =
+    asks source initial
 initial_read source _ = odd
 
 abbrev pub request_read : ℕ → Option (List ℕ) → Read

@@ -1,8 +1,10 @@
 -- The target of a change of channel is fresh until the connection's mobile comes there, and
 -- COMPLETE comes first of it.
 use Rattle.std.specs.Prelude.{◌≡◌, ℕ, true, List, [], ◌∷◌, ◌++◌, Some}
-use Rattle.world_laws.specs.Prelude.{Channel, Place, State, Live, Target, Connection, place_of, to_be_taken, AreAllowed, Parameters, Event}
-use Rattle.world_laws.specs.Prelude.{On, actors_after, actors_after_all, Actors, Mobile, is_up, mobile_of, modulus_in, new_actors}
+use Rattle.world_laws.specs.Prelude.{Channel, Place, State, Live, Target, Connection, place_of}
+use Rattle.world_laws.specs.Prelude.{to_be_taken, AreAllowed, Parameters, Event}
+use Rattle.world_laws.specs.Prelude.{On, actors_after, Actors, Mobile, is_up, mobile_of, modulus_in}
+use Rattle.world_laws.specs.Runs.{world}
 use Rattle.conn_rules.specs.declared.state.Stage.TheVariants.{Preparing, Changing}
 use Rattle.world_laws.specs.LineUp.Places.{messages_in}
 use Rattle.world_model.specs.declared.seat.Seat.{Seat}
@@ -10,8 +12,8 @@ use Rattle.world_model.specs.Lists.{first_in}
 use Rattle.world_model.specs.Mobiles.{complete}
 use Rattle.world_laws.specs.ComingUp.{coming_up}
 use Rattle.world_laws.specs.GoingDown.{going_down}
-use Rattle.world_laws.specs.Lives.{Lives, TargetIsFresh}
-use Rattle.world_laws.specs.OthersFrame.{CameInOctets, IsHad}
+use Rattle.world_laws.specs.AccountedFor.{IsOpenAndLinedUp, TargetIsFresh}
+use Rattle.world_laws.specs.OthersFrame.{TookOctets, IsHad}
 use Rattle.world_laws.specs.Seated.{IsAlone}
 
 -- nothing came of a target that is being prepared, and no command is on its way there
@@ -32,7 +34,9 @@ IsOnPlace _ at = ⊥
 -- is the first that the mobile gives once it is there, while the link of the station is up.
 pub record IsLedBy (w : Actors) (p : Mobile) (t : Target) : Type 0 where
   pub first : BeginWith (complete t.change) (messages_in (coming_up w (place_of t.channel)))
-  pub gives : messages_in (coming_up w (place_of t.channel)) ≡ [] → is_up w t.channel.station ≡ true → IsOnPlace p.seat (place_of t.channel) → first_in (to_be_taken p.end.zero) ≡ Some (complete t.change)
+  pub gives : messages_in (coming_up w (place_of t.channel)) ≡ [] → is_up w t.channel.station ≡ true
+      → IsOnPlace p.seat (place_of t.channel)
+      → first_in (to_be_taken p.end.zero) ≡ Some (complete t.change)
 
 -- of a connection in this state, with its mobile
 abbrev pub IsFreshIn : Actors → Mobile → State → Type 0
@@ -47,7 +51,11 @@ FreshTells w p s = IsFreshIn w p s.state → TargetIsFresh w s
 -- whatever happened before, it stays so at an event, while the connection is there and open
 abbrev pub TargetsStayFresh : Parameters → List Event → Event → Type 0
 TargetsStayFresh settings events event =
-    (mobile : ℕ) (s s2 : Connection) (q : Mobile) → AreAllowed settings → CameInOctets settings (events ++ event ∷ []) → (lives : Lives (modulus_in settings) (actors_after_all (new_actors settings) events) mobile s)
-    → IsAlone (actors_after_all (new_actors settings) events) mobile s → IsFreshIn (actors_after_all (new_actors settings) events) lives.lined.one s.state
-    → s2.number ≡ s.number → IsHad (actors_after (actors_after_all (new_actors settings) events) event) s2 → mobile_of (actors_after (actors_after_all (new_actors settings) events) event) mobile ≡ Some q
-    → IsFreshIn (actors_after (actors_after_all (new_actors settings) events) event) q s2.state
+    (mobile : ℕ) (s s2 : Connection) (q : Mobile) → AreAllowed settings
+    → TookOctets settings (events ++ event ∷ [])
+    → (lives : IsOpenAndLinedUp (modulus_in settings) (world settings events) mobile s)
+    → IsAlone (world settings events) mobile s
+    → IsFreshIn (world settings events) lives.lined.one s.state
+    → s2.number ≡ s.number → IsHad (actors_after (world settings events) event) s2
+    → mobile_of (actors_after (world settings events) event) mobile ≡ Some q
+    → IsFreshIn (actors_after (world settings events) event) q s2.state

@@ -1,15 +1,17 @@
 -- Channels that are free are quiet: nothing comes of them, and no command is on its way there.
 use Rattle.std.specs.Prelude.{◌≡◌, ◌⊎◌, ℕ, ◌≤◌, Bool, true, false, List, [], ◌∷◌, length}
 use Rattle.std.specs.List.{list_any}
-use Rattle.world_laws.specs.Prelude.{Place, Free, channel_state, hears, AreAllowed, Parameters, Event, OutboxEntry, actors_after_all}
-use Rattle.world_laws.specs.Prelude.{rsl_in, Actors, is_active_at, new_actors, outbox_of, spot_at}
+use Rattle.world_laws.specs.Prelude.{Place, Free, channel_state, hears, AreAllowed, Parameters}
+use Rattle.world_laws.specs.Prelude.{Event, OutboxEntry}
+use Rattle.world_laws.specs.Prelude.{rsl_in, Actors, is_active_at, outbox_of, spot_at}
+use Rattle.world_laws.specs.Runs.{world}
 use Rattle.world_laws.specs.LineUp.Places.{messages_in}
 use Rattle.world_model.specs.Pipe.{is_active_then}
 use Rattle.world_laws.specs.Acknowledged.{acknowledgements_up, is_release_ack}
 use Rattle.world_laws.specs.ComingUp.{coming_up}
 use Rattle.world_laws.specs.GoingDown.{going_down, leading_from_outbox}
-use Rattle.world_laws.specs.Lives.{initials_up}
-use Rattle.world_laws.specs.OthersFrame.{CameInOctets}
+use Rattle.world_laws.specs.AccountedFor.{initials_up}
+use Rattle.world_laws.specs.OthersFrame.{TookOctets}
 
 -- nothing is on its way on a channel: no message, no initial message, and no command
 pub record IsQuiet (w : Actors) (at : Place) : Type 0 where
@@ -21,15 +23,20 @@ pub record IsQuiet (w : Actors) (at : Place) : Type 0 where
 -- station
 abbrev pub FreeChannelsAreQuiet : Parameters → List Event → Type 0
 FreeChannelsAreQuiet settings events =
-    (at : Place) → AreAllowed settings → CameInOctets settings events → 1 ≤ at.station → at.station ≤ length settings.cells → channel_state (actors_after_all (new_actors settings) events).controller at ≡ Free
-    → hears (actors_after_all (new_actors settings) events).controller at.station ≡ true → IsQuiet (actors_after_all (new_actors settings) events) at
+    (at : Place) → AreAllowed settings → TookOctets settings events → 1 ≤ at.station
+    → at.station ≤ length settings.cells
+    → channel_state (world settings events).controller at ≡ Free
+    → hears (world settings events).controller at.station ≡ true
+    → IsQuiet (world settings events) at
 
 -- ---- what keeps it so
 
 -- each command that waits for a station stands where its channel is active
 abbrev pub StandWithin : ℕ → Bool → List OutboxEntry → Type 0
 StandWithin channel active [] = Unit {0}
-StandWithin channel active (entry ∷ entries) = (active ≡ false → leading_from_outbox channel entry ≡ []) × StandWithin channel (is_active_then channel active (rsl_in entry.out.frame)) entries
+StandWithin channel active (entry ∷ entries) =
+    (active ≡ false → leading_from_outbox channel entry ≡ [])
+    × StandWithin channel (is_active_then channel active (rsl_in entry.out.frame)) entries
 
 -- the channel's RF CHANNEL RELEASE ACK is on its way up
 abbrev pub is_ending : Actors → Place → Bool
@@ -41,10 +48,13 @@ is_ending w at = list_any is_release_ack (acknowledgements_up w at)
 pub record IsSettled (w : Actors) (at : Place) : Type 0 where
   pub line : StandWithin at.number (is_active_at w at) (outbox_of w at.station)
   pub air : is_active_at w at ≡ false → (spot_at w at).air ≡ []
-  pub idle : hears w.controller at.station ≡ true → (channel_state w.controller at ≡ Free) ⊎ (is_ending w at ≡ true) → is_active_at w at ≡ false
-  pub silent : hears w.controller at.station ≡ true → channel_state w.controller at ≡ Free → coming_up w at ≡ []
+  pub idle : hears w.controller at.station ≡ true
+      → (channel_state w.controller at ≡ Free) ⊎ (is_ending w at ≡ true) → is_active_at w at ≡ false
+  pub silent : hears w.controller at.station ≡ true → channel_state w.controller at ≡ Free
+      → coming_up w at ≡ []
 
 -- whatever happened, each channel of each station of the settings
 abbrev pub ChannelsAreSettled : Parameters → List Event → Type 0
 ChannelsAreSettled settings events =
-    (at : Place) → AreAllowed settings → CameInOctets settings events → 1 ≤ at.station → at.station ≤ length settings.cells → IsSettled (actors_after_all (new_actors settings) events) at
+    (at : Place) → AreAllowed settings → TookOctets settings events → 1 ≤ at.station
+    → at.station ≤ length settings.cells → IsSettled (world settings events) at

@@ -11,13 +11,13 @@ use Rattle.controller_model.proofs.LifeLaws.Silence.{stays_silent}
 use Rattle.controller_model.proofs.LifeLaws.UsingLife.{life_reaches}
 use Rattle.controller_model.specs.LifeLaws.Acts.{ActsOn}
 use Rattle.controller_model.specs.LifeLaws.Concern.{FrameLeaves}
-use Rattle.controller_model.specs.LifeLaws.End.{IsThere, StaysSilent}
+use Rattle.controller_model.specs.LifeLaws.End.{IsThere, IsSilentThrough}
 use Rattle.controller_model.specs.LifeLaws.History.{connection_of}
 use Rattle.controller_model.specs.LifeLaws.Naming.{NamesItsMobile}
 use Rattle.controller_model.specs.LifeLaws.Numbers.{IsNumbered}
 use Rattle.controller_model.specs.LifeLaws.Owning.{LinkedOf}
 use Rattle.controller_model.specs.LifeLaws.Placing.{KeepsToChannels}
-use Rattle.controller_model.specs.LifeLaws.Reach.{GoesToUp}
+use Rattle.controller_model.specs.LifeLaws.Reach.{PutsOnUpLinks}
 use Rattle.controller_model.specs.Controller.{is_up}
 use Rattle.controller_model.specs.Life.{life}
 use Rattle.ipa_framing.specs.declared.frame.Frame.{Frame}
@@ -44,7 +44,7 @@ pub returns-clause-sent : goal.returns-clause-sent
 returns-clause-sent c = if_so _ _ c.live.result (λ both is. sent_of c.args.settings c.args.steps.items both.0 both.1.outs c.live.ensures.allowed is) c.live.ensures.life
 
 pub returns-clause-closed : goal.returns-clause-closed
-returns-clause-closed c = if_so _ _ c.live.result (λ both is. next_of (λ (d : Controller). (rest : List Step) (number : ℕ) → 1 ≤ number → number < d.next_number → (IsThere (connection_of d number) → ⊥) → StaysSilent number d rest) c.args.settings c.args.steps.items both.0 both.1.outs is (λ rest number from_one below over. stays_silent number (life c.args.settings c.args.steps.items).next rest from_one (life_fits c.args.settings c.args.steps.items number from_one) below over)) c.live.ensures.life
+returns-clause-closed c = if_so _ _ c.live.result (λ both is. next_of (λ (d : Controller). (rest : List Step) (number : ℕ) → 1 ≤ number → number < d.next_number → (IsThere (connection_of d number) → ⊥) → IsSilentThrough number d rest) c.args.settings c.args.steps.items both.0 both.1.outs is (λ rest number from_one below over. stays_silent number (life c.args.settings c.args.steps.items).next rest from_one (life_fits c.args.settings c.args.steps.items number from_one) below over)) c.live.ensures.life
 
 pub returns-clause-numbers : goal.returns-clause-numbers
 returns-clause-numbers c = if_so _ _ c.live.result (λ both is. next_of (λ (d : Controller). IsNumbered d) c.args.settings c.args.steps.items both.0 both.1.outs is ((life_fits c.args.settings c.args.steps.items 1 (omega arith)).numbered)) c.live.ensures.life
@@ -59,7 +59,7 @@ pub returns-clause-placed : goal.returns-clause-placed
 returns-clause-placed c = if_so _ _ c.live.result (λ both is. next_of (λ (d : Controller). (next : Step) (number : ℕ) → 1 ≤ number → KeepsToChannels number d next) c.args.settings c.args.steps.items both.0 both.1.outs is (λ next number from_one. life_placed c.args.settings c.args.steps.items next number c.live.ensures.allowed from_one)) c.live.ensures.life
 
 pub returns-clause-reach : goal.returns-clause-reach
-returns-clause-reach c = if_so _ _ c.live.result (λ both is. next_of (λ (d : Controller). (next : Step) → GoesToUp d next) c.args.settings c.args.steps.items both.0 both.1.outs is (λ next. life_reaches c.args.settings c.args.steps.items next c.live.ensures.allowed)) c.live.ensures.life
+returns-clause-reach c = if_so _ _ c.live.result (λ both is. next_of (λ (d : Controller). (next : Step) → PutsOnUpLinks d next) c.args.settings c.args.steps.items both.0 both.1.outs is (λ next. life_reaches c.args.settings c.args.steps.items next c.live.ensures.allowed)) c.live.ensures.life
 
 pub returns-clause-named : goal.returns-clause-named
 returns-clause-named c = if_so _ _ c.live.result (λ both is. next_of (λ (d : Controller). (next : Step) (number : ℕ) → 1 ≤ number → NamesItsMobile number d next) c.args.settings c.args.steps.items both.0 both.1.outs is (life_names c.args.settings c.args.steps.items)) c.live.ensures.life

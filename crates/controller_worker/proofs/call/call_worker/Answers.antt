@@ -3,7 +3,7 @@ use Rattle.link_workers.specs.declared.fault.IoFault.{IoFault}
 use Rattle.link_workers.specs.declared.fault.IoFault.TheVariants as faults
 use Rattle.controller_worker.specs.declared.worker.CallWorker.{CallWorker}
 use Rattle.controller_worker.specs.Call.{Runs}
-use Rattle.controller_worker.specs.Going.{State}
+use Rattle.controller_worker.specs.Advancing.{State}
 use Rattle.controller_worker.specs.Seen.{seen}
 use Rattle.controller_worker.proofs.Runs.{parts_of, runs_part, runs_whole}
 use Rattle.controller_worker.proofs.call.call_worker.Goals as goal

@@ -1,6 +1,6 @@
 use Rattle.std.proofs.Common.{[], ◌∷◌, ◌++◌}
 use Rattle.std.specs.Vec.Iter.{into_iter_items}
-use Rattle.controller_worker.specs.Going.{not_ended}
+use Rattle.controller_worker.specs.Advancing.{not_ended}
 use Rattle.controller_worker.proofs.Outputs.{all_both, next_done}
 use Rattle.controller_worker.proofs.sending.send_all.Goals as goal
 

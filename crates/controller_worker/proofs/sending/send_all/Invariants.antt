@@ -1,6 +1,6 @@
 use Rattle.std.proofs.Common.{◌≡◌, List, ◌++◌}
 use Rattle.std.specs.Vec.Iter.{into_iter_items}
-use Rattle.controller_worker.specs.Going.{SendsAll, not_ended}
+use Rattle.controller_worker.specs.Advancing.{SendsAll, not_ended}
 use Rattle.controller_worker.proofs.sending.send_all.Given as goal
 use Rattle.conn_messages.specs.declared.out.Out.{Out}
 

@@ -1,5 +1,5 @@
-use Rattle.link_model.proofs.Giving.{given-calls}
+use Rattle.link_model.proofs.Giving.{given_calls}
 use Rattle.link_model.proofs.laws.gives_in_order.Goals as goal
 
 pub returns : goal.returns
-returns c base calls = given-calls base calls
+returns c base calls = given_calls base calls

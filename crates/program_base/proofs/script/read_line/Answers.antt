@@ -6,7 +6,7 @@ use Rattle.program_base.specs.declared.line_fault.LineFault.TheVariants.{BadEven
 use Rattle.program_base.specs.WordsLeft.{is_space}
 use Rattle.program_base.specs.Script.{IsLine}
 use Rattle.program_base.specs.ScriptReading.{GivesEvent, line_at}
-use Rattle.program_base.proofs.Lines.{IsLine-read, read-IsLine}
+use Rattle.program_base.proofs.Lines.{IsLine-read, read_is_line}
 use Rattle.program_base.proofs.script.read_line.Goals as goal
 
 read_event : (cells : ℕ) (line : List ℕ) (result : Result Event LineFault) → GivesEvent result (line_at cells (slice_split is_space line)) → IfOk result (λ event. IsLine cells event line)
@@ -14,8 +14,8 @@ read_event cells line (Ok event) gives = IsLine-read cells line event gives
 read_event cells line (Err fault) gives = tt
 
 read_only : (cells : ℕ) (line : List ℕ) (result : Result Event LineFault) (event : Event) → GivesEvent result (line_at cells (slice_split is_space line)) → IsLine cells event line → (result ≡ Ok event) ⊎ (result ≡ Err Memory)
-read_only cells line (Ok other) event gives is = let same = read-IsLine cells line event is in inl cc
-read_only cells line (Err BadEvent) event gives is = let same = read-IsLine cells line event is in absurd cc
+read_only cells line (Ok other) event gives is = let same = read_is_line cells line event is in inl cc
+read_only cells line (Err BadEvent) event gives is = let same = read_is_line cells line event is in absurd cc
 read_only cells line (Err Memory) event gives is = inr refl
 
 memory_by : (cells : ℕ) (line : List ℕ) (said : Option Event) → line_at cells (slice_split is_space line) ≡ said → IsSome said → (event : Event) × IsLine cells event line

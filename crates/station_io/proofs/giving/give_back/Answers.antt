@@ -2,7 +2,7 @@ use Rattle.std.proofs.Common.{◌≡◌, List, sym, ◌∙◌, ap, arith, map, s
 use Rattle.std.specs.Vec.Iter.{into_iter_items, into_iter_len}
 use Rattle.ruled_relay.specs.Inbox.{AreJoined, PassView}
 use Rattle.station_io.proofs.Pairing.{counts, none_left}
-use Rattle.station_io.proofs.GivingBack.{gives_none, next_queue, gives_next, gives_all}
+use Rattle.station_io.proofs.GivingBack.{gives_none, gives_next, gives_all}
 use Rattle.station_io.proofs.giving.give_back.Goals as goal
 
 pub loop-read-init : goal.loop-read-init

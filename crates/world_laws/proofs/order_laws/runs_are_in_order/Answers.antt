@@ -1,5 +1,5 @@
-use Rattle.world_laws.proofs.Order.Whole.{runs-are-in-order}
+use Rattle.world_laws.proofs.Order.Whole.{runs_are_in_order}
 use Rattle.world_laws.proofs.order_laws.runs_are_in_order.Goals as goal
 
 pub returns : goal.returns
-returns c = runs-are-in-order
+returns c = runs_are_in_order

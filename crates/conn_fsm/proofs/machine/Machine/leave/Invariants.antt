@@ -1,5 +1,5 @@
 use Rattle.std.proofs.Common.{◌≡◌, ◌+◌, length}
-use Rattle.conn_rules.specs.Standing.{FirstIsEmpty}
+use Rattle.conn_rules.specs.Validity.{FirstIsEmpty}
 use Rattle.conn_fsm.specs.Leaving.{left}
 use Rattle.conn_fsm.proofs.machine.Machine.leave.Given as goal
 

@@ -1,5 +1,5 @@
 use Rattle.std.proofs.Common.{◌≡◌, replicate}
-use Rattle.controller_worker.specs.Going.{unmarked}
+use Rattle.controller_worker.specs.Advancing.{unmarked}
 use Rattle.controller_worker.proofs.mark.Marks.new.Given as goal
 
 abbrev pub invariant-loop : goal.invariant-loop

@@ -1,9 +1,9 @@
 use Rattle.std.proofs.Common.{◌≡◌, []}
-use Rattle.controller_worker.specs.Going.{Goes, Stands}
+use Rattle.controller_worker.specs.Advancing.{Advances, IsValid}
 use Rattle.controller_worker.specs.Seen.{seen}
 use Rattle.controller_worker.proofs.worker.CallWorker.add_downs.Given as goal
 
 abbrev pub invariant-loop : goal.invariant-loop
 invariant-loop g l =
     (goal.iterator-loop g).can_next l.iterator' × (goal.iterator-loop g).is_finite l.iterator'
-    × Goes [] (seen g.K.Clock.told l.fn.self) (seen g.K.Clock.told l.self) × Stands (seen g.K.Clock.told l.self) × (l.self.gathered ≡ l.fn.self.gathered)
+    × Advances [] (seen g.K.Clock.told l.fn.self) (seen g.K.Clock.told l.self) × IsValid (seen g.K.Clock.told l.self) × (l.self.gathered ≡ l.fn.self.gathered)

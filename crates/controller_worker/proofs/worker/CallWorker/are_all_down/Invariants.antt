@@ -1,5 +1,5 @@
 use Rattle.std.proofs.Common.{◌≡◌, ℕ, ◌<◌, true}
-use Rattle.controller_worker.specs.Going.{mark_at}
+use Rattle.controller_worker.specs.Advancing.{mark_at}
 use Rattle.controller_worker.proofs.worker.CallWorker.are_all_down.Given as goal
 
 abbrev pub invariant-loop-mark : goal.invariant-loop-mark

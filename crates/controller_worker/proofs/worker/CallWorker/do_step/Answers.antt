@@ -1,6 +1,6 @@
 use Rattle.std.proofs.Common.{refl, sym, ap, subst}
 use Rattle.std.proofs.lemmas.Bool.{false≢true}
-use Rattle.controller_worker.specs.Going.{DoesStep}
+use Rattle.controller_worker.specs.Advancing.{DoesStep}
 use Rattle.controller_worker.specs.Seen.{seen}
 use Rattle.controller_worker.proofs.Turns.{does_nothing, does_sent, stands_on}
 use Rattle.controller_worker.proofs.worker.CallWorker.do_step.Goals as goal

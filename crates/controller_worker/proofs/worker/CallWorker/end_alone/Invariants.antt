@@ -1,4 +1,4 @@
-use Rattle.controller_worker.specs.Going.{Ends}
+use Rattle.controller_worker.specs.Advancing.{Ends}
 use Rattle.controller_worker.specs.Seen.{seen}
 use Rattle.controller_worker.proofs.worker.CallWorker.end_alone.Given as goal
 

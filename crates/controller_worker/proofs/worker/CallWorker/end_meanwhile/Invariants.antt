@@ -1,10 +1,10 @@
 use Rattle.std.proofs.Common.{◌≡◌, [], length}
-use Rattle.controller_worker.specs.Going.{Finishes, Goes}
+use Rattle.controller_worker.specs.Advancing.{Finishes, Advances}
 use Rattle.controller_worker.specs.Seen.{seen}
 use Rattle.controller_worker.proofs.worker.CallWorker.end_meanwhile.Given as goal
 
 abbrev pub invariant-loop : goal.invariant-loop
 invariant-loop g l =
     (goal.iterator-loop g).can_next l.iterator' × (goal.iterator-loop g).is_finite l.iterator'
-    × Goes [] (seen g.K.Clock.told l.fn.self) (seen g.K.Clock.told l.self) × Finishes (seen g.K.Clock.told l.self)
+    × Advances [] (seen g.K.Clock.told l.fn.self) (seen g.K.Clock.told l.self) × Finishes (seen g.K.Clock.told l.self)
     × (length l.self.desk ≡ length l.self.putters.items) × (length l.self.marks.items ≡ length l.self.putters.items)

@@ -1,5 +1,5 @@
 use Rattle.std.proofs.Common.{◌≡◌, vec_len}
-use Rattle.controller_worker.specs.Going.{Ends}
+use Rattle.controller_worker.specs.Advancing.{Ends}
 use Rattle.controller_worker.specs.Seen.{seen}
 use Rattle.controller_worker.proofs.worker.CallWorker.put_ends.Given as goal
 

@@ -1,5 +1,5 @@
 use Rattle.std.proofs.Common.{[], refl, sym, subst, arith}
-use Rattle.controller_worker.specs.Going.{GoesPart}
+use Rattle.controller_worker.specs.Advancing.{AdvancesPartly}
 use Rattle.controller_worker.specs.Seen.{seen}
 use Rattle.controller_worker.specs.Taking.{HasTaken}
 use Rattle.controller_worker.proofs.Courses.{by_err, goes_both, goes_both_part, goes_still, taken_none}
@@ -14,7 +14,7 @@ returns-in_default-clause-goes g c =
 pub returns-in_err-do_step-clause-goes : goal.returns-in_err-do_step-clause-goes
 returns-in_err-do_step-clause-goes g c =
     by_err c.from_residual.result (seen g.K.Clock.told c.args.self.now) (seen g.K.Clock.told c.do_step.new.self) c.from_residual.ensures.0
-    (subst (λ y. GoesPart (seen g.K.Clock.told c.args.self.now) y) (sym c.in_err-do_step.ensures.err)
+    (subst (λ y. AdvancesPartly (seen g.K.Clock.told c.args.self.now) y) (sym c.in_err-do_step.ensures.err)
     (goes_lost (seen g.K.Clock.told c.args.self.now) c.take.new.self c.in-Some.item c.in-Some.ensures.same c.in-Some.ensures.takes))
 
 pub note-requires : goal.note-requires

@@ -1,6 +1,6 @@
 use Rattle.std.proofs.Common.{[], ◌<◌, sym, subst}
 use Rattle.controller_worker.specs.declared.limits.TheConstants.{TICK_MS}
-use Rattle.controller_worker.specs.Going.{Goes, IsSettled, Stands}
+use Rattle.controller_worker.specs.Advancing.{Advances, IsSettled, IsValid}
 use Rattle.controller_worker.specs.Seen.{seen}
 use Rattle.controller_worker.proofs.Courses.{by_err, goes_both, goes_both_part, goes_none}
 use Rattle.controller_worker.proofs.worker.CallWorker.take_all.Goals as goal
@@ -17,9 +17,9 @@ pub loop-preserved-then-not-branch : goal.loop-preserved-then-not-branch
 loop-preserved-then-not-branch g c = (
   tt,
   tt,
-  subst (λ y. Goes [] (seen g.K.Clock.told c.args.self.now) y) (sym c.sleep.ensures)
+  subst (λ y. Advances [] (seen g.K.Clock.told c.args.self.now) y) (sym c.sleep.ensures)
       (goes_both [] (seen g.K.Clock.told c.args.self.now) (seen g.K.Clock.told c.loop.self) (seen g.K.Clock.told c.turn.new.self) c.loop.invariant.2 c.in_ok-turn.ensures.goes),
-  subst (λ y. Stands y) (sym c.sleep.ensures) c.in_ok-turn.ensures.stands,
+  subst (λ y. IsValid y) (sym c.sleep.ensures) c.in_ok-turn.ensures.stands,
   subst (λ y. IsSettled y) (sym c.sleep.ensures) c.in_ok-turn.ensures.settled,
   subst (λ y. y.gathered < TICK_MS) (sym c.sleep.ensures) c.in_ok-turn.ensures.gathered,
 )

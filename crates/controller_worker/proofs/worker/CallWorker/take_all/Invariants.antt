@@ -1,10 +1,10 @@
 use Rattle.std.proofs.Common.{◌<◌, []}
 use Rattle.controller_worker.specs.declared.limits.TheConstants.{TICK_MS}
-use Rattle.controller_worker.specs.Going.{Goes, IsSettled, Stands}
+use Rattle.controller_worker.specs.Advancing.{Advances, IsSettled, IsValid}
 use Rattle.controller_worker.specs.Seen.{seen}
 use Rattle.controller_worker.proofs.worker.CallWorker.take_all.Given as goal
 
 abbrev pub invariant-loop : goal.invariant-loop
 invariant-loop g l =
     (goal.iterator-loop g).can_next l.iterator' × (goal.iterator-loop g).is_finite l.iterator'
-    × Goes [] (seen g.K.Clock.told l.fn.self) (seen g.K.Clock.told l.self) × Stands (seen g.K.Clock.told l.self) × IsSettled (seen g.K.Clock.told l.self) × (l.self.gathered < TICK_MS)
+    × Advances [] (seen g.K.Clock.told l.fn.self) (seen g.K.Clock.told l.self) × IsValid (seen g.K.Clock.told l.self) × IsSettled (seen g.K.Clock.told l.self) × (l.self.gathered < TICK_MS)

@@ -10,7 +10,7 @@ use Rattle.ho_decision.specs.State.{State}
 use Rattle.ho_decision.specs.Average.{average}
 use Rattle.ho_decision.specs.Measure.{value_of}
 use Rattle.ho_decision.specs.Sums.{level_in_window}
-use Rattle.ho_decision.proofs.Levels.{level-average}
+use Rattle.ho_decision.proofs.Levels.{level_average}
 use Rattle.ho_decision.proofs.averages.Averages.level_at.Goals as goal
 
 pub returns : goal.returns
@@ -27,4 +27,4 @@ returns c =
     let within : place < length levels = omega (arith, inside, ap (λ (xs : List Averaged). length xs) same, length-map levels of, length-map s.cells (level_in_window s)) in
     let of_is : sum.of ≡ level_in_window s cell = ap of c.index.ensures ∙ sym (get_or-map of levels place sum sum.of within) ∙ ap (λ xs. get_or xs place sum.of) same ∙ get_or-map (level_in_window s) s.cells place (record { arfcn = 0; bsic = 0 }) sum.of inside in
     rw (← c.self.view_is)
-    (c.average.ensures ∙ ap (λ (o : Averaged). average (value_of o.measure) o.window reports) of_is ∙ level-average s reports cell)
+    (c.average.ensures ∙ ap (λ (o : Averaged). average (value_of o.measure) o.window reports) of_is ∙ level_average s reports cell)

@@ -1,5 +1,5 @@
 use Rattle.world_actors.proofs.Prelude.{◌≡◌, sym, ◌∙◌, Some, subst, Takes, Actors}
-use Rattle.world_model.specs.Mobiles.{after_air_down_lost, unheard}
+use Rattle.world_model.specs.Mobiles.{after_air_down_lost, ignored}
 use Rattle.world_actors.specs.contracts.network.Network.{the_view}
 use Rattle.world_actors.specs.Seats.{reached_by}
 use Rattle.world_actors.proofs.Airing.{down_unreached, lost_takes}
@@ -7,7 +7,7 @@ use Rattle.world_actors.proofs.Sitting.{reaches}
 use Rattle.world_actors.proofs.network.Network.air_down_lost.Goals as goal
 
 pub returns-in_default : goal.returns-in_default
-returns-in_default c = down_unreached c.args.self.now c.args.mobile unheard (sym c.reached_by.ensures ∙ c.in_default.is)
+returns-in_default c = down_unreached c.args.self.now c.args.mobile ignored (sym c.reached_by.ensures ∙ c.in_default.is)
 
 pub returns : goal.returns
 returns c =

@@ -1,4 +1,4 @@
-use Rattle.world_actors.proofs.Prelude.{◌≡◌, OnOk, subst, channel_required, told, Actors}
+use Rattle.world_actors.proofs.Prelude.{◌≡◌, OnOk, subst, channel_required, with_message_made, Actors}
 use Rattle.world_actors.specs.contracts.network.Network.{the_view}
 use Rattle.world_actors.proofs.Coming.{ask_puts, required_written}
 use Rattle.world_actors.proofs.network.Network.ask.Goals as goal
@@ -8,5 +8,5 @@ tell-requires-clause-written c = required_written c.random_access.result c.args.
 
 pub returns : goal.returns
 returns c =
-    subst (λ (w : Actors). OnOk c.tell.result (record (the_view c.self.inside) { stations = c.tell.new.self } ≡ told c.args.station (channel_required c.args.mobile) w)) c.self.view_is
+    subst (λ (w : Actors). OnOk c.tell.result (record (the_view c.self.inside) { stations = c.tell.new.self } ≡ with_message_made c.args.station (channel_required c.args.mobile) w)) c.self.view_is
     (ask_puts c.tell.result (the_view c.self.inside) c.args.station c.random_access.result c.args.mobile c.tell.new.self c.random_access.ensures c.tell.ensures)

@@ -1,8 +1,7 @@
-use Rattle.std.proofs.Common.{◌≡◌, ℕ, List, set, slice_get, Bool, Option, Some, Result, IfOk, IsSome, OnOk, OnErr, unwrap_or, subst, sym}
-use Rattle.std.specs.Option.{option_and_then}
+use Rattle.std.proofs.Common.{◌≡◌, set, slice_get, Some, subst, sym}
 use Rattle.world_model.specs.Takes.{Takes}
 use Rattle.world_ends.specs.MobilesState.{MobilesState}
-use Rattle.world_ends.specs.Mobiles.{by_mobile, mobile_in, place_in, acknowledging}
+use Rattle.world_ends.specs.Mobiles.{by_mobile, place_in, acknowledging}
 use Rattle.world_ends.specs.contracts.mobiles.Mobiles.{the_view}
 use Rattle.world_ends.proofs.Places.{is_there, takes_found}
 use Rattle.world_ends.proofs.mobiles.Mobiles.acknowledge.Goals as goal

@@ -1,6 +1,5 @@
-use Rattle.std.proofs.Common.{◌≡◌, ℕ, List, set, slice_get, Bool, Option, Some, Result, IfOk, IsSome, OnOk, OnErr, unwrap_or, subst, sym}
+use Rattle.std.proofs.Common.{◌≡◌, set, slice_get, Some, IsSome, OnOk, OnErr, unwrap_or, subst, sym}
 use Rattle.std.specs.Option.{option_and_then}
-use Rattle.world_model.specs.Takes.{Takes}
 use Rattle.world_ends.specs.MobilesState.{MobilesState}
 use Rattle.world_ends.specs.Mobiles.{by_mobile, mobile_in, place_in, frame_of, taking}
 use Rattle.world_ends.specs.contracts.mobiles.Mobiles.{the_view}

@@ -1,12 +1,15 @@
 -- How a connection of a run fares: it lives, lined up with its mobile, or it ended, or the switch
 -- never heard of it.
-use Rattle.std.specs.Prelude.{◌≡◌, ◌⊎◌, ℕ, ◌≤◌, ◌<◌, ◌==◌, false, if◌then◌else◌, List, [], ◌∷◌, find, Option, Some, None}
+use Rattle.std.specs.Prelude.{◌≡◌, ◌⊎◌, ℕ, ◌≤◌, ◌<◌, ◌==◌, false, if◌then◌else◌, List, [], ◌∷◌}
+use Rattle.std.specs.Prelude.{find, Option, Some, None}
 use Rattle.std.specs.List.{flat_map, AllByRecursion}
-use Rattle.world_laws.specs.Prelude.{Place, State, WaitConfirm, Closed, Removed, Connection, target_in, undone, used_channels, IsThere}
+use Rattle.world_laws.specs.Prelude.{Place, State, WaitConfirm, Closed, Removed, Connection}
+use Rattle.world_laws.specs.Prelude.{target_in, undone, used_channels, IsThere}
 use Rattle.world_laws.specs.Prelude.{connection_of, place_of, sapi_of, Rsl, Actors, Mobile}
 use Rattle.world_laws.specs.LineUp.Places.{Item, messages_in, controls_in}
 use Rattle.rsl_codec.specs.declared.rsl.Rsl.TheVariants.{EstablishIndication}
-use Rattle.world_laws.specs.Acknowledged.{acknowledgements_up, messages_up, NoneReleases, ReleasesLast}
+use Rattle.world_laws.specs.Acknowledged.{acknowledgements_up, messages_up, NoneReleases}
+use Rattle.world_laws.specs.Acknowledged.{ReleasesLast}
 use Rattle.world_laws.specs.ComingUp.{coming_up, of_establishment}
 use Rattle.world_laws.specs.Ended.{HasEnded}
 use Rattle.world_laws.specs.GoingDown.{going_down}
@@ -22,8 +25,10 @@ use Rattle.world_laws.specs.Staying.{AreLinedUp}
 -- The acknowledgements on their way agree with the roles of its channels: an RF CHANNEL RELEASE ACK
 -- is the last of an old channel, and there is none of another.
 pub record AcksAgree (w : Actors) (s : Connection) : Type 0 where
-  pub old_end : AllByRecursion (λ c. ReleasesLast (acknowledgements_up w (place_of c))) (undone s.draining)
-  pub others_go_on : AllByRecursion (λ c. NoneReleases (acknowledgements_up w (place_of c))) (s.serving ∷ target_in s.state)
+  pub old_end : AllByRecursion (λ c. ReleasesLast (acknowledgements_up w (place_of c)))
+      (undone s.draining)
+  pub others_go_on : AllByRecursion (λ c. NoneReleases (acknowledgements_up w (place_of c)))
+      (s.serving ∷ target_in s.state)
 
 -- what came of a target has COMPLETE in it
 abbrev pub IsLed : List Item → Type 0
@@ -32,14 +37,17 @@ IsLed items = (messages_in items ≡ []) ⊎ (1 ≤ controls_in items)
 -- Nothing came of a target before the COMMAND, and no command is on its way there; from the COMMAND
 -- on COMPLETE comes first.
 pub record TargetIsFresh (w : Actors) (s : Connection) : Type 0 where
-  pub silent : AllByRecursion (λ c. messages_in (coming_up w (place_of c)) ≡ []) (awaited_in s.state)
+  pub silent : AllByRecursion (λ c. messages_in (coming_up w (place_of c))
+      ≡ []) (awaited_in s.state)
   pub uncommanded : AllByRecursion (λ c. going_down w (place_of c) ≡ []) (awaited_in s.state)
-  pub led : AllByRecursion (λ c. IsLed (coming_up w (place_of c))) (commanded_channels (commanded_target s.state))
+  pub led : AllByRecursion (λ c. IsLed (coming_up w (place_of c)))
+      (commanded_channels (commanded_target s.state))
 
 -- ---- the initial message comes once
 
 abbrev pub initial_by : ℕ → Rsl → List (List ℕ)
-initial_by channel (EstablishIndication e) = if e.channel == channel then messages_in (of_establishment (sapi_of e.link) e.l3) else []
+initial_by channel (EstablishIndication e) =
+    if e.channel == channel then messages_in (of_establishment (sapi_of e.link) e.l3) else []
 initial_by channel _ = []
 
 -- the initial messages on their way up from a channel
@@ -55,7 +63,7 @@ pub record HasOpened (w : Actors) (p : Mobile) (s : Connection) : Type 0 where
 
 -- It asked the switch for its connection, is open, and is lined up with the mobile that asked for
 -- it.
-pub record Lives (m : ℕ) (w : Actors) (mobile : ℕ) (s : Connection) : Type 0 where
+pub record IsOpenAndLinedUp (m : ℕ) (w : Actors) (mobile : ℕ) (s : Connection) : Type 0 where
   pub had : IsHad w s
   pub requested : IsRequested s.state
   pub asked : s.request.access ≡ mobile
@@ -75,14 +83,15 @@ IsUnconfirmed None = Unit {0}
 IsUnconfirmed (Some s) = IsBeyondAsking s.state
 
 -- The switch has no connection for it, nothing of it waits for the switch, and nothing will.
-pub record IsUnheard (w : Actors) (number : ℕ) : Type 0 where
+pub record IsUnknownForGood (w : Actors) (number : ℕ) : Type 0 where
   pub past : number < w.controller.next_number
   pub none_taken : find (is_of_peer number) w.switch.connections ≡ None
   pub none_waits : waiting_of w number ≡ []
   pub unconfirmed : IsUnconfirmed (connection_of w.controller number)
 
 -- it lives, or ended in order, or the switch never hears of it
-pub data Fares (m : ℕ) (w : Actors) (mobile number : ℕ) : Type 0 where
-  lives : (s : Connection) → s.number ≡ number → Lives m w mobile s → Fares m w mobile number
-  ended : number < w.controller.next_number → (IsThere (connection_of w.controller number) → ⊥) → HasEnded m w mobile number → Fares m w mobile number
-  unheard : IsUnheard w number → Fares m w mobile number
+pub data IsAccountedFor (m : ℕ) (w : Actors) (mobile number : ℕ) : Type 0 where
+  lives : (s : Connection) → s.number ≡ number → IsOpenAndLinedUp m w mobile s → IsAccountedFor m w mobile number
+  ended : number < w.controller.next_number → (IsThere (connection_of w.controller number) → ⊥)
+      → HasEnded m w mobile number → IsAccountedFor m w mobile number
+  unheard : IsUnknownForGood w number → IsAccountedFor m w mobile number

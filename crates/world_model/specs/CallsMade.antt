@@ -18,12 +18,13 @@ place_in (Moving from command) = places.Moving
 place_in seat = places.OnChannel
 
 -- all that happened to its end are these calls of it, with numbers modulo m
-pub record Lives (m : ℕ) (calls : List Call) (p : Mobile) : Type 0 where
+pub record HasMadeCalls (m : ℕ) (calls : List Call) (p : Mobile) : Type 0 where
   pub is : p.end ≡ after_calls (new_mobile m) calls
   pub place : p.end.place ≡ place_in p.seat
 
 -- the calls are those of the run, in order
 abbrev pub MobilesLive : Parameters → List Event → Type 0
 MobilesLive settings events =
-    (number : ℕ) (p : Mobile) → mobile_of (actors_after_all (new_actors settings) events) number ≡ Some p
-    → Lives (modulus_in settings) (all_calls (new_actors settings) events number) p
+    (number : ℕ) (p : Mobile) → mobile_of (actors_after_all (new_actors settings) events) number
+    ≡ Some p
+    → HasMadeCalls (modulus_in settings) (all_calls (new_actors settings) events number) p

@@ -101,7 +101,7 @@ pub record DoesStep (s : Step) (old new : State) : Type 0 where
   pub kept : new ≡ record old { controller = new.controller; putters = new.putters }
 
 -- what fitted before fits with this behind it
-pub record GoesOn (old new : State) (link : ℕ) (frames : List Frame) (stepped taken : List What)
+pub record Extends (old new : State) (link : ℕ) (frames : List Frame) (stepped taken : List What)
     (before after : PutterView) : Type 0 where
   pub queue : after.queue ≡ before.queue
   pub fits : (fs : List Frame) (ss ts : List What)
@@ -110,7 +110,7 @@ pub record GoesOn (old new : State) (link : ℕ) (frames : List Frame) (stepped 
       (fs ++ frames) (ss ++ stepped) (ts ++ taken)
 
 -- from one state to a later one, where the last items taken are not in the steps
-pub record Goes (last : List Item) (old new : State) : Type 0 where
+pub record Advances (last : List Item) (old new : State) : Type 0 where
   pub steps : List Step
   pub controller : new.controller ≡ (over old.controller steps).next
   pub items : List Item
@@ -121,21 +121,21 @@ pub record Goes (last : List Item) (old new : State) : Type 0 where
       → (mark_at old.marks link).down ≡ true → (mark_at new.marks link).down ≡ true
   pub links : EachAt new.putters (λ link p.
       (before : PutterView) × (get_elem? old.putters link ≡ some before)
-      × GoesOn old new link (frames_to link (over old.controller steps).outs)
+      × Extends old new link (frames_to link (over old.controller steps).outs)
       (whats_of link (items_of steps)) (whats_of link items) before p)
 
 -- the same up to a step that ran out of memory
-abbrev pub GoesPart : State → State → Type 0
-GoesPart old new = (last : List Item) × (length last ≤ 1) × Goes last old new
+abbrev pub AdvancesPartly : State → State → Type 0
+AdvancesPartly old new = (last : List Item) × (length last ≤ 1) × Advances last old new
 
 -- from one state to a later one, or up to a step that ran out of memory
 abbrev pub GoesOrStops : {X E : Type 0} → Result X E → State → State → Type 0
-GoesOrStops result old new = MatchResult result (λ _. Goes [] old new) (λ _. GoesPart old new)
+GoesOrStops result old new = MatchResult result (λ _. Advances [] old new) (λ _. AdvancesPartly old new)
 
 -- ---- what holds between calls
 
 -- Each source has an outbox and a mark. Once an outbox has its End, steps put nothing.
-pub record Stands (s : State) : Type 0 where
+pub record IsValid (s : State) : Type 0 where
   pub sources : length s.desk ≡ length s.putters
   pub marks : length s.marks ≡ length s.putters
   pub rest : 0 < s.ended → is_at_rest s.controller ≡ true
@@ -171,7 +171,7 @@ pub record Ends (old new : State) : Type 0 where
   pub count : length new.putters ≡ length old.putters
   pub links : EachAt new.putters (λ link p.
       (before : PutterView) × (get_elem? old.putters link ≡ some before)
-      × GoesOn old new link [] [] [] before p)
+      × Extends old new link [] [] [] before p)
   pub settled : IsSettled old → IsSettled new
 
 -- the mark was put behind all that was put, or refused

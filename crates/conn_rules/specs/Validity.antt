@@ -10,7 +10,8 @@ use Rattle.conn_rules.specs.declared.state.ShortMessageLink.TheVariants.{Down, A
 use Rattle.conn_rules.specs.declared.state.Stage.{Stage}
 use Rattle.conn_rules.specs.declared.state.Stage.TheVariants.{Active, Preparing, Changing, Draining}
 use Rattle.conn_rules.specs.declared.state.State.{State}
-use Rattle.conn_rules.specs.declared.state.State.TheVariants.{WaitActivation, WaitEstablish, WaitConfirm, Live, Closed, Removed}
+use Rattle.conn_rules.specs.declared.state.State.TheVariants.{WaitActivation, WaitEstablish}
+use Rattle.conn_rules.specs.declared.state.State.TheVariants.{WaitConfirm, Live, Closed, Removed}
 use Rattle.conn_rules.specs.Connection.{Connection}
 use Rattle.bssmap_codec.specs.Layer3.{IsLayer3}
 use Rattle.hold_queue.specs.ChainState.{Tenure, empty_tenure, chain_count}
@@ -45,49 +46,60 @@ IsAskedFor Asked three = Unit {0}
 IsAskedFor _ three = three ≡ []
 
 -- how many old channels a stage has, what its holds have, and where a request waits
-abbrev pub StandsIn : Stage → List Drain → HoldState → ShortMessageLink → Bool → Type 0
-StandsIn Active draining down link waits = (draining ≡ []) × (down.zero ≡ []) × IsAskedFor link down.three × (waits ≡ false)
-StandsIn (Preparing target) draining down link waits = (length draining < DRAIN_LIMIT) × (down.zero ≡ []) × IsAskedFor link down.three
-StandsIn (Changing target) draining down link waits = (length draining < DRAIN_LIMIT) × (link ≡ Down)
-StandsIn Draining draining down link waits =
-    (1 ≤ length draining) × (length draining ≤ DRAIN_LIMIT) × (down.zero ≡ []) × IsAskedFor link down.three × (waits ≡ true → length draining ≡ DRAIN_LIMIT)
+abbrev pub IsValidStage : Stage → List Drain → HoldState → ShortMessageLink → Bool → Type 0
+IsValidStage Active draining down link waits =
+    (draining ≡ []) × (down.zero ≡ []) × IsAskedFor link down.three × (waits ≡ false)
+IsValidStage (Preparing target) draining down link waits =
+    (length draining < DRAIN_LIMIT) × (down.zero ≡ []) × IsAskedFor link down.three
+IsValidStage (Changing target) draining down link waits =
+    (length draining < DRAIN_LIMIT) × (link ≡ Down)
+IsValidStage Draining draining down link waits =
+    (1 ≤ length draining) × (length draining ≤ DRAIN_LIMIT) × (down.zero ≡ [])
+    × IsAskedFor link down.three × (waits ≡ true → length draining ≡ DRAIN_LIMIT)
 
 -- nothing is held, and nothing drains
-pub record IsBare (draining : List Drain) (down : HoldState) (tenures : List Tenure) (waits : Bool) : Type 0 where
+pub record IsBare (draining : List Drain) (down : HoldState) (tenures : List Tenure)
+    (waits : Bool) : Type 0 where
   pub none_drains : draining ≡ []
   pub none_handed : count down ≡ 0
   pub one_tenure : tenures ≡ empty_tenure ∷ []
   pub none_waits : waits ≡ false
 
 -- the mobile's messages wait for the switch
-pub record Awaits (draining : List Drain) (down : HoldState) (tenures : List Tenure) (link : ShortMessageLink) (waits : Bool) : Type 0 where
+pub record Awaits (draining : List Drain) (down : HoldState) (tenures : List Tenure)
+    (link : ShortMessageLink) (waits : Bool) : Type 0 where
   pub none_drains : draining ≡ []
   pub none_handed : count down ≡ 0
   pub one_tenure : length tenures ≡ 1
   pub down_link : link ≡ Down
   pub none_waits : waits ≡ false
 
-pub record IsLive (stage : Stage) (draining : List Drain) (down : HoldState) (tenures : List Tenure) (link : ShortMessageLink) (waits : Bool) : Type 0 where
+pub record IsLive (stage : Stage) (draining : List Drain) (down : HoldState) (tenures : List Tenure)
+    (link : ShortMessageLink) (waits : Bool) : Type 0 where
   pub a_tenure_each : length tenures ≡ length draining + 1
   pub first : FirstIsEmpty tenures
   pub oldest : OldestDrains draining
-  pub stands : StandsIn stage draining down link waits
+  pub stands : IsValidStage stage draining down link waits
 
-abbrev pub StandsBy : State → List Drain → HoldState → List Tenure → ShortMessageLink → Bool → Type 0
-StandsBy WaitActivation draining down tenures link waits = IsBare draining down tenures waits × (link ≡ Down)
-StandsBy WaitEstablish draining down tenures link waits = IsBare draining down tenures waits × (link ≡ Down)
-StandsBy WaitConfirm draining down tenures link waits = Awaits draining down tenures link waits
-StandsBy (Live reference stage) draining down tenures link waits = IsLive stage draining down tenures link waits
-StandsBy (Closed clearing) draining down tenures link waits = IsBare draining down tenures waits
-StandsBy Removed draining down tenures link waits = IsBare draining down tenures waits
+abbrev pub IsValidState : State → List Drain → HoldState → List Tenure → ShortMessageLink → Bool
+    → Type 0
+IsValidState WaitActivation draining down tenures link waits =
+    IsBare draining down tenures waits × (link ≡ Down)
+IsValidState WaitEstablish draining down tenures link waits =
+    IsBare draining down tenures waits × (link ≡ Down)
+IsValidState WaitConfirm draining down tenures link waits = Awaits draining down tenures link waits
+IsValidState (Live reference stage) draining down tenures link waits =
+    IsLive stage draining down tenures link waits
+IsValidState (Closed clearing) draining down tenures link waits = IsBare draining down tenures waits
+IsValidState Removed draining down tenures link waits = IsBare draining down tenures waits
 
 -- the drain time runs only while a channel drains
 abbrev pub DrainTime : List Drain → ℕ → Type 0
 DrainTime [] drained = drained ≡ 0
 DrainTime (d ∷ ds) drained = Unit {0}
 
-pub record Stands (s : Connection) : Type 0 where
-  pub state : StandsBy s.state s.draining s.down s.up.tenures s.link s.waits
+pub record IsValid (s : Connection) : Type 0 where
+  pub state : IsValidState s.state s.draining s.down s.up.tenures s.link s.waits
   pub down_limit : s.down.limit ≡ DOWN_LIMIT
   pub up_limit : s.up.limit ≡ UP_LIMIT
   pub down_within : count s.down ≤ DOWN_LIMIT
