@@ -12,8 +12,8 @@ use Rattle.conn_rules.specs.Validity.{DrainTime, IsCarried, IsValid}
 use Rattle.conn_rules.specs.Steps.{Row}
 use Rattle.conn_rules.specs.Streams.{OfRow}
 use Rattle.conn_rules.specs.Table.{row_if, row_of}
-use Rattle.conn_rules.proofs.StandingTable.{Stands-row}
-use Rattle.conn_rules.proofs.StandingSteps.{Stands-new}
+use Rattle.conn_rules.proofs.StandingTable.{IsValid-row}
+use Rattle.conn_rules.proofs.StandingSteps.{IsValid-new}
 use Rattle.rsl_codec.specs.declared.values.RequestReference.{RequestReference}
 use Rattle.conn_fsm.specs.Doing.{Closes, Commits, Does, Finishes, IsPlanned, Plans, IsUnchanged, Steps}
 use Rattle.conn_rules.specs.Timers.{after_pass, drained_after}
@@ -26,7 +26,7 @@ stands_by None fits old new outs outs_after stands next done = subst IsValid (sy
 pub step_stands : (input : Input) (offer : Option Channel) (fits : Bool) (old new : Connection) (outs outs_after : List Out) →
     IsValid old → IsCarried input → Steps (row_of old input offer) fits old new outs outs_after → IsValid new
 step_stands input offer fits old new outs outs_after stands carried done =
-    stands_by (row_of old input offer) fits old new outs outs_after stands (Stands-row old input offer stands carried) done
+    stands_by (row_of old input offer) fits old new outs outs_after stands (IsValid-row old input offer stands carried) done
 
 pub stays_stands : (old new : Connection) (outs outs_after : List Out) → IsValid old → IsUnchanged old new outs outs_after → IsValid new
 stays_stands old new outs outs_after stands stays = subst IsValid (sym stays.0) stands
@@ -44,7 +44,7 @@ commits_by None old new outs stands next done = subst IsValid (sym done.0) stand
 
 pub commit_stands : (input : Input) (old new : Connection) (outs : List Out) → IsValid old → IsPlanned input → Commits (row_of old input None) old new outs → IsValid new
 commit_stands input old new outs stands planned done =
-    commits_by (row_of old input None) old new outs stands (Stands-row old input None stands (planned_carried input planned)) done
+    commits_by (row_of old input None) old new outs stands (IsValid-row old input None stands (planned_carried input planned)) done
 
 -- ---- plans
 
@@ -66,7 +66,7 @@ committed None made (Some r) s new plans closes = absurd plans.1
 -- ---- beginnings, and time
 
 pub new_stands : (number : ℕ) (channel : Channel) (request : RequestReference) (delay : ℕ) → IsValid (new_connection number channel request delay)
-new_stands number channel request delay = Stands-new number channel request delay
+new_stands number channel request delay = IsValid-new number channel request delay
 
 drain_time : (ms : ℕ) (draining : List Drain) (drained : ℕ) → DrainTime draining drained → DrainTime draining (drained_after ms draining drained)
 drain_time ms [] drained time = time

@@ -43,8 +43,8 @@ stands_of s state down up time = record {
 
 -- ---- states that aren't live
 
-pub Stands-new : (number : ℕ) (channel : Channel) (request : _) (delay : ℕ) → IsValid (new_connection number channel request delay)
-Stands-new number channel request delay =
+pub IsValid-new : (number : ℕ) (channel : Channel) (request : _) (delay : ℕ) → IsValid (new_connection number channel request delay)
+IsValid-new number channel request delay =
     stands_of (new_connection number channel request delay)
     (record { none_drains = refl; none_handed = refl; one_tenure = refl; none_waits = refl }, refl)
     (stands_down_new DOWN_LIMIT refl) (stands_up_new UP_LIMIT refl) refl

@@ -191,28 +191,28 @@ switch_down_stands _ s stands = stands_removed s (holds_of s stands)
 
 -- ---- the whole table
 
-pub Stands-row : (s : Connection) (input : Input) (offer : Option Channel) → IsValid s → IsCarried input → OfRow (λ r. IsValid r.next) (row_of s input offer)
+pub IsValid-row : (s : Connection) (input : Input) (offer : Option Channel) → IsValid s → IsCarried input → OfRow (λ r. IsValid r.next) (row_of s input offer)
 unfolding row_of
-Stands-row s (inputs.ActivationAck at) offer stands carried = activation_ack_stands s.state s at refl stands
-Stands-row s (inputs.ActivationNack at) offer stands carried = activation_nack_stands s.state s at offer refl stands
-Stands-row s (inputs.EstablishIndication at sapi message) offer stands carried = establish_indication_stands s.state s at sapi message refl stands
-Stands-row s (inputs.EstablishConfirm at sapi) offer stands carried = establish_confirm_stands s.state s at sapi refl stands
-Stands-row s (inputs.ReleaseIndication at sapi) offer stands carried = release_indication_stands s.state s at sapi refl stands
-Stands-row s (inputs.ErrorIndication at sapi) offer stands carried = error_indication_stands s.state s at sapi refl stands
-Stands-row s (inputs.ConnectionFailure at) offer stands carried = connection_failure_stands s.state s at refl stands
-Stands-row s (inputs.Dtap at sapi message) offer stands carried = dtap_stands s.state s at sapi message refl carried stands
-Stands-row s (inputs.Complete at change cause) offer stands carried = complete_stands s.state s at change cause.0 offer refl stands
-Stands-row s (inputs.Failure at change cause) offer stands carried = failure_stands s.state s at change cause.0 offer refl stands
-Stands-row s (inputs.ReleaseAck at) offer stands carried = release_ack_stands s.state s at offer refl stands
-Stands-row s inputs.Move offer stands carried = move_stands s.state s offer refl stands
-Stands-row s (inputs.ConnectionConfirm source) offer stands carried = confirm_stands s.state s source refl stands
-Stands-row s inputs.ConnectionRefused offer stands carried = refused_stands s.state s stands
-Stands-row s (inputs.Released source) offer stands carried = released_stands s.state s source stands
-Stands-row s (inputs.Downlink sapi message) offer stands carried = downlink_stands s.state s sapi message refl carried stands
-Stands-row s (inputs.AssignmentRequest is_speech) offer stands carried = assignment_request_stands s.state s is_speech offer refl stands
-Stands-row s inputs.CipherModeCommand offer stands carried = cipher_mode_command_stands s.state s stands
-Stands-row s inputs.ClearCommand offer stands carried = clear_command_stands s.state s refl stands
-Stands-row s inputs.Expiry offer stands carried = expiry_stands s.state s stands
-Stands-row s inputs.DrainExpiry offer stands carried = drain_expiry_stands s.state s stands
-Stands-row s (inputs.StationDown station) offer stands carried = station_down_stands s.state s station stands
-Stands-row s inputs.SwitchDown offer stands carried = switch_down_stands s.state s stands
+IsValid-row s (inputs.ActivationAck at) offer stands carried = activation_ack_stands s.state s at refl stands
+IsValid-row s (inputs.ActivationNack at) offer stands carried = activation_nack_stands s.state s at offer refl stands
+IsValid-row s (inputs.EstablishIndication at sapi message) offer stands carried = establish_indication_stands s.state s at sapi message refl stands
+IsValid-row s (inputs.EstablishConfirm at sapi) offer stands carried = establish_confirm_stands s.state s at sapi refl stands
+IsValid-row s (inputs.ReleaseIndication at sapi) offer stands carried = release_indication_stands s.state s at sapi refl stands
+IsValid-row s (inputs.ErrorIndication at sapi) offer stands carried = error_indication_stands s.state s at sapi refl stands
+IsValid-row s (inputs.ConnectionFailure at) offer stands carried = connection_failure_stands s.state s at refl stands
+IsValid-row s (inputs.Dtap at sapi message) offer stands carried = dtap_stands s.state s at sapi message refl carried stands
+IsValid-row s (inputs.Complete at change cause) offer stands carried = complete_stands s.state s at change cause.0 offer refl stands
+IsValid-row s (inputs.Failure at change cause) offer stands carried = failure_stands s.state s at change cause.0 offer refl stands
+IsValid-row s (inputs.ReleaseAck at) offer stands carried = release_ack_stands s.state s at offer refl stands
+IsValid-row s inputs.Move offer stands carried = move_stands s.state s offer refl stands
+IsValid-row s (inputs.ConnectionConfirm source) offer stands carried = confirm_stands s.state s source refl stands
+IsValid-row s inputs.ConnectionRefused offer stands carried = refused_stands s.state s stands
+IsValid-row s (inputs.Released source) offer stands carried = released_stands s.state s source stands
+IsValid-row s (inputs.Downlink sapi message) offer stands carried = downlink_stands s.state s sapi message refl carried stands
+IsValid-row s (inputs.AssignmentRequest is_speech) offer stands carried = assignment_request_stands s.state s is_speech offer refl stands
+IsValid-row s inputs.CipherModeCommand offer stands carried = cipher_mode_command_stands s.state s stands
+IsValid-row s inputs.ClearCommand offer stands carried = clear_command_stands s.state s refl stands
+IsValid-row s inputs.Expiry offer stands carried = expiry_stands s.state s stands
+IsValid-row s inputs.DrainExpiry offer stands carried = drain_expiry_stands s.state s stands
+IsValid-row s (inputs.StationDown station) offer stands carried = station_down_stands s.state s station stands
+IsValid-row s inputs.SwitchDown offer stands carried = switch_down_stands s.state s stands

@@ -40,7 +40,7 @@ pub use Rattle.conn_rules.proofs.RolesAccount.{KeepsAccount-by, both_true as bot
 pub use Rattle.conn_rules.proofs.RolesTable.{changes_roles_row}
 pub use Rattle.conn_rules.proofs.RowPuts.{either, where_fits, Brings, Enters, HasReference, Kinds, Parts, Puts, any_cause, free}
 pub use Rattle.conn_rules.proofs.RowPuts.{free_brings, free_parts, row_messages, row_puts}
-pub use Rattle.conn_rules.proofs.StandingSteps.{by_state, Stands-new}
+pub use Rattle.conn_rules.proofs.StandingSteps.{by_state, IsValid-new}
 pub use Rattle.conn_rules.proofs.UplinkPlaces.{AreAway, drain_at_drains, same_place, DrainsAt, all_away, all_behind, apart_behind}
 pub use Rattle.conn_rules.proofs.UplinkPlaces.{apart_first, apart_rest, away_of, away_of_other, drain_away, drain_behind_away}
 pub use Rattle.conn_rules.specs.Connection.{Connection, drain_at, emptied, enter, first_channel, is_at, new_connection, tenure_at}

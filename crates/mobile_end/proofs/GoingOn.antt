@@ -25,8 +25,8 @@ rise_list : {m n k : ℕ} {sent xs ys : List (List ℕ)} → xs ≡ ys → Rise 
 rise_list {m} {n} {k} {sent} same rise = subst (λ (list : List (List ℕ)). Rise m sent n list k) same rise
 
 -- a mobile that never sent
-pub GoesOn-new : (m : ℕ) → RunsToEnd m [] [] idle_link
-GoesOn-new m = record { now = over 0; anew = over 0 }
+pub RunsToEnd-new : (m : ℕ) → RunsToEnd m [] [] idle_link
+RunsToEnd-new m = record { now = over 0; anew = over 0 }
 
 -- what a station takes moves from the link to the end of the list
 moved : (xs : List (List ℕ)) (x : List ℕ) (ys : List (List ℕ)) → xs ++ filter is_flow_message (x ∷ ys) ≡ (xs ++ filter is_flow_message (x ∷ [])) ++ filter is_flow_message ys
@@ -48,8 +48,8 @@ goes_on_lent_by {m} {sent} {xs} waiting (Given message) x lent going =
 goes_on_lent_by waiting (Reached message) x lent going = absurd cc
 
 -- a station takes the message that the link lends
-pub GoesOn-lent : {m : ℕ} {sent xs : List (List ℕ)} (link : DataLinkState) (x : List ℕ) → lent_message link ≡ Some x → RunsToEnd m sent xs link → RunsToEnd m sent (xs ++ filter is_flow_message (x ∷ [])) (after_lending link)
-GoesOn-lent link x lent going = goes_on_lent_by link.waiting link.air x lent going
+pub RunsToEnd-lent : {m : ℕ} {sent xs : List (List ℕ)} (link : DataLinkState) (x : List ℕ) → lent_message link ≡ Some x → RunsToEnd m sent xs link → RunsToEnd m sent (xs ++ filter is_flow_message (x ∷ [])) (after_lending link)
+RunsToEnd-lent link x lent going = goes_on_lent_by link.waiting link.air x lent going
 
 goes_on_acknowledged_by : {m : ℕ} {sent xs : List (List ℕ)} (waiting : List (List ℕ)) (air : Air) → let link : DataLinkState = record { waiting = waiting; air = air } in RunsToEnd m sent xs link → RunsToEnd m sent xs (after_acknowledgement link)
 goes_on_acknowledged_by waiting Empty going = going
@@ -57,12 +57,12 @@ goes_on_acknowledged_by waiting (Given message) going = going
 goes_on_acknowledged_by waiting (Reached message) going = record { now = going.now; anew = going.now }
 
 -- what was taken is acknowledged
-pub GoesOn-acknowledged : {m : ℕ} {sent xs : List (List ℕ)} (link : DataLinkState) → RunsToEnd m sent xs link → RunsToEnd m sent xs (after_acknowledgement link)
-GoesOn-acknowledged link going = goes_on_acknowledged_by link.waiting link.air going
+pub RunsToEnd-acknowledged : {m : ℕ} {sent xs : List (List ℕ)} (link : DataLinkState) → RunsToEnd m sent xs link → RunsToEnd m sent xs (after_acknowledgement link)
+RunsToEnd-acknowledged link going = goes_on_acknowledged_by link.waiting link.air going
 
 -- the mobile sends again on another channel, or on the one that it left, behind a control message
-pub GoesOn-resumed : {m : ℕ} {sent xs : List (List ℕ)} (link : DataLinkState) (control : List ℕ) → is_control control ≡ true → RunsToEnd m sent xs link → RunsToEnd m sent xs (after_resume link control)
-GoesOn-resumed {m} {sent} {xs} link control is going =
+pub RunsToEnd-resumed : {m : ℕ} {sent xs : List (List ℕ)} (link : DataLinkState) (control : List ℕ) → is_control control ≡ true → RunsToEnd m sent xs link → RunsToEnd m sent xs (after_resume link control)
+RunsToEnd-resumed {m} {sent} {xs} link control is going =
     let kept : List (List ℕ) = without_control (outstanding_messages link) in
     let dropped : filter is_flow_message (control ∷ kept) ≡ filter is_flow_message kept = cond-false (is_flow_message control) (control ∷ filter is_flow_message kept) (filter is_flow_message kept) (is_control_apart control is) in
     let same : filter is_flow_message (outstanding_messages link) ≡ filter is_flow_message (control ∷ kept) = sym (dropped ∙ without_control-flow (outstanding_messages link)) in
@@ -80,8 +80,8 @@ flow_push xs front y flow =
     ∙ ap (λ (list : List (List ℕ)). xs ++ list) (sym (filter-append is_flow_message front (y ∷ [])))
 
 -- the upper layers send a message of the flow, which waits with the number of its place
-pub GoesOn-numbered : {m : ℕ} {sent xs : List (List ℕ)} (link : DataLinkState) (message : List ℕ) → IsClear message → RunsToEnd m sent xs link → RunsToEnd m (sent ++ message ∷ []) xs (waits link (with_number (length sent % m) message))
-GoesOn-numbered {m} {sent} {xs} link message clear going =
+pub RunsToEnd-numbered : {m : ℕ} {sent xs : List (List ℕ)} (link : DataLinkState) (message : List ℕ) → IsClear message → RunsToEnd m sent xs link → RunsToEnd m (sent ++ message ∷ []) xs (waits link (with_number (length sent % m) message))
+RunsToEnd-numbered {m} {sent} {xs} link message clear going =
     let y : List ℕ = with_number (length sent % m) message in
     let flow : is_flow_message y ≡ true = is_flow_with_number (length sent % m) message ∙ clear.is_flow in
     record {
@@ -95,8 +95,8 @@ flow_passed xs front y apart =
     ∙ ap (λ (list : List (List ℕ)). filter is_flow_message front ++ list) (cond-false (is_flow_message y) (y ∷ []) [] apart) ∙ append-nil (filter is_flow_message front)))
 
 -- they send a message of another protocol
-pub GoesOn-unnumbered : {m : ℕ} {sent xs : List (List ℕ)} (link : DataLinkState) (message : List ℕ) → is_flow_message message ≡ false → RunsToEnd m sent xs link → RunsToEnd m sent xs (waits link message)
-GoesOn-unnumbered {m} {sent} {xs} link message apart going = record {
+pub RunsToEnd-unnumbered : {m : ℕ} {sent xs : List (List ℕ)} (link : DataLinkState) (message : List ℕ) → is_flow_message message ≡ false → RunsToEnd m sent xs link → RunsToEnd m sent xs (waits link message)
+RunsToEnd-unnumbered {m} {sent} {xs} link message apart going = record {
   now = rise_list (flow_passed xs (to_be_taken link) message apart ∙ ap (λ (list : List (List ℕ)). xs ++ filter is_flow_message list) (sym (to_be_taken-waits link message))) going.now;
   anew = rise_list (flow_passed xs (outstanding_messages link) message apart ∙ ap (λ (list : List (List ℕ)). xs ++ filter is_flow_message list) (sym (outstanding_waits link message))) going.anew;
 }

@@ -24,7 +24,7 @@ use Rattle.mobile_end.specs.RunsToEnd.{RunsToEnd}
 use Rattle.mobile_end.specs.Lawful.{has_clear_number, is_initial, is_sendable}
 use Rattle.mobile_end.specs.Mobile.{new_mobile, after_queue, after_number, with_link, link_of, after_connect, refusal_of_connect, refusal_before_connect, frame_answer_at, after_frame_at, after_acked_at, after_arrival}
 use Rattle.mobile_end.specs.MobileState.{MobileState}
-use Rattle.mobile_end.proofs.GoingOn.{GoesOn-new, GoesOn-lent, GoesOn-acknowledged, GoesOn-resumed, GoesOn-numbered, GoesOn-unnumbered}
+use Rattle.mobile_end.proofs.GoingOn.{RunsToEnd-new, RunsToEnd-lent, RunsToEnd-acknowledged, RunsToEnd-resumed, RunsToEnd-numbered, RunsToEnd-unnumbered}
 use Rattle.mobile_end.proofs.Lives.{is_sendable_clear, is_initial_clear, unless_refused_by, unless_connected_by, IsKept-calls}
 use Rattle.mobile_end.proofs.Numbering.{IsClear-flow}
 
@@ -39,10 +39,10 @@ nothing_more mobile xs going = subst (λ (list : List (List ℕ)). Goes mobile l
 queued : (mobile : MobileState) (xs : List (List ℕ)) (sapi : Sapi) (message : List ℕ) → has_clear_number message ≡ true → Goes mobile xs → Goes (after_queue mobile sapi message) xs
 queued mobile xs sapi message clear going =
     cond_both (is_flow_message message) (after_number mobile message) (with_link mobile sapi (waits (link_of mobile sapi) message))
-    (λ (new : MobileState). Goes new xs) (λ flow. GoesOn-numbered mobile.zero message (IsClear-flow message clear flow) going) (λ apart. waiting sapi apart)
+    (λ (new : MobileState). Goes new xs) (λ flow. RunsToEnd-numbered mobile.zero message (IsClear-flow message clear flow) going) (λ apart. waiting sapi apart)
   where
     waiting : (sapi : Sapi) → is_flow_message message ≡ false → Goes (with_link mobile sapi (waits (link_of mobile sapi) message)) xs
-    waiting Zero apart = GoesOn-unnumbered mobile.zero message apart going
+    waiting Zero apart = RunsToEnd-unnumbered mobile.zero message apart going
     waiting Three apart = going
 
 connected : (mobile : MobileState) (xs : List (List ℕ)) (initial : Option (List ℕ)) → Goes mobile xs → Goes (unless_refused (refusal_of_connect initial) mobile (after_connect mobile initial)) xs
@@ -54,7 +54,7 @@ connected mobile xs (Some initial) going =
 lent_by : (m : ℕ) (sent xs : List (List ℕ)) (link : DataLinkState) (lent : Option (List ℕ)) → lent_message link ≡ lent → (lent ≡ None → after_lending link ≡ link) → RunsToEnd m sent xs link → RunsToEnd m sent (xs ++ filter is_flow_message (option_to_list lent)) (after_lending link)
 lent_by m sent xs link None is same going =
     subst (λ (new : DataLinkState). RunsToEnd m sent (xs ++ []) new) (sym (same refl)) (subst (λ (list : List (List ℕ)). RunsToEnd m sent list link) (sym (append-nil xs)) going)
-lent_by m sent xs link (Some x) is same going = GoesOn-lent link x is going
+lent_by m sent xs link (Some x) is same going = RunsToEnd-lent link x is going
 
 -- where nothing is lent the link stays as it is
 unlent : (waiting : List (List ℕ)) (air : Air) → let link : DataLinkState = record { waiting = waiting; air = air } in lent_message link ≡ None → after_lending link ≡ link
@@ -75,13 +75,13 @@ framed_three Connected OnChannel mobile xs going = going
 
 was_acknowledged : (place : Place) (mobile : MobileState) (sapi : Sapi) (xs : List (List ℕ)) → Goes mobile xs → Goes (after_acked_at place mobile sapi) xs
 was_acknowledged Moving mobile sapi xs going = going
-was_acknowledged OnChannel mobile Zero xs going = GoesOn-acknowledged mobile.zero going
+was_acknowledged OnChannel mobile Zero xs going = RunsToEnd-acknowledged mobile.zero going
 was_acknowledged OnChannel mobile Three xs going = going
 
 arrived : (mobile : MobileState) (control : List ℕ) (xs : List (List ℕ)) → Goes mobile xs → Goes (if may_arrive mobile control then after_arrival mobile control else mobile) xs
 arrived mobile control xs going =
     cond_both (may_arrive mobile control) (after_arrival mobile control) mobile (λ (new : MobileState). Goes new xs)
-    (λ may. GoesOn-resumed mobile.zero control (second_so _ (is_control control) may) going) (λ _. going)
+    (λ may. RunsToEnd-resumed mobile.zero control (second_so _ (is_control control) may) going) (λ _. going)
 
 -- each call
 by_call : (mobile : MobileState) (xs : List (List ℕ)) (call : Call) → Goes mobile xs → Goes (after_call mobile call) (xs ++ filter is_flow_message (taken_by_call mobile call))
@@ -109,7 +109,7 @@ by_calls mobile xs (call ∷ calls) going =
 pub goes_on_calls : (m : ℕ) (calls : List Call) → RunsToEnd m (after_calls (new_mobile m) calls).sent (filter is_flow_message (taken_by_calls (new_mobile m) calls)) (after_calls (new_mobile m) calls).zero
 goes_on_calls m calls =
     let mobile : MobileState = after_calls (new_mobile m) calls in
-    subst (λ (n : ℕ). RunsToEnd n mobile.sent (filter is_flow_message (taken_by_calls (new_mobile m) calls)) mobile.zero) (IsKept-calls (new_mobile m) calls).modulus (by_calls (new_mobile m) [] calls (GoesOn-new m))
+    subst (λ (n : ℕ). RunsToEnd n mobile.sent (filter is_flow_message (taken_by_calls (new_mobile m) calls)) mobile.zero) (IsKept-calls (new_mobile m) calls).modulus (by_calls (new_mobile m) [] calls (RunsToEnd-new m))
 
 -- so the places of what stations took rise
 pub rise_calls : (m : ℕ) (calls : List Call) → (k : ℕ) × Rise m (after_calls (new_mobile m) calls).sent 0 (taken_by_calls (new_mobile m) calls) k

@@ -6,7 +6,7 @@ use Rattle.world_laws.proofs.Prelude.{roles_of, target_channels, target_role, co
 use Rattle.world_laws.proofs.Prelude.{IsNotOn, IsText, life_sends, InUse, Forwarded, Take, Controller, channel_state, place_at, place_of}
 use Rattle.world_laws.proofs.Prelude.{step, concerned, forwarded_by, RelayItem, What, RslFault, DataMessage, Rsl, rsl_reading, rsl_text}
 use Rattle.world_laws.proofs.Prelude.{AreAllowed, Parameters, Event, Tenure, target_in, rsl_in, all_steps, Actors, new_actors}
-use Rattle.world_laws.proofs.Prelude.{LivesByTable-new, Result, sccp_reading, PassesBy, frame_passes, read_request, life, take, word_of}
+use Rattle.world_laws.proofs.Prelude.{FollowsTable-new, Result, sccp_reading, PassesBy, frame_passes, read_request, life, take, word_of}
 use Rattle.world_laws.proofs.Prelude.{leading, leading_by, leading_from_outbox, commanded_target, FramesAreForOthers, commanded_channels}
 use Rattle.world_laws.proofs.Prelude.{IsForOthers, carried_for, entry_out}
 use Rattle.conn_messages.specs.Out.{out_of}
@@ -87,7 +87,7 @@ frames_are_for_others_new settings events s item allowed octets had another =
     let w : Actors = world settings events in
     let steps = all_steps (new_actors settings) events in
     let c : Controller = (life settings steps).next in
-    let lives : w.controller ≡ c = LivesByTable-new settings events in
+    let lives : w.controller ≡ c = FollowsTable-new settings events in
     let own : RelayItem = record { source = item.source; what = whats.Frame another.frame } in
     let same : item ≡ own = ap (λ (x : What). record { source = item.source; what = x }) another.is in
     let concerns : concerned c (word_of item.source another.frame) ≡ Some another.other = subst (λ (d : Controller). concerned d (word_of item.source another.frame) ≡ Some another.other) lives another.concerns in

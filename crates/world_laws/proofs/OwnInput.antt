@@ -7,7 +7,7 @@ use Rattle.world_laws.proofs.Prelude.{completed, awaits_at, changes_by, is_targe
 use Rattle.world_laws.proofs.Prelude.{RemainsOpen, roles_stay, role_commands, role_completes, role_goes_back, role_leaves, goes_on, ends}
 use Rattle.world_laws.proofs.Prelude.{had_ended, IsValid, Row, done_at, AreApart, IsOpen, OfRow, undone, target_in_role, changes_roles_row}
 use Rattle.world_laws.proofs.Prelude.{place_of, is_control, and_left, and_right, same_place, AllByRecursion-so, Ends, undone-still_draining}
-use Rattle.world_laws.proofs.Prelude.{Stands-row, messages_in, controls_of, controls_in, texts_in, flow, released, is_ended}
+use Rattle.world_laws.proofs.Prelude.{IsValid-row, messages_in, controls_of, controls_in, texts_in, flow, released, is_ended}
 use Rattle.world_laws.proofs.Prelude.{commanded_target, DoesRow, some_lacks, target_items, OwnStep, AreLayer3, mark, texts_of}
 use Rattle.conn_rules.specs.declared.input.Input.TheVariants as inputs
 use Rattle.conn_rules.specs.Streams.{target_in}
@@ -99,7 +99,7 @@ finish {s} {input} {offer} {r} {text} {before} {after} {commands} {commands2} up
   future = to_come input text (target_in s.state) after up;
   ends = ends_of input text s.state after up;
   was = stands_before up (known_of takes) takes.stands;
-  now = stands_after up step r.next (known_of takes) (subst (OfRow (λ (x : Row). IsValid x.next)) takes.fits (Stands-row s input offer takes.stands takes.carried))
+  now = stands_after up step r.next (known_of takes) (subst (OfRow (λ (x : Row). IsValid x.next)) takes.fits (IsValid-row s input offer takes.stands takes.carried))
       (channels_after step (roles_of s) s.down input offer r (goes_of step is takes)) old serving serving_on;
   whole = takes.whole;
   step = subst (λ (x : RoleStep). OwnStep before after up s r.next commands commands2 seat (seat_after x seat)) (sym is) own;

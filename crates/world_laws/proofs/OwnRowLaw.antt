@@ -1,6 +1,6 @@
 -- A row of the table keeps its connection's line-up: the steps put together.
 use Rattle.world_laws.proofs.Prelude.{◌≡◌, ℕ, Bool, true, ◌&&◌, not, List, Option, Some, sym, ap, ◌∙◌, subst, Channel, Place, Input}
-use Rattle.world_laws.proofs.Prelude.{Connection, IsValid, Row, KeepsUplink, OfRow, relayed, Zero, to_be_taken, Stands-row, row_keeps}
+use Rattle.world_laws.proofs.Prelude.{Connection, IsValid, Row, KeepsUplink, OfRow, relayed, Zero, to_be_taken, IsValid-row, row_keeps}
 use Rattle.world_laws.proofs.Prelude.{controls_of, old_tenures, serving_hold, serving_tenure, commanded_target, target_tenure, is_gone}
 use Rattle.world_laws.proofs.Prelude.{is_intact, RowKeepsLineUp, some_lacks}
 use Rattle.world_laws.specs.LineUp.Places.{Item, Seat}
@@ -26,7 +26,7 @@ none_intact coming up seat s none =
 pub row_keeps_line_up_new : (m : ℕ) (s : Connection) (input : Input) (offer : Option Channel) (r : Row) → RowKeepsLineUp m s input offer r
 row_keeps_line_up_new m s input offer r before after up commands commands2 seat seat2 sent link out taken does alive =
     let keeps : KeepsUplink Zero does.future s input r = of_row (KeepsUplink Zero does.future s input) does.fits (row_keeps s input offer Zero does.future does.stands does.apart does.ends) in
-    let alone : IsValid r.next = of_row (λ (x : Row). IsValid x.next) does.fits (Stands-row s input offer does.stands does.carried) in
+    let alone : IsValid r.next = of_row (λ (x : Row). IsValid x.next) does.fits (IsValid-row s input offer does.stands does.carried) in
     row_alive s r.next sent link seat seat2 commands commands2 before after up (relayed Zero r.outs) out taken alone
     (record {
       line = row_line s input r does.future before after up seat seat2 keeps does.stays_open does.was does.now does.whole;

@@ -9,7 +9,7 @@ use Rattle.world_laws.proofs.Prelude.{on_word, step, rsl_word, Frame, Item, What
 use Rattle.world_laws.proofs.Prelude.{Tenure, actors_after, actors_after_all, Agrees, AllAgree, acknowledged_in, asker, said, tenure_behind}
 use Rattle.world_laws.proofs.Prelude.{to_come, owner_in, acknowledgements, due, acknowledged_tenure, target_in, rsl_in, all_steps}
 use Rattle.world_laws.proofs.Prelude.{first_taken, step_at, Actors, base_of, is_active_at, is_up, new_actors, outbox_of, spot_at, tenure_at}
-use Rattle.world_laws.proofs.Prelude.{LivesByTable-new, IsKnown, IsKnownItem, known_inbox, runs, over, heard_of, Serves, hear, both_empty}
+use Rattle.world_laws.proofs.Prelude.{FollowsTable-new, IsKnown, IsKnownItem, known_inbox, runs, over, heard_of, Serves, hear, both_empty}
 use Rattle.world_laws.proofs.Prelude.{acks_append, free≢use, life_reaches, tick, word_of, one_at_most, nothing_is_due, owned_run, AllSitBy-new}
 use Rattle.world_laws.proofs.Prelude.{OneMobileEach-new}
 use Rattle.conn_rules.specs.declared.input.Input.TheVariants as inputs
@@ -200,13 +200,13 @@ snoc_steps P w (x ∷ xs) e all own =
 pub serves_event : (settings : Parameters) (owner : Tenure → ℕ) (done : List Event) (w : Actors) (event : Event) → w ≡ world settings done → AreAllowed settings → AllByRecursion IsOctetStep (all_steps (new_actors settings) done) → AllByRecursion IsOctetStep (step_at w event) → AllAgree settings owner w → ServesAt settings owner w event
 unfolding ServesAt
 serves_event settings owner done w Handle is allowed octets own agree = λ item items stands.
-    let lives : w.controller ≡ (life settings (all_steps (new_actors settings) done)).next = ap (λ (x : Actors). x.controller) is ∙ LivesByTable-new settings done in
+    let lives : w.controller ≡ (life settings (all_steps (new_actors settings) done)).next = ap (λ (x : Actors). x.controller) is ∙ FollowsTable-new settings done in
     let came : AllByRecursion IsOctetStep (first_taken (item ∷ items)) = subst (λ (xs : List Item). AllByRecursion IsOctetStep (first_taken xs)) stands own in
     let laws : Lawful w.controller (Take item) = subst (λ (c : Controller). Lawful c (Take item)) (sym lives) (lawful_life settings (all_steps (new_actors settings) done) (Take item) allowed octets came.0) in
     let known : AllByRecursion IsKnownItem (item ∷ items) = subst (AllByRecursion IsKnownItem) stands (subst (λ (x : Actors). AllByRecursion IsKnownItem x.inbox) (sym is) (known_inbox settings done)) in
     serves_handle settings owner w agree (ap (λ (c : Controller). c.settings) lives ∙ life-settings settings (all_steps (new_actors settings) done)) laws.ready item items stands laws known.0
 serves_event settings owner done w (events.Tick ms) is allowed octets own agree =
-    let lives : w.controller ≡ (life settings (all_steps (new_actors settings) done)).next = ap (λ (x : Actors). x.controller) is ∙ LivesByTable-new settings done in
+    let lives : w.controller ≡ (life settings (all_steps (new_actors settings) done)).next = ap (λ (x : Actors). x.controller) is ∙ FollowsTable-new settings done in
     let laws : Lawful w.controller (Tick ms) = subst (λ (c : Controller). Lawful c (Tick ms)) (sym lives) (lawful_life settings (all_steps (new_actors settings) done) (Tick ms) allowed octets own.0) in
     serves_tick settings owner w agree (ap (λ (c : Controller). c.settings) lives ∙ life-settings settings (all_steps (new_actors settings) done)) laws.ready ms laws
 serves_event settings owner done w _ is allowed octets own agree = tt

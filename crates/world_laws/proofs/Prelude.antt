@@ -36,7 +36,7 @@ pub use Rattle.conn_rules.proofs.RowPuts.{either, where_fits}
 pub use Rattle.conn_rules.proofs.RolesApart.{target_in_role, channels_of-roles}
 pub use Rattle.conn_rules.proofs.RolesTable.{changes_roles_row}
 pub use Rattle.conn_rules.proofs.Standing.{nothing as no-length}
-pub use Rattle.conn_rules.proofs.StandingTable.{Stands-row}
+pub use Rattle.conn_rules.proofs.StandingTable.{IsValid-row}
 pub use Rattle.conn_rules.proofs.UplinkPlaces.{AreAway, apart_behind, same_place as place-is, away_of}
 pub use Rattle.conn_rules.proofs.UplinkTable.{row_keeps}
 pub use Rattle.conn_rules.specs.Connection.{Connection, drain_at, enter, is_at, new_connection}
@@ -167,7 +167,7 @@ pub use Rattle.controller_model.specs.Decision.{Decision}
 pub use Rattle.controller_model.specs.Decision.TheVariants.{Stay}
 pub use Rattle.hold_queue.specs.ChainState.{Tenure as Held, empty_tenure, chain_count, put_in, tenure_messages}
 pub use Rattle.hold_queue.specs.HoldState.{HoldState, count, messages, with_messages}
-pub use Rattle.mobile_end.proofs.GoingOn.{GoesOn-acknowledged, GoesOn-lent, GoesOn-new, GoesOn-numbered, GoesOn-resumed, GoesOn-unnumbered}
+pub use Rattle.mobile_end.proofs.GoingOn.{RunsToEnd-acknowledged, RunsToEnd-lent, RunsToEnd-new, RunsToEnd-numbered, RunsToEnd-resumed, RunsToEnd-unnumbered}
 pub use Rattle.mobile_end.proofs.Lives.{IsKept-calls, is_initial_clear, is_sendable_clear}
 pub use Rattle.mobile_end.proofs.Numbering.{IsClear-flow, to_be_taken-acknowledged, to_be_taken-lent_message, to_be_taken-waits}
 pub use Rattle.mobile_end.specs.Calls.{Call, after_call, after_calls, frame_lent, taken_on_three_by_call, taken_on_three_by_calls}
@@ -339,7 +339,7 @@ pub use Rattle.world_model.proofs.Leads.{air_up_leads, and_left, and_right, arri
 pub use Rattle.world_model.proofs.Leads.{by_mobile-leads, connect_leads, does_leads, handle_leads, move_leads, only_if-leads, push_leads}
 pub use Rattle.world_model.proofs.Leads.{report-leads, return_leads, switch_takes_leads, switch_took-leads, took-leads, touch_leads}
 pub use Rattle.world_model.proofs.Leads.{turn_leads, unless_last_leads, upper_leads, OfTaken}
-pub use Rattle.world_model.proofs.Living.{LivesByTable-new}
+pub use Rattle.world_model.proofs.Living.{FollowsTable-new}
 pub use Rattle.world_model.proofs.Mobility.{control_complete, found_all, MobilesLive-new, back_all, behind_all, control_failure}
 pub use Rattle.world_model.proofs.Outboxes.{both_empty, Step as OutboxStep, all_join, changed_link, down_after, new_outbox}
 pub use Rattle.world_model.proofs.Outboxes.{step as outbox-step, KeepsQueues-new, Step as LinkStep, down_outbox, other_link as link-else}

@@ -11,7 +11,7 @@ use Rattle.world_laws.proofs.Prelude.{life_after, run_step, IsHere, Ready, here_
 use Rattle.world_laws.proofs.Prelude.{Releasing, Forwarded, Take, Word, request_offer, AreRising, Controller, Entry, Turn, channel_state}
 use Rattle.world_laws.proofs.Prelude.{entry_of, freed, ignoring, place_at, place_of, state_in, turn, by_fitting, concerning, entry_at}
 use Rattle.world_laws.proofs.Prelude.{frees, on_freed, on_what, on_word, row_in, step, keeps_number, Sapi, Zero, Three, Held, Frame}
-use Rattle.world_laws.proofs.Prelude.{AreOctets, RelayItem, What, Parameters, Event, all_steps, Actors, new_actors, LivesByTable-new}
+use Rattle.world_laws.proofs.Prelude.{AreOctets, RelayItem, What, Parameters, Event, all_steps, Actors, new_actors, FollowsTable-new}
 use Rattle.world_laws.proofs.Prelude.{out_of, message_again, IsHeldTenure, Ends, first_at, of_prepared, of_target, still_of, still_to_relay}
 use Rattle.world_laws.proofs.Prelude.{row_of, row_keeps, row_found, IsSoundCell, RefersIn, SoundParts, sent_message, word_refers}
 use Rattle.world_laws.proofs.Prelude.{IsSoundChannel, IsSoundRow, row_sound, used_apart, IsAfter, ready_by, ready_uses, AreUsual, life}
@@ -287,7 +287,7 @@ frames_are_put_as_read_new settings events s item items input offer r allowed oc
     let w : Actors = world settings events in
     let steps = all_steps (new_actors settings) events in
     let c : Controller = (life settings steps).next in
-    let lives : w.controller ≡ c = LivesByTable-new settings events in
+    let lives : w.controller ≡ c = FollowsTable-new settings events in
     let word : Word = word_of item.source comes.frame in
     let said : IsSaidTo c word s input offer = subst (λ (d : Controller). IsSaidTo d word s input offer) lives comes.said in
     let now : IsAfter c = life_after settings steps allowed in

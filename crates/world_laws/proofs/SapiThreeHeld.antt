@@ -2,7 +2,7 @@
 use Rattle.world_laws.proofs.Prelude.{◌≡◌, ℕ, ◌≤◌, Bool, true, false, if◌then◌else◌, List, [], ◌∷◌, fold, map, Some, sym, subst}
 use Rattle.world_laws.proofs.Prelude.{AllByRecursion, Place, Message, AllByRecursion-append, Input, relayed, IsThere, connection_of}
 use Rattle.world_laws.proofs.Prelude.{word_in, Step, Word, OnChannel, Controller, new_controller, step, Sapi, Zero, Three, AreAllowed}
-use Rattle.world_laws.proofs.Prelude.{Parameters, Event, all_steps, new_actors, LivesByTable-new, IsHistory, Moment, all_messages}
+use Rattle.world_laws.proofs.Prelude.{Parameters, Event, all_steps, new_actors, FollowsTable-new, IsHistory, Moment, all_messages}
 use Rattle.world_laws.proofs.Prelude.{life_conserves_up, life, held_up, BringsBesideFlow, FlowIsOnSapiZero, IsBesideFlow, SaysBesideFlow}
 use Rattle.conn_rules.specs.declared.input.Input.TheVariants as inputs
 use Rattle.controller_model.specs.LifeLaws.Downlink.{requests}
@@ -92,7 +92,7 @@ flow_comes_on_sapi_zero_new settings events = record {
   came = says_came settings events;
   waits = says_waits settings events;
   held = λ allowed number from_one there.
-      let lives : (world settings events).controller ≡ (life settings (all_steps (new_actors settings) events)).next = LivesByTable-new settings events in
+      let lives : (world settings events).controller ≡ (life settings (all_steps (new_actors settings) events)).next = FollowsTable-new settings events in
       subst (λ (c : Controller). AllByRecursion IsBesideFlow (held_up c number Three)) (sym lives)
       (held_beside settings (all_steps (new_actors settings) events) number allowed from_one (says_came settings events) (subst (λ (c : Controller). IsThere (connection_of c number)) lives there));
 }

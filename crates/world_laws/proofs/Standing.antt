@@ -1,6 +1,6 @@
 -- The connections of the controller stand, whatever happened.
 use Rattle.world_laws.proofs.Prelude.{◌≡◌, List, Option, Some, subst, arith, Connection, IsValid, connection_of, life_fits, Step}
-use Rattle.world_laws.proofs.Prelude.{Controller, Parameters, Event, all_steps, new_actors, LivesByTable-new, fine_at, life}
+use Rattle.world_laws.proofs.Prelude.{Controller, Parameters, Event, all_steps, new_actors, FollowsTable-new, fine_at, life}
 use Rattle.world_laws.proofs.Prelude.{ConnectionsStand}
 use Rattle.controller_model.proofs.LifeLaws.Fitting.{IsFine}
 
@@ -12,5 +12,5 @@ pub connections_stand_new : (settings : Parameters) (events : List Event) → Co
 connections_stand_new settings events number s is =
     let steps : List Step = all_steps (new_actors settings) events in
     let c : Controller = (life settings steps).next in
-    stands_of (connection_of c number) s (subst (λ (d : Controller). connection_of d number ≡ Some s) (LivesByTable-new settings events) is)
+    stands_of (connection_of c number) s (subst (λ (d : Controller). connection_of d number ≡ Some s) (FollowsTable-new settings events) is)
     (fine_at c (life_fits settings steps 1 (omega arith)).numbered (λ n from_one. (life_fits settings steps n from_one).fine) number)

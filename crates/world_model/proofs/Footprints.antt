@@ -199,8 +199,8 @@ twice_set [] k f g = refl
 twice_set (s ∷ ss) zero f g = refl
 twice_set (s ∷ ss) (suc k) f g = ap (λ (xs : List Station). s ∷ xs) (twice_set ss k f g)
 
-told-twice : (n : ℕ) (one other : Rsl) (u : Actors) → with_message_made n other (with_message_made n one u) ≡ with_base n (after_tell (after_tell (base_of u n) one) other) u
-told-twice n one other u =
+with_message_made-twice : (n : ℕ) (one other : Rsl) (u : Actors) → with_message_made n other (with_message_made n one u) ≡ with_base n (after_tell (after_tell (base_of u n) one) other) u
+with_message_made-twice n one other u =
     ap (λ (stations : List Station). record u { stations = stations })
     (twice_set u.stations (n - 1) (λ s. record s { base = after_tell s.base one }) (λ s. record s { base = after_tell s.base other }))
 
@@ -232,7 +232,7 @@ brought_keeps P w number Three p tenure frame air lent h =
       by true = air.tells w tenure.at.station _ up (brings number Three p tenure frame lent) h
       by false =
           let link : Rsl = establish_indication tenure.at.number Three None in
-          subst P (told-twice tenure.at.station link (data_indication tenure.at.number Three frame) w)
+          subst P (with_message_made-twice tenure.at.station link (data_indication tenure.at.number Three frame) w)
           (air.tells (with_message_made tenure.at.station link w) tenure.at.station _ up (brings number Three p tenure frame lent)
           (air.tells w tenure.at.station link up (links number p tenure frame lent) h))
 

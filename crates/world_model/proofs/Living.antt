@@ -57,9 +57,9 @@ moves_all w (event ∷ events) =
     ∙ ap (λ (c : Controller). after_steps c (all_steps (actors_after w event) events)) (moves w event)
     ∙ sym (after_steps-append w.controller (step_at w event) (all_steps (actors_after w event) events))
 
-pub LivesByTable-new : (settings : Parameters) (events : List Event) → FollowsTable settings events
+pub FollowsTable-new : (settings : Parameters) (events : List Event) → FollowsTable settings events
 unfolding life
-LivesByTable-new settings events = moves_all (new_actors settings) events
+FollowsTable-new settings events = moves_all (new_actors settings) events
 
 -- ---- what it put
 

@@ -2,12 +2,12 @@
 use Rattle.controller_model.proofs.Prelude.{◌≡◌, ℕ, ◌==◌, ◌≤◌, Bool, true, false, if◌then◌else◌, List, [], ◌∷◌, fold, Option, Some, None}
 use Rattle.controller_model.proofs.Prelude.{refl, sym, subst, ap, ◌∙◌, inl, inr, arith, true≢false, cases_Bool, cond-true, cond-false}
 use Rattle.controller_model.proofs.Prelude.{eq-eqb, Message, SWITCH_LINK, Input, Drain, State, Removed, Connection, IsCarried, IsValid, Row}
-use Rattle.controller_model.proofs.Prelude.{OfRow, on_switch_down, after_pass, What, Parameters, Stands-new, DrainTime, drained_after, Acts}
+use Rattle.controller_model.proofs.Prelude.{OfRow, on_switch_down, after_pass, What, Parameters, IsValid-new, DrainTime, drained_after, Acts}
 use Rattle.controller_model.proofs.Prelude.{IsAged, passed, Brought, IsBrought, IsTimer, if_held, brought_by, brought_with, brought_in}
 use Rattle.controller_model.proofs.Prelude.{kept_in, ages, rests, opens, goes, nothing, comes, reports, breaks, passes, connection_of}
 use Rattle.controller_model.proofs.Prelude.{IsNumbered, is_link_up, Step, Take, Tick, Word, OnChannel, OnConnection, Controller, is_up}
 use Rattle.controller_model.proofs.Prelude.{channel_state, holder, new_controller, break_of, step, word_of}
-use Rattle.conn_rules.proofs.StandingTable.{Stands-row}
+use Rattle.conn_rules.proofs.StandingTable.{IsValid-row}
 use Rattle.conn_rules.specs.declared.input.Input.TheVariants as inputs
 use Rattle.conn_rules.specs.Table.{row_of}
 use Rattle.controller_model.proofs.LifeLaws.Beside.{step_goes, links_with, links_after, other_link}
@@ -156,9 +156,9 @@ pub fine_after : (number next : ℕ) (up : Bool) (brought : Brought) (before aft
 unfolding IsFine IsPresent
 fine_after number next up brought before after put (rests silent same none) carried own fine = subst IsFine (sym same) fine
 fine_after number next up brought before after put (ages old s is_time is aged silent same) carried own fine = subst IsFine (sym same) (fine_old before old s is aged fine)
-fine_after number next up brought before after put (opens begins is_up channel request delay is_nothing is put_is same) carried own fine = subst IsFine (sym same) (tt, Stands-new number channel request delay)
+fine_after number next up brought before after put (opens begins is_up channel request delay is_nothing is put_is same) carried own fine = subst IsFine (sym same) (tt, IsValid-new number channel request delay)
 fine_after number next up brought before after put (goes old s input offer r is aged by fits put_is same) carried own fine =
-    let stands : IsValid r.next = subst (OfRow (λ (q : Row). IsValid q.next)) fits (Stands-row s input offer (fine_old before old s is aged fine).1 (brought_carried brought input carried own by)) in
+    let stands : IsValid r.next = subst (OfRow (λ (q : Row). IsValid q.next)) fits (IsValid-row s input offer (fine_old before old s is aged fine).1 (brought_carried brought input carried own by)) in
     subst IsFine (sym same) (kept_fine r.next.state r.next refl stands)
 
 -- ---- the link of the switch

@@ -6,7 +6,7 @@ use Rattle.world_laws.proofs.Prelude.{Connection, roles_of, connection_of, Owns,
 use Rattle.world_laws.proofs.Prelude.{AreUsed, life_owns, life_uses, Free, InUse, Controller, channel_state, place_at, place_of, AreAllowed}
 use Rattle.world_laws.proofs.Prelude.{Parameters, Event, actors_after, actors_after_all, with_item, all_steps, switch_took_first, Actors}
 use Rattle.world_laws.proofs.Prelude.{Link, base_of, broken_link, is_station_up, is_up, modulus_in, new_actors, outbox_of, spot_at}
-use Rattle.world_laws.proofs.Prelude.{with_link, good_all, good_new, after_taken, broken_leads, LivesByTable-new, life, took_first}
+use Rattle.world_laws.proofs.Prelude.{with_link, good_all, good_new, after_taken, broken_leads, FollowsTable-new, life, took_first}
 use Rattle.world_laws.proofs.Prelude.{brings_in, coming_up, made_of, leading_from_air, leading_from_outbox, commanded_target, waiting_of}
 use Rattle.world_laws.proofs.Prelude.{IsUnconfirmed, IsHad, AreLinedUp, is_of_others}
 use Rattle.controller_model.specs.Views.{forwarded}
@@ -32,7 +32,7 @@ use Rattle.world_laws.proofs.Access.Travels.{event_passes}
 pub serving_placed : (settings : Parameters) (done : List Event) (s : Connection) → AreAllowed settings → IsHad (actors_after_all (new_actors settings) done) s → s.serving.station ≢ SWITCH_LINK
 serving_placed settings done s allowed had is =
     let c : Controller = (life settings (all_steps (new_actors settings) done)).next in
-    let there : connection_of c s.number ≡ Some s = subst (λ (d : Controller). connection_of d s.number ≡ Some s) (LivesByTable-new settings done) had.there in
+    let there : connection_of c s.number ≡ Some s = subst (λ (d : Controller). connection_of d s.number ≡ Some s) (FollowsTable-new settings done) had.there in
     let owns : Owns c.channels c.links s.number (roles_of s) = (subst (OwnsOpen c.channels c.links s.number) there (life_owns settings (all_steps (new_actors settings) done) s.number allowed)) had.is_open in
     let used : AreUsed c = life_uses settings (all_steps (new_actors settings) done) allowed in
     let here : channel_state c (place_of s.serving) ≡ InUse s.number = owns.using.0 in

@@ -4,7 +4,7 @@ use Rattle.world_laws.proofs.Prelude.{subst, arith, inl, inr, AllByRecursion, Ch
 use Rattle.world_laws.proofs.Prelude.{Connection, IsOpen, Acts, ActsOn, Brought, ages, rests, connection_of, outs_for, IsOctetStep}
 use Rattle.world_laws.proofs.Prelude.{IsSent, life_acts, life_fits, Step, Take, Controller, Turn, place_of, RelayItem, Rsl, Parameters}
 use Rattle.world_laws.proofs.Prelude.{Event, Tenure, actors_after, actors_after_all, target_in, rsl_in, all_steps, step_at, first_taken}
-use Rattle.world_laws.proofs.Prelude.{Actors, modulus_in, new_actors, outbox_of, LivesByTable-new, OutboxEntry, Station, access_activation}
+use Rattle.world_laws.proofs.Prelude.{Actors, modulus_in, new_actors, outbox_of, FollowsTable-new, OutboxEntry, Station, access_activation}
 use Rattle.world_laws.proofs.Prelude.{Activation, rsl_reading, rsl_text, result_ok, NamesItsMobile, IsNumbered, life_names, same_Some, take}
 use Rattle.world_laws.proofs.Prelude.{going_down, leading_by, leading_from_outbox, IsForOthers, AssignsBy, AssignsIn, IsComing, AreBeside}
 use Rattle.world_laws.proofs.Prelude.{AssignsAnother, IsBeside, read_request, IsEarlyIn, entry_out}
@@ -107,9 +107,9 @@ connections_begin_for_their_mobile_new settings done s item items allowed octets
     let both : AllByRecursion IsOctetStep (all_steps (new_actors settings) done ++ step_at world events.Handle) = subst (AllByRecursion IsOctetStep) (snoc_steps (new_actors settings) done events.Handle) octets in
     let own : IsOctetStep (Take item) = (subst (λ (xs : List RelayItem). AllByRecursion IsOctetStep (first_taken xs)) stood (all_right IsOctetStep (all_steps (new_actors settings) done) (step_at world events.Handle) both)).0 in
     let now : connection_of (take item world.controller).next s.number ≡ Some s = ap (λ (c : Controller). connection_of c s.number) (sym (v_controller settings done s.request.access s target (take item world.controller) items) ∙ ap (λ (x : Actors). x.controller) (sym leads)) ∙ there in
-    let acts : ActsOn s.number world.controller (Take item) = subst (λ (c : Controller). ActsOn s.number c (Take item)) (sym (LivesByTable-new settings done)) (life_acts settings (all_steps (new_actors settings) done) (Take item) s.number least) in
+    let acts : ActsOn s.number world.controller (Take item) = subst (λ (c : Controller). ActsOn s.number c (Take item)) (sym (FollowsTable-new settings done)) (life_acts settings (all_steps (new_actors settings) done) (Take item) s.number least) in
     let steps : List Step = all_steps (new_actors settings) done in
-    let lives = LivesByTable-new settings done in
+    let lives = FollowsTable-new settings done in
     let numbered : IsNumbered world.controller = subst IsNumbered (sym lives) (life_fits settings steps 1 (omega arith)).numbered in
     let sent : AllByRecursion IsSent (take item world.controller).outs = sends_at settings done s.request.access s (Take item) allowed (all_left IsOctetStep (all_steps (new_actors settings) done) (step_at world events.Handle) both) own in
     let beside : AreBeside target s.request.access s (take item world.controller).outs =

@@ -6,7 +6,7 @@ use Rattle.world_laws.proofs.Prelude.{outs_of, State, WaitEstablish, Connection,
 use Rattle.world_laws.proofs.Prelude.{kept, kept_in, ages, rests, IsThere, connection_of, outs_for, IsOctetStep, IsSent, life_acts}
 use Rattle.world_laws.proofs.Prelude.{life_fits, life_sends, Step, Take, Controller, Turn, place_of, step, Zero, RelayItem, AreAllowed}
 use Rattle.world_laws.proofs.Prelude.{Parameters, Event, Tenure, actors_after, actors_after_all, owner_in, handled, target_in, rsl_in}
-use Rattle.world_laws.proofs.Prelude.{all_steps, step_at, first_taken, AllSitBy, Actors, is_up, modulus_in, new_actors, LivesByTable-new}
+use Rattle.world_laws.proofs.Prelude.{all_steps, step_at, first_taken, AllSitBy, Actors, is_up, modulus_in, new_actors, FollowsTable-new}
 use Rattle.world_laws.proofs.Prelude.{FitsNone, NamesItsMobile, IsNumbered, life_names, same_Some, IsTimer, brings_time, take, tick}
 use Rattle.world_laws.proofs.Prelude.{messages_in, coming_up, initials_up, AcksAgree, TookOctets, AreLinedUp, IsForOthers, IsOthers}
 use Rattle.world_laws.proofs.Prelude.{BringsNothing, IsComing, data_up, AreBeside, AssignsAnother, HasAccess, ControllerBringsComing, IsBeside}
@@ -96,14 +96,14 @@ module _ (settings : Parameters) (done : List Event) (mobile : ℕ) (s : Connect
 
   step_came : (st : Step) (target : Option Tenure) (items : List RelayItem) (owner : Tenure → ℕ) (coming : IsComing modulus world mobile s) → AreAllowed settings → IsKnown modulus world mobile s → is_up world SWITCH_LINK ≡ true → Stepping st target items owner → HasAccess (IsComing modulus) modulus (after target (step world.controller st) items) mobile s.number
   step_came st target items owner coming allowed known switch h =
-      let acts : ActsOn s.number world.controller st = subst (λ (c : Controller). ActsOn s.number c st) (sym (LivesByTable-new settings done)) (life_acts settings (all_steps (new_actors settings) done) st s.number coming.had.from_one) in
+      let acts : ActsOn s.number world.controller st = subst (λ (c : Controller). ActsOn s.number c st) (sym (FollowsTable-new settings done)) (life_acts settings (all_steps (new_actors settings) done) st s.number coming.had.from_one) in
       acts_came st target items owner coming allowed known switch h world.controller.next_number _ (connection_of world.controller s.number) (connection_of (step world.controller st).next s.number) acts.put acts.acts coming.had.there refl acts.outs
 
   -- what is put for others names other mobiles
   beside_all : (st : Step) (target : Option Tenure) → AreOneEach world → IsComing modulus world mobile s → AllByRecursion IsSent (step world.controller st).outs → AreForOthers target s (step world.controller st).outs → AreBeside target mobile s (step world.controller st).outs
   beside_all st target one_each coming sent others =
       let steps : List Step = all_steps (new_actors settings) done in
-      let lives = LivesByTable-new settings done in
+      let lives = FollowsTable-new settings done in
       let numbered : IsNumbered world.controller = subst IsNumbered (sym lives) (life_fits settings steps 1 (omega arith)).numbered in
       all_both (λ (out : Out). out.conn ≢ s.number → IsForOthers target s out) (λ (out : Out). out.conn ≢ s.number → AssignsAnother mobile (rsl_in out.frame)) (λ (out : Out). out.conn ≢ s.number → IsBeside target mobile s out) (step world.controller st).outs
       (λ out one two. λ differs. record { for_others = one differs; assigns = two differs }) others
@@ -111,7 +111,7 @@ module _ (settings : Parameters) (done : List Event) (mobile : ℕ) (s : Connect
       (λ m least. subst (λ (c : Controller). NamesItsMobile m c st) (sym lives) (life_names settings steps st m least)))
 
   pub sends_at : (st : Step) → AreAllowed settings → AllByRecursion IsOctetStep (all_steps (new_actors settings) done) → IsOctetStep st → AllByRecursion IsSent (step world.controller st).outs
-  sends_at st allowed octets own = subst (λ (c : Controller). AllByRecursion IsSent (step c st).outs) (sym (LivesByTable-new settings done)) (life_sends settings (all_steps (new_actors settings) done) st allowed octets own)
+  sends_at st allowed octets own = subst (λ (c : Controller). AllByRecursion IsSent (step c st).outs) (sym (FollowsTable-new settings done)) (life_sends settings (all_steps (new_actors settings) done) st allowed octets own)
 
   sits_after : (event : Event) → AreAllowed settings → TookOctets settings (done ++ event ∷ []) → AllSitBy (owner_in (new_actors settings) (done ++ event ∷ [])) (actors_after world event)
   sits_after event allowed octets = subst (AllSitBy (owner_in (new_actors settings) (done ++ event ∷ []))) (snoc_actors (new_actors settings) done event) (mobiles_sit_on_theirs_new settings (done ++ event ∷ []) allowed octets)

@@ -5,7 +5,7 @@ use Rattle.world_laws.proofs.Prelude.{Some, None, refl, sym, ap, ◌∙◌, subs
 use Rattle.world_laws.proofs.Prelude.{Message, Out, outs_of, Connection, connection_of, IsNumbered, IsOctetStep, IsOfOctets, conn_of}
 use Rattle.world_laws.proofs.Prelude.{life_fits, Step, Take, Controller, Entry, hears, step, concerned, Frame, AreOctets, RelayItem, What}
 use Rattle.world_laws.proofs.Prelude.{AreAllowed, Parameters, Event, Tenure, actors_after_all, target_in, rsl_in, all_steps, Actors}
-use Rattle.world_laws.proofs.Prelude.{new_actors, LivesByTable-new, frame_leaves, frame_silent, PassesBy, frame_passes, life, word_of}
+use Rattle.world_laws.proofs.Prelude.{new_actors, FollowsTable-new, frame_leaves, frame_silent, PassesBy, frame_passes, life, word_of}
 use Rattle.world_laws.proofs.Prelude.{leading_by, leading_from_outbox, commanded_target, IsHad, commanded_channels, IsForOthers}
 use Rattle.world_laws.proofs.Prelude.{AreForOthers, entry_out}
 use Rattle.controller_model.specs.Life.{take}
@@ -76,7 +76,7 @@ module _ (settings : Parameters) (done : List Event) (s : Connection) where
     item = record { source = source; what = whats.Frame frame }
 
     numbered : IsNumbered world.controller
-    numbered = subst IsNumbered (sym (LivesByTable-new settings done)) (life_fits settings steps 1 (omega arith)).numbered
+    numbered = subst IsNumbered (sym (FollowsTable-new settings done)) (life_fits settings steps 1 (omega arith)).numbered
 
     none : ((m : ℕ) → 1 ≤ m → concerned world.controller (word_of source frame) ≢ Some m) → AreForOthers (target_in world source (whats.Frame frame)) s (step world.controller (Take item)).outs
     none isnt = of_nobody (target_in world source (whats.Frame frame)) s (step world.controller (Take item)).outs (nobodys (step world.controller (Take item)).outs (step_from world.controller (Take item) numbered)
@@ -92,7 +92,7 @@ module _ (settings : Parameters) (done : List Event) (s : Connection) where
           (frames_are_for_others_new settings done s item allowed octets had (record { frame = frame; is = refl; octets = own; other = suc k; concerns = is; from_one = (omega arith); differs = λ same. eqb-false (suc k) s.number miss (sym same) }))
       either true hit =
           let same : suc k ≡ s.number = eqb-true (suc k) s.number hit in
-          let lives = LivesByTable-new settings done in
+          let lives = FollowsTable-new settings done in
           let passes : PassesBy (s.number + 1) s.number (life settings steps).next (Take item) = frame_passes settings steps (s.number + 1) s.number source frame allowed (omega arith) least (λ e. absurd (omega (arith, e))) (ap (λ (c : Controller). concerned c (word_of source frame)) (sym lives) ∙ is ∙ ap (λ (n : ℕ). Some n) same) in
           subst (AreForOthers (target_in world source (whats.Frame frame)) s) (sym (ap (λ (c : Controller). (step c (Take item)).outs) lives ∙ passes.outs)) (own_alone (target_in world source (whats.Frame frame)) s passes.put)
 
@@ -113,7 +113,7 @@ module _ (settings : Parameters) (done : List Event) (s : Connection) where
     item = record { source = source; what = whats.Frame frame }
 
     lives : world.controller ≡ (life settings steps).next
-    lives = LivesByTable-new settings done
+    lives = FollowsTable-new settings done
 
     left : (concerned world.controller (word_of source frame) ≢ Some s.number) → ⊥
     left isnt =

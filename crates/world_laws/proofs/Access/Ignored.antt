@@ -6,7 +6,7 @@ use Rattle.world_laws.proofs.Prelude.{eqb-true, eqb-false, eq-eqb, ne_eqb, Place
 use Rattle.world_laws.proofs.Prelude.{is_at, Row, undone, Brought, brought_by, brought_in, brought_with, if_held, connection_of, Take}
 use Rattle.world_laws.proofs.Prelude.{OnChannel, Controller, holder, hears, place_of, Zero, Frame, RelayItem, What, Rsl, AreAllowed}
 use Rattle.world_laws.proofs.Prelude.{Parameters, Event, actors_after_all, rsl_in, all_steps, Actors, Mobile, base_of, new_actors}
-use Rattle.world_laws.proofs.Prelude.{LivesByTable-new, FitsNone, Owns, OwnsOpen, life_owns, roles_of, target_channels, dropping, access}
+use Rattle.world_laws.proofs.Prelude.{FollowsTable-new, FitsNone, Owns, OwnsOpen, life_owns, roles_of, target_channels, dropping, access}
 use Rattle.world_laws.proofs.Prelude.{on_dtap, on_establish_indication, row_if, is_control, acknowledgements, IsKnownItem, known_inbox}
 use Rattle.world_laws.proofs.Prelude.{brings_nothing, brings_input, life, word_of, messages_up, read_by, read_of, NoneReleases, brings_if}
 use Rattle.world_laws.proofs.Prelude.{brings_in, brings_by, IsHad, MissesOf, controls_of, IsKnownWhat, AcksAgree, BeginsOnce, data_by}
@@ -52,8 +52,8 @@ module _ (settings : Parameters) (done : List Event) (mobile : ℕ) (s : Connect
   owns_own : AreAllowed settings → IsHad world s → Owns world.controller.channels world.controller.links s.number (roles_of s)
   owns_own allowed had =
       let c : Controller = (life settings (all_steps (new_actors settings) done)).next in
-      let there : connection_of c s.number ≡ Some s = subst (λ (d : Controller). connection_of d s.number ≡ Some s) (LivesByTable-new settings done) had.there in
-      subst (λ (d : Controller). Owns d.channels d.links s.number (roles_of s)) (sym (LivesByTable-new settings done)) ((subst (OwnsOpen c.channels c.links s.number) there (life_owns settings (all_steps (new_actors settings) done) s.number allowed)) had.is_open)
+      let there : connection_of c s.number ≡ Some s = subst (λ (d : Controller). connection_of d s.number ≡ Some s) (FollowsTable-new settings done) had.there in
+      subst (λ (d : Controller). Owns d.channels d.links s.number (roles_of s)) (sym (FollowsTable-new settings done)) ((subst (OwnsOpen c.channels c.links s.number) there (life_owns settings (all_steps (new_actors settings) done) s.number allowed)) had.is_open)
 
   -- what it says comes to the connection
   comes_to : (item : RelayItem) (frame : Frame) (input : Input) → AreAllowed settings → IsHad world s → s.draining ≡ [] → item.what ≡ whats.Frame frame → item.source ≡ at.station → word_of item.source frame ≡ OnChannel at input → brought_in world.controller s.number (Take item) ≡ brings_input input

@@ -7,7 +7,7 @@ use Rattle.world_laws.proofs.Prelude.{aged_holds, pass_stands, life_acts, Step, 
 use Rattle.world_laws.proofs.Prelude.{Parameters, Event, Command, On, Tenure, actors_after, actors_after_all, brought, framed, target_in}
 use Rattle.world_laws.proofs.Prelude.{with_turn, all_steps, Actors, Mobile, base_of, has_number, is_reached, mobile_of, new_actors}
 use Rattle.world_laws.proofs.Prelude.{put_back, back_found, back_other, number_found, good_all, good_new, after_taken, air_up_leads}
-use Rattle.world_laws.proofs.Prelude.{handle_leads, turn_leads, LivesByTable-new, hearing-opens, same_Some, life, take, tick, messages_in}
+use Rattle.world_laws.proofs.Prelude.{handle_leads, turn_leads, FollowsTable-new, hearing-opens, same_Some, life, take, tick, messages_in}
 use Rattle.world_laws.proofs.Prelude.{read_of, coming_up, awaited_in, HasOpened, initial_by, initials_up, IsAlone, IsElsewhere}
 use Rattle.controller_model.specs.LifeLaws.Acts.Acts.{opens as begins}
 use Rattle.controller_model.specs.declared.step.Step.TheVariants.{Tick}
@@ -87,7 +87,7 @@ module _ (settings : Parameters) (done : List Event) (mobile : ℕ) (s next : Co
       → AllByRecursion P (used_channels s) → AllByRecursion P (awaited_in next.state) → AllByRecursion P (used_channels next)
   turn_uses P st v there from_one leads now stays_open all new =
       let c : Controller = (life settings (all_steps (new_actors settings) done)).next in
-      let lives : world.controller ≡ c = LivesByTable-new settings done in
+      let lives : world.controller ≡ c = FollowsTable-new settings done in
       let acts : ActsOn s.number c st = life_acts settings (all_steps (new_actors settings) done) st s.number from_one in
       next_uses P s.number c.next_number _ _ acts.put (connection_of c s.number) (connection_of (step c st).next s.number) acts.acts
       (ap (λ (d : Controller). connection_of d s.number) (sym lives) ∙ there) (connections_stand_new settings done s.number s there)

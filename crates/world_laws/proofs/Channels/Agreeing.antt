@@ -4,7 +4,7 @@ use Rattle.world_laws.proofs.Prelude.{◌≡◌, ◌≢◌, ℕ, ◌≤◌, Bool
 use Rattle.world_laws.proofs.Prelude.{Place, Connection, roles_of, IsOpen, connection_of, Owns, OwnsOpen, AreUsed}
 use Rattle.world_laws.proofs.Prelude.{life_owns, life_ready, life_uses, Ready, Free, Controller, channel_state, hears, place_at}
 use Rattle.world_laws.proofs.Prelude.{AreAllowed, Parameters, Event, Tenure, actors_after, actors_after_all, owner_in, all_steps, Actors}
-use Rattle.world_laws.proofs.Prelude.{new_actors, LivesByTable-new, Right, right_step, right_new, TookOctets}
+use Rattle.world_laws.proofs.Prelude.{new_actors, FollowsTable-new, Right, right_step, right_new, TookOctets}
 use Rattle.world_model.proofs.OwnerRuns.{ServesThrough}
 use Rattle.world_laws.proofs.OwnerRun.{life-settings, serves_through, within_settings, not_zero}
 use Rattle.world_laws.proofs.Events.{world}
@@ -24,10 +24,10 @@ agreed settings events allowed octets =
 -- ---- the controller of the world
 
 pub ready_at : (settings : Parameters) (events : List Event) → AreAllowed settings → Ready (world settings events).controller
-ready_at settings events allowed = subst Ready (sym (LivesByTable-new settings events)) (life_ready settings (all_steps (new_actors settings) events) allowed)
+ready_at settings events allowed = subst Ready (sym (FollowsTable-new settings events)) (life_ready settings (all_steps (new_actors settings) events) allowed)
 
 pub used_at : (settings : Parameters) (events : List Event) → AreAllowed settings → AreUsed (world settings events).controller
-used_at settings events allowed = subst AreUsed (sym (LivesByTable-new settings events)) (life_uses settings (all_steps (new_actors settings) events) allowed)
+used_at settings events allowed = subst AreUsed (sym (FollowsTable-new settings events)) (life_uses settings (all_steps (new_actors settings) events) allowed)
 
 -- a connection that is open owns its channels
 pub owns_at : (settings : Parameters) (events : List Event) → AreAllowed settings → (number : ℕ) (s : Connection) → connection_of (world settings events).controller number ≡ Some s → IsOpen s.state
@@ -35,7 +35,7 @@ pub owns_at : (settings : Parameters) (events : List Event) → AreAllowed setti
 owns_at settings events allowed number s there =
     let c : Controller = (world settings events).controller in
     subst (OwnsOpen c.channels c.links number) there
-    (subst (λ (d : Controller). OwnsOpen d.channels d.links number (connection_of d number)) (sym (LivesByTable-new settings events)) (life_owns settings (all_steps (new_actors settings) events) number allowed))
+    (subst (λ (d : Controller). OwnsOpen d.channels d.links number (connection_of d number)) (sym (FollowsTable-new settings events)) (life_owns settings (all_steps (new_actors settings) events) number allowed))
 
 -- ---- a channel that isn't free
 
@@ -50,7 +50,7 @@ placed_at settings events allowed at busy = record {
   hearing = by (hears c at.station) refl;
   least = not_zero at.station (λ is. busy (ap (λ (n : ℕ). channel_state c (place_at n at.number)) is ∙ used.switch at.number));
   most = within_settings settings c at
-      (ap (λ (d : Controller). d.settings) (LivesByTable-new settings events) ∙ life-settings settings (all_steps (new_actors settings) events)) (ready_at settings events allowed) busy;
+      (ap (λ (d : Controller). d.settings) (FollowsTable-new settings events) ∙ life-settings settings (all_steps (new_actors settings) events)) (ready_at settings events allowed) busy;
 } where
   c : Controller
   c = (world settings events).controller

@@ -8,7 +8,7 @@ use Rattle.world_laws.proofs.Prelude.{connection_of, IsOctetStep, aged_holds, pa
 use Rattle.world_laws.proofs.Prelude.{channel_state, hears, place_at, place_of, step, Item, Rsl, AreAllowed, Parameters, Event, BaseTakes}
 use Rattle.world_laws.proofs.Prelude.{Handle, Tenure, actors_after, actors_after_all, AllAgree, acknowledged_in, is_in_use, to_come}
 use Rattle.world_laws.proofs.Prelude.{owner_in, acknowledgements, due, handled, target_in, with_turn, all_steps, step_at, Actors, base_of}
-use Rattle.world_laws.proofs.Prelude.{is_active_at, is_station_up, is_up, new_actors, outbox_of, up_right, LivesByTable-new, Rests}
+use Rattle.world_laws.proofs.Prelude.{is_active_at, is_station_up, is_up, new_actors, outbox_of, up_right, FollowsTable-new, Rests}
 use Rattle.world_laws.proofs.Prelude.{beside_rests, IsKnownItem, known_inbox, Right, handle_turned, heard_of, kinds, there_of}
 use Rattle.world_laws.proofs.Prelude.{tick-turned, beside_step, Serves, Turned, both_empty, place-is, same_Some, kept_controller, take}
 use Rattle.world_laws.proofs.Prelude.{takes_rests, is_beside, TookOctets, IsHad, commanded_target, IsRequested, AreActiveAt}
@@ -135,7 +135,7 @@ module _ (settings : Parameters) (done : List Event) (event : Event) (v : Actors
   stepping_begun : AllBegun w → AllBegun v
   unfolding AllBegun
   stepping_begun begun number x from_one there =
-      let acts = subst (λ (d : Controller). ActsOn number d s) (sym (LivesByTable-new settings done)) (life_acts settings (all_steps (new_actors settings) done) s number from_one) in
+      let acts = subst (λ (d : Controller). ActsOn number d s) (sym (FollowsTable-new settings done)) (life_acts settings (all_steps (new_actors settings) done) s number from_one) in
       by_acts begun number x acts.put from_one there acts.acts
 
 -- ---- each event

@@ -6,7 +6,7 @@ use Rattle.world_laws.proofs.Prelude.{Free, InUse, Releasing, Word, OnChannel, O
 use Rattle.world_laws.proofs.Prelude.{Entry, Turn, channel_state, entry_of, holder, hears, place_at, place_of, entry_at, on_state, on_what}
 use Rattle.world_laws.proofs.Prelude.{on_word, concerned, rsl_word, Frame, IsOfOctets, RelayItem, What, ActivationAck, Rsl, Parameters}
 use Rattle.world_laws.proofs.Prelude.{Event, Handle, Tenure, actors_after, acknowledged_tenure, target_in, all_steps, rsl_in, Actors}
-use Rattle.world_laws.proofs.Prelude.{modulus_in, new_actors, LivesByTable-new, same_place, none-some, AllByRecursion-so, frame_leaves}
+use Rattle.world_laws.proofs.Prelude.{modulus_in, new_actors, FollowsTable-new, same_place, none-some, AllByRecursion-so, frame_leaves}
 use Rattle.world_laws.proofs.Prelude.{IsFrom, word_of, forwarded, brings_by, brings_if, brings_in, AreLinedUp, IsForOthers, IsOthers}
 use Rattle.world_laws.proofs.Prelude.{IsOpenOrEnded}
 use Rattle.conn_rules.specs.declared.input.Input.TheVariants as inputs
@@ -101,7 +101,7 @@ left_by : {settings : Parameters} {events : List Event} {mobile : ℕ} {s : Conn
     → IsLeft s.number (world settings events).controller (take item (world settings events).controller)
 left_by {settings} {events} {mobile} {s} {item} frame h is other =
     subst (λ (x : What). IsLeft s.number c (take (record { source = item.source; what = x }) c)) (sym is)
-    (subst (λ (d : Controller). (concerned d (word_of item.source frame) ≡ Some s.number → ⊥) → IsLeft s.number d (take (record { source = item.source; what = whats.Frame frame }) d)) (sym (LivesByTable-new settings events))
+    (subst (λ (d : Controller). (concerned d (word_of item.source frame) ≡ Some s.number → ⊥) → IsLeft s.number d (take (record { source = item.source; what = whats.Frame frame }) d)) (sym (FollowsTable-new settings events))
     (λ differs. frame_leaves settings (all_steps (new_actors settings) events) s.number item.source frame h.allowed h.lives.had.from_one differs) other) where
       c : Controller
       c = (world settings events).controller

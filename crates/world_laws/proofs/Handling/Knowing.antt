@@ -5,7 +5,7 @@ use Rattle.world_laws.proofs.Prelude.{roles_of, target_channels, target_role, Is
 use Rattle.world_laws.proofs.Prelude.{connection_of, SameRequest, Owns, OwnsOpen, is_link_up, IsOctetStep, IsSent, AreUsed, life_acts}
 use Rattle.world_laws.proofs.Prelude.{life_names, life_sends, life_after, run_step, Ready, ChannelState, Free, InUse, Releasing, Step}
 use Rattle.world_laws.proofs.Prelude.{Controller, Entry, channel_state, entry_of, holder, place_at, place_of, state_in, step, AreAllowed}
-use Rattle.world_laws.proofs.Prelude.{Parameters, Event, all_steps, step_at, new_actors, LivesByTable-new, Fits, used_apart, IsAfter}
+use Rattle.world_laws.proofs.Prelude.{Parameters, Event, all_steps, step_at, new_actors, FollowsTable-new, Fits, used_apart, IsAfter}
 use Rattle.world_laws.proofs.Prelude.{ready_by, ready_uses, life, TookOctets, IsHad}
 use Rattle.world_laws.proofs.Quiet.{ArePlaced}
 use Rattle.world_laws.proofs.Standing.{connections_stand_new}
@@ -59,7 +59,7 @@ pub record IsKnown (c : Controller) (s : Connection) : Type 0 where
 
 pub known : (settings : Parameters) (events : List Event) (s : Connection) → AreAllowed settings → IsHad (world settings events) s → IsKnown (world settings events).controller s
 known settings events s allowed had =
-    let lives = LivesByTable-new settings events in
+    let lives = FollowsTable-new settings events in
     subst (λ (c : Controller). connection_of c s.number ≡ Some s → IsKnown c s) (sym lives)
     (λ there.
     let steps = all_steps (new_actors settings) events in
@@ -83,7 +83,7 @@ pub record Steps (c : Controller) (s : Step) (number : ℕ) : Type 0 where
 
 pub steps_known : (settings : Parameters) (events : List Event) (s : Step) (number : ℕ) → AreAllowed settings → TookOctets settings events → IsOctetStep s → 1 ≤ number → Steps (world settings events).controller s number
 steps_known settings events s number allowed octets own from_one =
-    let lives = LivesByTable-new settings events in
+    let lives = FollowsTable-new settings events in
     let steps = all_steps (new_actors settings) events in
     subst (λ (c : Controller). Steps c s number) (sym lives)
     (let c : Controller = (life settings steps).next in
@@ -100,7 +100,7 @@ steps_known settings events s number allowed octets own from_one =
 -- its request stays the same
 pub names_known : (settings : Parameters) (events : List Event) (s : Step) (number : ℕ) → 1 ≤ number → SameRequest (connection_of (world settings events).controller number) (connection_of (step (world settings events).controller s).next number)
 names_known settings events s number from_one =
-    subst (λ (c : Controller). SameRequest (connection_of c number) (connection_of (step c s).next number)) (sym (LivesByTable-new settings events)) (life_names settings (all_steps (new_actors settings) events) s number from_one).stays
+    subst (λ (c : Controller). SameRequest (connection_of c number) (connection_of (step c s).next number)) (sym (FollowsTable-new settings events)) (life_names settings (all_steps (new_actors settings) events) s number from_one).stays
 
 -- its entry
 pub entry_there : (c : Controller) (number : ℕ) (s : Connection) → connection_of c number ≡ Some s → (e : Entry) × (entry_of c number ≡ Some e) × (e.connection ≡ s)

@@ -1,6 +1,6 @@
 -- Where a line ends, and what follows it.
 use Rattle.world_laws.proofs.Prelude.{◌≡◌, ℕ, Bool, true, false, Some, List, [], ◌∷◌, ◌++◌, refl, sym, subst, Rise, lent_message}
-use Rattle.world_laws.proofs.Prelude.{after_lending, to_be_taken, DataLinkState, Rise-front, Rise-grow, GoesOn-lent, flow, Follows, rises}
+use Rattle.world_laws.proofs.Prelude.{after_lending, to_be_taken, DataLinkState, Rise-front, Rise-grow, RunsToEnd-lent, flow, Follows, rises}
 use Rattle.mobile_end.specs.RunsToEnd.{RunsToEnd}
 use Rattle.world_laws.specs.LineUp.Alive.Follows.{goes_on}
 
@@ -33,5 +33,5 @@ follows_sent more change (rises k rise) = rises k (Rise-grow more rise)
 -- a station takes a message: where the line is intact it is the next on it, and else it isn't on it
 pub follows_taken : {m : ℕ} {sent : List (List ℕ)} {ok : Bool} (xs ys : List (List ℕ)) (link : DataLinkState) (x : List ℕ) → lent_message link ≡ Some x → (ok ≡ true → ys ≡ xs ++ flow (x ∷ [])) → (ok ≡ false → ys ≡ xs) → Follows m sent xs link ok → Follows m sent ys (after_lending link) ok
 follows_taken {m} {sent} xs ys link x lent grows same (goes_on going) =
-    goes_on (subst (λ (list : List (List ℕ)). RunsToEnd m sent list (after_lending link)) (sym (grows refl)) (GoesOn-lent link x lent going))
+    goes_on (subst (λ (list : List (List ℕ)). RunsToEnd m sent list (after_lending link)) (sym (grows refl)) (RunsToEnd-lent link x lent going))
 follows_taken {m} {sent} xs ys link x lent grows same (rises k rise) = rises k (subst (λ (list : List (List ℕ)). Rise m sent 0 list k) (sym (same refl)) rise)

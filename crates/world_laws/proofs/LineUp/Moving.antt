@@ -3,7 +3,7 @@ use Rattle.world_laws.proofs.Prelude.{◌≡◌, ℕ, ◌+◌, ◌%◌, ◌≤�
 use Rattle.world_laws.proofs.Prelude.{sym, ap, ◌∙◌, append_assoc, cond, arith, inl, inr, filter, not, option_to_list, cases_Bool, cond-true}
 use Rattle.world_laws.proofs.Prelude.{cond-false, is_flow_message, with_number, is_control, without_control, waits, lent_message}
 use Rattle.world_laws.proofs.Prelude.{after_lending, after_resume, to_be_taken, outstanding_messages, DataLinkState, is_control_apart}
-use Rattle.world_laws.proofs.Prelude.{is_flow_with_number, GoesOn-acknowledged, GoesOn-resumed, GoesOn-numbered, GoesOn-unnumbered}
+use Rattle.world_laws.proofs.Prelude.{is_flow_with_number, RunsToEnd-acknowledged, RunsToEnd-resumed, RunsToEnd-numbered, RunsToEnd-unnumbered}
 use Rattle.world_laws.proofs.Prelude.{to_be_taken-waits, to_be_taken-lent_message, to_be_taken-acknowledged, LineUp, flow, messages_in}
 use Rattle.world_laws.proofs.Prelude.{part_of, parts_of, with_items, line, controls_of, controls_in, Alive, some_lost, rises, left_the_cell}
 use Rattle.world_laws.specs.LineUp.Places.{Item, Tenure}
@@ -88,14 +88,14 @@ passes_target old serving t x (inr lost) = parts_tail old _ _ (parts_lost (servi
 
 pub alive_mobile : {m : ℕ} {before after : LineUp} → MobileStep m before after → Alive m before → Alive m after
 alive_mobile {m} (sends_numbered l x clear) alive = record {
-  follows = follows_sent (x ∷ []) (GoesOn-numbered l.link x clear) alive.follows;
+  follows = follows_sent (x ∷ []) (RunsToEnd-numbered l.link x clear) alive.follows;
   first = alive.first;
   stands = stands_link (controls_waits l.link (with_number (length l.sent % m) x) (flow_no_control (with_number (length l.sent % m) x) (is_flow_with_number (length l.sent % m) x ∙ clear.is_flow))) alive.stands;
   condition = alive.condition;
   bare = alive.bare;
 }
 alive_mobile (sends_other l x apart other) alive = record {
-  follows = follows_link (GoesOn-unnumbered l.link x apart) alive.follows;
+  follows = follows_link (RunsToEnd-unnumbered l.link x apart) alive.follows;
   first = alive.first;
   stands = stands_link (controls_waits l.link x other) alive.stands;
   condition = alive.condition;
@@ -135,7 +135,7 @@ alive_mobile (taken_on_target l x lent whole) alive =
 alive_mobile (acknowledged l) alive =
     let same = ap controls_of (to_be_taken-acknowledged l.link.waiting l.link.air) in
     record {
-      follows = follows_link (GoesOn-acknowledged l.link) alive.follows;
+      follows = follows_link (RunsToEnd-acknowledged l.link) alive.follows;
       first = alive.first;
       stands = stands_link (omega arith) alive.stands;
       condition = alive.condition;
@@ -150,14 +150,14 @@ alive_mobile (loses_command l) alive = record {
   bare = alive.bare;
 }
 alive_mobile (arrives l complete is) alive = record {
-  follows = follows_link (GoesOn-resumed l.link complete is) alive.follows;
+  follows = follows_link (RunsToEnd-resumed l.link complete is) alive.follows;
   first = alive.first;
   stands = stands_arrives (controls_resumed l.link complete is) alive.stands;
   condition = condition_arrives alive.condition;
   bare = alive.bare;
 }
 alive_mobile (returns l failure is) alive = record {
-  follows = follows_link (GoesOn-resumed l.link failure is) alive.follows;
+  follows = follows_link (RunsToEnd-resumed l.link failure is) alive.follows;
   first = alive.first;
   stands = stands_returns (controls_resumed l.link failure is) alive.stands;
   condition = condition_returns alive.condition;

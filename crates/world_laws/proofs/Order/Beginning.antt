@@ -10,7 +10,7 @@ use Rattle.world_laws.proofs.Prelude.{Entry, Turn, hears, place_of, Zero, Three,
 use Rattle.world_laws.proofs.Prelude.{AreAllowed, CellParameters, Parameters, Event, Tenure, actors_after, actors_after_all, brought}
 use Rattle.world_laws.proofs.Prelude.{said_by, joined_by, target_in, with_turn, rsl_in, all_steps, first_taken, step_at, Actors, Mobile}
 use Rattle.world_laws.proofs.Prelude.{base_of, has_number, is_up, modulus_in, new_actors, outbox_of, with_outbox, good_all, good_new}
-use Rattle.world_laws.proofs.Prelude.{after_taken, air_up_leads, handle_leads, turn_leads, LivesByTable-new, IsKnownItem, known_inbox}
+use Rattle.world_laws.proofs.Prelude.{after_taken, air_up_leads, handle_leads, turn_leads, FollowsTable-new, IsKnownItem, known_inbox}
 use Rattle.world_laws.proofs.Prelude.{option_and_then_some, slice_get_within, behind_found, word_asked, IsAskedOf, channel_in}
 use Rattle.world_laws.proofs.Prelude.{channel_of_kind, free_channel, free_in, life, new_entry, take, tick, word_of, messages_in, brings_in}
 use Rattle.world_laws.proofs.Prelude.{coming_up, made_of, going_down, leading_by, leading_from_outbox, Begins, ConnectionsBegin, HasBegun}
@@ -87,7 +87,7 @@ module _ (settings : Parameters) (done : List Event) where
   steps_done = all_steps (new_actors settings) done
 
   lives : world.controller ≡ (life settings steps_done).next
-  lives = LivesByTable-new settings done
+  lives = FollowsTable-new settings done
 
   numbered : IsNumbered world.controller
   numbered = subst IsNumbered (sym lives) (life_fits settings steps_done 1 (omega arith)).numbered

@@ -7,7 +7,7 @@ use Rattle.world_laws.proofs.Prelude.{IsOctetStep, IsSent, IsNotOn, life_after, 
 use Rattle.world_laws.proofs.Prelude.{Controller, channel_state, hears, place_of, step, RelayItem, Rsl, AreAllowed, Parameters, Event}
 use Rattle.world_laws.proofs.Prelude.{OutboxEntry, Tenure, actors_after, AllAgree, owner_in, is_active, acknowledgements, active_all}
 use Rattle.world_laws.proofs.Prelude.{outputs, outputs_at, put, taken, to_link, target_in, all_steps, first_taken, step_at, Actors, Link}
-use Rattle.world_laws.proofs.Prelude.{base_of, is_active_at, is_up, new_actors, outbox_of, LivesByTable-new, outbox-step, OutboxStep}
+use Rattle.world_laws.proofs.Prelude.{base_of, is_active_at, is_up, new_actors, outbox_of, FollowsTable-new, outbox-step, OutboxStep}
 use Rattle.world_laws.proofs.Prelude.{breaks, Goes, first_passes, runs, heard_of, Serves, hear, acks_append, length-stations_from}
 use Rattle.world_laws.proofs.Prelude.{pipe-step, PipeStep, flows, stops, life_ready, Ready, free≢use, used_places, IsFine, life, take, tick}
 use Rattle.world_laws.proofs.Prelude.{runs_kept, goes_activates, acknowledgements_up, is_release_ack, read_of, TookOctets, IsHad}
@@ -90,9 +90,9 @@ module _ (settings : Parameters) (done : List Event) (event : Event) (s : Connec
   rests_not : step_at w event ≡ [] → Quiet vv at
   rests_not none =
       let still : vv.controller ≡ c =
-      LivesByTable-new settings (done ++ event ∷ [])
+      FollowsTable-new settings (done ++ event ∷ [])
       ∙ ap (λ (ss : List Step). (life settings ss).next) (snoc_steps (new_actors settings) done event ∙ ap (λ (ss : List Step). all_steps (new_actors settings) done ++ ss) none ∙ append-nil (all_steps (new_actors settings) done))
-      ∙ sym (LivesByTable-new settings done) in
+      ∙ sym (FollowsTable-new settings done) in
       absurd (let both : Some s ≡ None = sym has.there ∙ ap (λ (d : Controller). connection_of d s.number) still ∙ new in cc)
 
   -- s isn't there before
@@ -108,10 +108,10 @@ module _ (settings : Parameters) (done : List Event) (event : Event) (s : Connec
     there = ap (λ (d : Controller). connection_of d s.number) (sym next) ∙ has.there
 
     fine : IsFine (connection_of c s.number)
-    fine = subst (λ (d : Controller). IsFine (connection_of d s.number)) (sym (LivesByTable-new settings done)) ((life_after settings (all_steps (new_actors settings) done) allowed).fits s.number has.from_one).fine
+    fine = subst (λ (d : Controller). IsFine (connection_of d s.number)) (sym (FollowsTable-new settings done)) ((life_after settings (all_steps (new_actors settings) done) allowed).fits s.number has.from_one).fine
 
     ready : Ready c
-    ready = subst (λ (d : Controller). Ready d) (sym (LivesByTable-new settings done)) (life_ready settings (all_steps (new_actors settings) done) allowed)
+    ready = subst (λ (d : Controller). Ready d) (sym (FollowsTable-new settings done)) (life_ready settings (all_steps (new_actors settings) done) allowed)
 
     end_is : channel_state (step c x).next at ≡ InUse s.number
     end_is = ap (λ (d : Controller). channel_state d at) (sym next) ∙ used_then
@@ -138,7 +138,7 @@ module _ (settings : Parameters) (done : List Event) (event : Event) (s : Connec
     inactive = before.settled.idle hearing why
 
     others : (k : ℕ) → 1 ≤ k → s.number ≢ k → OthersPut k c x at
-    others k from_one differs = subst (λ (d : Controller). channel_state d at ≡ channel_state c at → channel_state (step d x).next at ≡ InUse s.number → OthersPut k d x at) (sym (LivesByTable-new settings done))
+    others k from_one differs = subst (λ (d : Controller). channel_state d at ≡ channel_state c at → channel_state (step d x).next at ≡ InUse s.number → OthersPut k d x at) (sym (FollowsTable-new settings done))
         (λ here_now here_next. others_put settings (all_steps (new_actors settings) done) x s.number k at (channel_state c at) allowed from_one differs
         (λ both. free≢use _ (sym heard_free ∙ ap (hear heard) (sym both) ∙ hear-used heard k)) here_now here_next)
         refl end_is

@@ -2,7 +2,7 @@
 use Rattle.world_laws.proofs.Prelude.{◌≡◌, ℕ, Bool, true, false, if◌then◌else◌, List, [], ◌∷◌, Some, refl, sym, ap, subst, AllByRecursion}
 use Rattle.world_laws.proofs.Prelude.{Connection, Zero, is_flow_message, to_be_taken, waits, after_number, new_mobile, Parameters, Event}
 use Rattle.world_laws.proofs.Prelude.{OutboxEntry, actors_after, rsl_in, Actors, Mobile, modulus_in, outbox_of, controls_of, is_initial}
-use Rattle.world_laws.proofs.Prelude.{idle_link, GoesOn-new, GoesOn-numbered, GoesOn-unnumbered, is_initial_clear, IsClear-flow, AssignsIn}
+use Rattle.world_laws.proofs.Prelude.{idle_link, RunsToEnd-new, RunsToEnd-numbered, RunsToEnd-unnumbered, is_initial_clear, IsClear-flow, AssignsIn}
 use Rattle.world_laws.proofs.Prelude.{behind_first, IsComing, IsNew, AssignsAnother, Begins, ConnectionsBeginComing, HasBegun}
 use Rattle.world_laws.proofs.Prelude.{IsAsItConnected, IsEarlyIn}
 use Rattle.mobile_end.specs.RunsToEnd.{RunsToEnd}
@@ -21,8 +21,8 @@ connected_goes m initial lawful = by (is_flow_message initial) refl where
   by : (b : Bool) → is_flow_message initial ≡ b
       → RunsToEnd m (connected_mobile (if b then after_number (new_mobile m) initial else with_link (new_mobile m) Zero (waits (link_of (new_mobile m) Zero) initial))).sent []
       (connected_mobile (if b then after_number (new_mobile m) initial else with_link (new_mobile m) Zero (waits (link_of (new_mobile m) Zero) initial))).zero
-  by true flow = GoesOn-numbered {m = m} {sent = []} {xs = []} idle_link initial (IsClear-flow initial (is_initial_clear initial lawful) flow) (GoesOn-new m)
-  by false apart = GoesOn-unnumbered {m = m} {sent = []} {xs = []} idle_link initial apart (GoesOn-new m)
+  by true flow = RunsToEnd-numbered {m = m} {sent = []} {xs = []} idle_link initial (IsClear-flow initial (is_initial_clear initial lawful) flow) (RunsToEnd-new m)
+  by false apart = RunsToEnd-unnumbered {m = m} {sent = []} {xs = []} idle_link initial apart (RunsToEnd-new m)
 
 -- and nothing stands behind it
 connected_controls : (m : ℕ) (initial : List ℕ) → controls_of (behind_first (to_be_taken (after_connect (new_mobile m) (Some initial)).zero)) ≡ 0

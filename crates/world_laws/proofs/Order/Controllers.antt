@@ -3,7 +3,7 @@ use Rattle.world_laws.proofs.Prelude.{◌≡◌, ℕ, ◌≤◌, ◌<◌, leb, i
 use Rattle.world_laws.proofs.Prelude.{subst, arith, append_assoc, AllByRecursion, cases_Bool, leb-false, leb-true, append-nil, none-some}
 use Rattle.world_laws.proofs.Prelude.{Connection, connection_of, IsNumbered, IsOctetStep, step_goes, find_below, life_fits, Step}
 use Rattle.world_laws.proofs.Prelude.{Controller, Entry, each, new_controller, step, Parameters, Event, actors_after, actors_after_all}
-use Rattle.world_laws.proofs.Prelude.{all_steps, step_at, Actors, new_actors, LivesByTable-new, TookOctets}
+use Rattle.world_laws.proofs.Prelude.{all_steps, step_at, Actors, new_actors, FollowsTable-new, TookOctets}
 use Rattle.controller_model.specs.Life.{life}
 use Rattle.world_laws.proofs.References.Moving.{each-append}
 use Rattle.world_laws.proofs.Events.{snoc_actors, snoc_steps, world}
@@ -29,7 +29,7 @@ octets_front settings events more octets =
 -- after a world of the run
 controller-then : (settings : Parameters) (events : List Event) (event : Event) → (actors_after (world settings events) event).controller ≡ (life settings (all_steps (new_actors settings) events ++ step_at (world settings events) event)).next
 controller-then settings events event =
-    ap (λ (w : Actors). w.controller) (sym (snoc_actors (new_actors settings) events event)) ∙ LivesByTable-new settings (events ++ event ∷ [])
+    ap (λ (w : Actors). w.controller) (sym (snoc_actors (new_actors settings) events event)) ∙ FollowsTable-new settings (events ++ event ∷ [])
     ∙ ap (λ (steps : List Step). (life settings steps).next) (snoc_steps (new_actors settings) events event)
 
 -- it is as it was where it takes nothing
@@ -38,7 +38,7 @@ controller-stays settings events event none =
     controller-then settings events event
     ∙ ap (λ (steps : List Step). (life settings (all_steps (new_actors settings) events ++ steps)).next) none
     ∙ ap (λ (steps : List Step). (life settings steps).next) (append-nil (all_steps (new_actors settings) events))
-    ∙ sym (LivesByTable-new settings events)
+    ∙ sym (FollowsTable-new settings events)
 
 -- ---- numbers
 
@@ -52,13 +52,13 @@ unfolding life
 next_rises settings events event =
     let steps : List Step = all_steps (new_actors settings) events in
     let more : List Step = step_at (world settings events) event in
-    let before : (world settings events).controller ≡ (each step (new_controller settings) steps).next = LivesByTable-new settings events in
+    let before : (world settings events).controller ≡ (each step (new_controller settings) steps).next = FollowsTable-new settings events in
     let after : (actors_after (world settings events) event).controller ≡ (each step (each step (new_controller settings) steps).next more).next = controller-then settings events event ∙ each-append (new_controller settings) steps more in
     subst (λ (n : ℕ). n ≤ (actors_after (world settings events) event).controller.next_number) (sym (ap (λ (c : Controller). c.next_number) before))
     (subst (λ (n : ℕ). (each step (new_controller settings) steps).next.next_number ≤ n) (sym (ap (λ (c : Controller). c.next_number) after)) (each_rises (each step (new_controller settings) steps).next more))
 
 numbered : (settings : Parameters) (events : List Event) → IsNumbered (world settings events).controller
-numbered settings events = subst IsNumbered (sym (LivesByTable-new settings events)) (life_fits settings (all_steps (new_actors settings) events) 1 (omega arith)).numbered
+numbered settings events = subst IsNumbered (sym (FollowsTable-new settings events)) (life_fits settings (all_steps (new_actors settings) events) 1 (omega arith)).numbered
 
 -- a number that is still to be given has no connection
 pub none_given : (settings : Parameters) (events : List Event) (number : ℕ) → (world settings events).controller.next_number ≤ number → connection_of (world settings events).controller number ≡ None

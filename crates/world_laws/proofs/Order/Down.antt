@@ -6,7 +6,7 @@ use Rattle.world_laws.proofs.Prelude.{Connection, AllByRecursion-filter, Acts, b
 use Rattle.world_laws.proofs.Prelude.{IsSent, IsNotOn, life_after, Free, InUse, Step, Controller, channel_state, hears, place_of, step}
 use Rattle.world_laws.proofs.Prelude.{RelayItem, AreAllowed, Parameters, Event, OutboxEntry, Tenure, actors_after, actors_after_all}
 use Rattle.world_laws.proofs.Prelude.{outputs, outputs_at, put, to_link, target_in, all_steps, first_taken, step_at, Actors, is_up}
-use Rattle.world_laws.proofs.Prelude.{new_actors, LivesByTable-new, length-stations_from, pipe-step, same_Some, IsFine, life, take, tick}
+use Rattle.world_laws.proofs.Prelude.{new_actors, FollowsTable-new, length-stations_from, pipe-step, same_Some, IsFine, life, take, tick}
 use Rattle.world_laws.proofs.Prelude.{TookOctets, IsHad, LetsNoneGo, ChannelsStayQuiet, NoDataEntry, Quiet, QuietLetsNoneGo, IsEarlyIn}
 use Rattle.controller_model.specs.declared.step.Step.TheVariants as steps
 use Rattle.world_model.specs.declared.event.Event.TheVariants as events
@@ -90,9 +90,9 @@ module _ (settings : Parameters) (done : List Event) (event : Event) (old s : Co
   rests_quiet : step_at w event ≡ [] → outputs w event ≡ [] → Quiet vv at
   rests_quiet none nothing =
       let still : vv.controller ≡ c =
-      LivesByTable-new settings (done ++ event ∷ [])
+      FollowsTable-new settings (done ++ event ∷ [])
       ∙ ap (λ (ss : List Step). (life settings ss).next) (snoc_steps (new_actors settings) done event ∙ ap (λ (ss : List Step). all_steps (new_actors settings) done ++ ss) none ∙ append-nil (all_steps (new_actors settings) done))
-      ∙ sym (LivesByTable-new settings done) in
+      ∙ sym (FollowsTable-new settings done) in
       let one : s ≡ old = same_Some _ _ (sym has.there ∙ ap (λ (d : Controller). connection_of d s.number) still ∙ ap (connection_of c) number ∙ had.there) in
       goes_quiet (subst (λ (x : Connection). Quiet w (place_of x.serving)) (sym one) quiet) (put_none [] nothing tt)
 
@@ -109,7 +109,7 @@ module _ (settings : Parameters) (done : List Event) (event : Event) (old s : Co
     was = ap (connection_of c) number ∙ had.there
 
     fine : IsFine (connection_of c s.number)
-    fine = subst (λ (d : Controller). IsFine (connection_of d s.number)) (sym (LivesByTable-new settings done)) ((life_after settings (all_steps (new_actors settings) done) allowed).fits s.number has.from_one).fine
+    fine = subst (λ (d : Controller). IsFine (connection_of d s.number)) (sym (FollowsTable-new settings done)) ((life_after settings (all_steps (new_actors settings) done) allowed).fits s.number has.from_one).fine
 
     destiny : Fate at (connection_of c s.number) s does.acts.put
     destiny = fate s.number c.next_number (hears c SWITCH_LINK) (brought_in c s.number x) (connection_of c s.number) does.acts.put s at fine early_then (subst (λ (o : Option Connection). Acts s.number c.next_number (hears c SWITCH_LINK) (brought_in c s.number x) (connection_of c s.number) does.acts.put o) there does.acts.acts)
@@ -123,7 +123,7 @@ module _ (settings : Parameters) (done : List Event) (event : Event) (old s : Co
       used = ap (channel_state c) (sym place) ∙ (owns_at settings done allowed old.number old had.there had.is_open).using.0 ∙ ap InUse (sym number)
 
       others : (k : ℕ) → 1 ≤ k → s.number ≢ k → OthersPut k c x at
-      others k from_one differs = subst (λ (d : Controller). channel_state d at ≡ InUse s.number → channel_state (step d x).next at ≡ InUse s.number → OthersPut k d x at) (sym (LivesByTable-new settings done))
+      others k from_one differs = subst (λ (d : Controller). channel_state d at ≡ InUse s.number → channel_state (step d x).next at ≡ InUse s.number → OthersPut k d x at) (sym (FollowsTable-new settings done))
           (λ here_now here_next. others_put settings (all_steps (new_actors settings) done) x s.number k at (InUse s.number) allowed from_one differs (λ both. differs (number_is (sym both))) here_now here_next)
           used (ap (λ (d : Controller). channel_state d at) (sym next) ∙ used_then) where
             number_is : {a b : ℕ} → InUse a ≡ InUse b → a ≡ b

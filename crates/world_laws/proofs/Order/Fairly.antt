@@ -3,7 +3,7 @@
 use Rattle.world_laws.proofs.Prelude.{◌==◌, Bool, true, false, if◌then◌else◌, List, [], ◌∷◌, ◌++◌, map, Option, Some, None, sym, subst}
 use Rattle.world_laws.proofs.Prelude.{AllByRecursion, Out, SWITCH_LINK, AllByRecursion-filter, IsOctetStep, Step, Controller, step, Item}
 use Rattle.world_laws.proofs.Prelude.{AreAllowed, Parameters, Event, Tenure, outputs, outputs_at, put, to_link, target_in}
-use Rattle.world_laws.proofs.Prelude.{all_steps, first_taken, step_at, sccp_in, Actors, is_up, new_actors, LivesByTable-new, take, tick}
+use Rattle.world_laws.proofs.Prelude.{all_steps, first_taken, step_at, sccp_in, Actors, is_up, new_actors, FollowsTable-new, take, tick}
 use Rattle.world_laws.proofs.Prelude.{TookOctets, ComeInOctets, IsFair, IsFairEntry, PutsFairly}
 use Rattle.controller_model.specs.declared.step.Step.TheVariants as steps
 use Rattle.world_model.specs.Relay.{entry_of}
@@ -28,7 +28,7 @@ module _ (settings : Parameters) (allowed : AreAllowed settings) (events : List 
 
   -- a step of the controller that is there
   stepped : (s : Step) → TookOctets settings events → IsOctetStep s → AreFair (step w.controller s).outs
-  stepped s octets own = subst (λ (c : Controller). AreFair (step c s).outs) (sym (LivesByTable-new settings events)) (step_fair settings (all_steps (new_actors settings) events) s allowed octets own)
+  stepped s octets own = subst (λ (c : Controller). AreFair (step c s).outs) (sym (FollowsTable-new settings events)) (step_fair settings (all_steps (new_actors settings) events) s allowed octets own)
 
   handled : (items : List Item) → TookOctets settings events → AllByRecursion IsOctetStep (first_taken items) → AllByRecursion IsFairEntry (outputs_at w items)
   handled [] octets own = tt

@@ -5,7 +5,7 @@ use Rattle.world_laws.proofs.Prelude.{Channel, Message, Station, Out, outs_of, i
 use Rattle.world_laws.proofs.Prelude.{outs_for, Names, NamesItsMobile, IsOctetStep, IsSent, life_fits, life_names, life_sends, Step}
 use Rattle.world_laws.proofs.Prelude.{Controller, pong, step, ImmediateAssignment, Rsl, RequestReference, rsl_text, AreAllowed, Parameters}
 use Rattle.world_laws.proofs.Prelude.{Event, Tenure, to_link, joined_by, rsl_in, all_steps, Actors, is_up, new_actors, outbox_of}
-use Rattle.world_laws.proofs.Prelude.{LivesByTable-new, all_join, same_Some, AllByRecursion-append, NamesOf, life, rr_reading}
+use Rattle.world_laws.proofs.Prelude.{FollowsTable-new, all_join, same_Some, AllByRecursion-append, NamesOf, life, rr_reading}
 use Rattle.world_laws.proofs.Prelude.{AssignsAnother, NamesAnother, NoneNames, IsUnanswered, entry_out}
 use Rattle.conn_messages.specs.Out.{out_of}
 use Rattle.rsl_codec.specs.declared.common_channel.ImmediateAssignment.{ImmediateAssignment as Assignment}
@@ -104,7 +104,7 @@ step_names settings done s k allowed octets own unanswered =
       c = (life settings steps).next
 
       lives : (world settings done).controller ≡ c
-      lives = LivesByTable-new settings done
+      lives = FollowsTable-new settings done
 
       of : (n : ℕ) → 1 ≤ n → NamesItsMobile n c s → AllByRecursion (λ out. out.conn ≡ n → AssignsNot k out) (step c s).outs
       of n least named =

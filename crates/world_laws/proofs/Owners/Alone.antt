@@ -8,7 +8,7 @@ use Rattle.world_laws.proofs.Prelude.{channel_state, entry_of, hears, place_at, 
 use Rattle.world_laws.proofs.Prelude.{Parameters, Event, BaseTakes, Handle, Tick, Tenure, actors_after, actors_after_all, Agrees}
 use Rattle.world_laws.proofs.Prelude.{active_behind, asker, tenure_behind, owner_in, handled, target_in, with_turn, all_steps, Actors}
 use Rattle.world_laws.proofs.Prelude.{Mobile, is_active_at, is_reached, is_station_up, is_up, new_actors, outbox_of, spot_at, tenure_at}
-use Rattle.world_laws.proofs.Prelude.{reached_up, up_right, and_right, LivesByTable-new, found_all, IsKnownItem, known_inbox, Right}
+use Rattle.world_laws.proofs.Prelude.{reached_up, up_right, and_right, FollowsTable-new, found_all, IsKnownItem, known_inbox, Right}
 use Rattle.world_laws.proofs.Prelude.{handle_turned, heard_of, kinds, right_step, there_of, tick-turned, beside_step, Serves, Turned, hear}
 use Rattle.world_laws.proofs.Prelude.{down_after, place-is, none-some, right_new, number_found, channels_of-roles, comes, found_number}
 use Rattle.world_laws.proofs.Prelude.{all_contained, contains_behind, contains_first, life, take, tick, tenure_all, SitsBy, tenure-append}
@@ -31,7 +31,7 @@ use Rattle.world_laws.proofs.Framing.{all_left, all_right}
 -- ---- a connection of the world's controller
 
 lives_of : (settings : Parameters) (done : List Event) (w : Actors) → w ≡ world settings done → w.controller ≡ (life settings (all_steps (new_actors settings) done)).next
-lives_of settings done w is = ap (λ (x : Actors). x.controller) is ∙ LivesByTable-new settings done
+lives_of settings done w is = ap (λ (x : Actors). x.controller) is ∙ FollowsTable-new settings done
 
 owns_in : (settings : Parameters) (done : List Event) (w : Actors) (s : Connection) → AreAllowed settings → w ≡ world settings done → IsHad w s → Owns w.controller.channels w.controller.links s.number (roles_of s)
 owns_in settings done w s allowed is had =

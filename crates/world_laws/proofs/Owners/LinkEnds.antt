@@ -10,7 +10,7 @@ use Rattle.world_laws.proofs.Prelude.{Handle, Tick, BaseDown, Tenure, actors_aft
 use Rattle.world_laws.proofs.Prelude.{after_base_push, after_break, handled, pushed_by_station, pushed_by_switch, station_item, switch_item}
 use Rattle.world_laws.proofs.Prelude.{target_in, with_turn, all_steps, Actors, Link, base_of, broken_link, is_up, new_actors, with_base}
 use Rattle.world_laws.proofs.Prelude.{new_link, no_station, stations_from, with_link, Plain, base-elsewhere, base-there, as_before}
-use Rattle.world_laws.proofs.Prelude.{ends_now, inbox_goes, after_taken, broken_leads, connect_leads, turn_leads, LivesByTable-new}
+use Rattle.world_laws.proofs.Prelude.{ends_now, inbox_goes, after_taken, broken_leads, connect_leads, turn_leads, FollowsTable-new}
 use Rattle.world_laws.proofs.Prelude.{all_join, changed_link, unwrap_or-slice_get, channels_of-roles, LinkedOf, life_linked, life, take}
 use Rattle.world_laws.proofs.Prelude.{tick, made_item, of_source, pushing, link-else}
 use Rattle.controller_model.proofs.LifeLaws.Beside.{other_link}
@@ -33,7 +33,7 @@ links_of_channels_are_up_new settings events s allowed had =
     let w : Actors = world settings events in
     let ss : List Step = all_steps (new_actors settings) events in
     let c : Controller = (life settings ss).next in
-    let lives : w.controller ≡ c = LivesByTable-new settings events in
+    let lives : w.controller ≡ c = FollowsTable-new settings events in
     let there : connection_of c s.number ≡ Some s = subst (λ (d : Controller). connection_of d s.number ≡ Some s) lives had.there in
     let owns : Owns c.channels c.links s.number (roles_of s) = owns_of settings ss s allowed there had.is_open in
     let linked : hears c SWITCH_LINK ≡ true = subst (LinkedOf (hears c SWITCH_LINK)) there (life_linked settings ss s.number had.from_one) in

@@ -9,7 +9,7 @@ use Rattle.world_laws.proofs.Prelude.{actors_after, actors_after_all, after_conn
 use Rattle.world_laws.proofs.Prelude.{handled, station_item, switch_item, target_in, with_turn, all_steps, Actors, Mobile, base_of}
 use Rattle.world_laws.proofs.Prelude.{broken_link, mobile_of, new_actors, station_of, stations_from, with_link, Good, end_of, good_all}
 use Rattle.world_laws.proofs.Prelude.{good_new, inbox_goes, after_taken, broken_leads, connect_leads, push_leads, turn_leads}
-use Rattle.world_laws.proofs.Prelude.{LivesByTable-new, IsKnownItem, known_inbox, IsSound, sound_read, step_numbered, life, take, tick}
+use Rattle.world_laws.proofs.Prelude.{FollowsTable-new, IsKnownItem, known_inbox, IsSound, sound_read, step_numbered, life, take, tick}
 use Rattle.world_laws.proofs.Prelude.{word_of, popped, made_by, requests_in, requests_up, said_in}
 use Rattle.controller_model.specs.declared.step.Step.TheVariants as steps
 use Rattle.ruled_relay.specs.declared.item.What.TheVariants as whats
@@ -137,7 +137,7 @@ came_by p ss s (suc m) t is = by (connection_of c (suc m)) refl where
 
 came_in : (settings : Parameters) (done : List Event) (w : Actors) (s : Step) → w ≡ world settings done → (n : ℕ) (t : Connection) → connection_of (step w.controller s).next n ≡ Some t → CameBy w.controller s n t
 came_in settings done w s is =
-    let lives : w.controller ≡ (life settings (all_steps (new_actors settings) done)).next = ap (λ (x : Actors). x.controller) is ∙ LivesByTable-new settings done in
+    let lives : w.controller ≡ (life settings (all_steps (new_actors settings) done)).next = ap (λ (x : Actors). x.controller) is ∙ FollowsTable-new settings done in
     subst (λ (c : Controller). (n : ℕ) (t : Connection) → connection_of (step c s).next n ≡ Some t → CameBy c s n t) (sym lives) (came_by settings (all_steps (new_actors settings) done) s)
 
 -- the item that it takes says a request

@@ -5,7 +5,7 @@ use Rattle.world_laws.proofs.Prelude.{life_sound, Step, Controller, Item, AreAll
 use Rattle.world_laws.proofs.Prelude.{SwitchTakes, SwitchDoes, Tick, BaseDown, OutboxEntry, actors_after, actors_after_all, handled}
 use Rattle.world_laws.proofs.Prelude.{target_in, after_base_takes, all_steps, first_taken, step_at, after_switch_takes, sccp_in}
 use Rattle.world_laws.proofs.Prelude.{switch_took, Actors, Link, link_of, new_actors, outbox_of, with_outbox, switch_takes_leads}
-use Rattle.world_laws.proofs.Prelude.{after_taken, LivesByTable-new, new_outbox, aerial_leads, taking_leads, ◌≢◌, up_right, OfTaken}
+use Rattle.world_laws.proofs.Prelude.{after_taken, FollowsTable-new, new_outbox, aerial_leads, taking_leads, ◌≢◌, up_right, OfTaken}
 use Rattle.world_laws.proofs.Prelude.{other_link, is_unasked, TakesOctets, NamesAlwaysAgree, PeersDiffer}
 use Rattle.controller_model.specs.declared.step.Step.TheVariants as steps
 use Rattle.world_model.specs.Life.{event_after}
@@ -96,7 +96,7 @@ new_agree settings = record {
 
 pub before_of : (settings : Parameters) (done : List Event) (w : Actors) (event : Event) → w ≡ world settings done → AreAllowed settings → AllByRecursion IsOctetStep (all_steps (new_actors settings) done) → TakesOctets w event → NamesAgree w → Before w event
 before_of settings done w event is allowed octets own agree =
-    let lives : w.controller ≡ lived settings done = ap (λ (x : Actors). x.controller) is ∙ LivesByTable-new settings done in
+    let lives : w.controller ≡ lived settings done = ap (λ (x : Actors). x.controller) is ∙ FollowsTable-new settings done in
     record {
       agree = agree;
       few = subst (λ (c : Controller). c.next_number ≤ 2 ^ 24) (sym lives) (life_sound settings (all_steps (new_actors settings) done) allowed octets).next;

@@ -1,6 +1,6 @@
 -- The controller of a world after one event more.
 use Rattle.world_laws.proofs.Prelude.{◌≡◌, List, [], ◌∷◌, ◌++◌, refl, sym, ap, ◌∙◌, Step, Controller, each, new_controller, step}
-use Rattle.world_laws.proofs.Prelude.{Parameters, Event, actors_after, all_steps, step_at, Actors, new_actors, LivesByTable-new}
+use Rattle.world_laws.proofs.Prelude.{Parameters, Event, actors_after, all_steps, step_at, Actors, new_actors, FollowsTable-new}
 use Rattle.controller_model.specs.Life.{life}
 use Rattle.world_laws.proofs.Events.{snoc_actors, snoc_steps, world}
 
@@ -19,6 +19,6 @@ lived settings events = (life settings (all_steps (new_actors settings) events))
 pub moves : (settings : Parameters) (events : List Event) (event : Event) →
     (actors_after (world settings events) event).controller ≡ (each step (lived settings events) (step_at (world settings events) event)).next
 moves settings events event =
-    sym (ap (λ (v : Actors). v.controller) (snoc_actors (new_actors settings) events event)) ∙ LivesByTable-new settings (events ++ event ∷ [])
+    sym (ap (λ (v : Actors). v.controller) (snoc_actors (new_actors settings) events event)) ∙ FollowsTable-new settings (events ++ event ∷ [])
     ∙ ap (λ (ss : List Step). (life settings ss).next) (snoc_steps (new_actors settings) events event)
     ∙ life-append settings (all_steps (new_actors settings) events) (step_at (world settings events) event)

@@ -5,7 +5,7 @@ use Rattle.world_laws.proofs.Prelude.{brought_in, IsThere, connection_of, messag
 use Rattle.world_laws.proofs.Prelude.{forwarded_seen, life_sends, step_does, Forwarded, Step, Controller, each, hears, step, Sapi, Zero}
 use Rattle.world_laws.proofs.Prelude.{Three, Item, AreAllowed, Parameters, Event, Handle, Tick, OutboxEntry, Tenure, actors_after}
 use Rattle.world_laws.proofs.Prelude.{outputs, outputs_at, to_link, target_in, all_steps, first_taken, step_at, Actors}
-use Rattle.world_laws.proofs.Prelude.{is_up, new_actors, LivesByTable-new, both_empty, step_silence, acts_usual, life, take, tick}
+use Rattle.world_laws.proofs.Prelude.{is_up, new_actors, FollowsTable-new, both_empty, step_silence, acts_usual, life, take, tick}
 use Rattle.world_laws.proofs.Prelude.{forwarded, IsOver, OverPutsNoMore, TakesOctets, carried_for, entry_out}
 use Rattle.controller_model.specs.declared.step.Step.TheVariants as steps
 use Rattle.world_model.specs.Relay.{entry_of}
@@ -89,7 +89,7 @@ module _ (number : ℕ) (w : Actors) (silent : (s : Step) → IsOctetStep s → 
 pub over_puts_no_more_new : (settings : Parameters) (events : List Event) (event : Event) → OverPutsNoMore settings events event
 over_puts_no_more_new settings events event number allowed octets own from_one over =
     let w : Actors = world settings events in
-    let lives : w.controller ≡ lived settings events = LivesByTable-new settings events in
+    let lives : w.controller ≡ lived settings events = FollowsTable-new settings events in
     let silent : (s : Step) → IsOctetStep s → IsSilent number w.controller s = λ s comes. subst (λ (c : Controller). IsSilent number c s) (sym lives)
     (silent_step settings (all_steps (new_actors settings) events) s number allowed octets comes from_one
     (subst (λ (c : Controller). number < c.next_number) lives over.past) (subst (λ (c : Controller). IsThere (connection_of c number) → ⊥) lives over.closed)) in

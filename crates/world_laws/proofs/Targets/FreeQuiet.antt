@@ -6,7 +6,7 @@ use Rattle.world_laws.proofs.Prelude.{channel_state, hears, BaseState, is_active
 use Rattle.world_laws.proofs.Prelude.{AreAllowed, Parameters, Event, BaseTakes, Handle, AirMessage, OutboxEntry, Tenure, actors_after}
 use Rattle.world_laws.proofs.Prelude.{actors_after_all, Agrees, AllAgree, active_behind, is_in_use, to_come, owner_in, acknowledgements}
 use Rattle.world_laws.proofs.Prelude.{due, outputs, put, to_link, handled, target_in, with_turn, rsl_in, all_steps, first_taken, step_at}
-use Rattle.world_laws.proofs.Prelude.{Actors, base_of, is_active_at, is_up, new_actors, outbox_of, good_new, LivesByTable-new, both_empty}
+use Rattle.world_laws.proofs.Prelude.{Actors, base_of, is_active_at, is_up, new_actors, outbox_of, good_new, FollowsTable-new, both_empty}
 use Rattle.world_laws.proofs.Prelude.{new_outbox, Rests, beside_rests, IsKnownItem, known_inbox, Goes, Runs, entries_to, runs, first_passes}
 use Rattle.world_laws.proofs.Prelude.{activates, over, passes, releases, Right, handle_turned, heard_of, kinds, right_step, there_of}
 use Rattle.world_laws.proofs.Prelude.{tick-turned, IsOne, Serves, hear, length-stations_from, true≢false, life, tick, new_base, popped}
@@ -161,7 +161,7 @@ works_rests w event at rests = record { puts = puts_rests w event at rests.outpu
 
 module _ (settings : Parameters) (owner : Tenure → ℕ) (done : List Event) (w : Actors) (is : w ≡ world settings done) (allowed : AreAllowed settings) (octets : AllByRecursion IsOctetStep (all_steps (new_actors settings) done)) where
   lives : w.controller ≡ (life settings (all_steps (new_actors settings) done)).next
-  lives = ap (λ (x : Actors). x.controller) is ∙ LivesByTable-new settings done
+  lives = ap (λ (x : Actors). x.controller) is ∙ FollowsTable-new settings done
 
   works_handle : AllAgree settings owner w → AllByRecursion IsOctetStep (first_taken w.inbox) → ServesAt settings owner w Handle → (at : Place) → 1 ≤ at.station → at.station ≤ length settings.cells → Works w Handle at
   unfolding ServesAt event_after take

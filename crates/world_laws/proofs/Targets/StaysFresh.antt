@@ -8,7 +8,7 @@ use Rattle.world_laws.proofs.Prelude.{Ready, InUse, Step, Take, Controller, chan
 use Rattle.world_laws.proofs.Prelude.{is_control, Item, What, Rsl, AreAllowed, Parameters, Event, BaseTakes, Handle, Tick, Tenure}
 use Rattle.world_laws.proofs.Prelude.{actors_after, complete, owner_in, acknowledgements, handled, tenure_in, with_turn, all_steps}
 use Rattle.world_laws.proofs.Prelude.{first_taken, step_at, Actors, Mobile, base_of, mobile_of, modulus_in, new_actors, spot_at, turn_leads}
-use Rattle.world_laws.proofs.Prelude.{LivesByTable-new, IsKnownItem, known_inbox, handle_turned, heard_of, tick-turned, beside_step, Serves}
+use Rattle.world_laws.proofs.Prelude.{FollowsTable-new, IsKnownItem, known_inbox, handle_turned, heard_of, tick-turned, beside_step, Serves}
 use Rattle.world_laws.proofs.Prelude.{same_Some, control_complete, kept_controller, life, tick, Brings, controls_of, messages_in}
 use Rattle.world_laws.proofs.Prelude.{messages_up, read_of, brings_in, coming_up, going_down, awaited_in, commanded_target, IsLed, IsOpenAndLinedUp}
 use Rattle.world_laws.proofs.Prelude.{TargetIsFresh, initials_up, TookOctets, IsHad, IsAlone, commanded_channels, BeginWith, FreshTells}
@@ -80,10 +80,10 @@ module _ (settings : Parameters) (events : List Event) (event : Event) (mobile :
   -- ---- the controller works
 
   by_life : w.controller ≡ (life settings (all_steps (new_actors settings) events)).next
-  by_life = LivesByTable-new settings events
+  by_life = FollowsTable-new settings events
 
   life_then : v.controller ≡ (life settings (all_steps (new_actors settings) (events ++ event ∷ []))).next
-  life_then = ap (λ (x : Actors). x.controller) (sym (snoc_actors (new_actors settings) events event)) ∙ LivesByTable-new settings (events ++ event ∷ [])
+  life_then = ap (λ (x : Actors). x.controller) (sym (snoc_actors (new_actors settings) events event)) ∙ FollowsTable-new settings (events ++ event ∷ [])
 
   ready_then : Ready v.controller
   ready_then = subst Ready (sym life_then) (life_ready settings (all_steps (new_actors settings) (events ++ event ∷ [])) allowed)

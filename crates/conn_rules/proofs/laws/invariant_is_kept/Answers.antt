@@ -1,9 +1,9 @@
-use Rattle.conn_rules.proofs.StandingSteps.{Stands-new}
-use Rattle.conn_rules.proofs.StandingTable.{Stands-row}
+use Rattle.conn_rules.proofs.StandingSteps.{IsValid-new}
+use Rattle.conn_rules.proofs.StandingTable.{IsValid-row}
 use Rattle.conn_rules.proofs.laws.invariant_is_kept.Goals as goal
 
 pub returns-clause-at_first : goal.returns-clause-at_first
-returns-clause-at_first c number channel request delay = Stands-new number channel request delay
+returns-clause-at_first c number channel request delay = IsValid-new number channel request delay
 
 pub returns-clause-by_rows : goal.returns-clause-by_rows
-returns-clause-by_rows c s input offer stands carried = Stands-row s input offer stands carried
+returns-clause-by_rows c s input offer stands carried = IsValid-row s input offer stands carried

@@ -1,8 +1,8 @@
-use Rattle.world_model.proofs.Living.{LivesByTable-new, RunsByTable-new}
+use Rattle.world_model.proofs.Living.{FollowsTable-new, RunsByTable-new}
 use Rattle.world_model.proofs.laws.controller_lives_by_its_table.Goals as goal
 
 pub returns-clause-lives : goal.returns-clause-lives
-returns-clause-lives c = LivesByTable-new
+returns-clause-lives c = FollowsTable-new
 
 pub returns-clause-runs : goal.returns-clause-runs
 returns-clause-runs c = RunsByTable-new
