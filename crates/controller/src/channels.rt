@@ -1,7 +1,6 @@
 ghost use Rattle.std.specs.Prelude.{◌≡◌, OnOk, OnErr, None};
 ghost use Rattle.std.specs.Option.{is_some};
 ghost use Rattle.conn_rules.specs.declared.input.Input.TheVariants as inputs;
-ghost use Rattle.conn_rules.specs.Connection.{is_at as at_channel};
 ghost use Rattle.conn_rules.specs.Validity.{IsCarried};
 ghost use Rattle.conn_rules.specs.Table.{row_of};
 ghost use Rattle.controller_model.specs.Controller as words;
@@ -10,8 +9,8 @@ ghost use Rattle.controller.specs.Doing.{IsUnchanged, Turns};
 ghost use Rattle.controller.specs.Offers.{awaits as awaits_by};
 
 use crate::controller::Controller;
-use conn_fsm::{Conn, Outputs};
-use conn_messages::{Channel, Place};
+use conn_fsm::{Conn, Outputs, is_at};
+use conn_messages::Place;
 use conn_rules::{Input, Stage, State};
 use controller_model::ChannelState;
 use octets::Memory;
@@ -110,10 +109,4 @@ fn awaits_in(state: State, conn: &Conn, at: &Place) -> bool
         State::Live(_, Stage::Preparing(target)) => is_at(at, &target.channel),
         _ => false,
     }
-}
-
-pub(crate) fn is_at(at: &Place, channel: &Channel) -> bool
-    ensures { result ≡ at_channel at.now channel.now }
-{
-    at.station == channel.station && at.number == channel.number
 }

@@ -6,9 +6,9 @@ ghost use Rattle.controller.specs.Doing.{IsUnchanged, Turns};
 ghost use Rattle.controller.specs.Offers.{HasCell};
 ghost use Rattle.controller.specs.Reporting.{decided_in, measured_in, measures_in, moved_in};
 
-use crate::channels::{holder, is_at};
+use crate::channels::holder;
 use crate::controller::Controller;
-use conn_fsm::{Conn, Outputs};
+use conn_fsm::{Conn, Outputs, is_at};
 use conn_messages::{Channel, Place};
 use conn_rules::{Input, State};
 use dtap_codec::Report;

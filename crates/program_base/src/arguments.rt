@@ -1,5 +1,5 @@
 use crate::no_task::NoTask;
-use crate::parsing::task;
+use crate::parsing::found_task;
 use crate::words::{Task, TaskFault};
 use clap::Error;
 use std::env;
@@ -15,7 +15,7 @@ pub fn asked<R: Runtime + AllocGlobal>(rt: &R) -> Result<Task, TaskFault> {
         Err(_) => return Err(TaskFault::Words),
     };
     let texts: Vec<&str> = words.iter().map(|word| word.as_str()).collect(rt.alloc())?;
-    match task(rt.alloc(), &texts) {
+    match found_task(rt.alloc(), &texts) {
         Ok(task) => Ok(task),
         Err(NoTask::Memory) => Err(TaskFault::Memory),
         Err(NoTask::Refused(complaint)) => {

@@ -11,6 +11,7 @@ pub use fault::ProgramFault;
 pub use input::{MOST_READS, Sink, Unread, read_all, room_for};
 pub use line_fault::LineFault;
 pub use output::put;
+pub use parsing::task;
 pub use read_count::ReadCount;
 pub use script::read_line;
 pub use settings_file::{read_settings, settings_text};

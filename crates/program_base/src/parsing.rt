@@ -7,9 +7,10 @@ ghost use Rattle.program_base.specs.CommandLine.{bsc, program, run_command, repl
 ghost use Rattle.program_base.specs.CommandLine.{decode_command, AreTaken, AreRefused, IsTask};
 ghost use Rattle.program_base.specs.CommandLine.{texts};
 ghost use Rattle.program_base.specs.declared.no_task.NoTask.TheVariants.{Refused};
+ghost use Rattle.program_base.specs.declared.words.TaskFault.TheVariants.{Words};
 
 use crate::no_task::NoTask;
-use crate::words::Task;
+use crate::words::{Task, TaskFault};
 use clap::{Arg, ArgMatches, Command};
 use std::alloc::{AllocError, Global};
 
@@ -82,9 +83,22 @@ fn matches_of<'a>(alloc: Global, words: &'a [&'a str]) -> Result<ArgMatches<'a>,
     }
 }
 
-/// Reads the words behind the program's name. They are refused only where `clap` refuses them; else
+/// Reads the words behind the program's name. They are `Words` only where `clap` refuses them; else
 /// the task is the subcommand that `clap` finds, with the values of its options.
-pub fn task<'a>(alloc: Global, words: &'a [&'a str]) -> Result<Task, NoTask>
+pub fn task<'a>(alloc: Global, words: &'a [&'a str]) -> Result<Task, TaskFault>
+    ensures taken { IfOk result (λ _. AreTaken (texts words.entry.now)) }
+    ensures found { IfOk result (λ task. IsTask task (subcommand_of bsc (texts words.entry.now))) }
+    ensures words { result ≡ Err Words → AreRefused (texts words.entry.now) }
+{
+    match found_task(alloc, words) {
+        Ok(task) => Ok(task),
+        Err(NoTask::Refused(_)) => Err(TaskFault::Words),
+        Err(NoTask::Memory) => Err(TaskFault::Memory),
+    }
+}
+
+/// The task that the words behind the program's name ask for, or `clap`'s complaint.
+pub(crate) fn found_task<'a>(alloc: Global, words: &'a [&'a str]) -> Result<Task, NoTask>
     ensures taken { IfOk result (λ _. AreTaken (texts words.entry.now)) }
     ensures found { IfOk result (λ task. IsTask task (subcommand_of bsc (texts words.entry.now))) }
     ensures refused { (complaint : Complaint) → result ≡ Err (Refused complaint)

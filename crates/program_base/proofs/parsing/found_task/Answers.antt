@@ -6,7 +6,7 @@ use Rattle.clap.proofs.WalkLemmas.{first_value-rows}
 use Rattle.program_base.specs.declared.words.Task.TheVariants.{Run, Replay, Decode}
 use Rattle.program_base.proofs.Taking.{is_decode, is_replay, is_run, task_by, unwrap_or-now}
 use Rattle.program_base.proofs.Entering.{IsKnown, known_name, unknown}
-use Rattle.program_base.proofs.parsing.task.Goals as goal
+use Rattle.program_base.proofs.parsing.found_task.Goals as goal
 
 pub returns-in-run-clause-found : goal.returns-in-run-clause-found
 returns-in-run-clause-found c =
