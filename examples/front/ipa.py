@@ -105,6 +105,8 @@ async def serve(address: tuple[str, int], taken: Callable[[Link], Awaitable[None
         link = Link(reader, writer)
         try:
             await taken(link)
+        except asyncio.CancelledError:
+            pass  # the front is ended
         finally:
             link.close()
 

@@ -15,7 +15,7 @@ import oml
 import paging
 import rsl
 import settings
-from say import in_words, say
+from say import in_words, say, until_ended
 
 
 class Passage:
@@ -176,11 +176,14 @@ def main(words: list[str]) -> int:
     """Runs the stations' half of the front until it is ended by a signal."""
     try:
         stations = Stations(settings.from_words("station", words))
-        asyncio.run(stations.serve())
+        asyncio.run(until_ended(stations.serve()))
     except settings.SettingsFault as fault:
         print(f"front: settings: {fault}", file=sys.stderr)
         return 1
     except OSError as fault:
         print(f"front: {fault}", file=sys.stderr)
         return 3
+    for number, passage in sorted(stations.joined.items()):
+        say(f"cell {number}: not passed on or held: {in_words(passage.counts)}")
+    say(f"paging: {in_words(stations.paging)}")
     return 0

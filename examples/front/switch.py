@@ -12,7 +12,7 @@ import bssmap
 import ipa
 import sccp
 import settings
-from say import in_words, say
+from say import in_words, say, until_ended
 
 RESET_EVERY = 10.0  # seconds until RESET is sent again where nobody acknowledges it
 
@@ -183,7 +183,9 @@ def main(words: list[str]) -> int:
         front = settings.from_words("switch", words)
 
         async def run() -> None:
-            await Switch(front).serve()
+            switch = Switch(front)
+            await until_ended(switch.serve())
+            say(f"switch: {in_words(switch.counts)}")
 
         asyncio.run(run())
     except settings.SettingsFault as fault:

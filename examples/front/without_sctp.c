@@ -12,7 +12,10 @@
 #include <stdbool.h>
 #include <sys/socket.h>
 
-enum { MOST_SOCKETS = 65536 };
+enum {
+  MOST_SOCKETS = 65536,
+  BIND_TO_LIST = 100, /* SCTP_SOCKOPT_BINDX_ADD: what sctp_bindx() asks for */
+};
 
 static bool was_sctp[MOST_SOCKETS];
 
@@ -49,6 +52,7 @@ int close(int made) {
 int setsockopt(int made, int level, int option, const void *value, socklen_t length) {
   static int (*next)(int, int, int, const void *, socklen_t);
   if (!next) next = (int (*)(int, int, int, const void *, socklen_t))dlsym(RTLD_NEXT, "setsockopt");
-  if (level == IPPROTO_SCTP && made >= 0 && made < MOST_SOCKETS && was_sctp[made]) return 0;
+  if (level == IPPROTO_SCTP && made >= 0 && made < MOST_SOCKETS && was_sctp[made])
+    return option == BIND_TO_LIST ? bind(made, value, length) : 0;
   return next(made, level, option, value, length);
 }
