@@ -3,8 +3,8 @@
 A GSMTAP frame is a header of 16 octets and one block of a logical channel (23 octets, on the RACH one). All cells share
 two multicast groups, one of each direction, and are told apart by the ARFCN in the header. Nothing of it is proved.
 
-Everything stays on the loopback interface: the groups are joined there and frames go out with a time to live of 0. Run it
-in a network namespace of its own all the same, since osmo-bts-virtual itself doesn't keep to one interface.
+Everything stays on the loopback interface: the groups are joined there and frames go out with a time to live of 0. Run
+it in a network namespace of its own all the same, since osmo-bts-virtual itself doesn't keep to one interface.
 """
 from __future__ import annotations
 

@@ -1,7 +1,7 @@
 """LAPDm, the data link layer of the signalling channels, on the mobile's side (TS 44.006). Not proved.
 
-A DataLink is one SAPI on one channel. It sets the link up by SABM (with the initial message in it, so that UA settles who
-of two mobiles has the channel), sends messages in I frames with a window of one, cuts those that are too long into
+A DataLink is one SAPI on one channel. It sets the link up by SABM (with the initial message in it, so that UA settles
+who of two mobiles has the channel), sends messages in I frames with a window of one, cuts those that are too long into
 segments, acknowledges by RR, asks for what is missing by REJ, repeats what isn't acknowledged, and leaves by DISC.
 """
 from __future__ import annotations
@@ -21,6 +21,7 @@ FILL = b"\x2b"  # clause 2.2
 N201_MAIN = 20  # octets of information in a frame of SDCCH and FACCH, clause 5.8.3
 N201_SACCH = 18
 T200 = 1.0  # seconds, clause 5.8.1: far longer than on a real radio, for a busy machine
+T200_SACCH = 5.0  # its blocks come every 480 ms, and every other one is a report
 N200_ESTABLISH = 5  # repetitions, clause 5.8.2
 N200_TRANSFER = 23
 
@@ -75,9 +76,10 @@ class DataLinkUser(Protocol):
 class DataLink:
     """One SAPI on one channel, in multiple frame operation."""
 
-    def __init__(self, sapi: int, n201: int, user: DataLinkUser) -> None:
+    def __init__(self, sapi: int, is_slow: bool, user: DataLinkUser) -> None:
         self.sapi = sapi
-        self.n201 = n201
+        self.n201 = N201_SACCH if is_slow else N201_MAIN
+        self.t200 = T200_SACCH if is_slow else T200
         self.user = user
         self.state = State.RELEASED
         self.outbox: deque[bytes] = deque()
@@ -265,7 +267,7 @@ class DataLink:
         self.user.transmit(self, LapdmFrame(self.sapi, True, control, False, b""))
 
     def _start_timer(self) -> None:
-        self.timer = time.monotonic() + T200
+        self.timer = time.monotonic() + self.t200
 
     def _end(self, reason: str) -> None:
         self._reset()

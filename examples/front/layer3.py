@@ -1,7 +1,7 @@
 """Layer 3 of the radio interface: names of messages, and what a mobile reads of them. Not proved.
 
-TS 24.007 clause 11.2.3 (discriminator, type, N(SD)), TS 44.018 (radio resource), TS 24.008 (mobility management and call
-control), TS 24.011 (short messages).
+TS 24.007 clause 11.2.3 (discriminator, type, N(SD)), TS 44.018 (radio resource), TS 24.008 (mobility management and
+call control), TS 24.011 (short messages).
 """
 from __future__ import annotations
 
@@ -174,7 +174,8 @@ def read_frequency_list(octets: bytes) -> list[int]:
 def measurement_report(serving: int, neighbours: list[tuple[int, int, int]]) -> bytes:
     """A MEASUREMENT REPORT (TS 44.018 clauses 9.1.21 and 10.5.2.20), 18 octets, valid, quality 0.
 
-    Each neighbour is its level, the place of its ARFCN in the neighbour list, and its BSIC; six at most, strongest first.
+    Each neighbour is its level, the place of its ARFCN in the neighbour list, and its BSIC; six at most, strongest
+    first.
     """
     field = serving << 8 | serving  # BA-USED 0, DTX-USED 0, RXLEV-FULL; MEAS-VALID 0 (valid), RXLEV-SUB
     strongest = sorted(neighbours, reverse=True)[:6]

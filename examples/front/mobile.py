@@ -3,10 +3,10 @@
 
     python3 examples/front mobile --imsi 001010000000001 [--arfcn 20] [--imei DIGITS] [--revision 1|2] [--name NAME]
 
-It camps on the first cell that it hears (or on the one of --arfcn), answers pagings, and prints each layer 3 message, up
-(->) and down (<-), with its name, N(SD) of those that have one, its place and its octets; of reports and system
-information that say the same again only the first. Several mobiles run at once, told apart by IMSI. --revision 1 makes it
-a mobile of phase 2, which counts N(SD) modulo 2; 2 (release 99, modulo 4) is the default.
+It camps on the first cell that it hears (or on the one of --arfcn), answers pagings, and prints each layer 3 message,
+up (->) and down (<-), with its name, N(SD) of those that have one, its place and its octets; of reports and system
+information that say the same again only the first. Several mobiles run at once, told apart by IMSI. --revision 1 makes
+it a mobile of phase 2, which counts N(SD) modulo 2; 2 (release 99, modulo 4) is the default.
 
 It reads commands from standard input, one a line; what stands behind a # isn't looked at. The next command begins when
 the last one is done. All but wait and pause are done at once.
@@ -14,6 +14,9 @@ the last one is done. All but wait and pause are done at once.
     location-update [normal|periodic|attach]   LOCATION UPDATING REQUEST, on a channel of its own
     detach                                     IMSI DETACH INDICATION
     service call|short-message|supplementary   CM SERVICE REQUEST
+    call NUMBER                                a call, without speech; one that comes is answered by itself
+    hang-up                                    ends the call
+    short-message NUMBER TEXT                  sends a short message; one that comes is acknowledged by itself
     levels SERVING [ARFCN[/BSIC]=LEVEL ..]     what MEASUREMENT REPORTs say from now on: RXLEV, 0 (-110 dBm) to 63. A
                                                neighbour has to stand in the cell's list (SYSTEM INFORMATION 5) and its
                                                BSIC to be known (the virtual radio doesn't carry it: say it once)
@@ -31,8 +34,9 @@ the last one is done. All but wait and pause are done at once.
     quit                                       ends the mobile
 
 Names are the standard's (LOCATION UPDATING ACCEPT); events are camped, neighbour, paged, CHANNEL REQUEST, established,
-released, forgotten, missed, back, idle. At the end of its input the mobile ends too, with 0. A command that can't be done
-(no channel, busy, no cell) ends it with 1, one that isn't known with 2.
+released, forgotten, missed, back, idle, call active, call over, short message, short message taken, short message
+refused. At the end of its input the mobile ends too, with 0. A command that can't be done (no channel, busy, no cell)
+ends it with 1, one that isn't known with 2.
 """
 from __future__ import annotations
 

@@ -42,8 +42,7 @@ class DedicatedChannel:
         self.is_traffic = place.channel_number & 0xF8 == 0x08
         self.frame_number = 0
         self.timing_advance = 0
-        n201 = lapdm.N201_SACCH if self.is_traffic else lapdm.N201_MAIN
-        self.links = {0: lapdm.DataLink(0, lapdm.N201_MAIN, self), 3: lapdm.DataLink(3, n201, self)}
+        self.links = {0: lapdm.DataLink(0, False, self), 3: lapdm.DataLink(3, self.is_traffic, self)}
         self.slow_frames: deque[lapdm.LapdmFrame] = deque()
         self.reported = False
         self.slow_heard: float | None = None  # when the SACCH's last block came

@@ -3,10 +3,12 @@ from __future__ import annotations
 
 import time
 
+from mobile_calls import Calls
 from mobile_cells import Cells
 from mobile_journal import Journal, complain
 from mobile_mobility import LOCATION_UPDATING_KINDS, SERVICES, Mobility
 from mobile_radio_resource import RadioResource
+from mobile_short_messages import ShortMessages
 
 STATUS_FAILED = 1
 STATUS_UNKNOWN = 2
@@ -20,6 +22,8 @@ class Commands:
         self.mobility = mobility
         self.cells = cells
         self.journal = journal
+        self.calls = Calls(mobility, journal)
+        self.short_messages = ShortMessages(mobility, journal)
         self.status: int | None = None
         self.awaited: str | None = None
         self.deadline = 0.0
@@ -78,6 +82,15 @@ class Commands:
             raise ValueError(values[0])
         return self.mobility.service(values[0])
 
+    def _call(self, values: list[str]) -> bool:
+        return self.calls.call(read_number(values[0]))
+
+    def _hang_up(self, values: list[str]) -> bool:
+        return self.calls.hang_up()
+
+    def _short_message(self, values: list[str]) -> bool:
+        return self.short_messages.submit(read_number(values[0]), " ".join(values[1:]))
+
     def _levels(self, values: list[str]) -> None:
         levels = {}
         serving = read_level(values[0])
@@ -125,8 +138,8 @@ class Commands:
         self.end(0)
 
 
-NAMES = ("location-update", "detach", "service", "levels", "forget", "miss-change", "send", "drop", "camp", "wait",
-         "pause", "quit")
+NAMES = ("location-update", "detach", "service", "call", "hang-up", "short-message", "levels", "forget", "miss-change",
+         "send", "drop", "camp", "wait", "pause", "quit")
 
 
 def read_level(text: str) -> int:
@@ -135,3 +148,10 @@ def read_level(text: str) -> int:
     if not 0 <= level <= 63:
         raise ValueError(text)
     return level
+
+
+def read_number(text: str) -> str:
+    """A subscriber's number."""
+    if not text.isdecimal() or not text.isascii() or len(text) > 15:
+        raise ValueError(text)
+    return text

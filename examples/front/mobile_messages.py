@@ -24,6 +24,12 @@ def digits_identity(kind: int, digits: str) -> bytes:
     return bytes(octets)
 
 
+def number_digits(number: str) -> bytes:
+    """A number's digits, two in an octet, the first one low (TS 24.008 clause 10.5.4.7)."""
+    padded = number + ("F" if len(number) % 2 else "")
+    return bytes(int(padded[at + 1] + padded[at], 16) for at in range(0, len(padded), 2))
+
+
 @dataclass
 class Subscriber:
     """Who the mobile is, and what the network told it."""

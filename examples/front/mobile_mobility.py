@@ -36,6 +36,7 @@ class Mobility:
         self.subscriber = subscriber
         self.journal = journal
         self.users: dict[int, ConnectionUser] = {}
+        self.asking: ConnectionUser | None = None  # who asked for the service
         self.number = 0  # V(SD)
         resource.user = self
 
@@ -54,8 +55,9 @@ class Mobility:
         detached = messages.imsi_detach_indication(self.subscriber)
         return self._connect(detached, messages.REASON_OTHER_ON_SDCCH)
 
-    def service(self, service: str) -> bool:
-        """CM SERVICE REQUEST, on a channel of its own where there is none."""
+    def service(self, service: str, user: ConnectionUser | None = None) -> bool:
+        """CM SERVICE REQUEST, on a channel of its own where there is none; the user is told when it is given."""
+        self.asking = user
         request = messages.cm_service_request(self.subscriber, SERVICES[service])
         if not self.resource.is_idle:
             return self.send(0, request)
@@ -100,6 +102,7 @@ class Mobility:
 
     def disconnected(self, reason: str) -> None:
         """The channel is gone, and with it all connections."""
+        self.asking = None
         for user in self.users.values():
             user.ended()
 
@@ -128,7 +131,8 @@ class Mobility:
         elif kind in (0x04, 0x11):
             self.subscriber.tmsi = self.subscriber.location = None
         elif kind == 0x21:
-            for user in self.users.values():
+            user, self.asking = self.asking, None
+            if user is not None:
                 user.accepted()
 
     def _new_identity(self, octets: bytes) -> None:

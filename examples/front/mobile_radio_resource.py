@@ -1,7 +1,7 @@
-"""Radio resource management of a mobile (TS 44.018): idle mode, channel request, handover, assignment, release. Not proved.
+"""Radio resource management of a mobile (TS 44.018): channel request, handover, assignment, release. Not proved.
 
-This virtual radio knows no access burst on a dedicated channel, so a handover is the SABM on the new channel alone, as in a
-change within one cell, and HANDOVER COMPLETE behind it (TS 44.018 clause 3.4.4.3). Ciphering and hopping are left out.
+This virtual radio knows no access burst on a dedicated channel, so a handover is the SABM on the new channel alone, as
+in a change within one cell, and HANDOVER COMPLETE behind it (clause 3.4.4.3). Ciphering and hopping are left out.
 """
 from __future__ import annotations
 
@@ -46,6 +46,7 @@ class Change:
         self.waiting = waiting
         self.deadline = time.monotonic() + CHANGE_LIMIT
         self.is_return = False
+        self.is_missed = False  # the mobile doesn't find the new channel
         self.cause = TIMER_EXPIRED
 
     @property
@@ -146,7 +147,8 @@ class RadioResource:
             if self.initial is not None and now >= self.next_request:
                 self._request()
             return
-        self.channel.tick()
+        if self.change is None or not self.change.is_missed:
+            self.channel.tick()
         if self.change is not None and not self.change.is_return and now >= self.change.deadline:
             self._return()
         elif self.channel is not None and self.channel.is_silent(SILENCE_LIMIT):
@@ -206,6 +208,7 @@ class RadioResource:
         self.channel = DedicatedChannel(self.radio, place, self)
         if self.misses_change:
             self.misses_change = False
+            self.change.is_missed = True
             self.journal.event("missed", place.name)
         else:
             self.channel.links[0].establish()
@@ -214,7 +217,7 @@ class RadioResource:
         """Back on the old channel, with FAILURE (TS 44.018 clauses 3.4.3.3 and 3.4.4.4)."""
         assert self.change is not None and self.channel is not None
         self.channel.suspend()
-        self.change.is_return = True
+        self.change.is_return, self.change.is_missed = True, False
         self.channel = DedicatedChannel(self.radio, self.change.old, self)
         self.journal.event("back", self.channel.place.name)
         self.channel.links[0].establish()
@@ -267,7 +270,7 @@ class RadioResource:
         """A message of the network."""
         if len(message) < 2:
             return
-        if sapi == 0 and (layer3.is_message(message, layer3.RADIO, 0x1D) or layer3.is_message(message, layer3.RADIO, 0x1E)):
+        if sapi == 0 and message[:2] in (b"\x06\x1d", b"\x06\x1e"):  # SYSTEM INFORMATION TYPE 5, 6
             self.journal.repeated("down", f"SACCH, {channel.place.name}", message)
             self.cells.take_slow(self.cells.serving, message)
             return
