@@ -1,83 +1,16 @@
-"""What examples/network starts, and what it plays. Not proved."""
-import os
+"""What examples/network plays, and what it looks at. Not proved."""
 import re
-import sys
 import time
 
 import osmocom
-from processes import Failed, Process, Processes, terminal, write
+from network_programs import CALLED, CALLER, Network
+from processes import Process, terminal
 
-CALLER = "001010000000001", "1001"
-CALLED = "001010000000002", "1002"
-
-# call control (TS 24.008 clause 9.3): the caller's transaction, and the called one's
-SETUP = "03 05 04 06 60 04 02 00 05 81 5E 03 81 01 20"  # speech; to 1002
-CONNECT_ACKNOWLEDGE = "03 0F"
-CALL_CONFIRMED = "83 08 04 06 60 04 02 00 05 81"
-ALERTING = "83 01"
-CONNECT = "83 07"
+# call control (TS 24.008 clause 9.3), as the caller's messages: each is numbered and answered
 START_DTMF = "03 35 2C 31"
 STOP_DTMF = "03 31"
-PAIRS = 8  # of these, sent around a handover
-
-# short messages (TS 24.011 clauses 7.2 and 7.3): the last octet of RP-ACK is the reference of what it acknowledges
-CP_ACK = "89 04"
-CP_DATA_WITH_RP_ACK = "89 01 02 02"
-
-
-class Network:
-    """All programs of the trial."""
-
-    def __init__(self, processes: Processes, front: str, bsc: str, preload: dict[str, str]) -> None:
-        self.processes = processes
-        self.folder = processes.folder
-        self.front = front
-        self.bsc = bsc
-        self.preload = preload
-        for name, text in (("register", osmocom.REGISTER), ("gateway", osmocom.GATEWAY),
-                           ("switch", osmocom.SWITCH.format(folder=self.folder)),
-                           ("station-1", osmocom.STATION.format(number=1, folder=self.folder)),
-                           ("station-2", osmocom.STATION.format(number=2, folder=self.folder))):
-            write(self.folder, f"{name}.cfg", text)
-        write(self.folder, "bsc.toml", osmocom.BSC.format(first="127.0.0.1"))
-        write(self.folder, "front-bsc.toml", osmocom.BSC.format(first="127.0.0.3"))
-        write(self.folder, "front.toml", osmocom.FRONT.format(folder=self.folder))
-
-    def start_front(self, half: str) -> Process:
-        """Starts a half of the front."""
-        return self.processes.start(f"front-{half}", [sys.executable, self.front, half, "--config", "front-bsc.toml",
-                                                      "--front", "front.toml"])
-
-    def start(self) -> None:
-        """Starts everything but the mobiles, each when what it needs is there."""
-        start = self.processes.start
-        start("register", ["osmo-hlr", "-c", "register.cfg", "-l", "subscribers.db"])
-        start("gateway", ["osmo-mgw", "-c", "gateway.cfg"])
-        for imsi, number in (CALLER, CALLED):
-            terminal(osmocom.REGISTER_TERMINAL, f"subscriber imsi {imsi} create",
-                     f"subscriber imsi {imsi} update msisdn {number}")
-        self.front_switch = self.start_front("switch")
-        self.front_switch.wait_for("waiting", 20)
-        self.switch = start("switch", ["osmo-msc", "-c", "switch.cfg"], self.preload)
-        self.front_switch.wait_for("acknowledged RESET", 30)
-        self.relay = start("bsc", [self.bsc, "run", "--config", "bsc.toml"])
-        self.relay.wait_for("switch: connected", 20)
-        self.delay = start("delay", [sys.executable, os.path.join(self.front, "delay.py"), "127.0.0.3:3003",
-                                     "127.0.0.1:3003"])
-        self.delay.wait_for("listens", 20)
-        self.front_station = self.start_front("station")
-        self.front_station.wait_for("waiting", 20)
-        for number in (1, 2):
-            start(f"station-{number}", ["osmo-bts-virtual", "-c", f"station-{number}.cfg"])
-        self.front_station.wait_for("configured as cell", 30, times=2)
-        self.front_station.wait_for("joined to cell", 30, times=2)
-
-    def mobile(self, name: str, imsi: str, arfcn: int) -> Process:
-        """Starts a mobile."""
-        mobile = self.processes.start(name, [sys.executable, "-u", self.front, "mobile", "--imsi", imsi, "--arfcn", str(arfcn),
-                                             "--name", name])
-        mobile.wait_for("camped", 30)
-        return mobile
+PAIRS = 6  # of these, sent around a handover
+HIDDEN = "SYSTEM INFORMATION", "MEASUREMENT REPORT", "neighbour:"
 
 
 class Acts:
@@ -85,44 +18,30 @@ class Acts:
 
     def __init__(self, network: Network) -> None:
         self.network = network
-        self.results: list[tuple[str, bool]] = []
+        self.well = True
         self.printed: dict[str, int] = {}
-        self.duplicates = 0
+        self.named = 0  # duplicates that osmo-msc has named
 
-    def went_well(self) -> bool:
-        """Whether all acts went as they should."""
-        return all(well for _, well in self.results)
-
-    def show(self, process: Process, *unwanted: str) -> None:
-        """Prints what a program has said since it was last shown."""
-        lines = process.said()
-        for line in lines[self.printed.get(process.name, 0):]:
-            if not any(text in line for text in unwanted):
-                print(f"  {line[:150]}")
-        self.printed[process.name] = len(lines)
+    def show(self, *processes: Process) -> None:
+        """Prints what programs have said since they were last shown."""
+        for process in processes:
+            lines = process.said()
+            for line in lines[self.printed.get(process.name, 0):]:
+                if not any(text in line for text in HIDDEN):
+                    print(f"  {line[:140]}")
+            self.printed[process.name] = len(lines)
 
     def result(self, text: str, well: bool) -> None:
         """Notes and prints how something went."""
-        self.results.append((text, well))
+        self.well = self.well and well
         print(f"{'as it should be' if well else 'NOT AS IT SHOULD BE'}: {text}", flush=True)
 
-    def play(self) -> None:
-        """Plays all acts."""
-        print("== started", flush=True)
-        self.show(self.network.front_switch)
-        self.show(self.network.front_station)
+    def begin(self) -> None:
+        """Starts all, and the two mobiles, each in its cell."""
+        self.network.start()
+        self.show(self.network.front_switch, self.network.front_station)
         self.caller = self.network.mobile("mobile-1", CALLER[0], 20)
         self.called = self.network.mobile("mobile-2", CALLED[0], 30)
-        self.location_update()
-        self.short_message()
-        self.call()
-        self.handover()
-        self.handover_behind_delay()
-
-    def show_mobiles(self) -> None:
-        """Prints what the mobiles sent and got."""
-        for mobile in (self.caller, self.called):
-            self.show(mobile, "SYSTEM INFORMATION", "MEASUREMENT REPORT")
 
     def location_update(self) -> None:
         """Both mobiles tell where they are."""
@@ -131,81 +50,104 @@ class Acts:
             mobile.tell("location-update", "wait idle 30")
         for mobile in (self.caller, self.called):
             mobile.wait_for("idle:", 30)
-        self.show_mobiles()
+        self.show(self.caller, self.called)
         known = terminal(osmocom.SWITCH_TERMINAL, "show subscriber cache")
         for imsi, _ in (CALLER, CALLED):
-            self.result(f"osmo-msc knows {imsi}", re.search(rf"IMSI: {imsi}", known) is not None)
+            self.result(f"osmo-msc knows {imsi}", f"IMSI: {imsi}" in known)
 
     def short_message(self) -> None:
         """The switch sends the first mobile a short message."""
         print("== short message to mobile-1", flush=True)
         terminal(osmocom.SWITCH_TERMINAL, f"subscriber msisdn {CALLER[1]} sms sender msisdn {CALLED[1]} send hello")
-        self.caller.wait_for("<- CP-DATA", 30)
-        octets = bytes.fromhex(self.caller.saying("<- CP-DATA")[-1].rpartition(" ")[2])
-        self.caller.tell(f"send 3 {CP_ACK}", f"send 3 {CP_DATA_WITH_RP_ACK} {octets[4]:02x}", "wait CP-ACK 10", "wait idle 10")
+        self.caller.tell("wait CP-DATA 30", "wait idle 10")
         try:
             self.caller.wait_for("idle:", 30, times=2)
         finally:
-            self.show_mobiles()
+            self.show(self.caller)
         counters = terminal(osmocom.SWITCH_TERMINAL, "show rate-counters")
         self.result("osmo-msc counts one short message as acknowledged by the mobile",
                     re.search(r"deliver:ack: +1 ", counters) is not None)
 
     def call(self) -> None:
-        """The first mobile calls the second one; each gets a traffic channel."""
+        """The first mobile calls the second one, which answers by itself."""
         print("== call of mobile-1 to mobile-2", flush=True)
-        self.called.tell("wait SETUP 30", f"send 0 {CALL_CONFIRMED}", "wait ASSIGNMENT COMPLETE 10", f"send 0 {ALERTING}",
-                         "pause 0.5", f"send 0 {CONNECT}", "wait CONNECT ACKNOWLEDGE 10")
-        self.caller.tell("service call", "wait CM SERVICE ACCEPT 10", f"send 0 {SETUP}", "wait CONNECT 30",
-                         f"send 0 {CONNECT_ACKNOWLEDGE}")
+        self.caller.tell(f"call {CALLED[1]}", "wait call active 30", "pause 1")
         try:
-            self.called.wait_for("<- CONNECT ACKNOWLEDGE", 30)
-            self.caller.wait_for("-> CONNECT ACKNOWLEDGE", 30)
+            self.called.wait_for("call active", 30)
+            self.caller.wait_for("call active", 30)
         finally:
-            self.show_mobiles()
+            self.show(self.caller, self.called)
 
     def handover(self) -> None:
         """The caller's reports make bsc hand it over; its last message goes again on the new channel."""
         print("== handover of mobile-1 to cell 2, its last message sent twice", flush=True)
-        self.caller.tell("pause 1", f"send 0 {START_DTMF}", "pause 1", "forget", "levels 20 30/18=50", "wait HANDOVER COMPLETE 30",
+        self.caller.tell(f"send 0 {START_DTMF}", "pause 1", "forget", "levels 20 30/18=50", "wait HANDOVER COMPLETE 30",
                          "pause 1", f"send 0 {STOP_DTMF}", "wait STOP DTMF ACKNOWLEDGE 10")
         try:
             self.caller.wait_for("<- STOP DTMF ACKNOWLEDGE", 40)
         finally:
-            self.show_mobiles()
-        refused = self.refused()
-        self.result("osmo-msc named the repeated message, and no other one, and took each once",
-                    len(refused) == 1 and "expected n_sd == 0, got 3" in refused[0] and self.unanswered() == 0)
+            self.show(self.caller)
+        again = re.search(r"N\(SD\) (\d)", self.caller.saying("-> START DTMF")[-1])
+        named = self.name_duplicates()
+        self.result("osmo-msc named the repeated message as a duplicate, and no other one, and took each once",
+                    len(named) == 1 and named[0].endswith(f"got {again[1]}") and self.unanswered() == 0)
 
-    def handover_behind_delay(self) -> None:
-        """Back to cell 1; then the link of cell 1 is delayed, and messages of both channels cross each other."""
+    def handover_back(self) -> None:
+        """The caller's reports make bsc hand it over to the first cell again."""
         print("== handover of mobile-1 back to cell 1", flush=True)
         self.caller.tell("levels 20 20/9=50", "wait HANDOVER COMPLETE 30", "levels 50 30/18=20", "pause 3")
         self.caller.wait_for("-> HANDOVER COMPLETE", 40, times=2)
         time.sleep(3)
-        self.show_mobiles()
+        self.show(self.caller)
+
+    def crossing(self) -> str:
+        """The link of station 1 is delayed, and the caller is handed over from there amid a row of messages."""
         print("== handover to cell 2, while all that comes from station 1 is a second late", flush=True)
         self.network.delay.tell("1000")
         self.network.delay.wait_for("delay: 1.0", 5)
-        pairs = [f"send 0 {START_DTMF}", "pause 0.3", f"send 0 {STOP_DTMF}", "pause 0.3"]
+        done, sent = (len(self.caller.saying(text)) for text in ("-> HANDOVER COMPLETE", "-> STOP DTMF"))
+        pairs = [f"send 0 {START_DTMF}", "pause 0.35", f"send 0 {STOP_DTMF}", "pause 0.35"]
         self.caller.tell("levels 20 30/18=50", *pairs * PAIRS)
-        self.caller.wait_for("-> HANDOVER COMPLETE", 40, times=3)
-        self.caller.wait_for("-> STOP DTMF", 40, times=1 + PAIRS)
+        self.caller.wait_for("-> HANDOVER COMPLETE", 40, times=done + 1)
+        self.caller.wait_for("-> STOP DTMF", 40, times=sent + PAIRS)
         time.sleep(3)
-        self.show_mobiles()
-        self.result(f"osmo-msc took and answered {2 * PAIRS} messages, and dropped none",
-                    not self.refused() and self.unanswered() == 0)
+        self.show(self.caller)
+        self.lost = len(self.name_duplicates()), self.unanswered()
+        return f"of {2 * PAIRS} messages osmo-msc dropped {self.lost[0]}, and answered {2 * PAIRS - self.lost[1]}"
 
-    def refused(self) -> list[str]:
-        """What osmo-msc has newly called a duplicate: it does so with each number that it doesn't expect."""
-        bad = self.network.switch.saying("Duplicate DTAP")
-        new = bad[self.duplicates:]
-        self.duplicates = len(bad)
+    def name_duplicates(self) -> list[str]:
+        """What osmo-msc has newly called a duplicate: it does so with each number that it doesn't expect, and drops it."""
+        lines = self.network.switch.saying("Duplicate DTAP")
+        new = [line[line.index("Duplicate DTAP"):] for line in lines[self.named:]]
+        self.named = len(lines)
         for line in new:
-            print(f"  osmo-msc: Duplicate DTAP{line.partition('Duplicate DTAP')[2]}")
+            print(f"  osmo-msc: {line}")
         return new
 
     def unanswered(self) -> int:
         """How many of the caller's messages of call control osmo-msc hasn't answered; one that was sent again counts once."""
         sent = len(self.caller.saying("-> START DTMF", "-> STOP DTMF")) - len(self.caller.saying("forgotten:"))
         return sent - len(self.caller.saying("<- START DTMF", "<- STOP DTMF"))
+
+    def play(self) -> str:
+        """Plays all acts with bsc; gives what came of the last one."""
+        print("==== bsc between the stations and the switch", flush=True)
+        self.begin()
+        self.location_update()
+        self.short_message()
+        self.call()
+        self.handover()
+        self.handover_back()
+        line = self.crossing()
+        self.result(line, self.lost == (0, 0))
+        return line
+
+    def play_plainly(self) -> str:
+        """Plays the last act alone, with a relay that passes on what comes; gives what came of it."""
+        print("==== in bsc's place, a relay that passes on what comes", flush=True)
+        self.begin()
+        self.location_update()
+        self.call()
+        line = self.crossing()
+        self.result(f"{line}: this relay knows no order", self.lost != (0, 0))
+        return line
