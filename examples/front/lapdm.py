@@ -24,6 +24,7 @@ T200 = 1.0  # seconds, clause 5.8.1: far longer than on a real radio, for a busy
 T200_SACCH = 5.0  # its blocks come every 480 ms, and every other one is a report
 N200_ESTABLISH = 5  # repetitions, clause 5.8.2
 N200_TRANSFER = 23
+N200_RELEASE = 1  # DISC goes twice at most, as T3110 wants it (TS 44.018 clause 11.1.1)
 
 
 class State(Enum):
@@ -33,6 +34,10 @@ class State(Enum):
     AWAITING_ESTABLISHMENT = "awaiting establishment"
     ESTABLISHED = "established"
     AWAITING_RELEASE = "awaiting release"
+
+
+REPETITIONS = {State.AWAITING_ESTABLISHMENT: N200_ESTABLISH, State.ESTABLISHED: N200_TRANSFER,
+               State.AWAITING_RELEASE: N200_RELEASE}
 
 
 @dataclass(frozen=True)
@@ -135,7 +140,7 @@ class DataLink:
         if self.timer is None or time.monotonic() < self.timer:
             return
         self.attempts += 1
-        if self.attempts > (N200_TRANSFER if self.state is State.ESTABLISHED else N200_ESTABLISH):
+        if self.attempts > REPETITIONS[self.state]:
             self._end("no answer to the mobile's frames")
             return
         if self.state is State.AWAITING_ESTABLISHMENT:

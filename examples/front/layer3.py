@@ -161,6 +161,8 @@ def read_frequency_list(octets: bytes) -> list[int]:
 
     Bit map 0 (ARFCN 1 to 124) and the variable bit map are read; of the other forms nothing is.
     """
+    if len(octets) < 16:
+        return []
     field = int.from_bytes(octets[:16], "big")
     if octets[0] & 0xC0 == 0x00:
         return [arfcn for arfcn in range(1, 125) if field >> (arfcn - 1) & 1]

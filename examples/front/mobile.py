@@ -4,9 +4,10 @@
     python3 examples/front mobile --imsi 001010000000001 [--arfcn 20] [--imei DIGITS] [--revision 1|2] [--name NAME]
 
 It camps on the first cell that it hears (or on the one of --arfcn), answers pagings, and prints each layer 3 message,
-up (->) and down (<-), with its name, N(SD) of those that have one, its place and its octets; of reports and system
-information that say the same again only the first. Several mobiles run at once, told apart by IMSI. --revision 1 makes
-it a mobile of phase 2, which counts N(SD) modulo 2; 2 (release 99, modulo 4) is the default.
+up (->) and down (<-), with its name, N(SD) of those that have one, its place and its octets; 'again' stands behind the
+place of one that is sent again after a change of channel. Of reports and system information only what is new is
+printed. Several mobiles run at once, told apart by IMSI. --revision 1 makes it a mobile of phase 2, which counts N(SD)
+modulo 2; 2 (release 99, modulo 4) is the default.
 
 It reads commands from standard input, one a line; what stands behind a # isn't looked at. The next command begins when
 the last one is done. All but wait and pause are done at once.

@@ -10,7 +10,7 @@ from mobile_messages import number_digits
 from mobile_mobility import Mobility
 
 OTHER_SIDE = 0x80  # the flag of the transaction identifier: who gave it (TS 24.007 clause 11.2.3.1.3)
-SPEECH = bytes([0x04, 0x01, 0xA0])  # bearer capability: full rate speech, version 1 (TS 24.008 clause 10.5.4.5)
+SPEECH = bytes([0x04, 0x02, 0x20, 0x80])  # bearer capability: full rate speech, version 1 (clause 10.5.4.5)
 NORMAL_CLEARING = bytes([0x02, 0xE0, 0x90])  # cause, with its length (clause 10.5.4.11)
 
 SETUP, ALERTING, CONNECT, CALL_CONFIRMED, CONNECT_ACKNOWLEDGE = 0x05, 0x01, 0x07, 0x08, 0x0F

@@ -12,18 +12,18 @@ from typing import Protocol
 import gsmtap
 import layer3
 import mobile_messages as messages
+from lapdm import State
 from layer3 import ChannelDescription
 from mobile_cells import Cells
+from mobile_change import Change
 from mobile_channel import DedicatedChannel
 from mobile_journal import Journal
 
 REQUEST_INTERVAL = 2.0  # seconds between two channel requests (TS 44.018 clause 3.3.1.1.2, slower)
 REQUEST_LIMIT = 8
-CHANGE_LIMIT = 2.0  # T3124: how long the mobile tries the new channel before it goes back (clause 3.4.4.4, longer)
 SILENCE_LIMIT = 10.0  # seconds without a block on a SACCH that was heard: radio link failure (clause 3.4.13)
 
-TIMER_EXPIRED = 0x03  # RR causes, clause 10.5.2.31
-PROTOCOL_ERROR = 0x6F
+PROTOCOL_ERROR = 0x6F  # RR cause, clause 10.5.2.31
 
 
 class RadioUser(Protocol):
@@ -34,27 +34,6 @@ class RadioUser(Protocol):
     def disconnected(self, reason: str) -> None: ...
     def link_established(self, sapi: int) -> None: ...
     def received(self, sapi: int, message: bytes) -> None: ...
-
-
-class Change:
-    """A change of channel that isn't over: where from, what was waiting, and what is sent at its end."""
-
-    def __init__(self, command: bytes, old: ChannelDescription, waiting: dict[int, list[bytes]]) -> None:
-        self.is_handover = layer3.is_message(command, layer3.RADIO, 0x2B)
-        self.cell = layer3.read_cell_description(command[2:4])[0] if self.is_handover else None
-        self.old = old
-        self.waiting = waiting
-        self.deadline = time.monotonic() + CHANGE_LIMIT
-        self.is_return = False
-        self.is_missed = False  # the mobile doesn't find the new channel
-        self.cause = TIMER_EXPIRED
-
-    @property
-    def last_message(self) -> bytes:
-        """COMPLETE on the new channel, FAILURE on the old one."""
-        if self.is_return:
-            return messages.radio_message(0x28 if self.is_handover else 0x2F, self.cause)
-        return messages.radio_message(0x2C if self.is_handover else 0x29, 0)
 
 
 class RadioResource:
@@ -92,25 +71,25 @@ class RadioResource:
         self.last_numbered = None
         self._request()
 
-    def send(self, sapi: int, message: bytes) -> bool:
+    def send(self, sapi: int, message: bytes, mark: str = "") -> bool:
         """Sends a message, on SAPI 3 behind the establishment of its link; False where there is no channel."""
         if self.channel is None:
             return False
-        self.journal.message("up", f"SAPI {sapi}, {self.channel.place.name}", message)
         if self.change is not None:
-            self.change.waiting[sapi].append(message)
+            self.change.behind.append((sapi, message))
             return True
+        self.journal.message("up", f"SAPI {sapi}, {self.channel.place.name}{mark}", message)
         link = self.channel.links[sapi]
         link.send(message)
-        if sapi == 3 and link.state.value == "released":
+        if sapi == 3 and link.state is State.RELEASED:
             link.establish()
         return True
 
-    def drop(self) -> None:
+    def drop(self, reason: str = "dropped") -> None:
         """Leaves the channel without a word, as a mobile that lost its radio."""
         if self.channel is not None:
             self.channel.suspend()
-            self._idle("dropped")
+            self._idle(reason)
 
     # The air.
 
@@ -152,8 +131,7 @@ class RadioResource:
         if self.change is not None and not self.change.is_return and now >= self.change.deadline:
             self._return()
         elif self.channel is not None and self.channel.is_silent(SILENCE_LIMIT):
-            self.channel.suspend()
-            self._idle("radio link failure")
+            self.drop("radio link failure")
 
     def _request(self) -> None:
         """CHANNEL REQUEST: reason and random bits in one octet (TS 44.018 clause 9.1.8)."""
@@ -231,7 +209,9 @@ class RadioResource:
             self.cells.serving = change.cell
         for sapi, waiting in change.waiting.items():
             for message in waiting:
-                self.send(sapi, message)
+                self.send(sapi, message, ", again")
+        for sapi, message in change.behind:
+            self.send(sapi, message)
 
     # From the channel.
 
@@ -258,8 +238,7 @@ class RadioResource:
         if self.change is not None and not self.change.is_return:
             self._return()
             return
-        channel.suspend()
-        self._idle(reason)
+        self.drop(reason)
 
     def acknowledged(self, channel: DedicatedChannel, sapi: int, message: bytes) -> None:
         """The base station has a message: it isn't sent again, unless the mobile is told to forget that."""

@@ -73,6 +73,8 @@ class ShortMessages:
         answer = message[0] ^ OTHER_SIDE
         self.mobility.send(3, bytes([answer, CP_ACK]))
         relay = message[3:3 + message[2]]
+        if len(relay) < 2:
+            return
         if relay[0] == RP_DATA_DOWN:
             self.journal.event("short message", self._text(relay))
             self.mobility.send(3, bytes([answer, CP_DATA, 2, RP_ACK_UP, relay[1]]))
