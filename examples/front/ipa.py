@@ -3,6 +3,7 @@
 A frame is the body's length in two octets, a stream, and the body. CCM messages go over a stream of their own.
 """
 import asyncio
+import os
 from collections.abc import Awaitable, Callable
 
 RSL = 0x00
@@ -47,7 +48,7 @@ class Link:
         except asyncio.IncompleteReadError as fault:
             raise LinkFault("closed within a frame" if fault.partial else "closed") from fault
         except OSError as fault:
-            raise LinkFault(f"read failed: {fault.strerror}") from fault
+            raise LinkFault(f"read failed: {reason(fault)}") from fault
 
     def write(self, stream: int, body: bytes) -> None:
         """Sends a frame."""
@@ -59,7 +60,7 @@ class Link:
         try:
             await self.writer.drain()
         except OSError as fault:
-            raise LinkFault(f"write failed: {fault.strerror}") from fault
+            raise LinkFault(f"write failed: {reason(fault)}") from fault
 
     def close(self) -> None:
         """Closes the connection."""
@@ -111,6 +112,11 @@ async def serve(address: tuple[str, int], taken: Callable[[Link], Awaitable[None
             link.close()
 
     return await asyncio.start_server(take, *address, reuse_address=True)
+
+
+def reason(fault: OSError) -> str:
+    """Why something of the system failed, in words."""
+    return os.strerror(fault.errno) if fault.errno else str(fault)
 
 
 async def connect(address: tuple[str, int]) -> Link:

@@ -31,6 +31,10 @@ class Acts:
                     print(f"  {line[:140]}")
             self.printed[process.name] = len(lines)
 
+    def show_front(self) -> None:
+        """Prints what the halves of the front have said."""
+        self.show(*(half for half in (self.network.front_switch, self.network.front_station) if half))
+
     def result(self, text: str, well: bool) -> None:
         """Notes and prints how something went."""
         self.well = self.well and well
@@ -39,7 +43,7 @@ class Acts:
     def begin(self) -> None:
         """Starts all, and the two mobiles, each in its cell."""
         self.network.start()
-        self.show(self.network.front_switch, self.network.front_station)
+        self.show_front()
         self.caller = self.network.mobile("mobile-1", CALLER[0], 20)
         self.called = self.network.mobile("mobile-2", CALLED[0], 30)
 

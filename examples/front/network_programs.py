@@ -18,6 +18,8 @@ class Network:
         self.front = front
         self.relay_words = relay
         self.preload = preload
+        self.front_switch: Process | None = None
+        self.front_station: Process | None = None
         folder = processes.folder
         for name, text in (("register.cfg", osmocom.REGISTER), ("gateway.cfg", osmocom.GATEWAY),
                            ("switch.cfg", osmocom.SWITCH.format(folder=folder)),

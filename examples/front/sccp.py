@@ -71,6 +71,11 @@ def with_calling_address(body: bytes, point_code: int) -> bytes:
     return body[:at] + calling + body[at:]
 
 
+def released(to: bytes, sender: bytes) -> bytes:
+    """RLSD, with the references of both sides, cause 00 and no data."""
+    return bytes((RELEASED,)) + to + sender + bytes((0x00, 0x00))
+
+
 def answer_to_test(body: bytes) -> bytes:
     """The answer to an inactivity test (clause 4.16): the same with the references swapped."""
     return bytes((INACTIVITY_TEST,)) + body[SECOND_REFERENCE] + body[REFERENCE] + body[7:]

@@ -125,7 +125,7 @@ class Stations:
             say(f"{name}: RSL link ended: {fault}")
             return
         except OSError as fault:
-            say(f"{name}: RSL link closed: bsc takes no link at {cell.listen[0]}:{cell.listen[1]}: {fault.strerror}")
+            say(f"{name}: RSL link closed: bsc takes no link at {cell.listen[0]}:{cell.listen[1]}: {ipa.reason(fault)}")
             return
         passage = Passage(link, controller, self.front.station.release_delay_ms / 1000)
         say(f"{name}: joined to cell {cell.number} of bsc at {controller.peer}")

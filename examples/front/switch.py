@@ -30,6 +30,7 @@ class Switch:
         self.used = False  # a connection's message went over the link of bsc that is open
         self.speech: set[bytes] = set()  # the switch's references of connections that asked for a speech channel
         self.switch_reference: dict[bytes, bytes] = {}  # by the reference of bsc
+        self.ended: set[bytes] = set()  # the switch's references of connections that its RESET ended
         self.counts: Counter[str] = Counter()
         self.paging = socket.socket(socket.AF_UNIX, socket.SOCK_DGRAM)
         self.paging.setblocking(False)
@@ -78,7 +79,7 @@ class Switch:
                 if stream != ipa.SCCP:
                     continue
                 await self.is_reset.wait()
-                if self.switch:
+                if self.switch and not self.is_of_ended(body):
                     self.used = True
                     self.switch.write(ipa.SCCP, self.from_controller(body))
                 await self.drain(self.switch)
@@ -86,8 +87,8 @@ class Switch:
             say(f"bsc {link.peer}: link ended: {fault}; {in_words(self.counts)}")
         finally:
             self.controller = None
-            self.speech.clear()
-            self.switch_reference.clear()
+            for known in (self.speech, self.switch_reference, self.ended):
+                known.clear()
             if self.used and self.switch:
                 say("switch: link closed, since that of bsc ended")
                 self.switch.close()
@@ -114,6 +115,24 @@ class Switch:
             data.text = bssmap.with_codec(data.text, self.codec)
             return data.octets()
         return body
+
+    def is_of_ended(self, body: bytes) -> bool:
+        """Whether bsc means a connection that the switch's RESET has ended: the switch knows nothing of it any more."""
+        if body[:1] == bytes((sccp.CONNECTION_REQUEST,)) or body[sccp.REFERENCE] not in self.ended:
+            return False
+        if body[0] == sccp.RELEASE_COMPLETE:
+            self.ended.discard(body[sccp.REFERENCE])
+        return True
+
+    def end_connections(self) -> None:
+        """The switch has reset itself: bsc gets RLSD for each connection, so that its mobile is released."""
+        for own, theirs in self.switch_reference.items():
+            if self.controller:
+                self.controller.write(ipa.SCCP, sccp.released(own, theirs))
+                self.ended.add(theirs)
+                self.counts["connections ended by RESET"] += 1
+        self.switch_reference.clear()
+        self.speech.clear()
 
     def from_switch(self, link: ipa.Link, stream: int, body: bytes) -> None:
         """Passes on a message of the switch, or answers it."""
@@ -151,6 +170,7 @@ class Switch:
         message = bssmap.message_of(data)
         if message == bssmap.RESET:
             say(f"switch {link.peer}: RESET, acknowledged")
+            self.end_connections()
             link.write(ipa.SCCP, sccp.unitdata(bssmap.reset_acknowledge()))
         elif message == bssmap.RESET_ACKNOWLEDGE:
             say(f"switch {link.peer}: has acknowledged RESET")
