@@ -44,6 +44,7 @@ class DedicatedChannel:
         self.timing_advance = 0
         self.links = {0: lapdm.DataLink(0, False, self), 3: lapdm.DataLink(3, self.is_traffic, self)}
         self.slow_frames: deque[lapdm.LapdmFrame] = deque()
+        self.is_left = False
         self.reported = False
         self.slow_heard: float | None = None  # when the SACCH's last block came
         self.next_slow_block = time.monotonic() + SACCH_PERIOD
@@ -99,7 +100,7 @@ class DedicatedChannel:
         """Repeats what wasn't answered, and gives the SACCH its block."""
         for link in self.links.values():
             link.tick()
-        if time.monotonic() < self.next_slow_block:
+        if self.is_left or time.monotonic() < self.next_slow_block:
             return
         self.next_slow_block += SACCH_PERIOD
         if self.slow_frames and self.reported:
@@ -125,6 +126,7 @@ class DedicatedChannel:
 
     def suspend(self) -> dict[int, list[bytes]]:
         """Leaves the channel without a word; gives per SAPI the messages that weren't acknowledged."""
+        self.is_left = True
         self.slow_frames.clear()
         return {sapi: link.suspend() for sapi, link in self.links.items()}
 

@@ -178,6 +178,7 @@ class RadioResource:
             self.send(0, messages.radio_message(kind, PROTOCOL_ERROR))
             return
         waiting = self.channel.suspend()
+        waiting[0] = [message for message in waiting[0] if layer3.discriminator(message) != layer3.RADIO]
         if self.forgets and self.last_numbered is not None:
             self.journal.event("forgotten", "that the last numbered message was acknowledged")
             waiting[0].insert(0, self.last_numbered)
