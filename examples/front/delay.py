@@ -24,6 +24,7 @@ async def pass_on(source: Link, target: Link) -> None:
     loop, line = asyncio.get_running_loop(), asyncio.Queue()
 
     async def write() -> None:
+        """Writes each piece when it is due."""
         while True:
             due, octets = await line.get()
             await asyncio.sleep(max(0.0, due - loop.time()))
@@ -48,6 +49,7 @@ async def take(source: Link, address: tuple[str, int]) -> None:
 async def main(listen: str, address: str) -> None:
     """Listens, and takes what standard input says."""
     def change() -> None:
+        """Takes a line of standard input, or its end."""
         global delay
         if line := sys.stdin.readline().strip():
             delay = int(line) / 1000

@@ -103,11 +103,12 @@ async def serve(address: tuple[str, int], taken: Callable[[Link], Awaitable[None
     """Listens at an address; each connection is given to `taken`, and closed behind it."""
 
     async def take(reader: asyncio.StreamReader, writer: asyncio.StreamWriter) -> None:
+        """Serves a connection, until the front is ended."""
         link = Link(reader, writer)
         try:
             await taken(link)
         except asyncio.CancelledError:
-            pass  # the front is ended
+            pass
         finally:
             link.close()
 

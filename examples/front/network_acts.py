@@ -10,6 +10,7 @@ from processes import Process, terminal
 START_DTMF = "03 35 2C 31"
 STOP_DTMF = "03 31"
 PAIRS = 6  # of these, sent around a handover
+AGAIN = ", again)"  # in the line of a message that the mobile sends on the new channel once more
 HIDDEN = "SYSTEM INFORMATION", "MEASUREMENT REPORT", "neighbour:"
 
 
@@ -81,6 +82,7 @@ class Acts:
             self.caller.wait_for("call active", 30)
         finally:
             self.show(self.caller, self.called)
+        self.name_duplicates()
 
     def handover(self) -> None:
         """The caller's reports make bsc hand it over; its last message goes again on the new channel."""
@@ -96,6 +98,49 @@ class Acts:
         self.result("osmo-msc named the repeated message as a duplicate, and no other one, and took each once",
                     len(named) == 1 and named[0].endswith(f"got {again[1]}") and self.unanswered() == 0)
 
+    def failed_handover(self) -> None:
+        """The caller doesn't find the new channel, and goes back to the old one."""
+        print("== handover that fails: mobile-1 goes back with HANDOVER FAILURE", flush=True)
+        self.caller.tell("miss-change", "levels 20 20/9=50", "wait HANDOVER FAILURE 30", "levels 50 20/9=20", "pause 1",
+                         f"send 0 {START_DTMF}", "wait START DTMF REJECT 10", f"send 0 {STOP_DTMF}",
+                         "wait STOP DTMF ACKNOWLEDGE 10")
+        try:
+            self.caller.wait_for("<- STOP DTMF ACKNOWLEDGE", 40, times=2)
+        finally:
+            self.show(self.caller)
+        self.result("the call goes on where it was, and osmo-msc took each message",
+                    not self.name_duplicates() and self.unanswered() == 0)
+
+    def short_message_amid_call(self) -> None:
+        """The called mobile sends the caller a short message: SAPI 3 beside both calls, on the SACCH of each TCH."""
+        print("== short message of mobile-2 to mobile-1, amid their call", flush=True)
+        self.called.tell(f"short-message {CALLER[1]} hello")
+        try:
+            self.caller.wait_for("short message:", 40, times=2)
+            self.called.wait_for("short message taken", 20)
+            self.caller.wait_for("<- CP-ACK", 20)
+        finally:
+            self.show(self.caller, self.called)
+        counters = terminal(osmocom.SWITCH_TERMINAL, "show rate-counters")
+        self.result("osmo-msc counts a second one as acknowledged", re.search(r"deliver:ack: +2 ", counters) is not None)
+
+    def clearing(self) -> None:
+        """The caller hangs up, and the called one detaches."""
+        print("== mobile-1 hangs up, mobile-2 detaches", flush=True)
+        idle = len(self.caller.saying("idle:")), len(self.called.saying("idle:"))
+        self.caller.tell("hang-up", "wait idle 20")
+        try:
+            self.caller.wait_for("idle:", 30, times=idle[0] + 1)
+            self.called.wait_for("idle:", 30, times=idle[1] + 1)
+            self.called.tell("detach", "wait idle 20")
+            self.called.wait_for("idle:", 30, times=idle[1] + 2)
+        finally:
+            self.show(self.caller, self.called)
+        time.sleep(1)
+        known = terminal(osmocom.SWITCH_TERMINAL, "show subscriber cache")
+        self.result("osmo-msc knows mobile-1, and mobile-2 no more",
+                    f"IMSI: {CALLER[0]}" in known and f"IMSI: {CALLED[0]}" not in known)
+
     def handover_back(self) -> None:
         """The caller's reports make bsc hand it over to the first cell again."""
         print("== handover of mobile-1 back to cell 1", flush=True)
@@ -109,15 +154,17 @@ class Acts:
         print("== handover to cell 2, while all that comes from station 1 is a second late", flush=True)
         self.network.delay.tell("1000")
         self.network.delay.wait_for("delay: 1.0", 5)
-        done, sent = (len(self.caller.saying(text)) for text in ("-> HANDOVER COMPLETE", "-> STOP DTMF"))
+        done, sent, twice = (len(self.caller.saying(text)) for text in ("-> HANDOVER COMPLETE", "-> STOP DTMF", AGAIN))
         pairs = [f"send 0 {START_DTMF}", "pause 0.35", f"send 0 {STOP_DTMF}", "pause 0.35"]
         self.caller.tell("levels 20 30/18=50", *pairs * PAIRS)
         self.caller.wait_for("-> HANDOVER COMPLETE", 40, times=done + 1)
         self.caller.wait_for("-> STOP DTMF", 40, times=sent + PAIRS)
         time.sleep(3)
         self.show(self.caller)
-        self.lost = len(self.name_duplicates()), self.unanswered()
-        return f"of {2 * PAIRS} messages osmo-msc dropped {self.lost[0]}, and answered {2 * PAIRS - self.lost[1]}"
+        twice = len(self.caller.saying(AGAIN)) - twice
+        self.lost = max(0, len(self.name_duplicates()) - twice), self.unanswered()
+        line = f"of {2 * PAIRS} messages osmo-msc dropped {self.lost[0]}, and answered {2 * PAIRS - self.lost[1]}"
+        return line + (f"; what was sent twice ({twice}) it dropped once" if twice else "")
 
     def name_duplicates(self) -> list[str]:
         """What osmo-msc has newly called a duplicate: it does so with each number that it doesn't expect, and drops it."""
@@ -130,8 +177,8 @@ class Acts:
 
     def unanswered(self) -> int:
         """How many of the caller's messages of call control osmo-msc hasn't answered; one that was sent again counts once."""
-        sent = len(self.caller.saying("-> START DTMF", "-> STOP DTMF")) - len(self.caller.saying("forgotten:"))
-        return sent - len(self.caller.saying("<- START DTMF", "<- STOP DTMF"))
+        sent = [line for line in self.caller.saying("-> START DTMF", "-> STOP DTMF") if AGAIN not in line]
+        return len(sent) - len(self.caller.saying("<- START DTMF", "<- STOP DTMF"))
 
     def play(self) -> str:
         """Plays all acts with bsc; gives what came of the last one."""
@@ -140,10 +187,14 @@ class Acts:
         self.location_update()
         self.short_message()
         self.call()
+        self.short_message_amid_call()
         self.handover()
+        self.failed_handover()
         self.handover_back()
         line = self.crossing()
         self.result(line, self.lost == (0, 0))
+        self.network.delay.tell("0")
+        self.clearing()
         return line
 
     def play_plainly(self) -> str:

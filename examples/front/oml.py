@@ -15,7 +15,6 @@ SET_BTS_ATTRIBUTES = 0x41
 SET_RADIO_CARRIER_ATTRIBUTES = 0x44
 SET_CHANNEL_ATTRIBUTES = 0x47
 CHANGED_STATE_REPORT = 0x61
-FAILURE_REPORT = 0x82
 CHANGE_ADMINISTRATIVE_STATE = 0x69
 OPSTART = 0x74
 RSL_CONNECT = 0xE0  # of ip.access
@@ -120,17 +119,17 @@ class Station:
             head = bytes((MANUFACTURER, 0x80, 0x00, len(text))) + IPACCESS
         self.link.write(ipa.OML, head + text)
         while True:
-            answer, other, _ = await self.within(self.read())
-            if other == which and answer == kind + 2:
+            kind_back, other, _ = await self.answer()
+            if other == which and kind_back == kind + 2:
                 raise ipa.LinkFault(f"it refused OML message {kind:#04x} to object {bytes(which).hex()}")
-            if other == which and answer == kind + 1:
+            if other == which and kind_back == kind + 1:
                 return
-            self.count(answer)
+            self.count(kind_back)
 
-    async def within(self, reading):
-        """What is read in time."""
+    async def answer(self) -> tuple[int, Object, bytes]:
+        """The next message, which has to come in time."""
         try:
-            return await asyncio.wait_for(reading, PATIENCE)
+            return await asyncio.wait_for(self.read(), PATIENCE)
         except asyncio.TimeoutError as fault:
             raise ipa.LinkFault("it didn't answer an OML message") from fault
 
@@ -141,7 +140,7 @@ class Station:
     async def opstart(self, which: Object) -> None:
         """Starts an object's operation, once it no longer waits for another object."""
         while self.availability.get(which) == DEPENDENCY:
-            self.count((await self.within(self.read()))[0])
+            self.count((await self.answer())[0])
         await self.command(OPSTART, which)
 
     async def unlock(self, which: Object) -> None:

@@ -16,7 +16,7 @@ CELL_IDENTIFIER_LIST = 0x1A
 CHANNEL_NEEDED = 0x24
 
 # clause 3.2.2.27: by what a list names its cells; octets of each of its entries
-WHOLE_CELL, LAC_AND_CELL, CELL_ONLY, NONE, AREA, LAC_ONLY, ALL = range(7)
+WHOLE_CELL, LAC_AND_CELL, CELL_ONLY, _, AREA, LAC_ONLY, ALL = range(7)
 OCTETS = {WHOLE_CELL: 7, LAC_AND_CELL: 4, CELL_ONLY: 2, AREA: 5, LAC_ONLY: 2}
 
 TMSI_TYPE = 0xF4  # mobile identity (TS 24.008 clause 10.5.1.4): a TMSI

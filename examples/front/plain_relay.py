@@ -8,6 +8,7 @@ no timers.
 """
 import asyncio
 import sys
+from collections.abc import Callable
 
 import bssmap
 import ipa
@@ -19,8 +20,7 @@ from system_information import cell_identity
 MARGIN = 10  # by how many dB a neighbour has to be better
 OLD_CHANNEL = 4.0  # seconds until an old channel is released: what comes late on it is passed on, too
 CHANNEL_ACTIVATION, CHANNEL_ACTIVATION_ACK, MEASUREMENT_RESULT = 0x0821, 0x0822, 0x0828
-CHANNEL_REQUIRED, IMMEDIATE_ASSIGN, ESTABLISH_REQUEST, ESTABLISH_INDICATION, DATA_INDICATION = (
-    0x0C13, 0x0C16, 0x0204, 0x0206, 0x0202)
+CHANNEL_REQUIRED, IMMEDIATE_ASSIGN, ESTABLISH_INDICATION, DATA_INDICATION = 0x0C13, 0x0C16, 0x0206, 0x0202
 REPORT = b"\x0b\x00\x12\x06\x15"  # L3 information of 18 octets: MEASUREMENT REPORT
 
 Channel = tuple[int, int]  # a cell, by its place, and a channel number
@@ -149,7 +149,7 @@ class Relay:
             self.release(one.serving)
             self.to_switch(one, bssmap.bssmap(b"\x21"))
 
-    async def read(self, link: ipa.Link, stream: int, take) -> None:
+    async def read(self, link: ipa.Link, stream: int, take: Callable[[bytes], None]) -> None:
         """Takes what comes from a link."""
         while True:
             frame = await link.read()
@@ -161,6 +161,7 @@ class Relay:
         taken: asyncio.Queue[tuple[int, ipa.Link]] = asyncio.Queue()
 
         async def take(place: int, link: ipa.Link) -> None:
+            """Keeps a station's link open."""
             taken.put_nowait((place, link))
             await link.writer.wait_closed()
 

@@ -203,6 +203,7 @@ def main(words: list[str]) -> int:
         front = settings.from_words("switch", words)
 
         async def run() -> None:
+            """Serves, and tells at the end what was counted."""
             switch = Switch(front)
             await until_ended(switch.serve())
             say(f"switch: {in_words(switch.counts)}")

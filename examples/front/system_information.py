@@ -24,7 +24,8 @@ BA_INDICATOR_SACCH = 0x10  # BA-IND is 0 in type 2, and 1 in type 5
 def area_identity(mcc: str, mnc: str, lac: int) -> bytes:
     """Location area identification (TS 24.008 clause 10.5.1.3), without its identifier."""
     third = int(mnc[2]) if len(mnc) == 3 else 0xF
-    return bytes((int(mcc[1]) << 4 | int(mcc[0]), third << 4 | int(mcc[2]), int(mnc[1]) << 4 | int(mnc[0]))) + lac.to_bytes(2, "big")
+    halves = (mcc[1], mcc[0]), (third, mcc[2]), (mnc[1], mnc[0])
+    return bytes(int(high) << 4 | int(low) for high, low in halves) + lac.to_bytes(2, "big")
 
 
 def cell_identity(mcc: str, mnc: str, cell: Cell) -> bytes:
