@@ -71,11 +71,20 @@ def read_lapdm(octets: bytes) -> LapdmFrame | None:
 class DataLinkUser(Protocol):
     """Who stands above and below a data link: the channel."""
 
-    def transmit(self, link: "DataLink", frame: LapdmFrame) -> None: ...
-    def link_established(self, link: "DataLink", by_network: bool) -> None: ...
-    def link_released(self, link: "DataLink", reason: str) -> None: ...
-    def message_received(self, link: "DataLink", message: bytes) -> None: ...
-    def message_acknowledged(self, link: "DataLink", message: bytes) -> None: ...
+    def transmit(self, link: "DataLink", frame: LapdmFrame) -> None:
+        """Puts a frame of the link on the air."""
+
+    def link_established(self, link: "DataLink") -> None:
+        """The link stands."""
+
+    def link_released(self, link: "DataLink", reason: str) -> None:
+        """The link is gone."""
+
+    def message_received(self, link: "DataLink", message: bytes) -> None:
+        """A whole message has come."""
+
+    def message_acknowledged(self, link: "DataLink", message: bytes) -> None:
+        """The peer has a whole message."""
 
 
 class DataLink:
@@ -186,7 +195,7 @@ class DataLink:
         self.state = State.ESTABLISHED
         self._response(UA | final)
         if not again:
-            self.user.link_established(self, True)
+            self.user.link_established(self)
         self._send_next()
 
     def _establishment_answered(self, frame: LapdmFrame) -> None:
@@ -199,7 +208,7 @@ class DataLink:
         self.attempts = 0
         if self.initial:
             self.user.message_acknowledged(self, self.initial)
-        self.user.link_established(self, False)
+        self.user.link_established(self)
         self._send_next()
 
     def _information_received(self, frame: LapdmFrame, poll: int) -> None:

@@ -80,6 +80,7 @@ class ChannelDescription:
 
     @property
     def timeslot(self) -> int:
+        """The timeslot, 0 to 7."""
         return self.channel_number & 0x07
 
     @property

@@ -25,11 +25,20 @@ PERIOD_END_TCH_F = (12, 25, 38, 51, 64, 77, 90, 103)
 class ChannelUser(Protocol):
     """Who stands above a channel: radio resource management."""
 
-    def report(self) -> bytes: ...
-    def established(self, channel: "DedicatedChannel", sapi: int, by_network: bool) -> None: ...
-    def released(self, channel: "DedicatedChannel", sapi: int, reason: str) -> None: ...
-    def received(self, channel: "DedicatedChannel", sapi: int, message: bytes) -> None: ...
-    def acknowledged(self, channel: "DedicatedChannel", sapi: int, message: bytes) -> None: ...
+    def report(self) -> bytes:
+        """The MEASUREMENT REPORT for the SACCH's next block."""
+
+    def established(self, channel: "DedicatedChannel", sapi: int) -> None:
+        """A link of the channel stands."""
+
+    def released(self, channel: "DedicatedChannel", sapi: int, reason: str) -> None:
+        """A link of the channel is gone."""
+
+    def received(self, channel: "DedicatedChannel", sapi: int, message: bytes) -> None:
+        """A message of the network has come."""
+
+    def acknowledged(self, channel: "DedicatedChannel", sapi: int, message: bytes) -> None:
+        """The base station has a message of the mobile."""
 
 
 class DedicatedChannel:
@@ -61,6 +70,7 @@ class DedicatedChannel:
 
     @property
     def sub_slot(self) -> int:
+        """The sub-channel within its timeslot."""
         return 0 if self.is_traffic else self.place.channel_number >> 3 & 0x07
 
     # From the base station.
@@ -132,14 +142,18 @@ class DedicatedChannel:
 
     # From the data links.
 
-    def link_established(self, link: lapdm.DataLink, by_network: bool) -> None:
-        self.user.established(self, link.sapi, by_network)
+    def link_established(self, link: lapdm.DataLink) -> None:
+        """The link stands."""
+        self.user.established(self, link.sapi)
 
     def link_released(self, link: lapdm.DataLink, reason: str) -> None:
+        """The link is gone."""
         self.user.released(self, link.sapi, reason)
 
     def message_received(self, link: lapdm.DataLink, message: bytes) -> None:
+        """A whole message has come."""
         self.user.received(self, link.sapi, message)
 
     def message_acknowledged(self, link: lapdm.DataLink, message: bytes) -> None:
+        """The base station has a whole message."""
         self.user.acknowledged(self, link.sapi, message)

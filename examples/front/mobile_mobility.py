@@ -22,9 +22,14 @@ SERVICES = {"call": 1, "emergency": 2, "short-message": 4, "supplementary": 8}  
 class ConnectionUser(Protocol):
     """Who stands above: call control or short messages."""
 
-    def accepted(self) -> None: ...
-    def received(self, message: bytes) -> None: ...
-    def ended(self) -> None: ...
+    def accepted(self) -> None:
+        """The network gives the service that was asked for."""
+
+    def received(self, message: bytes) -> None:
+        """A message of its protocol has come."""
+
+    def ended(self) -> None:
+        """The channel is gone."""
 
 
 class Mobility:
@@ -97,17 +102,11 @@ class Mobility:
             self.journal.event("paged", f"identity {identity.hex()}")
             self._connect(messages.paging_response(self.subscriber, identity), messages.REASON_PAGING)
 
-    def connected(self) -> None:
-        """The initial message has arrived; the network speaks next."""
-
-    def disconnected(self, reason: str) -> None:
+    def disconnected(self) -> None:
         """The channel is gone, and with it all connections."""
         self.asking = None
         for user in self.users.values():
             user.ended()
-
-    def link_established(self, sapi: int) -> None:
-        """The link of SAPI 3 stands; what waited for it goes by itself."""
 
     def received(self, sapi: int, message: bytes) -> None:
         """A message of the network."""

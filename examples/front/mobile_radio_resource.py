@@ -29,11 +29,14 @@ PROTOCOL_ERROR = 0x6F  # RR cause, clause 10.5.2.31
 class RadioUser(Protocol):
     """Who stands above: mobility management."""
 
-    def paged(self, identity: bytes) -> None: ...
-    def connected(self) -> None: ...
-    def disconnected(self, reason: str) -> None: ...
-    def link_established(self, sapi: int) -> None: ...
-    def received(self, sapi: int, message: bytes) -> None: ...
+    def paged(self, identity: bytes) -> None:
+        """The network calls an identity."""
+
+    def disconnected(self) -> None:
+        """The channel is gone."""
+
+    def received(self, sapi: int, message: bytes) -> None:
+        """A message of the network for the layer above has come."""
 
 
 class RadioResource:
@@ -61,6 +64,7 @@ class RadioResource:
 
     @property
     def is_idle(self) -> bool:
+        """Whether there is no channel and none is asked for."""
         return self.channel is None and self.initial is None
 
     def connect(self, initial: bytes, reason: tuple[int, int]) -> None:
@@ -165,7 +169,7 @@ class RadioResource:
         self.references.clear()
         self.journal.event("idle", reason)
         if self.user is not None:
-            self.user.disconnected(reason)
+            self.user.disconnected()
 
     # Changes of channel.
 
@@ -223,13 +227,11 @@ class RadioResource:
         self.journal.repeated("up", f"SACCH, {self.channel.place.name}", report)
         return report
 
-    def established(self, channel: DedicatedChannel, sapi: int, by_network: bool) -> None:
+    def established(self, channel: DedicatedChannel, sapi: int) -> None:
         """A link stands."""
         self.journal.event("established", f"SAPI {sapi}, {channel.place.name}")
         if sapi == 0 and self.change is not None:
             self._change_done()
-        elif self.user is not None:
-            self.user.connected() if sapi == 0 else self.user.link_established(sapi)
 
     def released(self, channel: DedicatedChannel, sapi: int, reason: str) -> None:
         """A link is gone: that of SAPI 0 with the connection, or with the change that wanted it."""
