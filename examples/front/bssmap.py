@@ -10,6 +10,7 @@ PAGING = 0x52
 # clause 3.2.2: elements
 CAUSE = 0x04
 CHANNEL_TYPE = 0x0B
+TRANSPORT_ADDRESS = 0x7C
 SPEECH_CODEC_CHOSEN = 0x7E
 
 SPEECH = 0x01  # clause 3.2.2.11
@@ -41,6 +42,10 @@ def asks_for_speech(data: bytes) -> bool:
     return message_of(data) == ASSIGNMENT_REQUEST and data[3:4] == bytes((CHANNEL_TYPE,)) and data[5:6] == bytes((SPEECH,))
 
 
-def with_codec(data: bytes, codec: bytes) -> bytes:
-    """An ASSIGNMENT COMPLETE with Speech Codec (Chosen) behind it (clause 3.2.2.104)."""
-    return bssmap(data[2:2 + data[1]] + bytes((SPEECH_CODEC_CHOSEN, len(codec))) + codec)
+def with_speech(data: bytes, address: bytes, codec: bytes) -> bytes:
+    """An ASSIGNMENT COMPLETE with AoIP Transport Layer Address and Speech Codec (Chosen) (clauses 3.2.2.102 and 3.2.2.104)."""
+    text = data[2:2 + data[1]]
+    for identifier, value in ((TRANSPORT_ADDRESS, address), (SPEECH_CODEC_CHOSEN, codec)):
+        if value:
+            text += bytes((identifier, len(value))) + value
+    return bssmap(text)

@@ -1,5 +1,6 @@
 """Settings: those of bsc for all that they have, and those of the front for the rest, each with a default. Not proved."""
 import argparse
+import ipaddress
 import tomllib
 from dataclasses import dataclass, field, fields
 from typing import Any
@@ -39,7 +40,10 @@ class Switch:
     """[switch] of the front's settings."""
     listen: str = "127.0.0.1:5001"  # where the switch connects
     point_code: str = "0.23.3"  # of bsc: the calling address of its connections
-    speech_codec: str = ""  # what ASSIGNMENT COMPLETE of a speech channel says in Speech Codec (Chosen); empty: nothing
+    # what ASSIGNMENT COMPLETE of a speech channel says in Speech Codec (Chosen), hexadecimal, and in AoIP Transport Layer
+    # Address, as HOST:PORT; empty: nothing
+    speech_codec: str = ""
+    speech_address: str = ""
 
 
 @dataclass(frozen=True)
@@ -68,6 +72,25 @@ def read_point_code(text: str) -> int:
     if len(parts) != 3 or parts[0] > 7 or parts[1] > 255 or parts[2] > 7:
         raise SettingsFault(f"no point code: {text}")
     return parts[0] << 11 | parts[1] << 3 | parts[2]
+
+
+def read_codec(text: str) -> bytes:
+    """Octets in hexadecimal."""
+    try:
+        return bytes.fromhex(text)
+    except ValueError as fault:
+        raise SettingsFault(f"no octets: {text}") from fault
+
+
+def read_transport_address(text: str) -> bytes:
+    """HOST:PORT, with an IPv4 address, as four octets and two; nothing of an empty text."""
+    if not text:
+        return b""
+    host, port = read_address(text)
+    try:
+        return ipaddress.IPv4Address(host).packed + port.to_bytes(2, "big")
+    except ValueError as fault:
+        raise SettingsFault(f"no IPv4 address: {text}") from fault
 
 
 def read_table(kind: type, table: dict[str, Any], name: str) -> Any:
@@ -116,6 +139,8 @@ def read(config: str, front: str | None) -> Front:
     station = read_table(Station, own.get("station", {}), "station")
     switch = read_table(Switch, own.get("switch", {}), "switch")
     read_point_code(switch.point_code)
+    read_codec(switch.speech_codec)
+    read_transport_address(switch.speech_address)
     try:
         return Front(
             mcc=theirs["network"]["mcc"], mnc=theirs["network"]["mnc"],

@@ -23,7 +23,8 @@ class Switch:
     def __init__(self, front: settings.Front) -> None:
         self.front = front
         self.point_code = settings.read_point_code(front.switch.point_code)
-        self.codec = bytes.fromhex(front.switch.speech_codec)
+        self.codec = settings.read_codec(front.switch.speech_codec)
+        self.address = settings.read_transport_address(front.switch.speech_address)
         self.switch: ipa.Link | None = None
         self.controller: ipa.Link | None = None
         self.is_reset = asyncio.Event()  # the switch has acknowledged a RESET
@@ -108,11 +109,11 @@ class Switch:
         if kind == sccp.CONNECTION_REQUEST:
             return sccp.with_calling_address(body, self.point_code)
         data = sccp.read_data(body)
-        if (self.codec and data and data.reference in self.speech
+        if ((self.codec or self.address) and data and data.reference in self.speech
                 and bssmap.message_of(data.text) == bssmap.ASSIGNMENT_COMPLETE):
             self.speech.discard(data.reference)
-            self.counts["ASSIGNMENT COMPLETE with a codec"] += 1
-            data.text = bssmap.with_codec(data.text, self.codec)
+            self.counts["ASSIGNMENT COMPLETE of speech"] += 1
+            data.text = bssmap.with_speech(data.text, self.address, self.codec)
             return data.octets()
         return body
 
