@@ -68,6 +68,8 @@ def read_arguments(arguments: list[str]) -> argparse.Namespace:
     parser.add_argument("--revision", type=int, choices=(1, 2), default=2, help="1: phase 2; 2: release 99")
     parser.add_argument("--name", help="stands in each line that is printed; else the IMSI")
     found = parser.parse_args(arguments)
+    if found.arfcn is not None and not 0 <= found.arfcn <= 1023:
+        parser.error(f"an ARFCN is 0 to 1023, not {found.arfcn}")
     for value, what in ((found.imsi, "IMSI"), (found.imei, "IMEI")):
         if not value.isdigit() or not 6 <= len(value) <= 15:
             parser.error(f"an {what} is 6 to 15 digits, not {value}")
@@ -131,4 +133,7 @@ def main(arguments: list[str]) -> int:
 
 
 if __name__ == "__main__":
-    sys.exit(main(sys.argv[1:]))
+    try:
+        sys.exit(main(sys.argv[1:]))
+    except KeyboardInterrupt:
+        sys.exit(130)

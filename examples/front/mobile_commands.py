@@ -8,7 +8,7 @@ from mobile_cells import Cells
 from mobile_journal import Journal, complain
 from mobile_mobility import LOCATION_UPDATING_KINDS, SERVICES, Mobility
 from mobile_radio_resource import RadioResource
-from mobile_short_messages import ShortMessages
+from mobile_short_messages import ShortMessages, is_sendable
 
 STATUS_FAILED = 1
 STATUS_UNKNOWN = 2
@@ -89,7 +89,10 @@ class Commands:
         return self.calls.hang_up()
 
     def _short_message(self, values: list[str]) -> bool:
-        return self.short_messages.submit(read_number(values[0]), " ".join(values[1:]))
+        text = " ".join(values[1:])
+        if not is_sendable(text):
+            raise ValueError(text)
+        return self.short_messages.submit(read_number(values[0]), text)
 
     def _levels(self, values: list[str]) -> None:
         levels = {}

@@ -80,7 +80,7 @@ class Mobility:
 
     def _connect(self, initial: bytes, reason: tuple[int, int]) -> bool:
         """The initial message of a connection has N(SD) 0; behind PAGING RESPONSE, which has none, it comes next."""
-        if not self.resource.is_idle:
+        if not self.resource.is_idle or self.cells.serving is None:
             return False
         self.number = 1 if layer3.discriminator(initial) in layer3.NUMBERED else 0
         self.resource.connect(initial, reason)

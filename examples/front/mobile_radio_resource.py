@@ -140,7 +140,7 @@ class RadioResource:
     def _request(self) -> None:
         """CHANNEL REQUEST: reason and random bits in one octet (TS 44.018 clause 9.1.8)."""
         if self.requests == REQUEST_LIMIT or self.cells.serving is None:
-            self._idle("no channel: no answer to the channel requests" if self.requests else "no cell was heard yet")
+            self._idle("no channel: no answer to the channel requests")
             return
         fixed, bits = self.reason
         octet = fixed | random.getrandbits(bits)

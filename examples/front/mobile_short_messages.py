@@ -12,18 +12,29 @@ OTHER_SIDE = 0x80  # the flag of the transaction identifier: who gave it (TS 24.
 SERVICE_CENTRE = "447785016005"  # any number does for osmo-msc, which is its own service centre
 
 
+# The alphabet of 7 bits (TS 23.038 clause 6.2.1) as far as ASCII has its characters; an underscore stands for others.
+ALPHABET = "".join(chr(code) if code in (10, 13) or 32 <= code <= 90 and code not in (36, 64) or 97 <= code <= 122
+                   else {0: "@", 2: "$"}.get(code, "_") for code in range(128))
+LONGEST_TEXT = 160
+
+
+def is_sendable(text: str) -> bool:
+    """Whether a text goes into one short message of this alphabet."""
+    return len(text) <= LONGEST_TEXT and all(character in ALPHABET and character != "_" for character in text)
+
+
 def packed(text: str) -> bytes:
-    """Text in the alphabet of 7 bits, as far as it is that of ASCII (TS 23.038 clause 6.1.2.1)."""
+    """Text in septets (TS 23.038 clause 6.1.2.1)."""
     field = 0
     for place, character in enumerate(text):
-        field |= (ord(character) & 0x7F) << 7 * place
+        field |= ALPHABET.index(character) << 7 * place
     return field.to_bytes((7 * len(text) + 7) // 8, "little")
 
 
 def unpacked(octets: bytes, length: int) -> str:
     """The text of so many characters in octets."""
     field = int.from_bytes(octets, "little")
-    return "".join(chr(field >> 7 * place & 0x7F) for place in range(length))
+    return "".join(ALPHABET[field >> 7 * place & 0x7F] for place in range(length))
 
 
 def read_deliver(unit: bytes) -> str:
