@@ -52,7 +52,8 @@ class Relay:
 
     def to_mobile(self, channel: Channel, link: int, message: bytes) -> None:
         """DATA REQUEST."""
-        self.to_station(channel, bytes((3, 1, 1, channel[1], 2, link, 0x0B, 0, len(message))) + message)
+        self.to_station(channel, bytes((3, 1, rsl.CHANNEL_NUMBER, channel[1], rsl.LINK_IDENTIFIER, link, rsl.L3_INFORMATION))
+                        + len(message).to_bytes(2, "big") + message)
 
     def to_switch(self, one: Connection, data: bytes) -> None:
         """DT1."""
@@ -93,7 +94,7 @@ class Relay:
     def release(self, channel: Channel) -> None:
         """Releases a channel."""
         self.by_channel.pop(channel, None)
-        self.to_station(channel, b"\x08\x2e\x01" + bytes((channel[1],)))
+        self.to_station(channel, rsl.RF_CHANNEL_RELEASE.to_bytes(2, "big") + bytes((rsl.CHANNEL_NUMBER, channel[1])))
 
     def from_station(self, place: int, body: bytes) -> None:
         """Takes a message of a station."""
@@ -107,10 +108,10 @@ class Relay:
             self.activated(one)
         elif message == ESTABLISH_INDICATION and not one.switch and len(body) > 9:
             cell = self.front.cells[place]
-            data = bssmap.bssmap(b"\x57\x05\x08\x00" + cell_identity(self.front.mcc, self.front.mnc, cell) + b"\x17"
-                                 + body[8:])
-            self.switch.write(ipa.SCCP, b"\x01" + one.reference + b"\x02\x02\x04" + sccp.ADDRESS
-                              + bytes((0x0F, len(data))) + data + b"\0")
+            self.switch.write(ipa.SCCP, sccp.connection_request(one.reference, bssmap.bssmap(
+                bytes((bssmap.COMPLETE_LAYER_3_INFORMATION, bssmap.CELL_IDENTIFIER, 8, 0))
+                + cell_identity(self.front.mcc, self.front.mnc, cell)
+                + bytes((bssmap.LAYER_3_INFORMATION,)) + body[8:])))
         elif message == DATA_INDICATION:
             self.from_mobile(one, channel, body[5], body[9:])
         elif message == MEASUREMENT_RESULT and REPORT in body and channel == one.serving and one.target is None:
@@ -143,11 +144,11 @@ class Relay:
         elif (data := sccp.read_data(body)) and data.text[0] == 1:
             self.to_mobile(one.serving, data.text[1], data.text[3:])
         elif data and bssmap.message_of(data.text) == bssmap.ASSIGNMENT_REQUEST:
-            self.to_switch(one, bssmap.bssmap(b"\x02\x15\x00"))
-        elif data and bssmap.message_of(data.text) == 0x20:
-            self.to_mobile(one.serving, 0, b"\x06\x0d\x00")
+            self.to_switch(one, bssmap.bssmap(bytes((bssmap.ASSIGNMENT_COMPLETE, bssmap.RR_CAUSE, 0))))
+        elif data and bssmap.message_of(data.text) == bssmap.CLEAR_COMMAND:
+            self.to_mobile(one.serving, 0, rsl.CHANNEL_RELEASE + b"\0")
             self.release(one.serving)
-            self.to_switch(one, bssmap.bssmap(b"\x21"))
+            self.to_switch(one, bssmap.bssmap(bytes((bssmap.CLEAR_COMPLETE,))))
 
     async def read(self, link: ipa.Link, stream: int, take: Callable[[bytes], None]) -> None:
         """Takes what comes from a link."""

@@ -17,6 +17,7 @@ KNOWN_BY_BSC = (CONNECTION_CONFIRM, CONNECTION_REFUSED, RELEASED, RELEASE_COMPLE
 # clause 3: parameters
 END_OF_OPTIONS = 0x00
 CALLING_ADDRESS = 0x04
+DATA = 0x0F
 
 BSSAP = 0xFE  # subsystem number
 ADDRESS = bytes((0x02, 0x42, BSSAP))  # length, routed on the subsystem number, no point code; subsystem number
@@ -55,6 +56,12 @@ def read_unitdata(body: bytes) -> bytes | None:
         return None
     at = 4 + body[4]
     return body[at + 1:at + 1 + body[at]] if at < len(body) else None
+
+
+def connection_request(reference: bytes, data: bytes) -> bytes:
+    """CR of class 2: pointers to called address and options, and the data as an option."""
+    return (bytes((CONNECTION_REQUEST,)) + reference + bytes((0x02, 0x02, 0x04)) + ADDRESS + bytes((DATA, len(data))) + data
+            + bytes((END_OF_OPTIONS,)))
 
 
 def with_calling_address(body: bytes, point_code: int) -> bytes:
