@@ -7,7 +7,7 @@ import asyncio
 from collections import Counter
 
 import ipa
-from settings import Address, Cell
+from settings import Cell, SettingsFault
 from system_information import cell_identity
 
 # TS 12.21 clause 9.1: message types; an answer has the type and 1 where it accepts, and 2 where it refuses
@@ -59,9 +59,9 @@ def combinations(cell: Cell) -> dict[int, int]:
         timeslot, kind = number & 7, number >> 3
         combination = (TCH_FULL if kind == 1 else TCH_HALF if kind < 4 else MAIN_BCCH_COMBINED if kind < 8 else SDCCH8)
         if (timeslot == 0) != (combination == MAIN_BCCH_COMBINED):
-            raise ipa.LinkFault(f"cell {cell.number}: channel {number:#04x} can't be on timeslot {timeslot} beside the BCCH")
+            raise SettingsFault(f"cell {cell.number}: channel {number:#04x} can't be on timeslot {timeslot} beside the BCCH")
         if timeslot and found.get(timeslot, combination) != combination:
-            raise ipa.LinkFault(f"cell {cell.number}: channels of several kinds on timeslot {timeslot}")
+            raise SettingsFault(f"cell {cell.number}: channels of several kinds on timeslot {timeslot}")
         found[timeslot] = combination
     return found
 
@@ -147,8 +147,8 @@ class Station:
         """Lets an object serve."""
         await self.command(CHANGE_ADMINISTRATIVE_STATE, which, bytes((ADMINISTRATIVE_STATE, UNLOCKED)))
 
-    async def configure(self, cell: Cell, mcc: str, mnc: str, rsl: Address) -> None:
-        """Configures the station as its cell's settings have it, and tells it where to open the RSL link."""
+    async def configure(self, cell: Cell, mcc: str, mnc: str, rsl: bytes) -> None:
+        """Configures the station as its cell's settings have it, and tells it where to open the RSL link: address and port."""
         channels = {(CHANNEL, 0, 0, timeslot): kind for timeslot, kind in sorted(combinations(cell).items())}
         await self.command(OPSTART, SITE)
         await self.command(SET_BTS_ATTRIBUTES, STATION, bts_attributes(cell, mcc, mnc))
@@ -163,9 +163,8 @@ class Station:
         await self.unlock(TRANSCEIVER)
         for which in (CARRIER, STATION, TRANSCEIVER):
             await self.opstart(which)
-        host = bytes(int(part) for part in rsl[0].split("."))
         await self.command(RSL_CONNECT, TRANSCEIVER,  # stream, port, and address
-                           bytes((0x85, ipa.RSL, 0x81)) + rsl[1].to_bytes(2, "big") + b"\x80" + host)
+                           bytes((0x85, ipa.RSL, 0x81)) + rsl[4:] + b"\x80" + rsl[:4])
         for channel in channels:
             await self.opstart(channel)
 

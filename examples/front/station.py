@@ -87,7 +87,10 @@ class Stations:
 
     def __init__(self, front: settings.Front) -> None:
         self.front = front
-        self.rsl = settings.read_address(front.station.rsl)
+        self.rsl = settings.read_transport_address(front.station.rsl)
+        for cell in front.cells:  # so that what can't be told a station is found at the start
+            oml.combinations(cell)
+            rsl.system_information(cell, front.mcc, front.mnc)
         self.cells = {cell.unit: cell for cell in front.cells}
         self.joined: dict[int, Passage] = {}
         self.paging: Counter[str] = Counter()
@@ -109,7 +112,7 @@ class Stations:
             await station.configure(cell, self.front.mcc, self.front.mnc, self.rsl)
             say(f"{name}: configured as cell {cell.number}, ARFCN {cell.arfcn}; RSL is at {self.front.station.rsl}")
             await station.watch()
-        except (ipa.LinkFault, settings.SettingsFault) as fault:
+        except ipa.LinkFault as fault:
             say(f"{name}: OML link ended: {fault}; not passed on: {in_words(station.counts)}")
 
     async def take_rsl(self, link: ipa.Link) -> None:
@@ -121,7 +124,7 @@ class Stations:
             for text in rsl.system_information(cell, self.front.mcc, self.front.mnc):
                 link.write(ipa.RSL, text)
             controller = await ipa.connect(cell.listen)
-        except (ipa.LinkFault, settings.SettingsFault) as fault:
+        except ipa.LinkFault as fault:
             say(f"{name}: RSL link ended: {fault}")
             return
         except OSError as fault:
@@ -154,7 +157,7 @@ class Stations:
     async def serve(self) -> None:
         """Listens until it is ended."""
         servers = [await ipa.serve(settings.read_address(self.front.station.oml), self.take_oml),
-                   await ipa.serve(self.rsl, self.take_rsl)]
+                   await ipa.serve(settings.read_address(self.front.station.rsl), self.take_rsl)]
         say(f"waiting for stations: OML at {self.front.station.oml}, RSL at {self.front.station.rsl}")
         if path := self.front.paging_socket:
             own = open_paging(path)
