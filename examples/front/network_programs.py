@@ -1,0 +1,67 @@
+"""The programs of examples/network, started each when what it needs is there. Not proved."""
+import os
+import sys
+
+import osmocom
+from processes import Process, Processes, terminal, write
+
+# IMSI and number of the two subscribers
+CALLER = "001010000000001", "1001"
+CALLED = "001010000000002", "1002"
+
+
+class Network:
+    """All programs of a trial. The relay is what stands between the halves of the front."""
+
+    def __init__(self, processes: Processes, front: str, relay: list[str], preload: dict[str, str]) -> None:
+        self.processes = processes
+        self.front = front
+        self.relay_words = relay
+        self.preload = preload
+        self.front_switch: Process | None = None
+        self.front_station: Process | None = None
+        folder = processes.folder
+        for name, text in (("register.cfg", osmocom.REGISTER), ("gateway.cfg", osmocom.GATEWAY),
+                           ("switch.cfg", osmocom.SWITCH.format(folder=folder)),
+                           ("station-1.cfg", osmocom.STATION.format(number=1, folder=folder)),
+                           ("station-2.cfg", osmocom.STATION.format(number=2, folder=folder)),
+                           ("bsc.toml", osmocom.BSC.format(first="127.0.0.1")),
+                           ("front-bsc.toml", osmocom.BSC.format(first="127.0.0.3")),
+                           ("front.toml", osmocom.FRONT.format(folder=folder))):
+            write(folder, name, text)
+
+    def start_front(self, half: str) -> Process:
+        """Starts a half of the front."""
+        started = self.processes.start(f"front-{half}", [sys.executable, self.front, half, "--config", "front-bsc.toml",
+                                                         "--front", "front.toml"])
+        started.wait_for("waiting", 20)
+        return started
+
+    def start(self) -> None:
+        """Starts everything but the mobiles."""
+        start = self.processes.start
+        start("register", ["osmo-hlr", "-c", "register.cfg", "-l", "subscribers.db"])
+        start("gateway", ["osmo-mgw", "-c", "gateway.cfg"])
+        for imsi, number in (CALLER, CALLED):
+            terminal(osmocom.REGISTER_TERMINAL, f"subscriber imsi {imsi} create",
+                     f"subscriber imsi {imsi} update msisdn {number}")
+        self.front_switch = self.start_front("switch")
+        self.switch = start("switch", ["osmo-msc", "-c", "switch.cfg"], self.preload)
+        self.front_switch.wait_for("acknowledged RESET", 30)
+        self.relay = start("relay", [*self.relay_words, "--config", "bsc.toml"])
+        self.relay.wait_for("switch: connected", 20)
+        self.delay = start("delay", [sys.executable, os.path.join(self.front, "delay.py"), "127.0.0.3:3003",
+                                     "127.0.0.1:3003"])
+        self.delay.wait_for("listens", 20)
+        self.front_station = self.start_front("station")
+        for number in (1, 2):
+            start(f"station-{number}", ["osmo-bts-virtual", "-c", f"station-{number}.cfg"])
+        self.front_station.wait_for("configured as cell", 30, times=2)
+        self.front_station.wait_for("joined to cell", 30, times=2)
+
+    def mobile(self, name: str, imsi: str, arfcn: int) -> Process:
+        """Starts a mobile."""
+        mobile = self.processes.start(name, [sys.executable, "-u", self.front, "mobile", "--imsi", imsi, "--arfcn", str(arfcn),
+                                             "--name", name])
+        mobile.wait_for("camped", 30)
+        return mobile
