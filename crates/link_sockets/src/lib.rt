@@ -11,12 +11,15 @@ pub use run::run_links;
 pub use socket::{ReadingEnd, WritingEnd};
 pub use stopwatch::Stopwatch;
 
+mod dead_peer;
 mod fault;
 mod gate;
 mod line;
 mod name;
 mod open;
+mod other_links;
 mod relaying;
 mod run;
+mod runtime;
 mod socket;
 mod stopwatch;

@@ -6,12 +6,14 @@ use crate::fault::RunFault;
 use crate::gate::OpenGate;
 use crate::line::log_line;
 use crate::name::LinkName;
+use crate::other_links::OtherLinks;
 use crate::socket::{ReadingEnd, WritingEnd, ends_of};
 use log::{Level, Log};
 use settings::{Cell, Settings};
 use station_io::Link;
 use std::alloc::Global;
 use std::net::{Net, TcpListener, TcpStream};
+use std::time::Duration;
 
 /// A link over TCP, whose gate is never shut.
 pub type SocketLink<R> = Link<ReadingEnd<R>, WritingEnd<R>, OpenGate>;
@@ -31,11 +33,13 @@ where
         × AreNamed (map (λ link. link.writer.name) links.items)) }
 {
     let listeners = listen(rt, alloc, settings.cells())?;
+    let patience = Duration::from_millis(u64::from(settings.drain_ms()));
+    let others = OtherLinks::new(alloc, listeners.len() + 1, patience)?;
     let mut links = Vec::new(alloc);
-    links.push(connect(rt, alloc, settings.switch_address())?)?;
+    links.push(connect(rt, alloc, settings.switch_address(), others.try_clone()?)?)?;
     for listener in &listeners {
         let place = links.len();
-        links.push(accept(rt, alloc, place, listener)?)?;
+        links.push(accept(rt, alloc, place, listener, others.try_clone()?)?)?;
     }
     Ok(links)
 }
@@ -81,7 +85,12 @@ where
 }
 
 /// Connects to the switch.
-fn connect<R>(rt: &R, alloc: Global, address: &str) -> Result<SocketLink<R>, RunFault>
+fn connect<R>(
+    rt: &R,
+    alloc: Global,
+    address: &str,
+    others: OtherLinks,
+) -> Result<SocketLink<R>, RunFault>
 where
     R: Net<Listener = TcpListener, Stream = TcpStream> + Log + Copy + Drop,
     ensures { IfOk result (λ link. (link.reader.name ≡ Switch) × (link.writer.name ≡ Switch)) }
@@ -93,7 +102,7 @@ where
                 Level::Info,
                 format_args!("switch: connected to {address}"),
             );
-            link_of(*rt, alloc, LinkName::Switch, stream)
+            link_of(*rt, alloc, LinkName::Switch, stream, others)
         }
         Err(error) => {
             log_line(
@@ -112,6 +121,7 @@ fn accept<R: Log + Copy + Drop>(
     alloc: Global,
     place: usize,
     listener: &TcpListener,
+    others: OtherLinks,
 ) -> Result<SocketLink<R>, RunFault>
     ensures { IfOk result (λ link.
         (place_of link.reader.name ≡ place) × (place_of link.writer.name ≡ place)) }
@@ -132,7 +142,7 @@ fn accept<R: Log + Copy + Drop>(
         Level::Info,
         format_args!("cell {place}: connected from {peer}"),
     );
-    link_of(*rt, alloc, LinkName::of_link(place, peer), stream)
+    link_of(*rt, alloc, LinkName::of_link(place, peer), stream, others)
 }
 
 /// The link over this socket.
@@ -141,10 +151,11 @@ fn link_of<R: Log + Copy + Drop>(
     alloc: Global,
     name: LinkName,
     stream: TcpStream,
+    others: OtherLinks,
 ) -> Result<SocketLink<R>, RunFault>
     ensures { IfOk result (λ link. (link.reader.name ≡ name) × (link.writer.name ≡ name)) }
 {
-    let (reader, writer) = match ends_of(rt, alloc, name, stream) {
+    let (reader, writer) = match ends_of(rt, alloc, name, stream, others) {
         Ok(ends) => ends,
         Err(fault) => {
             log_line(

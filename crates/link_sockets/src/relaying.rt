@@ -1,5 +1,6 @@
 use crate::fault::RunFault;
 use crate::run::run_links;
+use crate::runtime::RelayRuntime;
 use log::sink::Console;
 use log::{LevelFilter, Logged};
 use program_base::{Failure, ProgramFault, read_settings, settings_text};
@@ -28,7 +29,7 @@ where
     let text = settings_text(rt, file)?;
     let settings = read_settings(rt.alloc(), text.as_str())?;
     let logged = Logged::new(*rt, level(rt), Console(*rt));
-    match run_links(logged, rt.alloc(), settings) {
+    match run_links(RelayRuntime::new(*rt, logged), rt.alloc(), settings) {
         Ok(()) => Ok(0),
         Err(RunFault::Memory) => Err(ProgramFault::Failed(Failure::Memory)),
         Err(RunFault::Device) => Err(ProgramFault::Failed(Failure::Device)),

@@ -1,23 +1,36 @@
 ghost use Rattle.std.specs.Prelude.{◌≡◌, IfOk};
 
+use crate::dead_peer::notice_dead_peer;
 use crate::fault::RunFault;
 use crate::line::log_line;
 use crate::name::LinkName;
+use crate::other_links::OtherLinks;
 use link_workers::{IoFault, LinkReader};
 use log::{Level, Log};
 use std::alloc::{AllocError, Global};
+use std::fmt::Display;
 use std::io::{self, ErrorKind, Read, Write};
 use std::net::{Shutdown, TcpStream};
 use std::sync::Arc;
 use std::sync::atomic::{AtomicBool, Ordering};
-use std::time::Duration;
+use std::time::{Clock, Duration};
 
 /// For how many seconds a write may wait for a peer that takes nothing.
 const WRITE_TIMEOUT: u64 = 10;
 
+/// After how many milliseconds a station's reader looks up from its socket, to see whether the
+/// switch's link has ended.
+const READ_TIMEOUT: u64 = 500;
+
+/// What an operator has to know where the switch's link ends before those of the stations.
+const NO_CALLS: &str = ": no call can be set up until bsc is started again";
+
 /// The end of a link's socket that is read. It logs when nothing more comes. Where it is told that
 /// nothing more is read, it logs why and shuts the socket both ways, so that the peer sees it, and
 /// the writer of the same link ends too.
+///
+/// A station's gives an interruption every half second in which nothing comes. Some time behind the
+/// end of the switch's link it shuts the socket for reading, and gives the end of the octets.
 #[derive(Drop)]
 pub struct ReadingEnd<R> {
     rt: R,
@@ -26,6 +39,7 @@ pub struct ReadingEnd<R> {
     broken: Option<IoFault>,
     /// Whether nothing more comes, which the writing end asks.
     at_end: Arc<AtomicBool, Global>,
+    others: OtherLinks,
 }
 
 /// The end of a link's socket that is written. A write that fails is logged and shuts the socket
@@ -43,15 +57,19 @@ pub struct WritingEnd<R> {
 }
 
 /// The two ends of a link's socket. Frames go out at once, and a write waits ten seconds at most.
-pub fn ends_of<R: Log + Copy>(
+pub(crate) fn ends_of<R: Log + Copy>(
     rt: R,
     alloc: Global,
     name: LinkName,
     stream: TcpStream,
+    others: OtherLinks,
 ) -> Result<(ReadingEnd<R>, WritingEnd<R>), RunFault>
     ensures { IfOk result (λ ends. (ends.0.name ≡ name) × (ends.1.name ≡ name)) }
 {
     let other = other_of(&stream)?;
+    if let LinkName::Cell(..) = name {
+        stream.set_read_timeout(Some(Duration::from_millis(READ_TIMEOUT)))?;
+    }
     let (at_end, asked) = shared_flag(alloc)?;
     let reading = ReadingEnd {
         rt,
@@ -59,6 +77,7 @@ pub fn ends_of<R: Log + Copy>(
         stream,
         broken: None,
         at_end,
+        others,
     };
     let writing = WritingEnd {
         rt,
@@ -74,6 +93,7 @@ pub fn ends_of<R: Log + Copy>(
 fn other_of(stream: &TcpStream) -> io::Result<TcpStream> {
     stream.set_nodelay(true)?;
     stream.set_write_timeout(Some(Duration::from_secs(WRITE_TIMEOUT)))?;
+    notice_dead_peer(stream)?;
     stream.try_clone()
 }
 
@@ -95,17 +115,36 @@ impl<R> ReadingEnd<R> {
     }
 }
 
-impl<R: Log> Read for ReadingEnd<R> {
+impl<R: Log> ReadingEnd<R> {
+    /// Notes that the link has ended, which it has not before, and logs why: at this level where it
+    /// was the last one, else as what an operator has to look at.
+    fn end<D: Display + Drop>(&mut self, level: Level, why: D) {
+        let (level, advice) = match (self.name, self.others.end(self.name)) {
+            (_, false) => (level, ""),
+            (LinkName::Cell(..), true) => (Level::Warn, ""),
+            (LinkName::Switch, true) => (Level::Error, NO_CALLS),
+        };
+        let name = self.name;
+        log_line(&self.rt, level, format_args!("{name}: {why}{advice}"));
+    }
+}
+
+impl<R: Log + Clock> Read for ReadingEnd<R> {
     fn read(&mut self, buffer: &mut [u8]) -> io::Result<usize> {
+        if self.others.is_over(&self.rt) {
+            self.at_end.store(true, Ordering::SeqCst);
+            let _ = self.stream.shutdown(Shutdown::Read);
+            self.end(Level::Info, "shut: the switch's link has ended");
+            return Ok(0);
+        }
         let read = self.stream.read(buffer);
         match &read {
             Ok(0) => {
                 self.at_end.store(true, Ordering::SeqCst);
-                log_line(
-                    &self.rt,
-                    Level::Info,
-                    format_args!("{}: link closed", self.name),
-                );
+                self.end(Level::Info, "link closed");
+            }
+            Err(error) if error.kind() == ErrorKind::WouldBlock => {
+                return Err(io::Error::from(ErrorKind::Interrupted));
             }
             Err(error) if error.kind() != ErrorKind::Interrupted => {
                 self.at_end.store(true, Ordering::SeqCst);
@@ -121,17 +160,13 @@ impl<R: Log> Read for ReadingEnd<R> {
     }
 }
 
-impl<R: Log> LinkReader for ReadingEnd<R> {
+impl<R: Log + Clock> LinkReader for ReadingEnd<R> {
     ghost told = { λ end. end.broken };
 
     fn break_off(&mut self, fault: IoFault) {
         self.broken = Some(fault);
         self.at_end.store(true, Ordering::SeqCst);
-        log_line(
-            &self.rt,
-            Level::Warn,
-            format_args!("{}: shut: {fault}", self.name),
-        );
+        self.end(Level::Warn, format_args!("shut: {fault}"));
         let _ = self.stream.shutdown(Shutdown::Both);
     }
 }
