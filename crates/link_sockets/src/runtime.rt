@@ -25,6 +25,7 @@ impl<R, L> RelayRuntime<R, L> {
 
 impl<R: Net, L> Net for RelayRuntime<R, L> {
     type Stream = R::Stream;
+
     type Listener = R::Listener;
 
     fn bind(&self, address: SocketAddr) -> io::Result<R::Listener> {
@@ -35,12 +36,7 @@ impl<R: Net, L> Net for RelayRuntime<R, L> {
         self.rt.connect(address)
     }
 
-    fn lookup_host(
-        &self,
-        host: &str,
-        port: u16,
-        found: &mut [SocketAddr],
-    ) -> io::Result<usize> {
+    fn lookup_host(&self, host: &str, port: u16, found: &mut [SocketAddr]) -> io::Result<usize> {
         self.rt.lookup_host(host, port, found)
     }
 }

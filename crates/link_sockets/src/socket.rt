@@ -118,7 +118,7 @@ impl<R> ReadingEnd<R> {
 impl<R: Log> ReadingEnd<R> {
     /// Notes that the link has ended, which it has not before, and logs why: at this level where it
     /// was the last one, else as what an operator has to look at.
-    fn end<D: Display + Drop>(&mut self, level: Level, why: D) {
+    fn end<D: Display + Drop>(&self, level: Level, why: D) {
         let (level, advice) = match (self.name, self.others.end(self.name)) {
             (_, false) => (level, ""),
             (LinkName::Cell(..), true) => (Level::Warn, ""),
