@@ -5,12 +5,13 @@
 pub use fault::RunFault;
 pub use gate::OpenGate;
 pub use name::LinkName;
-pub use open::{SocketLink, open_links};
+pub use open::{OpenedLinks, SocketLink, open_links};
 pub use relaying::relay;
 pub use run::run_links;
 pub use socket::{ReadingEnd, WritingEnd};
 pub use stopwatch::Stopwatch;
 
+mod arrivals;
 mod dead_peer;
 mod fault;
 mod gate;
@@ -18,6 +19,8 @@ mod line;
 mod name;
 mod open;
 mod other_links;
+mod readiness;
+mod refusing;
 mod relaying;
 mod run;
 mod runtime;

@@ -2,6 +2,7 @@ ghost use Rattle.std.specs.Prelude.{◌≡◌, ◌+◌, length, map, vec_len, If
 ghost use Rattle.link_sockets.specs.Naming.{AreNamed, place_of};
 ghost use Rattle.link_sockets.specs.declared.name.LinkName.TheVariants.{Switch};
 
+use crate::arrivals::{Port, await_stations};
 use crate::fault::RunFault;
 use crate::gate::OpenGate;
 use crate::line::log_line;
@@ -12,60 +13,110 @@ use log::{Level, Log};
 use settings::{Cell, Settings};
 use station_io::Link;
 use std::alloc::Global;
-use std::net::{Net, TcpListener, TcpStream};
-use std::time::Duration;
+use std::io;
+use std::net::{Net, SocketAddr, TcpListener, TcpStream};
+use std::time::{Clock, Duration};
 
 /// A link over TCP, whose gate is never shut.
 pub type SocketLink<R> = Link<ReadingEnd<R>, WritingEnd<R>, OpenGate>;
 
+/// The links of a relay that begins, and the listeners of its cells, on which nobody more is taken.
+#[derive(Drop)]
+pub struct OpenedLinks<R> {
+    pub links: Vec<SocketLink<R>>,
+    pub listeners: Vec<TcpListener>,
+}
+
 /// Opens the links of these settings, the switch's first, then one for each cell, in their order.
 /// All cells listen before the switch is asked, so that stations may come in any order.
-pub fn open_links<R>(
+///
+/// `Device`: a port can't be listened at, the switch can't be connected to, its link ended before
+/// the last station came, or a socket can't be used. `Memory`: there was none.
+pub fn open_links<R>(rt: &R, alloc: Global, settings: &Settings) -> Result<OpenedLinks<R>, RunFault>
+where
+    R: Net<Listener = TcpListener, Stream = TcpStream> + Log + Clock + Copy + Drop,
+    ensures count { IfOk result (λ opened. vec_len opened.links ≡ length settings.now.cells + 1) }
+    ensures names { IfOk result (λ opened.
+        AreNamed (map (λ link. link.reader.name) opened.links.items)
+        × AreNamed (map (λ link. link.writer.name) opened.links.items)) }
+{
+    let mut ports = listen(rt, alloc, settings.cells())?;
+    let switch = connect(rt, settings.switch_address())?;
+    await_stations(rt, alloc, &mut ports, &switch)?;
+    log_line(rt, Level::Info, "relaying");
+    let patience = Duration::from_millis(u64::from(settings.drain_ms()));
+    links_of(rt, alloc, switch, ports, patience)
+}
+
+/// The links over the switch's socket and those of the stations, whose ports are those of the cells
+/// in their order. `Device`: a cell has no station, or a socket can't be used.
+fn links_of<R: Log + Copy + Drop>(
     rt: &R,
     alloc: Global,
-    settings: &Settings,
-) -> Result<Vec<SocketLink<R>>, RunFault>
-where
-    R: Net<Listener = TcpListener, Stream = TcpStream> + Log + Copy + Drop,
-    ensures count { IfOk result (λ links. vec_len links ≡ length settings.now.cells + 1) }
-    ensures names { IfOk result (λ links.
-        AreNamed (map (λ link. link.reader.name) links.items)
-        × AreNamed (map (λ link. link.writer.name) links.items)) }
+    switch: TcpStream,
+    ports: Vec<Port>,
+    patience: Duration,
+) -> Result<OpenedLinks<R>, RunFault>
+    ensures count { IfOk result (λ opened. vec_len opened.links ≡ vec_len ports + 1) }
+    ensures names { IfOk result (λ opened.
+        AreNamed (map (λ link. link.reader.name) opened.links.items)
+        × AreNamed (map (λ link. link.writer.name) opened.links.items)) }
 {
-    let listeners = listen(rt, alloc, settings.cells())?;
-    let patience = Duration::from_millis(u64::from(settings.drain_ms()));
-    let others = OtherLinks::new(alloc, listeners.len() + 1, patience)?;
+    let others = OtherLinks::new(alloc, ports.len() + 1, patience)?;
     let mut links = Vec::new(alloc);
-    links.push(connect(rt, alloc, settings.switch_address(), others.try_clone()?)?)?;
-    for listener in &listeners {
-        let place = links.len();
-        links.push(accept(rt, alloc, place, listener, others.try_clone()?)?)?;
+    let mut listeners = Vec::new(alloc);
+    links.push(link_of(*rt, alloc, LinkName::Switch, switch, others.try_clone()?)?)?;
+    for port in ports {
+        let (link, listener) = station_of(rt, alloc, links.len(), port, &others)?;
+        links.push(link)?;
+        listeners.push(listener)?;
     }
-    Ok(links)
+    Ok(OpenedLinks { links, listeners })
+}
+
+/// The link over the socket of the station of the cell with this number, and the cell's listener.
+fn station_of<R: Log + Copy + Drop>(
+    rt: &R,
+    alloc: Global,
+    number: usize,
+    port: Port,
+    others: &OtherLinks,
+) -> Result<(SocketLink<R>, TcpListener), RunFault>
+    ensures { IfOk result (λ station.
+        (place_of station.0.reader.name ≡ number) × (place_of station.0.writer.name ≡ number)) }
+{
+    let (listener, arrived) = port.into_parts(rt, number);
+    let Some(arrived) = arrived else {
+        return Err(RunFault::Device);
+    };
+    let name = LinkName::of_link(number, arrived.peer);
+    let link = link_of(*rt, alloc, name, arrived.stream, others.try_clone()?)?;
+    Ok((link, listener))
 }
 
 /// Listens for each cell's station, in their order.
-fn listen<R>(rt: &R, alloc: Global, cells: &[Cell]) -> Result<Vec<TcpListener>, RunFault>
+fn listen<R>(rt: &R, alloc: Global, cells: &[Cell]) -> Result<Vec<Port>, RunFault>
 where
     R: Net<Listener = TcpListener, Stream = TcpStream> + Log,
-    ensures { IfOk result (λ listeners. vec_len listeners ≡ length cells.now) }
+    ensures { IfOk result (λ ports. vec_len ports ≡ length cells.now) }
 {
-    let mut listeners = Vec::new(alloc);
+    let mut ports = Vec::new(alloc);
     for cell in cells {
-        let number = listeners.len() + 1;
+        let number = ports.len() + 1;
         let listener = listener_at(rt, number, cell.listen())?;
-        listeners.push(listener)?;
+        ports.push(Port::new(listener))?;
     }
-    Ok(listeners)
+    Ok(ports)
 }
 
-/// Listens for the station of the cell with this number.
+/// Listens for the station of the cell with this number. Who asks for the next peer there doesn't
+/// wait for one.
 fn listener_at<R>(rt: &R, number: usize, address: &str) -> Result<TcpListener, RunFault>
 where
     R: Net<Listener = TcpListener, Stream = TcpStream> + Log,
 {
-    match TcpListener::bind(rt, address) {
-        Ok(listener) => {
+    match bound(rt, address) {
+        Ok((listener, address)) => {
             log_line(
                 rt,
                 Level::Info,
@@ -84,16 +135,21 @@ where
     }
 }
 
-/// Connects to the switch.
-fn connect<R>(
-    rt: &R,
-    alloc: Global,
-    address: &str,
-    others: OtherLinks,
-) -> Result<SocketLink<R>, RunFault>
+/// A listener at this address that doesn't wait, and where it is, with the port that was opened.
+fn bound<R>(rt: &R, address: &str) -> io::Result<(TcpListener, SocketAddr)>
 where
-    R: Net<Listener = TcpListener, Stream = TcpStream> + Log + Copy + Drop,
-    ensures { IfOk result (λ link. (link.reader.name ≡ Switch) × (link.writer.name ≡ Switch)) }
+    R: Net<Listener = TcpListener, Stream = TcpStream>,
+{
+    let listener = TcpListener::bind(rt, address)?;
+    listener.set_nonblocking(true)?;
+    let at = listener.local_addr()?;
+    Ok((listener, at))
+}
+
+/// Connects to the switch.
+fn connect<R>(rt: &R, address: &str) -> Result<TcpStream, RunFault>
+where
+    R: Net<Listener = TcpListener, Stream = TcpStream> + Log,
 {
     match TcpStream::connect(rt, address) {
         Ok(stream) => {
@@ -102,7 +158,7 @@ where
                 Level::Info,
                 format_args!("switch: connected to {address}"),
             );
-            link_of(*rt, alloc, LinkName::Switch, stream, others)
+            Ok(stream)
         }
         Err(error) => {
             log_line(
@@ -113,36 +169,6 @@ where
             Err(RunFault::from(error))
         }
     }
-}
-
-/// Waits for the station of the cell whose link has this place. Nobody else is taken there.
-fn accept<R: Log + Copy + Drop>(
-    rt: &R,
-    alloc: Global,
-    place: usize,
-    listener: &TcpListener,
-    others: OtherLinks,
-) -> Result<SocketLink<R>, RunFault>
-    ensures { IfOk result (λ link.
-        (place_of link.reader.name ≡ place) × (place_of link.writer.name ≡ place)) }
-{
-    let (stream, peer) = match listener.accept() {
-        Ok(accepted) => accepted,
-        Err(error) => {
-            log_line(
-                rt,
-                Level::Error,
-                format_args!("cell {place}: cannot accept a link: {error}"),
-            );
-            return Err(RunFault::from(error));
-        }
-    };
-    log_line(
-        rt,
-        Level::Info,
-        format_args!("cell {place}: connected from {peer}"),
-    );
-    link_of(*rt, alloc, LinkName::of_link(place, peer), stream, others)
 }
 
 /// The link over this socket.

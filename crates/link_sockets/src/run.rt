@@ -1,6 +1,7 @@
 use crate::fault::RunFault;
 use crate::line::log_line;
-use crate::open::{SocketLink, open_links};
+use crate::open::{OpenedLinks, SocketLink, open_links};
+use crate::refusing::Doorkeeper;
 use crate::stopwatch::Stopwatch;
 use controller::Controller;
 use link_workers::IoFault;
@@ -30,10 +31,13 @@ where
         + Send
         + 'static,
 {
-    let links = open_links(&rt, alloc, &settings)?;
+    let OpenedLinks { links, listeners } = open_links(&rt, alloc, &settings)?;
     let controller = Controller::new(alloc, settings)?;
+    let doorkeeper = Doorkeeper::start(rt, alloc, listeners)?;
     let clock = Stopwatch::new(rt);
-    match serve_links(rt, alloc, controller, links, clock, REFUSALS) {
+    let served = serve_links(rt, alloc, controller, links, clock, REFUSALS);
+    doorkeeper.end(&rt);
+    match served {
         Ok(ended) => {
             tell(&rt, &ended);
             Ok(())

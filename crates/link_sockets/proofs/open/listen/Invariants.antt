@@ -2,4 +2,4 @@ use Rattle.std.proofs.Common.{◌≡◌, vec_len}
 use Rattle.link_sockets.proofs.open.listen.Given as goal
 
 abbrev pub invariant-loop-cell : goal.invariant-loop-cell
-invariant-loop-cell g l = vec_len l.listeners ≡ l.cell-index
+invariant-loop-cell g l = vec_len l.ports ≡ l.cell-index

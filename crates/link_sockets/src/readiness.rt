@@ -1,0 +1,35 @@
+// SPDX-License-Identifier: MIT OR Apache-2.0
+// Waiting for sockets, and asking them whether their peer has left.
+
+use libc::net::{POLLIN, POLLRDHUP, poll};
+use libc::types::pollfd;
+use std::net::{TcpListener, TcpStream};
+use std::os::fd::AsRawFd;
+
+/// The wish to hear of the next peer that connects.
+pub(crate) fn of_peers(listener: &TcpListener) -> pollfd {
+    pollfd {
+        fd: listener.as_raw_fd(),
+        events: POLLIN,
+        revents: 0,
+    }
+}
+
+/// The wish to hear of the end of a link. Octets that wait on it don't count.
+pub(crate) fn of_end(stream: &TcpStream) -> pollfd {
+    pollfd {
+        fd: stream.as_raw_fd(),
+        events: POLLRDHUP,
+        revents: 0,
+    }
+}
+
+/// Waits until one of these comes about, for so many milliseconds at most.
+pub(crate) fn wait_for_any(wishes: &mut [pollfd], milliseconds: i32) {
+    poll(wishes, milliseconds);
+}
+
+/// Whether nothing more comes on a link behind what waits there.
+pub(crate) fn has_ended(stream: &TcpStream) -> bool {
+    poll(&mut [of_end(stream)], 0) > 0
+}
