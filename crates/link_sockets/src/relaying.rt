@@ -1,17 +1,29 @@
+// SPDX-License-Identifier: MIT OR Apache-2.0
 use crate::fault::RunFault;
+use crate::line::log_line;
 use crate::run::run_links;
 use crate::runtime::RelayRuntime;
-use log::sink::Console;
-use log::{LevelFilter, Logged};
+use crate::style::{Style, StyledLines};
+use log::{Level, LevelFilter, Log, Logged};
 use program_base::{Failure, ProgramFault, read_settings, settings_text};
-use std::env;
+use std::env::{self, VarError};
 use std::net::{Net, TcpListener, TcpStream};
 use std::rt::Runtime;
 use std::sync::Wait;
 use std::thread::Threads;
 
+/// The version of the program.
+pub const VERSION: &str = "0.1.0";
+
 /// The variable that says from which level on links are logged.
 const LEVEL: &str = "BSC_LOG";
+
+/// The variable that says what a line of the log begins with.
+const STYLE: &str = "BSC_LOG_STYLE";
+
+/// A variable of the environment has a value that isn't known.
+#[derive(Clone, Copy)]
+struct Unknown;
 
 /// Relays between the links of the settings in this file until all have ended, and gives the status
 /// that the program ends with.
@@ -28,7 +40,13 @@ where
 {
     let text = settings_text(rt, file)?;
     let settings = read_settings(rt.alloc(), text.as_str())?;
-    let logged = Logged::new(*rt, level(rt), Console(*rt));
+    let logged = logged(rt);
+    let cells = settings.cells().len();
+    log_line(
+        &logged,
+        Level::Info,
+        format_args!("bsc {VERSION}: settings {file}, {cells} cells"),
+    );
     match run_links(RelayRuntime::new(*rt, logged), rt.alloc(), settings) {
         Ok(()) => Ok(0),
         Err(RunFault::Memory) => Err(ProgramFault::Failed(Failure::Memory)),
@@ -36,10 +54,47 @@ where
     }
 }
 
-/// The level that the variable says; without one, or with none that is known, `info`.
-fn level<R: Runtime + AllocGlobal>(rt: &R) -> LevelFilter {
+/// The log, with level and style as the environment has them, else `info` and `plain`.
+fn logged<R: Runtime + AllocGlobal + Copy>(rt: &R) -> Logged<R, StyledLines<R>> {
+    let level = level(rt);
+    let style = style(rt);
+    let lines = StyledLines {
+        rt: *rt,
+        style: *style.as_ref().unwrap_or(&Style::Plain),
+    };
+    let logged = Logged::new(*rt, *level.as_ref().unwrap_or(&LevelFilter::Info), lines);
+    if level.is_err() {
+        tell_values(&logged, LEVEL, "error, warn, info and off", "info");
+    }
+    if style.is_err() {
+        tell_values(&logged, STYLE, "plain, journal and time", "plain");
+    }
+    logged
+}
+
+/// Warns that a variable has a value that isn't known.
+fn tell_values<R: Log>(rt: &R, variable: &str, values: &str, taken: &str) {
+    log_line(
+        rt,
+        Level::Warn,
+        format_args!("{variable}: its values are {values}; {taken} is taken"),
+    );
+}
+
+/// The level that the variable says; without one, `info`.
+fn level<R: Runtime + AllocGlobal>(rt: &R) -> Result<LevelFilter, Unknown> {
     match env::var(rt, LEVEL) {
-        Ok(text) => text.parse().unwrap_or(LevelFilter::Info),
-        Err(_) => LevelFilter::Info,
+        Ok(text) => text.parse().map_err(|_| Unknown),
+        Err(VarError::NotUnicode) => Err(Unknown),
+        Err(_) => Ok(LevelFilter::Info),
+    }
+}
+
+/// The style that the variable says; without one, `plain`.
+fn style<R: Runtime + AllocGlobal>(rt: &R) -> Result<Style, Unknown> {
+    match env::var(rt, STYLE) {
+        Ok(text) => Style::of_name(text.as_str()).ok_or(Unknown),
+        Err(VarError::NotUnicode) => Err(Unknown),
+        Err(_) => Ok(Style::Plain),
     }
 }
