@@ -1,4 +1,7 @@
 mod Prelude
+mod AccessRows
+mod ActiveRows
+mod CaseRows
 mod ChannelRows
 pub mod Channels
 pub mod Closing
