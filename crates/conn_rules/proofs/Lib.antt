@@ -13,6 +13,7 @@ mod Lives
 pub mod Roles
 pub mod RolesAccount
 pub mod RolesApart
+mod PreparingRows
 mod RolesRows
 pub mod RolesSteps
 pub mod RolesTable
