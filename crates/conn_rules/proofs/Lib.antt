@@ -2,6 +2,7 @@ mod Prelude
 mod AccessRows
 mod ActiveRows
 mod CaseRows
+mod ChangingRows
 mod ChannelRows
 pub mod Channels
 pub mod Closing
