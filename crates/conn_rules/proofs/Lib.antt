@@ -10,6 +10,7 @@ pub mod Downlink
 pub mod DownlinkMessages
 pub mod DownlinkSteps
 pub mod DownlinkTable
+mod DrainingRows
 mod Lives
 pub mod Roles
 pub mod RolesAccount
