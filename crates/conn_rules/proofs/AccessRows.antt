@@ -1,9 +1,10 @@
 -- The rows before the switch confirms a connection, and those of a closed one.
-use Rattle.conn_rules.proofs.Prelude.{ℕ, List, [], ◌∷◌, ◌++◌, replicate, Some, None, refl, Zero, Three, hex, Connection, Active, Live}
+use Rattle.conn_rules.proofs.Prelude.{ℕ, List, [], ◌∷◌, ◌++◌, replicate, Some, None, refl, Zero, Three, hex, Connection, Active, Live, Input}
 use Rattle.conn_rules.proofs.Prelude.{State, WaitActivation, WaitEstablish, WaitConfirm, Closed, Removed, Due, WasAsked, Complete}
 use Rattle.conn_messages.specs.Out.{out_of}
 use Rattle.conn_rules.specs.declared.input.Input.TheVariants as inputs
 use Rattle.conn_rules.specs.Table.{row_of}
+use Rattle.conn_rules.proofs.CaseRows.{NoneFit, complete, failure, links_on, dtap_on, changes_on, activations_on, all_on, commands, answers}
 use Rattle.conn_rules.proofs.CaseRows.{AreRows, case, connection, in_state, ended, held_up, tenure, empty, call, text, relay, clear_request}
 use Rattle.conn_rules.proofs.CaseRows.{clear_complete, release_complete, channel_release, rf_channel_release}
 use Rattle.conn_rules.proofs.Lives.{Put, put, cell_1, cell_2, on_1, on_2}
@@ -127,3 +128,49 @@ once_closed : AreRows (
     ∷ [])
 unfolding row_of out_of rsl_element_text
 once_closed = refl
+
+-- ---- nothing else has a row, whatever is offered
+
+none_before_activation : NoneFit access (Some (cell_1 0x0a)) (
+    links_on (on_1 0x41) ++ dtap_on (on_1 0x41) ++ changes_on (on_1 0x41) ++ inputs.ReleaseAck (on_1 0x41) ∷ all_on (on_1 0x49) ++ all_on (on_2 0x41)
+    ++ commands ++ answers ++ inputs.Released 0x800001 ∷ inputs.ClearCommand ∷ inputs.Move ∷ inputs.DrainExpiry ∷ inputs.StationDown 2 ∷ [])
+unfolding row_of
+none_before_activation = refl
+
+none_before_the_mobile : NoneFit told (Some (cell_1 0x0a)) (
+    activations_on (on_1 0x41) ++ inputs.EstablishIndication (on_1 0x41) Three (Some (call 1)) ∷ inputs.EstablishConfirm (on_1 0x41) Zero
+    ∷ inputs.EstablishConfirm (on_1 0x41) Three ∷ inputs.ReleaseIndication (on_1 0x41) Three ∷ inputs.ErrorIndication (on_1 0x41) Zero
+    ∷ inputs.ErrorIndication (on_1 0x41) Three ∷ inputs.Dtap (on_1 0x41) Three (text 1) ∷ changes_on (on_1 0x41) ++ inputs.ReleaseAck (on_1 0x41)
+    ∷ all_on (on_1 0x49) ++ all_on (on_2 0x41)
+    ++ commands ++ answers ++ inputs.Released 0x800001 ∷ inputs.ClearCommand ∷ inputs.Move ∷ inputs.DrainExpiry ∷ inputs.StationDown 2 ∷ [])
+unfolding row_of
+none_before_the_mobile = refl
+
+-- the switch has no reference yet by which a message of its could come
+none_before_the_switch : NoneFit opened (Some (cell_1 0x0a)) (
+    activations_on (on_1 0x41) ++ inputs.EstablishIndication (on_1 0x41) Zero (Some (call 1)) ∷ inputs.EstablishIndication (on_1 0x41) Three None
+    ∷ inputs.EstablishConfirm (on_1 0x41) Zero ∷ inputs.EstablishConfirm (on_1 0x41) Three ∷ inputs.ReleaseIndication (on_1 0x41) Three
+    ∷ inputs.ErrorIndication (on_1 0x41) Zero ∷ inputs.ErrorIndication (on_1 0x41) Three ∷ changes_on (on_1 0x41) ++ inputs.ReleaseAck (on_1 0x41)
+    ∷ all_on (on_1 0x49) ++ all_on (on_2 0x41)
+    ++ commands ++ inputs.ClearCommand ∷ inputs.Move ∷ inputs.Expiry ∷ inputs.DrainExpiry ∷ inputs.StationDown 2 ∷ [])
+unfolding row_of
+none_before_the_switch = refl
+
+abbrev of_no_closed : List Input
+of_no_closed = all_on (on_1 0x41) ++ all_on (on_2 0x41) ++ commands ++ inputs.Move ∷ inputs.Expiry ∷ inputs.DrainExpiry ∷ inputs.StationDown 1 ∷ inputs.StationDown 2 ∷ []
+
+none_where_a_request_is_due : NoneFit (closed (Closed (Due 0x20))) (Some (cell_1 0x0a)) (inputs.ClearCommand ∷ of_no_closed)
+unfolding row_of
+none_where_a_request_is_due = refl
+
+none_where_it_was_asked : NoneFit (closed (Closed (WasAsked 0x800001))) (Some (cell_1 0x0a)) (answers ++ of_no_closed)
+unfolding row_of
+none_where_it_was_asked = refl
+
+none_once_clear_is_complete : NoneFit (closed (Closed Complete)) (Some (cell_1 0x0a)) (inputs.ClearCommand ∷ answers ++ of_no_closed)
+unfolding row_of
+none_once_clear_is_complete = refl
+
+none_once_removed : NoneFit (closed Removed) (Some (cell_1 0x0a)) (inputs.ClearCommand ∷ inputs.Released 0x800001 ∷ inputs.SwitchDown ∷ answers ++ of_no_closed)
+unfolding row_of
+none_once_removed = refl

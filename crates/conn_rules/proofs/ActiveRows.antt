@@ -1,9 +1,10 @@
 -- The rows of Active, on an SDCCH and on a TCH, with the link of SAPI 3 down, asked for and up.
-use Rattle.conn_rules.proofs.Prelude.{ℕ, true, false, List, [], ◌∷◌, ◌++◌, replicate, Some, None, refl, Zero, Three, hex, Connection}
+use Rattle.conn_rules.proofs.Prelude.{ℕ, true, false, List, [], ◌∷◌, ◌++◌, replicate, Some, None, refl, Zero, Three, hex, Connection, Input}
 use Rattle.conn_rules.proofs.Prelude.{Assignment, Handover, Active, Preparing, Live, Closed, Removed, WasAsked, Complete, ShortMessageLink, Down, Asked, Up}
 use Rattle.conn_messages.specs.Out.{out_of}
 use Rattle.conn_rules.specs.declared.input.Input.TheVariants as inputs
 use Rattle.conn_rules.specs.Table.{row_of}
+use Rattle.conn_rules.proofs.CaseRows.{NoneFit, complete, failure, links_on, dtap_on, changes_on, activations_on, all_on, commands, answers}
 use Rattle.conn_rules.proofs.CaseRows.{AreRows, case, offered, connection, live, with_texts, in_stage, ended, target, call, text, relay}
 use Rattle.conn_rules.proofs.CaseRows.{clear_request, clear_complete, assignment_failure, sapi_n_reject, cipher_mode_reject, release_complete}
 use Rattle.conn_rules.proofs.CaseRows.{hand, establish_request, channel_release, rf_channel_release, activation}
@@ -134,3 +135,24 @@ another_reference : AreRows (
     ∷ [])
 unfolding row_of out_of rsl_element_text
 another_reference = refl
+
+-- ---- nothing else has a row, whatever is offered
+
+abbrev of_no_active : List Input
+of_no_active =
+    activations_on (on_1 0x41) ++ inputs.EstablishIndication (on_1 0x41) Zero (Some (call 1)) ∷ inputs.EstablishConfirm (on_1 0x41) Zero
+    ∷ inputs.ErrorIndication (on_1 0x41) Zero ∷ changes_on (on_1 0x41) ++ inputs.ReleaseAck (on_1 0x41) ∷ all_on (on_1 0x49) ++ all_on (on_2 0x41)
+    ++ answers ++ inputs.Expiry ∷ inputs.DrainExpiry ∷ inputs.StationDown 2 ∷ []
+
+none_else : NoneFit asked (Some (cell_1 0x0a)) of_no_active
+unfolding row_of
+none_else = refl
+
+-- a link that wasn't asked for isn't confirmed
+none_unasked : NoneFit (signalling Down []) (Some (cell_1 0x0a)) (inputs.EstablishConfirm (on_1 0x41) Three ∷ of_no_active)
+unfolding row_of
+none_unasked = refl
+
+none_while_up : NoneFit (signalling Up []) (Some (cell_1 0x0a)) (inputs.EstablishConfirm (on_1 0x41) Three ∷ of_no_active)
+unfolding row_of
+none_while_up = refl

@@ -1,8 +1,10 @@
 -- What the tables of rows are made of: a connection before an event, what it puts, and the connection
 -- after the event, each of literals. The octets are those of the standards, and no definition makes them.
 use Rattle.conn_rules.proofs.Prelude.{◌≡◌, ℕ, Bool, true, false, List, [], ◌∷◌, ◌++◌, map, Option, Some, None, Channel, Change, hex, Input}
-use Rattle.conn_rules.proofs.Prelude.{Connection, Drain, Down, Live, ShortMessageLink, Stage, State, Target, Tenure, HoldState, ChainState}
+use Rattle.conn_rules.proofs.Prelude.{Connection, Drain, Down, Live, ShortMessageLink, Stage, State, Target, Tenure, HoldState, ChainState, Place}
+use Rattle.conn_rules.proofs.Prelude.{Zero, Three, Assignment, Handover}
 use Rattle.conn_messages.specs.Out.{outs_of}
+use Rattle.conn_rules.specs.declared.input.Input.TheVariants as inputs
 use Rattle.conn_rules.specs.Steps.{Row}
 use Rattle.conn_rules.specs.Table.{row_of}
 use Rattle.conn_rules.proofs.Lives.{Put, put, put_of}
@@ -180,3 +182,42 @@ rf_channel_release station channel = put station (hex "08 2e 01" ++ channel ∷ 
 -- CHANNEL ACTIVATION of a TCH/F for an assignment
 abbrev pub activation : ℕ → ℕ → Put
 activation station channel = put station (hex "08 21 01" ++ channel ∷ hex "03 01 06 04 00 01 08 01")
+
+-- ---- inputs
+
+-- COMPLETE and FAILURE, with the mobile's cause 0
+abbrev pub complete : Place → Change → Input
+complete at change = inputs.Complete at change (record { 0 = 0 })
+
+abbrev pub failure : Place → Change → Input
+failure at change = inputs.Failure at change (record { 0 = 0 })
+
+-- what comes of a channel, but for the messages on which a channel is activated or released
+abbrev pub links_on : Place → List Input
+links_on at =
+    inputs.EstablishIndication at Zero (Some (text 9)) ∷ inputs.EstablishIndication at Three None
+    ∷ inputs.EstablishConfirm at Zero ∷ inputs.EstablishConfirm at Three
+    ∷ inputs.ReleaseIndication at Zero ∷ inputs.ReleaseIndication at Three
+    ∷ inputs.ErrorIndication at Zero ∷ inputs.ErrorIndication at Three ∷ inputs.ConnectionFailure at ∷ []
+
+abbrev pub dtap_on : Place → List Input
+dtap_on at = inputs.Dtap at Zero (call 9) ∷ inputs.Dtap at Three (text 9) ∷ []
+
+abbrev pub changes_on : Place → List Input
+changes_on at = complete at Assignment ∷ complete at Handover ∷ failure at Assignment ∷ failure at Handover ∷ []
+
+abbrev pub activations_on : Place → List Input
+activations_on at = inputs.ActivationAck at ∷ inputs.ActivationNack at ∷ []
+
+-- all that can come of a channel
+abbrev pub all_on : Place → List Input
+all_on at = activations_on at ++ links_on at ++ dtap_on at ++ changes_on at ++ inputs.ReleaseAck at ∷ []
+
+-- of the switch, but for CC, CREF, RLSD and CLEAR COMMAND
+abbrev pub commands : List Input
+commands =
+    inputs.Downlink Zero (call 9) ∷ inputs.Downlink Three (text 9) ∷ inputs.AssignmentRequest true ∷ inputs.AssignmentRequest false
+    ∷ inputs.CipherModeCommand ∷ []
+
+abbrev pub answers : List Input
+answers = inputs.ConnectionConfirm 0x800001 ∷ inputs.ConnectionConfirm 0x80000f ∷ inputs.ConnectionRefused ∷ []

@@ -1,9 +1,10 @@
 -- The rows of Changing: alone, and while old channels drain.
-use Rattle.conn_rules.proofs.Prelude.{ℕ, true, false, List, [], ◌∷◌, ◌++◌, replicate, Some, None, refl, Zero, Three, hex, Connection}
+use Rattle.conn_rules.proofs.Prelude.{ℕ, true, false, List, [], ◌∷◌, ◌++◌, replicate, Some, None, refl, Zero, Three, hex, Connection, Place, Change, Input}
 use Rattle.conn_rules.proofs.Prelude.{Assignment, Handover, Active, Preparing, Changing, Draining, Closed, Removed, WasAsked, Complete, Tenure, Down, Asked}
 use Rattle.conn_messages.specs.Out.{out_of}
 use Rattle.conn_rules.specs.declared.input.Input.TheVariants as inputs
 use Rattle.conn_rules.specs.Table.{row_of}
+use Rattle.conn_rules.proofs.CaseRows.{NoneFit, complete, failure, links_on, dtap_on, changes_on, activations_on, all_on, commands, answers}
 use Rattle.conn_rules.proofs.CaseRows.{AreRows, case, offered, live, with_texts, in_stage, ended, target, drains, is_done, held, held_up, tenure, empty}
 use Rattle.conn_rules.proofs.CaseRows.{call, text, relay, clear_request, clear_complete, assignment_failure, reversion, assignment_complete}
 use Rattle.conn_rules.proofs.CaseRows.{handover_performed, cipher_mode_reject, release_complete, hand, establish_request, channel_release}
@@ -305,3 +306,38 @@ ends_beside : AreRows (
     ∷ [])
 unfolding row_of out_of rsl_element_text
 ends_beside = refl
+
+-- ---- nothing else has a row, whatever is offered: the links of the serving channel aren't looked at
+
+-- of a serving channel, and of the target, while this change is under way
+abbrev of_no_serving : Place → Change → List Input
+of_no_serving at other =
+    activations_on at ++ links_on at ++ complete at Assignment ∷ complete at Handover ∷ failure at other ∷ inputs.ReleaseAck at ∷ []
+
+abbrev of_no_target : Place → Change → List Input
+of_no_target at other =
+    activations_on at ++ links_on at ++ inputs.Dtap at Three (text 9) ∷ complete at other ∷ failure at Assignment ∷ failure at Handover
+    ∷ inputs.ReleaseAck at ∷ []
+
+abbrev of_no_old : Place → List Input
+of_no_old at = activations_on at ++ links_on at ++ changes_on at
+
+none_alone : NoneFit (waiting assigning) (Some (cell_1 0x0b)) (
+    of_no_serving (on_1 0x41) Handover ++ of_no_target (on_1 0x0a) Handover ++ all_on (on_2 0x41) ++ all_on (on_2 0x0a) ++ all_on (on_1 0x0b)
+    ++ answers ++ inputs.Move ∷ inputs.DrainExpiry ∷ inputs.StationDown 2 ∷ [])
+unfolding row_of
+none_alone = refl
+
+none_beside : NoneFit (waiting moves_on) (Some (cell_1 0x0c)) (
+    of_no_serving (on_2 0x0a) Assignment ++ of_no_target (on_1 0x0a) Assignment ++ of_no_old (on_1 0x41) ++ of_no_old (on_1 0x0b)
+    ++ all_on (on_2 0x0b) ++ all_on (on_2 0x41) ++ answers ++ inputs.Move ∷ inputs.StationDown 3 ∷ [])
+unfolding row_of
+none_beside = refl
+
+-- a channel that is done isn't looked at, nor its station
+abbrev done_elsewhere : Connection
+done_elsewhere = record assigns { draining = drains (cell_2 0x41) ∷ is_done (cell_1 0x0b) ∷ [] }
+
+none_at_the_station_of_a_done_one : NoneFit done_elsewhere (Some (cell_1 0x0c)) (all_on (on_1 0x0b) ++ inputs.StationDown 1 ∷ [])
+unfolding row_of
+none_at_the_station_of_a_done_one = refl

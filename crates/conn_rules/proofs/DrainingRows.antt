@@ -1,9 +1,10 @@
 -- The rows of Draining, with one, two and three old channels, done ones among them.
-use Rattle.conn_rules.proofs.Prelude.{ℕ, true, false, List, [], ◌∷◌, ◌++◌, replicate, Some, None, refl, Zero, Three, hex, Connection}
+use Rattle.conn_rules.proofs.Prelude.{ℕ, true, false, List, [], ◌∷◌, ◌++◌, replicate, Some, None, refl, Zero, Three, hex, Connection, Place, Input}
 use Rattle.conn_rules.proofs.Prelude.{Assignment, Handover, Active, Preparing, Draining, Closed, Removed, WasAsked, Complete, Drain, Down, Asked, Up}
 use Rattle.conn_messages.specs.Out.{out_of}
 use Rattle.conn_rules.specs.declared.input.Input.TheVariants as inputs
 use Rattle.conn_rules.specs.Table.{row_of}
+use Rattle.conn_rules.proofs.CaseRows.{NoneFit, complete, failure, links_on, dtap_on, changes_on, activations_on, all_on, commands, answers}
 use Rattle.conn_rules.proofs.CaseRows.{AreRows, case, offered, live, with_texts, in_stage, ended, target, drains, is_done, held_up, tenure, empty}
 use Rattle.conn_rules.proofs.CaseRows.{call, text, relay, clear_request, clear_complete, assignment_failure, sapi_n_reject, cipher_mode_reject}
 use Rattle.conn_rules.proofs.CaseRows.{release_complete, hand, establish_request, channel_release, rf_channel_release, activation}
@@ -284,3 +285,44 @@ in_use_again : AreRows (
     ∷ [])
 unfolding row_of out_of rsl_element_text
 in_use_again = refl
+
+-- ---- nothing else has a row, whatever is offered
+
+abbrev of_no_serving : Place → List Input
+of_no_serving at =
+    activations_on at ++ inputs.EstablishIndication at Zero (Some (call 1)) ∷ inputs.EstablishConfirm at Zero ∷ inputs.ErrorIndication at Zero
+    ∷ changes_on at ++ inputs.ReleaseAck at ∷ []
+
+abbrev of_no_old : Place → List Input
+of_no_old at = activations_on at ++ links_on at ++ changes_on at
+
+none_beside_one : NoneFit one (Some (cell_1 0x0c)) (
+    of_no_serving (on_2 0x0a) ++ of_no_old (on_1 0x0b) ++ all_on (on_1 0x0a) ++ all_on (on_2 0x0b)
+    ++ answers ++ inputs.Expiry ∷ inputs.StationDown 3 ∷ [])
+unfolding row_of
+none_beside_one = refl
+
+none_unasked : NoneFit (with_texts Down [] one) (Some (cell_1 0x0c)) (inputs.EstablishConfirm (on_2 0x0a) Three ∷ [])
+unfolding row_of
+none_unasked = refl
+
+-- with three nothing begins by a report
+none_beside_three : NoneFit (waiting three) (Some (cell_1 0x0c)) (
+    of_no_serving (on_1 0x0a) ++ of_no_old (on_1 0x41) ++ of_no_old (on_1 0x0b) ++ of_no_old (on_2 0x0a) ++ all_on (on_2 0x41) ++ all_on (on_2 0x0b)
+    ++ answers ++ inputs.Move ∷ inputs.Expiry ∷ inputs.StationDown 3 ∷ [])
+unfolding row_of
+none_beside_three = refl
+
+none_beside_done_ones : NoneFit three_two_done (Some (cell_1 0x0c)) (
+    all_on (on_1 0x0b) ++ all_on (on_2 0x0a) ++ answers ++ inputs.Move ∷ inputs.Expiry ∷ inputs.StationDown 2 ∷ [])
+unfolding row_of
+none_beside_done_ones = refl
+
+none_at_the_station_of_a_done_one : NoneFit (old (drains (cell_2 0x41) ∷ is_done (cell_1 0x0b) ∷ []) two) (Some (cell_1 0x0c)) (
+    all_on (on_1 0x0b) ++ inputs.StationDown 1 ∷ [])
+unfolding row_of
+none_at_the_station_of_a_done_one = refl
+
+none_of_a_release_before : NoneFit serves_again (Some (cell_1 0x0c)) (inputs.ReleaseAck (on_1 0x0b) ∷ [])
+unfolding row_of
+none_of_a_release_before = refl

@@ -1,10 +1,11 @@
 -- The rows of Preparing: alone, and while old channels drain.
-use Rattle.conn_rules.proofs.Prelude.{ℕ, true, false, List, [], ◌∷◌, ◌++◌, replicate, Some, None, refl, Zero, Three, hex, Connection}
+use Rattle.conn_rules.proofs.Prelude.{ℕ, true, false, List, [], ◌∷◌, ◌++◌, replicate, Some, None, refl, Zero, Three, hex, Connection, Place, Input}
 use Rattle.conn_rules.proofs.Prelude.{Assignment, Handover, Active, Preparing, Changing, Draining, Live, Closed, Removed, WasAsked, Complete}
 use Rattle.conn_rules.proofs.Prelude.{ShortMessageLink, Stage, Down, Asked, Up}
 use Rattle.conn_messages.specs.Out.{out_of}
 use Rattle.conn_rules.specs.declared.input.Input.TheVariants as inputs
 use Rattle.conn_rules.specs.Table.{row_of}
+use Rattle.conn_rules.proofs.CaseRows.{NoneFit, complete, failure, links_on, dtap_on, changes_on, activations_on, all_on, commands, answers}
 use Rattle.conn_rules.proofs.CaseRows.{AreRows, case, offered, live, with_texts, in_stage, ended, target, drains, is_done, held_up, tenure, empty}
 use Rattle.conn_rules.proofs.CaseRows.{call, text, relay, clear_request, clear_complete, assignment_failure, sapi_n_reject, cipher_mode_reject}
 use Rattle.conn_rules.proofs.CaseRows.{release_complete, hand, establish_request, channel_release, rf_channel_release, activation}
@@ -252,3 +253,50 @@ ends_beside : AreRows (
     ∷ [])
 unfolding row_of out_of rsl_element_text
 ends_beside = refl
+
+-- ---- nothing else has a row, whatever is offered
+
+-- of a serving channel
+abbrev of_no_serving : Place → List Input
+of_no_serving at =
+    activations_on at ++ inputs.EstablishIndication at Zero (Some (call 1)) ∷ inputs.EstablishConfirm at Zero ∷ inputs.ErrorIndication at Zero
+    ∷ changes_on at ++ inputs.ReleaseAck at ∷ []
+
+-- of a target
+abbrev of_no_target : Place → List Input
+of_no_target at = links_on at ++ dtap_on at ++ changes_on at ++ inputs.ReleaseAck at ∷ []
+
+-- of an old channel
+abbrev of_no_old : Place → List Input
+of_no_old at = activations_on at ++ links_on at ++ changes_on at
+
+none_alone : NoneFit (waiting assigning) (Some (cell_1 0x0b)) (
+    of_no_serving (on_1 0x41) ++ of_no_target (on_1 0x0a) ++ all_on (on_2 0x41) ++ all_on (on_2 0x0a) ++ all_on (on_1 0x0b)
+    ++ answers ++ inputs.Move ∷ inputs.DrainExpiry ∷ inputs.StationDown 2 ∷ [])
+unfolding row_of
+none_alone = refl
+
+none_unasked : NoneFit (with_texts Up [] assigning) (Some (cell_1 0x0b)) (inputs.EstablishConfirm (on_1 0x41) Three ∷ [])
+unfolding row_of
+none_unasked = refl
+
+none_beside : NoneFit (waiting moves_on) (Some (cell_1 0x0c)) (
+    of_no_serving (on_2 0x0a) ++ of_no_target (on_1 0x0a) ++ of_no_old (on_1 0x41) ++ of_no_old (on_1 0x0b) ++ all_on (on_2 0x0b) ++ all_on (on_2 0x41)
+    ++ answers ++ inputs.Move ∷ inputs.StationDown 3 ∷ [])
+unfolding row_of
+none_beside = refl
+
+-- a channel that is done isn't looked at, nor its station
+abbrev done : Connection
+done = record moves_on { draining = drains (cell_1 0x41) ∷ is_done (cell_2 0x0c) ∷ [] }
+
+none_of_a_done_one : NoneFit done (Some (cell_1 0x0c)) (all_on (on_2 0x0c))
+unfolding row_of
+none_of_a_done_one = refl
+
+abbrev done_elsewhere : Connection
+done_elsewhere = record assigns { draining = drains (cell_2 0x41) ∷ is_done (cell_1 0x0b) ∷ [] }
+
+none_at_the_station_of_a_done_one : NoneFit done_elsewhere (Some (cell_1 0x0c)) (all_on (on_1 0x0b) ++ inputs.StationDown 1 ∷ [])
+unfolding row_of
+none_at_the_station_of_a_done_one = refl
