@@ -4,8 +4,8 @@ use Rattle.conn_rules.proofs.Prelude.{State, WaitActivation, WaitEstablish, Wait
 use Rattle.conn_messages.specs.Out.{out_of}
 use Rattle.conn_rules.specs.declared.input.Input.TheVariants as inputs
 use Rattle.conn_rules.specs.Table.{row_of}
-use Rattle.conn_rules.proofs.CaseRows.{NoneFit, complete, failure, links_on, dtap_on, changes_on, activations_on, all_on, commands, answers}
-use Rattle.conn_rules.proofs.CaseRows.{AreRows, case, connection, in_state, ended, held_up, tenure, empty, call, text, relay, clear_request}
+use Rattle.conn_rules.proofs.CaseRows.{NoneFit, links_on, dtap_on, changes_on, activations_on, all_on, commands, answers}
+use Rattle.conn_rules.proofs.CaseRows.{AreRows, case, connection, in_state, ended, held_up, tenure, call, text, relay, clear_request}
 use Rattle.conn_rules.proofs.CaseRows.{clear_complete, release_complete, channel_release, rf_channel_release}
 use Rattle.conn_rules.proofs.Lives.{Put, put, cell_1, cell_2, on_1, on_2}
 use Rattle.rsl_codec.specs.RslText.{rsl_element_text}
@@ -17,17 +17,17 @@ access = connection WaitActivation (cell_1 0x41)
 
 before_activation : AreRows (
     case access (inputs.ActivationAck (on_1 0x41))
-      (put 1 (hex "0c 16 01 90 2b 17 2d 06 3f 00 41 20 14 7f 01 02 05 00 2b 2b 2b 2b 2b 2b 2b 2b 2b 2b 2b") ∷ []) (in_state WaitEstablish access)
+    (put 1 (hex "0c 16 01 90 2b 17 2d 06 3f 00 41 20 14 7f 01 02 05 00 2b 2b 2b 2b 2b 2b 2b 2b 2b 2b 2b") ∷ []) (in_state WaitEstablish access)
     ∷ case (connection WaitActivation (cell_2 0x49)) (inputs.ActivationAck (on_2 0x49))
-      (put 2 (hex "0c 16 01 90 2b 17 2d 06 3f 00 49 40 1e 7f 01 02 05 00 2b 2b 2b 2b 2b 2b 2b 2b 2b 2b 2b") ∷ [])
-      (in_state WaitEstablish (connection WaitActivation (cell_2 0x49)))
+    (put 2 (hex "0c 16 01 90 2b 17 2d 06 3f 00 49 40 1e 7f 01 02 05 00 2b 2b 2b 2b 2b 2b 2b 2b 2b 2b 2b") ∷ [])
+    (in_state WaitEstablish (connection WaitActivation (cell_2 0x49)))
     -- the access delay is the timing advance, 3F at most
     ∷ case (record access { delay = 63 }) (inputs.ActivationAck (on_1 0x41))
-      (put 1 (hex "0c 16 01 90 2b 17 2d 06 3f 00 41 20 14 7f 01 02 3f 00 2b 2b 2b 2b 2b 2b 2b 2b 2b 2b 2b") ∷ [])
-      (record access { state = WaitEstablish; delay = 63; waited = 0 })
+    (put 1 (hex "0c 16 01 90 2b 17 2d 06 3f 00 41 20 14 7f 01 02 3f 00 2b 2b 2b 2b 2b 2b 2b 2b 2b 2b 2b") ∷ [])
+    (record access { state = WaitEstablish; delay = 63; waited = 0 })
     ∷ case (record access { delay = 64 }) (inputs.ActivationAck (on_1 0x41))
-      (put 1 (hex "0c 16 01 90 2b 17 2d 06 3f 00 41 20 14 7f 01 02 3f 00 2b 2b 2b 2b 2b 2b 2b 2b 2b 2b 2b") ∷ [])
-      (record access { state = WaitEstablish; delay = 64; waited = 0 })
+    (put 1 (hex "0c 16 01 90 2b 17 2d 06 3f 00 41 20 14 7f 01 02 3f 00 2b 2b 2b 2b 2b 2b 2b 2b 2b 2b 2b") ∷ [])
+    (record access { state = WaitEstablish; delay = 64; waited = 0 })
     ∷ case access (inputs.ActivationNack (on_1 0x41)) [] (ended Removed access)
     ∷ case access inputs.Expiry (rf_channel_release 1 0x41 ∷ []) (ended Removed access)
     ∷ case access (inputs.StationDown 1) [] (ended Removed access)
@@ -43,15 +43,15 @@ told = connection WaitEstablish (cell_1 0x41)
 
 before_the_mobile : AreRows (
     case told (inputs.EstablishIndication (on_1 0x41) Zero (Some (hex "05 24 71")))
-      (put 0 (hex "01 00 00 01 02 02 04 02 42 fe 0f 12 00 10 57 05 08 00 00 f1 10 00 01 00 01 17 03 05 24 71 00") ∷ []) (in_state WaitConfirm told)
+    (put 0 (hex "01 00 00 01 02 02 04 02 42 fe 0f 12 00 10 57 05 08 00 00 f1 10 00 01 00 01 17 03 05 24 71 00") ∷ []) (in_state WaitConfirm told)
     -- of connection 012345, on 49 of cell 2
     ∷ case (record (connection WaitEstablish (cell_2 0x49)) { number = 0x012345 }) (inputs.EstablishIndication (on_2 0x49) Zero (Some (hex "05")))
-      (put 0 (hex "01 01 23 45 02 02 04 02 42 fe 0f 10 00 0e 57 05 08 00 00 f1 10 00 01 00 02 17 01 05 00") ∷ [])
-      (record (connection WaitConfirm (cell_2 0x49)) { number = 0x012345; waited = 0 })
+    (put 0 (hex "01 01 23 45 02 02 04 02 42 fe 0f 10 00 0e 57 05 08 00 00 f1 10 00 01 00 02 17 01 05 00") ∷ [])
+    (record (connection WaitConfirm (cell_2 0x49)) { number = 0x012345; waited = 0 })
     -- 113 octets are passed on, 114 aren't
     ∷ case told (inputs.EstablishIndication (on_1 0x41) Zero (Some (replicate 113 0x05)))
-      (put 0 (hex "01 00 00 01 02 02 04 02 42 fe 0f 80 00 7e 57 05 08 00 00 f1 10 00 01 00 01 17 71" ++ replicate 113 0x05 ++ 0x00 ∷ []) ∷ [])
-      (in_state WaitConfirm told)
+    (put 0 (hex "01 00 00 01 02 02 04 02 42 fe 0f 80 00 7e 57 05 08 00 00 f1 10 00 01 00 01 17 71" ++ replicate 113 0x05 ++ 0x00 ∷ []) ∷ [])
+    (in_state WaitConfirm told)
     ∷ case told (inputs.EstablishIndication (on_1 0x41) Zero (Some (replicate 114 0x05))) (rf_channel_release 1 0x41 ∷ []) (ended Removed told)
     ∷ case told (inputs.EstablishIndication (on_1 0x41) Zero None) (rf_channel_release 1 0x41 ∷ []) (ended Removed told)
     ∷ case told (inputs.Dtap (on_1 0x41) Zero (call 1)) (rf_channel_release 1 0x41 ∷ []) (ended Removed told)
@@ -78,16 +78,16 @@ dismissed = channel_release 1 0x41 0x01 ∷ rf_channel_release 1 0x41 ∷ []
 
 before_the_switch : AreRows (
     case opened (inputs.ConnectionConfirm 0x800001)
-      (relay 0x00 (call 1) ∷ relay 0x00 (call 2) ∷ relay 0x83 (text 1) ∷ []) (in_state (Live 0x800001 Active) (asking [] []))
+    (relay 0x00 (call 1) ∷ relay 0x00 (call 2) ∷ relay 0x83 (text 1) ∷ []) (in_state (Live 0x800001 Active) (asking [] []))
     -- the reference is the one that the switch gives
     ∷ case (asking (call 1 ∷ []) []) (inputs.ConnectionConfirm 0x80000f)
-      (put 0 (hex "06 80 00 0f 00 01 05 01 00 02 03 01") ∷ []) (in_state (Live 0x80000f Active) (asking [] []))
+    (put 0 (hex "06 80 00 0f 00 01 05 01 00 02 03 01") ∷ []) (in_state (Live 0x80000f Active) (asking [] []))
     ∷ case (asking [] []) (inputs.ConnectionConfirm 0x800001) [] (in_state (Live 0x800001 Active) (asking [] []))
     ∷ case opened (inputs.Dtap (on_1 0x41) Zero (call 3)) [] (asking (call 1 ∷ call 2 ∷ call 3 ∷ []) (text 1 ∷ []))
     ∷ case opened (inputs.Dtap (on_1 0x41) Three (text 3)) [] (asking (call 1 ∷ call 2 ∷ []) (text 1 ∷ text 3 ∷ []))
     -- sixteen are held, over both SAPIs
     ∷ case (asking (replicate 9 (call 1)) (replicate 6 (text 1))) (inputs.Dtap (on_1 0x41) Three (text 2)) []
-      (asking (replicate 9 (call 1)) (replicate 6 (text 1) ++ text 2 ∷ []))
+    (asking (replicate 9 (call 1)) (replicate 6 (text 1) ++ text 2 ∷ []))
     ∷ case (asking (replicate 9 (call 1)) (replicate 7 (text 1))) (inputs.Dtap (on_1 0x41) Zero (call 2)) dismissed (ended (Closed (Due 0x20)) opened)
     ∷ case (asking (replicate 9 (call 1)) (replicate 7 (text 1))) (inputs.Dtap (on_1 0x41) Three (text 2)) dismissed (ended (Closed (Due 0x20)) opened)
     ∷ case opened inputs.ConnectionRefused dismissed (ended Removed opened)
@@ -110,7 +110,7 @@ once_closed : AreRows (
     -- the CLEAR REQUEST that is due, with its cause, to the reference that the switch gives
     case (closed (Closed (Due 0x20))) (inputs.ConnectionConfirm 0x800001) (clear_request 0x20 ∷ []) (closed (Closed (WasAsked 0x800001)))
     ∷ case (closed (Closed (Due 0x01))) (inputs.ConnectionConfirm 0x80000f)
-      (put 0 (hex "06 80 00 0f 00 01 06 00 04 22 04 01 01") ∷ []) (closed (Closed (WasAsked 0x80000f)))
+    (put 0 (hex "06 80 00 0f 00 01 06 00 04 22 04 01 01") ∷ []) (closed (Closed (WasAsked 0x80000f)))
     ∷ case (closed (Closed (Due 0x20))) inputs.ConnectionRefused [] (closed Removed)
     ∷ case (closed (Closed (Due 0x20))) (inputs.Released 0x800077) (release_complete 0x77 ∷ []) (closed Removed)
     ∷ case (closed (Closed (Due 0x20))) inputs.SwitchDown [] (closed Removed)
@@ -124,7 +124,7 @@ once_closed : AreRows (
     ∷ case (closed (Closed Complete)) inputs.SwitchDown [] (closed Removed)
     -- RLC from connection 012345
     ∷ case (record (closed (Closed Complete)) { number = 0x012345 }) (inputs.Released 0x800077)
-      (put 0 (hex "05 80 00 77 01 23 45") ∷ []) (record (closed Removed) { number = 0x012345 })
+    (put 0 (hex "05 80 00 77 01 23 45") ∷ []) (record (closed Removed) { number = 0x012345 })
     ∷ [])
 unfolding row_of out_of rsl_element_text
 once_closed = refl

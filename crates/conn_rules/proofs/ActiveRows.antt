@@ -1,14 +1,14 @@
 -- The rows of Active, on an SDCCH and on a TCH, with the link of SAPI 3 down, asked for and up.
-use Rattle.conn_rules.proofs.Prelude.{ℕ, true, false, List, [], ◌∷◌, ◌++◌, replicate, Some, None, refl, Zero, Three, hex, Connection, Input}
+use Rattle.conn_rules.proofs.Prelude.{ℕ, false, List, [], ◌∷◌, ◌++◌, replicate, Some, None, refl, Zero, Three, hex, Connection, Input}
 use Rattle.conn_rules.proofs.Prelude.{Assignment, Handover, Active, Preparing, Live, Closed, Removed, WasAsked, Complete, ShortMessageLink, Down, Asked, Up}
 use Rattle.conn_messages.specs.Out.{out_of}
 use Rattle.conn_rules.specs.declared.input.Input.TheVariants as inputs
 use Rattle.conn_rules.specs.Table.{row_of}
-use Rattle.conn_rules.proofs.CaseRows.{NoneFit, complete, failure, links_on, dtap_on, changes_on, activations_on, all_on, commands, answers}
+use Rattle.conn_rules.proofs.CaseRows.{NoneFit, changes_on, activations_on, all_on, answers}
 use Rattle.conn_rules.proofs.CaseRows.{AreRows, case, offered, connection, live, with_texts, in_stage, ended, target, call, text, relay}
 use Rattle.conn_rules.proofs.CaseRows.{clear_request, clear_complete, assignment_failure, sapi_n_reject, cipher_mode_reject, release_complete}
 use Rattle.conn_rules.proofs.CaseRows.{hand, establish_request, channel_release, rf_channel_release, activation}
-use Rattle.conn_rules.proofs.Lives.{Put, put, cell_1, cell_2, again, on_1, on_2, request}
+use Rattle.conn_rules.proofs.Lives.{put, cell_1, cell_2, again, on_1, on_2, request}
 use Rattle.rsl_codec.specs.RslText.{rsl_element_text}
 
 -- on 41, an SDCCH, with these short messages held; on 0A, a TCH
@@ -38,9 +38,9 @@ messages_of_the_switch : AreRows (
     -- 32 are held
     ∷ case (signalling Asked (replicate 31 (text 1))) (inputs.Downlink Three (text 2)) [] (signalling Asked (replicate 31 (text 1) ++ text 2 ∷ []))
     ∷ case (signalling Asked (replicate 32 (text 1))) (inputs.Downlink Three (text 2))
-      (clear_request 0x20 ∷ channel_release 1 0x41 0x01 ∷ rf_channel_release 1 0x41 ∷ []) (ended (Closed (WasAsked 0x800001)) asked)
+    (clear_request 0x20 ∷ channel_release 1 0x41 0x01 ∷ rf_channel_release 1 0x41 ∷ []) (ended (Closed (WasAsked 0x800001)) asked)
     ∷ case (signalling Asked (replicate 32 (text 1))) (inputs.Downlink Zero (call 2)) (hand 1 0x41 0x00 (call 2) ∷ [])
-      (signalling Asked (replicate 32 (text 1)))
+    (signalling Asked (replicate 32 (text 1)))
     ∷ [])
 unfolding row_of out_of rsl_element_text
 messages_of_the_switch = refl
@@ -61,7 +61,7 @@ short_message_links : AreRows (
     ∷ case (speaking Asked two_texts) (inputs.EstablishConfirm (on_1 0x0a) Three) (hand 1 0x0a 0x43 (text 1) ∷ hand 1 0x0a 0x43 (text 2) ∷ []) (speaking Up [])
     ∷ case asked (inputs.EstablishIndication (on_1 0x41) Three None) (hand 1 0x41 0x03 (text 1) ∷ hand 1 0x41 0x03 (text 2) ∷ []) (signalling Up [])
     ∷ case asked (inputs.EstablishIndication (on_1 0x41) Three (Some (text 7)))
-      (hand 1 0x41 0x03 (text 1) ∷ hand 1 0x41 0x03 (text 2) ∷ []) (signalling Up [])
+    (hand 1 0x41 0x03 (text 1) ∷ hand 1 0x41 0x03 (text 2) ∷ []) (signalling Up [])
     ∷ case (signalling Down []) (inputs.EstablishIndication (on_1 0x41) Three None) [] (signalling Up [])
     ∷ case (signalling Up []) (inputs.EstablishIndication (on_1 0x41) Three None) [] (signalling Up [])
     ∷ case asked (inputs.ReleaseIndication (on_1 0x41) Three) (sapi_n_reject 0x83 ∷ []) (signalling Down [])
@@ -73,9 +73,9 @@ short_message_links : AreRows (
     ∷ case (signalling Down []) (inputs.ReleaseIndication (on_1 0x41) Three) [] (signalling Down [])
     ∷ case (signalling Down []) (inputs.ErrorIndication (on_1 0x41) Three) [] (signalling Down [])
     ∷ case asked (inputs.ReleaseIndication (on_1 0x41) Zero)
-      (clear_request 0x01 ∷ channel_release 1 0x41 0x01 ∷ rf_channel_release 1 0x41 ∷ []) (ended (Closed (WasAsked 0x800001)) asked)
+    (clear_request 0x01 ∷ channel_release 1 0x41 0x01 ∷ rf_channel_release 1 0x41 ∷ []) (ended (Closed (WasAsked 0x800001)) asked)
     ∷ case asked (inputs.ConnectionFailure (on_1 0x41))
-      (clear_request 0x01 ∷ channel_release 1 0x41 0x01 ∷ rf_channel_release 1 0x41 ∷ []) (ended (Closed (WasAsked 0x800001)) asked)
+    (clear_request 0x01 ∷ channel_release 1 0x41 0x01 ∷ rf_channel_release 1 0x41 ∷ []) (ended (Closed (WasAsked 0x800001)) asked)
     ∷ [])
 unfolding row_of out_of rsl_element_text
 short_message_links = refl
@@ -84,15 +84,15 @@ short_message_links = refl
 
 changes_begin : AreRows (
     offered (cell_2 0x41) asked inputs.Move (put 2 (hex "08 21 01 41 03 02 06 04 00 03 01 00 09 00") ∷ [])
-      (in_stage (Preparing (target Handover (cell_2 0x41))) asked)
+    (in_stage (Preparing (target Handover (cell_2 0x41))) asked)
     ∷ offered (again (cell_2 0x0a)) (speaking Up []) inputs.Move (put 2 (hex "08 21 01 0a 03 02 06 04 00 01 08 01 09 01") ∷ [])
-      (in_stage (Preparing (target Handover (again (cell_2 0x0a)))) (speaking Up []))
+    (in_stage (Preparing (target Handover (again (cell_2 0x0a)))) (speaking Up []))
     ∷ offered (cell_2 0x12) (speaking Up []) inputs.Move (put 2 (hex "08 21 01 12 03 02 06 04 00 01 09 01 09 00") ∷ [])
-      (in_stage (Preparing (target Handover (cell_2 0x12))) (speaking Up []))
+    (in_stage (Preparing (target Handover (cell_2 0x12))) (speaking Up []))
     ∷ case asked inputs.Move [] asked
     ∷ offered (cell_1 0x0a) asked request (activation 1 0x0a ∷ []) (in_stage (Preparing (target Assignment (cell_1 0x0a))) asked)
     ∷ offered (cell_1 0x12) asked request (put 1 (hex "08 21 01 12 03 01 06 04 00 01 09 01") ∷ [])
-      (in_stage (Preparing (target Assignment (cell_1 0x12))) asked)
+    (in_stage (Preparing (target Assignment (cell_1 0x12))) asked)
     ∷ case asked request (assignment_failure 0x21 ∷ []) asked
     ∷ offered (cell_1 0x0a) asked (inputs.AssignmentRequest false) (assignment_failure 0x25 ∷ []) asked
     ∷ case asked (inputs.AssignmentRequest false) (assignment_failure 0x25 ∷ []) asked
@@ -105,11 +105,11 @@ changes_begin = refl
 
 ends : AreRows (
     case asked inputs.ClearCommand
-      (channel_release 1 0x41 0x00 ∷ rf_channel_release 1 0x41 ∷ clear_complete ∷ []) (ended (Closed Complete) asked)
+    (channel_release 1 0x41 0x00 ∷ rf_channel_release 1 0x41 ∷ clear_complete ∷ []) (ended (Closed Complete) asked)
     ∷ case asked (inputs.Released 0x800001)
-      (channel_release 1 0x41 0x01 ∷ rf_channel_release 1 0x41 ∷ release_complete 0x01 ∷ []) (ended Removed asked)
+    (channel_release 1 0x41 0x01 ∷ rf_channel_release 1 0x41 ∷ release_complete 0x01 ∷ []) (ended Removed asked)
     ∷ case asked (inputs.Released 0x800077)
-      (channel_release 1 0x41 0x01 ∷ rf_channel_release 1 0x41 ∷ release_complete 0x77 ∷ []) (ended Removed asked)
+    (channel_release 1 0x41 0x01 ∷ rf_channel_release 1 0x41 ∷ release_complete 0x77 ∷ []) (ended Removed asked)
     ∷ case asked (inputs.StationDown 1) (clear_request 0x20 ∷ []) (ended (Closed (WasAsked 0x800001)) asked)
     ∷ case asked inputs.SwitchDown (channel_release 1 0x41 0x01 ∷ rf_channel_release 1 0x41 ∷ []) (ended Removed asked)
     ∷ [])
@@ -124,14 +124,14 @@ other = with_texts Asked two_texts (connection (Live 0x80000f Active) (cell_1 0x
 another_reference : AreRows (
     case other (inputs.Dtap (on_1 0x41) Zero (call 1)) (put 0 (hex "06 80 00 0f 00 01 05 01 00 02 03 01") ∷ []) other
     ∷ case other (inputs.ReleaseIndication (on_1 0x41) Three) (put 0 (hex "06 80 00 0f 00 01 08 00 06 25 18 83 04 01 25") ∷ [])
-      (record other { link = Down; down = record { limit = 32; zero = []; three = [] } })
+    (record other { link = Down; down = record { limit = 32; zero = []; three = [] } })
     ∷ case other (inputs.StationDown 1) (put 0 (hex "06 80 00 0f 00 01 06 00 04 22 04 01 20") ∷ []) (ended (Closed (WasAsked 0x80000f)) other)
     ∷ case other inputs.ClearCommand
-      (channel_release 1 0x41 0x00 ∷ rf_channel_release 1 0x41 ∷ put 0 (hex "06 80 00 0f 00 01 03 00 01 21") ∷ []) (ended (Closed Complete) other)
+    (channel_release 1 0x41 0x00 ∷ rf_channel_release 1 0x41 ∷ put 0 (hex "06 80 00 0f 00 01 03 00 01 21") ∷ []) (ended (Closed Complete) other)
     ∷ case other inputs.CipherModeCommand (put 0 (hex "06 80 00 0f 00 01 06 00 04 59 04 01 40") ∷ []) other
     ∷ case other request (put 0 (hex "06 80 00 0f 00 01 06 00 04 03 04 01 21") ∷ []) other
     ∷ offered (cell_2 0x41) other inputs.Move (put 2 (hex "08 21 01 41 03 02 06 04 00 03 01 00 09 00") ∷ [])
-      (record other { state = Live 0x80000f (Preparing (target Handover (cell_2 0x41))); waited = 0 })
+    (record other { state = Live 0x80000f (Preparing (target Handover (cell_2 0x41))); waited = 0 })
     ∷ [])
 unfolding row_of out_of rsl_element_text
 another_reference = refl

@@ -4,7 +4,7 @@ use Rattle.conn_rules.proofs.Prelude.{Assignment, Handover, Active, Preparing, D
 use Rattle.conn_messages.specs.Out.{out_of}
 use Rattle.conn_rules.specs.declared.input.Input.TheVariants as inputs
 use Rattle.conn_rules.specs.Table.{row_of}
-use Rattle.conn_rules.proofs.CaseRows.{NoneFit, complete, failure, links_on, dtap_on, changes_on, activations_on, all_on, commands, answers}
+use Rattle.conn_rules.proofs.CaseRows.{NoneFit, links_on, changes_on, activations_on, all_on, answers}
 use Rattle.conn_rules.proofs.CaseRows.{AreRows, case, offered, live, with_texts, in_stage, ended, target, drains, is_done, held_up, tenure, empty}
 use Rattle.conn_rules.proofs.CaseRows.{call, text, relay, clear_request, clear_complete, assignment_failure, sapi_n_reject, cipher_mode_reject}
 use Rattle.conn_rules.proofs.CaseRows.{release_complete, hand, establish_request, channel_release, rf_channel_release, activation}
@@ -69,7 +69,7 @@ released_of_one : AreRows (
     case one (inputs.ReleaseAck (on_1 0x0b)) (relay 0x00 (call 3) ∷ relay 0xc3 (text 3) ∷ []) rested
     -- an SDCCH serves
     ∷ case (record one { serving = cell_2 0x41 }) (inputs.ReleaseAck (on_1 0x0b)) (relay 0x00 (call 3) ∷ relay 0x83 (text 3) ∷ [])
-      (record rested { serving = cell_2 0x41 })
+    (record rested { serving = cell_2 0x41 })
     ∷ case (record one { up = held_up (empty ∷ empty ∷ []) }) (inputs.ReleaseAck (on_1 0x0b)) [] rested
     -- nothing begins that doesn't wait
     ∷ offered (cell_2 0x0b) one (inputs.ReleaseAck (on_1 0x0b)) (relay 0x00 (call 3) ∷ relay 0xc3 (text 3) ∷ []) rested
@@ -82,12 +82,12 @@ released_of_two : AreRows (
     case two (inputs.ReleaseAck (on_1 0x41)) (relay 0x00 (call 2) ∷ relay 0xc3 (text 2) ∷ []) (record one { drained = 0 })
     ∷ case two (inputs.ReleaseAck (on_1 0x0b)) [] two_one_done
     ∷ case two_one_done (inputs.ReleaseAck (on_1 0x41))
-      (relay 0x00 (call 2) ∷ relay 0xc3 (text 2) ∷ relay 0x00 (call 3) ∷ relay 0xc3 (text 3) ∷ []) rested
+    (relay 0x00 (call 2) ∷ relay 0xc3 (text 2) ∷ relay 0x00 (call 3) ∷ relay 0xc3 (text 3) ∷ []) rested
     -- the second is an SDCCH too
     ∷ case (old (drains (cell_1 0x41) ∷ drains (cell_2 0x41) ∷ []) two) (inputs.ReleaseAck (on_1 0x41)) (relay 0x00 (call 2) ∷ relay 0x83 (text 2) ∷ [])
-      (record (old (drains (cell_2 0x41) ∷ []) one) { drained = 0 })
+    (record (old (drains (cell_2 0x41) ∷ []) one) { drained = 0 })
     ∷ case (old (drains (cell_1 0x41) ∷ is_done (cell_2 0x41) ∷ []) two) (inputs.ReleaseAck (on_1 0x41))
-      (relay 0x00 (call 2) ∷ relay 0x83 (text 2) ∷ relay 0x00 (call 3) ∷ relay 0xc3 (text 3) ∷ []) rested
+    (relay 0x00 (call 2) ∷ relay 0x83 (text 2) ∷ relay 0x00 (call 3) ∷ relay 0xc3 (text 3) ∷ []) rested
     ∷ [])
 unfolding row_of out_of rsl_element_text
 released_of_two = refl
@@ -113,23 +113,23 @@ released_of_three : AreRows (
     ∷ offered (cell_1 0x0c) (waiting three) (inputs.ReleaseAck (on_2 0x0a)) [] (waiting three_last_done)
     ∷ offered (cell_1 0x0c) (waiting three_one_done) (inputs.ReleaseAck (on_2 0x0a)) [] (waiting three_two_done)
     ∷ offered (cell_1 0x0c) (waiting three) (inputs.ReleaseAck (on_1 0x41)) (relay 0x00 (call 2) ∷ relay 0xc3 (text 2) ∷ activation 1 0x0c ∷ [])
-      (in_stage (Preparing (target Assignment (cell_1 0x0c))) two_left)
+    (in_stage (Preparing (target Assignment (cell_1 0x0c))) two_left)
     ∷ case (waiting three) (inputs.ReleaseAck (on_1 0x41)) (relay 0x00 (call 2) ∷ relay 0xc3 (text 2) ∷ assignment_failure 0x21 ∷ []) two_left
     ∷ offered (cell_1 0x0c) (waiting three_one_done) (inputs.ReleaseAck (on_1 0x41))
-      (relay 0x00 (call 2) ∷ relay 0xc3 (text 2) ∷ relay 0x00 (call 3) ∷ relay 0xc3 (text 3) ∷ activation 1 0x0c ∷ [])
-      (in_stage (Preparing (target Assignment (cell_1 0x0c))) one_left)
+    (relay 0x00 (call 2) ∷ relay 0xc3 (text 2) ∷ relay 0x00 (call 3) ∷ relay 0xc3 (text 3) ∷ activation 1 0x0c ∷ [])
+    (in_stage (Preparing (target Assignment (cell_1 0x0c))) one_left)
     ∷ case (waiting three_one_done) (inputs.ReleaseAck (on_1 0x41))
-      (relay 0x00 (call 2) ∷ relay 0xc3 (text 2) ∷ relay 0x00 (call 3) ∷ relay 0xc3 (text 3) ∷ assignment_failure 0x21 ∷ []) one_left
+    (relay 0x00 (call 2) ∷ relay 0xc3 (text 2) ∷ relay 0x00 (call 3) ∷ relay 0xc3 (text 3) ∷ assignment_failure 0x21 ∷ []) one_left
     ∷ case three_two_done (inputs.ReleaseAck (on_1 0x41))
-      (relay 0x00 (call 2) ∷ relay 0xc3 (text 2) ∷ relay 0x00 (call 3) ∷ relay 0xc3 (text 3) ∷ relay 0x00 (call 4) ∷ relay 0xc3 (text 4) ∷ []) none_left
+    (relay 0x00 (call 2) ∷ relay 0xc3 (text 2) ∷ relay 0x00 (call 3) ∷ relay 0xc3 (text 3) ∷ relay 0x00 (call 4) ∷ relay 0xc3 (text 4) ∷ []) none_left
     ∷ offered (cell_1 0x0c) (waiting three_two_done) (inputs.ReleaseAck (on_1 0x41))
-      (relay 0x00 (call 2) ∷ relay 0xc3 (text 2) ∷ relay 0x00 (call 3) ∷ relay 0xc3 (text 3) ∷ relay 0x00 (call 4) ∷ relay 0xc3 (text 4) ∷ activation 1 0x0c ∷ [])
-      (in_stage (Preparing (target Assignment (cell_1 0x0c))) none_left)
+    (relay 0x00 (call 2) ∷ relay 0xc3 (text 2) ∷ relay 0x00 (call 3) ∷ relay 0xc3 (text 3) ∷ relay 0x00 (call 4) ∷ relay 0xc3 (text 4) ∷ activation 1 0x0c ∷ [])
+    (in_stage (Preparing (target Assignment (cell_1 0x0c))) none_left)
     ∷ case (waiting three_two_done) (inputs.ReleaseAck (on_1 0x41))
-      (relay 0x00 (call 2) ∷ relay 0xc3 (text 2) ∷ relay 0x00 (call 3) ∷ relay 0xc3 (text 3) ∷ relay 0x00 (call 4) ∷ relay 0xc3 (text 4)
-      ∷ assignment_failure 0x21 ∷ []) none_left
+    (relay 0x00 (call 2) ∷ relay 0xc3 (text 2) ∷ relay 0x00 (call 3) ∷ relay 0xc3 (text 3) ∷ relay 0x00 (call 4) ∷ relay 0xc3 (text 4)
+    ∷ assignment_failure 0x21 ∷ []) none_left
     ∷ case three_last_done (inputs.ReleaseAck (on_1 0x41)) (relay 0x00 (call 2) ∷ relay 0xc3 (text 2) ∷ [])
-      (old (drains (cell_1 0x0b) ∷ is_done (cell_2 0x0a) ∷ []) two_left)
+    (old (drains (cell_1 0x0b) ∷ is_done (cell_2 0x0a) ∷ []) two_left)
     ∷ [])
 unfolding row_of out_of rsl_element_text
 released_of_three = refl
@@ -144,7 +144,7 @@ messages_of_the_switch : AreRows (
     ∷ case (with_texts Up [] two) (inputs.Downlink Three (text 9)) (hand 2 0x0a 0x43 (text 9) ∷ []) (with_texts Up [] two)
     ∷ case (with_texts Asked (replicate 31 (text 1)) two) (inputs.Downlink Three (text 9)) [] (with_texts Asked (replicate 31 (text 1) ++ text 9 ∷ []) two)
     ∷ case (waiting (with_texts Asked (replicate 32 (text 1)) three)) (inputs.Downlink Three (text 9))
-      (clear_request 0x20 ∷ channel_release 1 0x0a 0x01 ∷ rf_channel_release 1 0x0a ∷ []) (ended (Closed (WasAsked 0x800001)) three)
+    (clear_request 0x20 ∷ channel_release 1 0x0a 0x01 ∷ rf_channel_release 1 0x0a ∷ []) (ended (Closed (WasAsked 0x800001)) three)
     ∷ [])
 unfolding row_of out_of rsl_element_text
 messages_of_the_switch = refl
@@ -162,17 +162,17 @@ messages_of_the_mobile : AreRows (
     ∷ case two (inputs.Dtap (on_1 0x41) Three (text 9)) (relay 0x83 (text 9) ∷ []) two
     ∷ case three (inputs.Dtap (on_1 0x41) Three (text 9)) (relay 0x83 (text 9) ∷ []) three
     ∷ case three (inputs.Dtap (on_1 0x0b) Zero (call 9)) []
-      (with_held (call 2 ∷ call 9 ∷ []) (text 2 ∷ []) (call 3 ∷ []) (text 3 ∷ []) (call 4 ∷ []) (text 4 ∷ []) three)
+    (with_held (call 2 ∷ call 9 ∷ []) (text 2 ∷ []) (call 3 ∷ []) (text 3 ∷ []) (call 4 ∷ []) (text 4 ∷ []) three)
     ∷ case three (inputs.Dtap (on_1 0x0b) Three (text 9)) []
-      (with_held (call 2 ∷ []) (text 2 ∷ text 9 ∷ []) (call 3 ∷ []) (text 3 ∷ []) (call 4 ∷ []) (text 4 ∷ []) three)
+    (with_held (call 2 ∷ []) (text 2 ∷ text 9 ∷ []) (call 3 ∷ []) (text 3 ∷ []) (call 4 ∷ []) (text 4 ∷ []) three)
     ∷ case three (inputs.Dtap (on_2 0x0a) Zero (call 9)) []
-      (with_held (call 2 ∷ []) (text 2 ∷ []) (call 3 ∷ call 9 ∷ []) (text 3 ∷ []) (call 4 ∷ []) (text 4 ∷ []) three)
+    (with_held (call 2 ∷ []) (text 2 ∷ []) (call 3 ∷ call 9 ∷ []) (text 3 ∷ []) (call 4 ∷ []) (text 4 ∷ []) three)
     ∷ case three (inputs.Dtap (on_2 0x0a) Three (text 9)) []
-      (with_held (call 2 ∷ []) (text 2 ∷ []) (call 3 ∷ []) (text 3 ∷ text 9 ∷ []) (call 4 ∷ []) (text 4 ∷ []) three)
+    (with_held (call 2 ∷ []) (text 2 ∷ []) (call 3 ∷ []) (text 3 ∷ text 9 ∷ []) (call 4 ∷ []) (text 4 ∷ []) three)
     ∷ case (waiting three) (inputs.Dtap (on_1 0x0a) Zero (call 9)) []
-      (waiting (with_held (call 2 ∷ []) (text 2 ∷ []) (call 3 ∷ []) (text 3 ∷ []) (call 4 ∷ call 9 ∷ []) (text 4 ∷ []) three))
+    (waiting (with_held (call 2 ∷ []) (text 2 ∷ []) (call 3 ∷ []) (text 3 ∷ []) (call 4 ∷ call 9 ∷ []) (text 4 ∷ []) three))
     ∷ case (waiting three) (inputs.Dtap (on_1 0x0a) Three (text 9)) []
-      (waiting (with_held (call 2 ∷ []) (text 2 ∷ []) (call 3 ∷ []) (text 3 ∷ []) (call 4 ∷ []) (text 4 ∷ text 9 ∷ []) three))
+    (waiting (with_held (call 2 ∷ []) (text 2 ∷ []) (call 3 ∷ []) (text 3 ∷ []) (call 4 ∷ []) (text 4 ∷ text 9 ∷ []) three))
     ∷ [])
 unfolding row_of out_of rsl_element_text
 messages_of_the_mobile = refl
@@ -203,16 +203,16 @@ one_too_many = refl
 links : AreRows (
     case two (inputs.EstablishConfirm (on_2 0x0a) Three) (hand 2 0x0a 0x43 (text 4) ∷ hand 2 0x0a 0x43 (text 5) ∷ []) (with_texts Up [] two)
     ∷ case (waiting three) (inputs.EstablishIndication (on_1 0x0a) Three None)
-      (hand 1 0x0a 0x43 (text 4) ∷ hand 1 0x0a 0x43 (text 5) ∷ []) (with_texts Up [] (waiting three))
+    (hand 1 0x0a 0x43 (text 4) ∷ hand 1 0x0a 0x43 (text 5) ∷ []) (with_texts Up [] (waiting three))
     ∷ case two (inputs.ReleaseIndication (on_2 0x0a) Three) (sapi_n_reject 0xc3 ∷ []) (with_texts Down [] two)
     ∷ case (record two { serving = cell_2 0x41 }) (inputs.ReleaseIndication (on_2 0x41) Three) (sapi_n_reject 0x83 ∷ [])
-      (with_texts Down [] (record two { serving = cell_2 0x41 }))
+    (with_texts Down [] (record two { serving = cell_2 0x41 }))
     ∷ case (waiting three) (inputs.ErrorIndication (on_1 0x0a) Three) (sapi_n_reject 0xc3 ∷ []) (with_texts Down [] (waiting three))
     ∷ case (with_texts Up [] two) (inputs.ErrorIndication (on_2 0x0a) Three) [] (with_texts Down [] two)
     ∷ case two (inputs.ReleaseIndication (on_2 0x0a) Zero)
-      (clear_request 0x01 ∷ channel_release 2 0x0a 0x01 ∷ rf_channel_release 2 0x0a ∷ []) (ended (Closed (WasAsked 0x800001)) two)
+    (clear_request 0x01 ∷ channel_release 2 0x0a 0x01 ∷ rf_channel_release 2 0x0a ∷ []) (ended (Closed (WasAsked 0x800001)) two)
     ∷ case (waiting three) (inputs.ConnectionFailure (on_1 0x0a))
-      (clear_request 0x01 ∷ channel_release 1 0x0a 0x01 ∷ rf_channel_release 1 0x0a ∷ []) (ended (Closed (WasAsked 0x800001)) three)
+    (clear_request 0x01 ∷ channel_release 1 0x0a 0x01 ∷ rf_channel_release 1 0x0a ∷ []) (ended (Closed (WasAsked 0x800001)) three)
     ∷ [])
 unfolding row_of out_of rsl_element_text
 links = refl
@@ -221,11 +221,11 @@ links = refl
 
 changes_begin : AreRows (
     offered (again (cell_1 0x0a)) one inputs.Move (put 1 (hex "08 21 01 0a 03 02 06 04 00 01 08 01 09 01") ∷ [])
-      (in_stage (Preparing (target Handover (again (cell_1 0x0a)))) one)
+    (in_stage (Preparing (target Handover (again (cell_1 0x0a)))) one)
     ∷ offered (again (cell_1 0x0a)) two inputs.Move (put 1 (hex "08 21 01 0a 03 02 06 04 00 01 08 01 09 01") ∷ [])
-      (in_stage (Preparing (target Handover (again (cell_1 0x0a)))) two)
+    (in_stage (Preparing (target Handover (again (cell_1 0x0a)))) two)
     ∷ offered (cell_1 0x0b) two_one_done inputs.Move (put 1 (hex "08 21 01 0b 03 02 06 04 00 01 08 01 09 00") ∷ [])
-      (in_stage (Preparing (target Handover (cell_1 0x0b))) two_one_done)
+    (in_stage (Preparing (target Handover (cell_1 0x0b))) two_one_done)
     ∷ case two inputs.Move [] two
     ∷ offered (cell_2 0x0b) one request (activation 2 0x0b ∷ []) (in_stage (Preparing (target Assignment (cell_2 0x0b))) one)
     ∷ offered (cell_2 0x0b) two request (activation 2 0x0b ∷ []) (in_stage (Preparing (target Assignment (cell_2 0x0b))) two)
@@ -246,9 +246,9 @@ changes_begin = refl
 
 ends : AreRows (
     case (waiting three) inputs.ClearCommand
-      (channel_release 1 0x0a 0x00 ∷ rf_channel_release 1 0x0a ∷ clear_complete ∷ []) (ended (Closed Complete) three)
+    (channel_release 1 0x0a 0x00 ∷ rf_channel_release 1 0x0a ∷ clear_complete ∷ []) (ended (Closed Complete) three)
     ∷ case (waiting three) (inputs.Released 0x800001)
-      (channel_release 1 0x0a 0x01 ∷ rf_channel_release 1 0x0a ∷ release_complete 0x01 ∷ []) (ended Removed three)
+    (channel_release 1 0x0a 0x01 ∷ rf_channel_release 1 0x0a ∷ release_complete 0x01 ∷ []) (ended Removed three)
     ∷ case two (inputs.Released 0x800077) (channel_release 2 0x0a 0x01 ∷ rf_channel_release 2 0x0a ∷ release_complete 0x77 ∷ []) (ended Removed two)
     ∷ case (waiting three) inputs.SwitchDown (channel_release 1 0x0a 0x01 ∷ rf_channel_release 1 0x0a ∷ []) (ended Removed three)
     ∷ case one inputs.DrainExpiry (clear_request 0x20 ∷ channel_release 2 0x0a 0x01 ∷ rf_channel_release 2 0x0a ∷ []) (ended (Closed (WasAsked 0x800001)) one)
@@ -273,15 +273,15 @@ drains_again = old (drains (cell_1 0x41) ∷ is_done (cell_1 0x0b) ∷ drains (c
 
 in_use_again : AreRows (
     case serves_again (inputs.Dtap (on_1 0x0b) Zero (call 9)) []
-      (with_held (call 2 ∷ []) (text 2 ∷ []) (call 3 ∷ []) (text 3 ∷ []) (call 4 ∷ call 9 ∷ []) (text 4 ∷ []) serves_again)
+    (with_held (call 2 ∷ []) (text 2 ∷ []) (call 3 ∷ []) (text 3 ∷ []) (call 4 ∷ call 9 ∷ []) (text 4 ∷ []) serves_again)
     ∷ case serves_again (inputs.ConnectionFailure (on_1 0x0b))
-      (clear_request 0x01 ∷ channel_release 1 0x0b 0x01 ∷ rf_channel_release 1 0x0b ∷ []) (ended (Closed (WasAsked 0x800001)) serves_again)
+    (clear_request 0x01 ∷ channel_release 1 0x0b 0x01 ∷ rf_channel_release 1 0x0b ∷ []) (ended (Closed (WasAsked 0x800001)) serves_again)
     ∷ case drains_again (inputs.Dtap (on_1 0x0b) Three (text 9)) []
-      (with_held (call 2 ∷ []) (text 2 ∷ []) (call 3 ∷ []) (text 3 ∷ text 9 ∷ []) (call 4 ∷ []) (text 4 ∷ []) drains_again)
+    (with_held (call 2 ∷ []) (text 2 ∷ []) (call 3 ∷ []) (text 3 ∷ text 9 ∷ []) (call 4 ∷ []) (text 4 ∷ []) drains_again)
     ∷ case drains_again (inputs.ReleaseAck (on_1 0x0b)) [] (old (drains (cell_1 0x41) ∷ is_done (cell_1 0x0b) ∷ is_done (cell_1 0x0b) ∷ []) three)
     ∷ case drains_again (inputs.ReleaseAck (on_1 0x41))
-      (relay 0x00 (call 2) ∷ relay 0xc3 (text 2) ∷ relay 0x00 (call 3) ∷ relay 0xc3 (text 3) ∷ [])
-      (record three { draining = drains (cell_1 0x0b) ∷ []; up = held_up (empty ∷ tenure (call 4 ∷ []) (text 4 ∷ []) ∷ []); drained = 0 })
+    (relay 0x00 (call 2) ∷ relay 0xc3 (text 2) ∷ relay 0x00 (call 3) ∷ relay 0xc3 (text 3) ∷ [])
+    (record three { draining = drains (cell_1 0x0b) ∷ []; up = held_up (empty ∷ tenure (call 4 ∷ []) (text 4 ∷ []) ∷ []); drained = 0 })
     ∷ [])
 unfolding row_of out_of rsl_element_text
 in_use_again = refl

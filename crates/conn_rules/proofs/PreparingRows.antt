@@ -1,11 +1,11 @@
 -- The rows of Preparing: alone, and while old channels drain.
 use Rattle.conn_rules.proofs.Prelude.{ℕ, true, false, List, [], ◌∷◌, ◌++◌, replicate, Some, None, refl, Zero, Three, hex, Connection, Place, Input}
-use Rattle.conn_rules.proofs.Prelude.{Assignment, Handover, Active, Preparing, Changing, Draining, Live, Closed, Removed, WasAsked, Complete}
-use Rattle.conn_rules.proofs.Prelude.{ShortMessageLink, Stage, Down, Asked, Up}
+use Rattle.conn_rules.proofs.Prelude.{Assignment, Handover, Active, Preparing, Changing, Draining, Closed, Removed, WasAsked, Complete}
+use Rattle.conn_rules.proofs.Prelude.{Stage, Down, Asked, Up}
 use Rattle.conn_messages.specs.Out.{out_of}
 use Rattle.conn_rules.specs.declared.input.Input.TheVariants as inputs
 use Rattle.conn_rules.specs.Table.{row_of}
-use Rattle.conn_rules.proofs.CaseRows.{NoneFit, complete, failure, links_on, dtap_on, changes_on, activations_on, all_on, commands, answers}
+use Rattle.conn_rules.proofs.CaseRows.{NoneFit, links_on, dtap_on, changes_on, activations_on, all_on, answers}
 use Rattle.conn_rules.proofs.CaseRows.{AreRows, case, offered, live, with_texts, in_stage, ended, target, drains, is_done, held_up, tenure, empty}
 use Rattle.conn_rules.proofs.CaseRows.{call, text, relay, clear_request, clear_complete, assignment_failure, sapi_n_reject, cipher_mode_reject}
 use Rattle.conn_rules.proofs.CaseRows.{release_complete, hand, establish_request, channel_release, rf_channel_release, activation}
@@ -30,11 +30,11 @@ waiting s = record s { waits = true }
 -- the mobile is commanded: the link of SAPI 3 is down, what is held for it stays, and so does a request
 acknowledged : AreRows (
     case assigning (inputs.ActivationAck (on_1 0x0a)) (put 1 (hex "03 01 01 41 02 00 0b 00 06 06 2e 0a 20 14 00") ∷ [])
-      (with_texts Down two_texts (in_stage (Changing (target Assignment (cell_1 0x0a))) assigning))
+    (with_texts Down two_texts (in_stage (Changing (target Assignment (cell_1 0x0a))) assigning))
     ∷ case (waiting assigning) (inputs.ActivationAck (on_1 0x0a)) (put 1 (hex "03 01 01 41 02 00 0b 00 06 06 2e 0a 20 14 00") ∷ [])
-      (with_texts Down two_texts (in_stage (Changing (target Assignment (cell_1 0x0a))) (waiting assigning)))
+    (with_texts Down two_texts (in_stage (Changing (target Assignment (cell_1 0x0a))) (waiting assigning)))
     ∷ case (with_texts Up [] moving) (inputs.ActivationAck (on_2 0x41)) (put 1 (hex "03 01 01 41 02 00 0b 00 09 06 2b 12 1e 41 40 1e 00 00") ∷ [])
-      (with_texts Down [] (in_stage (Changing (target Handover (cell_2 0x41))) moving))
+    (with_texts Down [] (in_stage (Changing (target Handover (cell_2 0x41))) moving))
     ∷ [])
 unfolding row_of out_of rsl_element_text
 acknowledged = refl
@@ -44,11 +44,11 @@ refused : AreRows (
     case assigning (inputs.ActivationNack (on_1 0x0a)) (assignment_failure 0x20 ∷ []) (in_stage Active assigning)
     ∷ offered (cell_1 0x0b) assigning (inputs.ActivationNack (on_1 0x0a)) (assignment_failure 0x20 ∷ []) (in_stage Active assigning)
     ∷ offered (cell_1 0x0b) (waiting assigning) (inputs.ActivationNack (on_1 0x0a)) (assignment_failure 0x20 ∷ activation 1 0x0b ∷ [])
-      (in_stage (Preparing (target Assignment (cell_1 0x0b))) assigning)
+    (in_stage (Preparing (target Assignment (cell_1 0x0b))) assigning)
     ∷ case (waiting assigning) (inputs.ActivationNack (on_1 0x0a)) (assignment_failure 0x20 ∷ assignment_failure 0x21 ∷ []) (in_stage Active assigning)
     ∷ case moving (inputs.ActivationNack (on_2 0x41)) [] (in_stage Active moving)
     ∷ offered (cell_1 0x0b) (waiting moving) (inputs.ActivationNack (on_2 0x41)) (activation 1 0x0b ∷ [])
-      (in_stage (Preparing (target Assignment (cell_1 0x0b))) moving)
+    (in_stage (Preparing (target Assignment (cell_1 0x0b))) moving)
     ∷ case (waiting moving) (inputs.ActivationNack (on_2 0x41)) (assignment_failure 0x21 ∷ []) (in_stage Active moving)
     ∷ [])
 unfolding row_of out_of rsl_element_text
@@ -61,10 +61,10 @@ both_ways : AreRows (
     ∷ case (with_texts Down [] assigning) (inputs.Downlink Three (text 6)) (establish_request 1 0x41 0x03 ∷ []) (with_texts Asked (text 6 ∷ []) assigning)
     ∷ case (with_texts Up [] assigning) (inputs.Downlink Three (text 6)) (hand 1 0x41 0x03 (text 6) ∷ []) (with_texts Up [] assigning)
     ∷ case (with_texts Asked (replicate 31 (text 1)) assigning) (inputs.Downlink Three (text 6)) []
-      (with_texts Asked (replicate 31 (text 1) ++ text 6 ∷ []) assigning)
+    (with_texts Asked (replicate 31 (text 1) ++ text 6 ∷ []) assigning)
     ∷ case (with_texts Asked (replicate 32 (text 1)) assigning) (inputs.Downlink Three (text 6))
-      (clear_request 0x20 ∷ channel_release 1 0x41 0x01 ∷ rf_channel_release 1 0x41 ∷ rf_channel_release 1 0x0a ∷ [])
-      (ended (Closed (WasAsked 0x800001)) assigning)
+    (clear_request 0x20 ∷ channel_release 1 0x41 0x01 ∷ rf_channel_release 1 0x41 ∷ rf_channel_release 1 0x0a ∷ [])
+    (ended (Closed (WasAsked 0x800001)) assigning)
     ∷ case assigning (inputs.Dtap (on_1 0x41) Zero (call 1)) (relay 0x00 (call 1) ∷ []) assigning
     ∷ case (waiting moving) (inputs.Dtap (on_1 0x41) Three (text 1)) (relay 0x83 (text 1) ∷ []) (waiting moving)
     ∷ [])
@@ -74,16 +74,16 @@ both_ways = refl
 links_of_the_mobile : AreRows (
     case assigning (inputs.EstablishConfirm (on_1 0x41) Three) (hand 1 0x41 0x03 (text 4) ∷ hand 1 0x41 0x03 (text 5) ∷ []) (with_texts Up [] assigning)
     ∷ case moving (inputs.EstablishIndication (on_1 0x41) Three None)
-      (hand 1 0x41 0x03 (text 4) ∷ hand 1 0x41 0x03 (text 5) ∷ []) (with_texts Up [] moving)
+    (hand 1 0x41 0x03 (text 4) ∷ hand 1 0x41 0x03 (text 5) ∷ []) (with_texts Up [] moving)
     ∷ case assigning (inputs.ReleaseIndication (on_1 0x41) Three) (sapi_n_reject 0x83 ∷ []) (with_texts Down [] assigning)
     ∷ case moving (inputs.ErrorIndication (on_1 0x41) Three) (sapi_n_reject 0x83 ∷ []) (with_texts Down [] moving)
     ∷ case (with_texts Up [] moving) (inputs.ReleaseIndication (on_1 0x41) Three) [] (with_texts Down [] moving)
     ∷ case (waiting assigning) (inputs.ReleaseIndication (on_1 0x41) Zero)
-      (clear_request 0x01 ∷ channel_release 1 0x41 0x01 ∷ rf_channel_release 1 0x41 ∷ rf_channel_release 1 0x0a ∷ [])
-      (ended (Closed (WasAsked 0x800001)) assigning)
+    (clear_request 0x01 ∷ channel_release 1 0x41 0x01 ∷ rf_channel_release 1 0x41 ∷ rf_channel_release 1 0x0a ∷ [])
+    (ended (Closed (WasAsked 0x800001)) assigning)
     ∷ case (waiting moving) (inputs.ConnectionFailure (on_1 0x41))
-      (clear_request 0x01 ∷ channel_release 1 0x41 0x01 ∷ rf_channel_release 1 0x41 ∷ rf_channel_release 2 0x41 ∷ [])
-      (ended (Closed (WasAsked 0x800001)) moving)
+    (clear_request 0x01 ∷ channel_release 1 0x41 0x01 ∷ rf_channel_release 1 0x41 ∷ rf_channel_release 2 0x41 ∷ [])
+    (ended (Closed (WasAsked 0x800001)) moving)
     ∷ [])
 unfolding row_of out_of rsl_element_text
 links_of_the_mobile = refl
@@ -102,19 +102,19 @@ requests = refl
 -- the serving channel is released, and then the target
 ends : AreRows (
     case (waiting assigning) inputs.ClearCommand
-      (channel_release 1 0x41 0x00 ∷ rf_channel_release 1 0x41 ∷ rf_channel_release 1 0x0a ∷ clear_complete ∷ []) (ended (Closed Complete) assigning)
+    (channel_release 1 0x41 0x00 ∷ rf_channel_release 1 0x41 ∷ rf_channel_release 1 0x0a ∷ clear_complete ∷ []) (ended (Closed Complete) assigning)
     ∷ case (waiting moving) (inputs.Released 0x800077)
-      (channel_release 1 0x41 0x01 ∷ rf_channel_release 1 0x41 ∷ rf_channel_release 2 0x41 ∷ release_complete 0x77 ∷ []) (ended Removed moving)
+    (channel_release 1 0x41 0x01 ∷ rf_channel_release 1 0x41 ∷ rf_channel_release 2 0x41 ∷ release_complete 0x77 ∷ []) (ended Removed moving)
     ∷ case (waiting moving) inputs.SwitchDown
-      (channel_release 1 0x41 0x01 ∷ rf_channel_release 1 0x41 ∷ rf_channel_release 2 0x41 ∷ []) (ended Removed moving)
+    (channel_release 1 0x41 0x01 ∷ rf_channel_release 1 0x41 ∷ rf_channel_release 2 0x41 ∷ []) (ended Removed moving)
     ∷ case (waiting moving) inputs.Expiry
-      (clear_request 0x00 ∷ channel_release 1 0x41 0x01 ∷ rf_channel_release 1 0x41 ∷ rf_channel_release 2 0x41 ∷ [])
-      (ended (Closed (WasAsked 0x800001)) moving)
+    (clear_request 0x00 ∷ channel_release 1 0x41 0x01 ∷ rf_channel_release 1 0x41 ∷ rf_channel_release 2 0x41 ∷ [])
+    (ended (Closed (WasAsked 0x800001)) moving)
     -- both channels are of the station
     ∷ case (waiting assigning) (inputs.StationDown 1) (clear_request 0x20 ∷ []) (ended (Closed (WasAsked 0x800001)) assigning)
     ∷ case (waiting moving) (inputs.StationDown 1) (clear_request 0x20 ∷ rf_channel_release 2 0x41 ∷ []) (ended (Closed (WasAsked 0x800001)) moving)
     ∷ case (waiting moving) (inputs.StationDown 2)
-      (clear_request 0x20 ∷ channel_release 1 0x41 0x01 ∷ rf_channel_release 1 0x41 ∷ []) (ended (Closed (WasAsked 0x800001)) moving)
+    (clear_request 0x20 ∷ channel_release 1 0x41 0x01 ∷ rf_channel_release 1 0x41 ∷ []) (ended (Closed (WasAsked 0x800001)) moving)
     ∷ [])
 unfolding row_of out_of rsl_element_text
 ends = refl
@@ -138,9 +138,9 @@ assigns = chained (Preparing (target Assignment (cell_2 0x0b)))
 -- the drain time runs on
 acknowledged_beside : AreRows (
     case (waiting moves_on) (inputs.ActivationAck (on_1 0x0a)) (put 2 (hex "03 01 01 0a 02 00 0b 00 09 06 2b 09 14 0a 20 14 01 00") ∷ [])
-      (with_texts Down two_texts (in_stage (Changing (target Handover (again (cell_1 0x0a)))) (waiting moves_on)))
+    (with_texts Down two_texts (in_stage (Changing (target Handover (again (cell_1 0x0a)))) (waiting moves_on)))
     ∷ case assigns (inputs.ActivationAck (on_2 0x0b)) (put 2 (hex "03 01 01 0a 02 00 0b 00 06 06 2e 0b 40 1e 00") ∷ [])
-      (with_texts Down two_texts (in_stage (Changing (target Assignment (cell_2 0x0b))) assigns))
+    (with_texts Down two_texts (in_stage (Changing (target Assignment (cell_2 0x0b))) assigns))
     ∷ [])
 unfolding row_of out_of rsl_element_text
 acknowledged_beside = refl
@@ -150,10 +150,10 @@ refused_beside : AreRows (
     case moves_on (inputs.ActivationNack (on_1 0x0a)) [] (in_stage Draining moves_on)
     ∷ case assigns (inputs.ActivationNack (on_2 0x0b)) (assignment_failure 0x20 ∷ []) (in_stage Draining assigns)
     ∷ offered (cell_2 0x0b) (waiting moves_on) (inputs.ActivationNack (on_1 0x0a)) (activation 2 0x0b ∷ [])
-      (in_stage (Preparing (target Assignment (cell_2 0x0b))) moves_on)
+    (in_stage (Preparing (target Assignment (cell_2 0x0b))) moves_on)
     ∷ case (waiting moves_on) (inputs.ActivationNack (on_1 0x0a)) (assignment_failure 0x21 ∷ []) (in_stage Draining moves_on)
     ∷ offered (cell_2 0x0b) (waiting assigns) (inputs.ActivationNack (on_2 0x0b)) (assignment_failure 0x20 ∷ activation 2 0x0b ∷ [])
-      (in_stage (Preparing (target Assignment (cell_2 0x0b))) assigns)
+    (in_stage (Preparing (target Assignment (cell_2 0x0b))) assigns)
     ∷ [])
 unfolding row_of out_of rsl_element_text
 refused_beside = refl
@@ -166,13 +166,13 @@ both_ways_beside : AreRows (
     ∷ case moves_on (inputs.Dtap (on_1 0x41) Zero (call 9)) (relay 0x00 (call 9) ∷ []) moves_on
     ∷ case moves_on (inputs.Dtap (on_1 0x41) Three (text 9)) (relay 0x83 (text 9) ∷ []) moves_on
     ∷ case moves_on (inputs.Dtap (on_1 0x0b) Zero (call 9)) []
-      (record moves_on { up = held_up (empty ∷ tenure (call 2 ∷ call 9 ∷ []) (text 2 ∷ []) ∷ tenure (call 3 ∷ []) (text 3 ∷ []) ∷ []) })
+    (record moves_on { up = held_up (empty ∷ tenure (call 2 ∷ call 9 ∷ []) (text 2 ∷ []) ∷ tenure (call 3 ∷ []) (text 3 ∷ []) ∷ []) })
     ∷ case moves_on (inputs.Dtap (on_1 0x0b) Three (text 9)) []
-      (record moves_on { up = held_up (empty ∷ tenure (call 2 ∷ []) (text 2 ∷ text 9 ∷ []) ∷ tenure (call 3 ∷ []) (text 3 ∷ []) ∷ []) })
+    (record moves_on { up = held_up (empty ∷ tenure (call 2 ∷ []) (text 2 ∷ text 9 ∷ []) ∷ tenure (call 3 ∷ []) (text 3 ∷ []) ∷ []) })
     ∷ case moves_on (inputs.Dtap (on_2 0x0a) Zero (call 9)) []
-      (record moves_on { up = held_up (empty ∷ tenure (call 2 ∷ []) (text 2 ∷ []) ∷ tenure (call 3 ∷ call 9 ∷ []) (text 3 ∷ []) ∷ []) })
+    (record moves_on { up = held_up (empty ∷ tenure (call 2 ∷ []) (text 2 ∷ []) ∷ tenure (call 3 ∷ call 9 ∷ []) (text 3 ∷ []) ∷ []) })
     ∷ case moves_on (inputs.Dtap (on_2 0x0a) Three (text 9)) []
-      (record moves_on { up = held_up (empty ∷ tenure (call 2 ∷ []) (text 2 ∷ []) ∷ tenure (call 3 ∷ []) (text 3 ∷ text 9 ∷ []) ∷ []) })
+    (record moves_on { up = held_up (empty ∷ tenure (call 2 ∷ []) (text 2 ∷ []) ∷ tenure (call 3 ∷ []) (text 3 ∷ text 9 ∷ []) ∷ []) })
     ∷ [])
 unfolding row_of out_of rsl_element_text
 both_ways_beside = refl
@@ -197,15 +197,15 @@ one_too_many = refl
 links_beside : AreRows (
     case moves_on (inputs.EstablishConfirm (on_2 0x0a) Three) (hand 2 0x0a 0x43 (text 4) ∷ hand 2 0x0a 0x43 (text 5) ∷ []) (with_texts Up [] moves_on)
     ∷ case moves_on (inputs.EstablishIndication (on_2 0x0a) Three None)
-      (hand 2 0x0a 0x43 (text 4) ∷ hand 2 0x0a 0x43 (text 5) ∷ []) (with_texts Up [] moves_on)
+    (hand 2 0x0a 0x43 (text 4) ∷ hand 2 0x0a 0x43 (text 5) ∷ []) (with_texts Up [] moves_on)
     ∷ case moves_on (inputs.ReleaseIndication (on_2 0x0a) Three) (sapi_n_reject 0xc3 ∷ []) (with_texts Down [] moves_on)
     ∷ case moves_on (inputs.ErrorIndication (on_2 0x0a) Three) (sapi_n_reject 0xc3 ∷ []) (with_texts Down [] moves_on)
     ∷ case (waiting moves_on) (inputs.ReleaseIndication (on_2 0x0a) Zero)
-      (clear_request 0x01 ∷ channel_release 2 0x0a 0x01 ∷ rf_channel_release 2 0x0a ∷ rf_channel_release 1 0x0a ∷ [])
-      (ended (Closed (WasAsked 0x800001)) moves_on)
+    (clear_request 0x01 ∷ channel_release 2 0x0a 0x01 ∷ rf_channel_release 2 0x0a ∷ rf_channel_release 1 0x0a ∷ [])
+    (ended (Closed (WasAsked 0x800001)) moves_on)
     ∷ case (waiting assigns) (inputs.ConnectionFailure (on_2 0x0a))
-      (clear_request 0x01 ∷ channel_release 2 0x0a 0x01 ∷ rf_channel_release 2 0x0a ∷ rf_channel_release 2 0x0b ∷ [])
-      (ended (Closed (WasAsked 0x800001)) assigns)
+    (clear_request 0x01 ∷ channel_release 2 0x0a 0x01 ∷ rf_channel_release 2 0x0a ∷ rf_channel_release 2 0x0b ∷ [])
+    (ended (Closed (WasAsked 0x800001)) assigns)
     ∷ [])
 unfolding row_of out_of rsl_element_text
 links_beside = refl
@@ -213,11 +213,11 @@ links_beside = refl
 -- an old channel leaves: what is held of the next is relayed as of that one's kind, and nothing begins
 released_beside : AreRows (
     offered (cell_2 0x0b) (waiting moves_on) (inputs.ReleaseAck (on_1 0x41)) (relay 0x00 (call 2) ∷ relay 0xc3 (text 2) ∷ [])
-      (record (waiting moves_on) { draining = drains (cell_1 0x0b) ∷ []; up = held_up (empty ∷ tenure (call 3 ∷ []) (text 3 ∷ []) ∷ []); drained = 0 })
+    (record (waiting moves_on) { draining = drains (cell_1 0x0b) ∷ []; up = held_up (empty ∷ tenure (call 3 ∷ []) (text 3 ∷ []) ∷ []); drained = 0 })
     ∷ case moves_on (inputs.ReleaseAck (on_1 0x0b)) [] (record moves_on { draining = drains (cell_1 0x41) ∷ is_done (cell_1 0x0b) ∷ [] })
     ∷ offered (cell_2 0x0b) (record (waiting moves_on) { draining = drains (cell_1 0x41) ∷ is_done (cell_1 0x0b) ∷ [] }) (inputs.ReleaseAck (on_1 0x41))
-      (relay 0x00 (call 2) ∷ relay 0xc3 (text 2) ∷ relay 0x00 (call 3) ∷ relay 0xc3 (text 3) ∷ [])
-      (record (waiting moves_on) { draining = []; up = held_up (empty ∷ []); drained = 0 })
+    (relay 0x00 (call 2) ∷ relay 0xc3 (text 2) ∷ relay 0x00 (call 3) ∷ relay 0xc3 (text 3) ∷ [])
+    (record (waiting moves_on) { draining = []; up = held_up (empty ∷ []); drained = 0 })
     ∷ [])
 unfolding row_of out_of rsl_element_text
 released_beside = refl
@@ -234,22 +234,22 @@ requests_beside = refl
 -- old channels had their releases
 ends_beside : AreRows (
     case (waiting moves_on) inputs.ClearCommand
-      (channel_release 2 0x0a 0x00 ∷ rf_channel_release 2 0x0a ∷ rf_channel_release 1 0x0a ∷ clear_complete ∷ []) (ended (Closed Complete) moves_on)
+    (channel_release 2 0x0a 0x00 ∷ rf_channel_release 2 0x0a ∷ rf_channel_release 1 0x0a ∷ clear_complete ∷ []) (ended (Closed Complete) moves_on)
     ∷ case (waiting moves_on) (inputs.Released 0x800077)
-      (channel_release 2 0x0a 0x01 ∷ rf_channel_release 2 0x0a ∷ rf_channel_release 1 0x0a ∷ release_complete 0x77 ∷ []) (ended Removed moves_on)
+    (channel_release 2 0x0a 0x01 ∷ rf_channel_release 2 0x0a ∷ rf_channel_release 1 0x0a ∷ release_complete 0x77 ∷ []) (ended Removed moves_on)
     ∷ case (waiting moves_on) inputs.SwitchDown
-      (channel_release 2 0x0a 0x01 ∷ rf_channel_release 2 0x0a ∷ rf_channel_release 1 0x0a ∷ []) (ended Removed moves_on)
+    (channel_release 2 0x0a 0x01 ∷ rf_channel_release 2 0x0a ∷ rf_channel_release 1 0x0a ∷ []) (ended Removed moves_on)
     ∷ case (waiting moves_on) inputs.Expiry
-      (clear_request 0x00 ∷ channel_release 2 0x0a 0x01 ∷ rf_channel_release 2 0x0a ∷ rf_channel_release 1 0x0a ∷ [])
-      (ended (Closed (WasAsked 0x800001)) moves_on)
+    (clear_request 0x00 ∷ channel_release 2 0x0a 0x01 ∷ rf_channel_release 2 0x0a ∷ rf_channel_release 1 0x0a ∷ [])
+    (ended (Closed (WasAsked 0x800001)) moves_on)
     ∷ case (waiting moves_on) inputs.DrainExpiry failed_there (ended (Closed (WasAsked 0x800001)) moves_on)
     -- the station of the serving channel; of the target and the old ones; of the old ones alone
     ∷ case (waiting moves_on) (inputs.StationDown 2) (clear_request 0x20 ∷ rf_channel_release 1 0x0a ∷ []) (ended (Closed (WasAsked 0x800001)) moves_on)
     ∷ case (waiting moves_on) (inputs.StationDown 1)
-      (clear_request 0x20 ∷ channel_release 2 0x0a 0x01 ∷ rf_channel_release 2 0x0a ∷ []) (ended (Closed (WasAsked 0x800001)) moves_on)
+    (clear_request 0x20 ∷ channel_release 2 0x0a 0x01 ∷ rf_channel_release 2 0x0a ∷ []) (ended (Closed (WasAsked 0x800001)) moves_on)
     ∷ case (waiting assigns) (inputs.StationDown 1)
-      (clear_request 0x20 ∷ channel_release 2 0x0a 0x01 ∷ rf_channel_release 2 0x0a ∷ rf_channel_release 2 0x0b ∷ [])
-      (ended (Closed (WasAsked 0x800001)) assigns)
+    (clear_request 0x20 ∷ channel_release 2 0x0a 0x01 ∷ rf_channel_release 2 0x0a ∷ rf_channel_release 2 0x0b ∷ [])
+    (ended (Closed (WasAsked 0x800001)) assigns)
     ∷ [])
 unfolding row_of out_of rsl_element_text
 ends_beside = refl
