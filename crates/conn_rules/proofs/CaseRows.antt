@@ -1,8 +1,8 @@
 -- What the tables of rows are made of: a connection before an event, what it puts, and the connection
 -- after the event, each of literals. The octets are those of the standards, and no definition makes them.
-use Rattle.conn_rules.proofs.Prelude.{◌≡◌, ℕ, Bool, true, false, List, [], ◌∷◌, ◌++◌, map, Option, Some, None, Channel, Change, hex, Input}
-use Rattle.conn_rules.proofs.Prelude.{Connection, Drain, Down, Live, ShortMessageLink, Stage, State, Target, Tenure, HoldState, ChainState, Place}
-use Rattle.conn_rules.proofs.Prelude.{Zero, Three, Assignment, Handover}
+use Rattle.conn_rules.proofs.Prelude.{◌≡◌, ℕ, Bool, true, false, List, [], ◌∷◌, ◌++◌, map, Option, Some, None, Channel}
+use Rattle.conn_rules.proofs.Prelude.{Change, hex, Input, Connection, Drain, Down, Live, ShortMessageLink, Stage, State, Target, Tenure}
+use Rattle.conn_rules.proofs.Prelude.{HoldState, ChainState, Place, Zero, Three, Assignment, Handover}
 use Rattle.conn_messages.specs.Out.{outs_of}
 use Rattle.conn_rules.specs.declared.input.Input.TheVariants as inputs
 use Rattle.conn_rules.specs.Steps.{Row}

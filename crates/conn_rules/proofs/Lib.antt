@@ -12,10 +12,10 @@ pub mod DownlinkSteps
 pub mod DownlinkTable
 mod DrainingRows
 mod Lives
+mod PreparingRows
 pub mod Roles
 pub mod RolesAccount
 pub mod RolesApart
-mod PreparingRows
 mod RolesRows
 pub mod RolesSteps
 pub mod RolesTable
@@ -31,6 +31,7 @@ pub mod UplinkRows
 pub mod UplinkSteps
 pub mod UplinkTable
 pub mod UplinkTenures
+mod ValidRows
 pub mod PutRows
 mod PutOnRows
 pub mod RowPuts
