@@ -1,16 +1,16 @@
 -- The rows of Changing: alone, and while old channels drain.
-use Rattle.conn_rules.proofs.Prelude.{ℕ, true, false, List, [], ◌∷◌, ◌++◌, replicate, Some, refl, Zero, Three, Connection}
-use Rattle.conn_rules.proofs.Prelude.{Place, Change, Input, Assignment, Handover, Active, Preparing, Changing, Draining, Closed, Removed}
-use Rattle.conn_rules.proofs.Prelude.{WasAsked, Complete, Tenure, Down, Asked}
+use Rattle.conn_rules.proofs.CaseRows.{in_state, NoneFit, complete, failure, links_on, changes_on, activations_on, all_on, answers}
+use Rattle.conn_rules.proofs.CaseRows.{AreRows, case, offered, live, with_texts, in_stage, ended, target, drains, is_done, held, held_up}
+use Rattle.conn_rules.proofs.CaseRows.{tenure, empty, call, text, relay, clear_request, clear_complete, assignment_failure, reversion}
+use Rattle.conn_rules.proofs.CaseRows.{assignment_complete, handover_performed, cipher_mode_reject, release_complete, hand}
+use Rattle.conn_rules.proofs.CaseRows.{establish_request, channel_release, rf_channel_release, activation}
+use Rattle.conn_rules.proofs.Prelude.{Live, hex, ℕ, true, false, List, [], ◌∷◌, ◌++◌, replicate, Some, refl, Zero, Three}
+use Rattle.conn_rules.proofs.Prelude.{Connection, Place, Change, Input, Assignment, Handover, Active, Preparing, Changing, Draining}
+use Rattle.conn_rules.proofs.Prelude.{Closed, Removed, WasAsked, Complete, Tenure, Down, Asked}
+use Rattle.conn_rules.proofs.Lives.{put, Put, cell_1, cell_2, again, on_1, on_2, request}
 use Rattle.conn_messages.specs.Out.{out_of}
 use Rattle.conn_rules.specs.declared.input.Input.TheVariants as inputs
 use Rattle.conn_rules.specs.Table.{row_of}
-use Rattle.conn_rules.proofs.CaseRows.{NoneFit, complete, failure, links_on, changes_on, activations_on, all_on, answers, AreRows, case}
-use Rattle.conn_rules.proofs.CaseRows.{offered, live, with_texts, in_stage, ended, target, drains, is_done, held, held_up, tenure, empty}
-use Rattle.conn_rules.proofs.CaseRows.{call, text, relay, clear_request, clear_complete, assignment_failure, reversion}
-use Rattle.conn_rules.proofs.CaseRows.{assignment_complete, handover_performed, cipher_mode_reject, release_complete, hand}
-use Rattle.conn_rules.proofs.CaseRows.{establish_request, channel_release, rf_channel_release, activation}
-use Rattle.conn_rules.proofs.Lives.{Put, cell_1, cell_2, again, on_1, on_2, request}
 use Rattle.rsl_codec.specs.RslText.{rsl_element_text}
 
 abbrev pub waiting : Connection → Connection
@@ -338,6 +338,32 @@ ends_beside : AreRows (
     ∷ [])
 unfolding row_of out_of rsl_element_text
 ends_beside = refl
+
+-- ---- a switch that calls the connection 80000f; a request waits
+
+abbrev other : Connection
+other = record (waiting moving) { state = Live 0x80000f (Changing (target Handover (cell_2 0x41))) }
+
+another_reference : AreRows (
+    case other (inputs.Complete (on_2 0x41) Handover (record { 0 = 0 }))
+    (put 0 (hex "06 80 00 0f 00 01 10 00 0e 17 04 01 0c 05 08 00 00 f1 10 00 01 00 02") ∷ rf_channel_release 1 0x41
+    ∷ hand 2 0x41 0x00 (call 6)
+    ∷ hand 2 0x41 0x00 (call 7) ∷ establish_request 2 0x41 0x03 ∷ put 0 (hex "06 80 00 0f 00 01 06 00 04 03 04 01 21") ∷ [])
+    (record moved { state = Live 0x80000f Draining })
+    ∷ case other (inputs.Failure (on_1 0x41) Handover (record { 0 = 0 }))
+    (rf_channel_release 2 0x41 ∷ returned_puts ++ put 0 (hex "06 80 00 0f 00 01 06 00 04 03 04 01 21") ∷ [])
+    (in_state (Live 0x80000f Active) (returned moving))
+    ∷ case (record assigning { state = Live 0x80000f (Changing (target Assignment (cell_1 0x0a))) })
+    (inputs.Failure (on_1 0x41) Assignment (record { 0 = 3 }))
+    (put 0 (hex "06 80 00 0f 00 01 08 00 06 03 04 01 0a 15 03") ∷ rf_channel_release 1 0x0a ∷ returned_puts)
+    (in_state (Live 0x80000f Active) (returned assigning))
+    ∷ case other (inputs.Dtap (on_2 0x41) Zero (call 1))
+    (put 0 (hex "06 80 00 0f 00 01 06 00 04 22 04 01 20") ∷ channel_release 1 0x41 0x01 ∷ rf_channel_release 1 0x41
+    ∷ rf_channel_release 2 0x41 ∷ [])
+    (ended (Closed (WasAsked 0x80000f)) moving)
+    ∷ [])
+unfolding row_of out_of rsl_element_text
+another_reference = refl
 
 -- ---- nothing else has a row, whatever is offered: the links of the serving channel aren't looked at
 

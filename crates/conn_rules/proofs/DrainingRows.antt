@@ -1,14 +1,14 @@
 -- The rows of Draining, with one, two and three old channels, done ones among them.
-use Rattle.conn_rules.proofs.Prelude.{ℕ, true, false, List, [], ◌∷◌, ◌++◌, replicate, Some, None, refl, Zero, Three, hex}
+use Rattle.conn_rules.proofs.CaseRows.{in_state, NoneFit, links_on, changes_on, activations_on, all_on, answers, AreRows, case, offered}
+use Rattle.conn_rules.proofs.CaseRows.{live, with_texts, in_stage, ended, target, drains, is_done, held_up, tenure, empty, call, text}
+use Rattle.conn_rules.proofs.CaseRows.{relay, clear_request, clear_complete, assignment_failure, sapi_n_reject, cipher_mode_reject}
+use Rattle.conn_rules.proofs.CaseRows.{release_complete, hand, establish_request, channel_release, rf_channel_release, activation}
+use Rattle.conn_rules.proofs.Prelude.{Live, ℕ, true, false, List, [], ◌∷◌, ◌++◌, replicate, Some, None, refl, Zero, Three, hex}
 use Rattle.conn_rules.proofs.Prelude.{Connection, Place, Input, Assignment, Handover, Active, Preparing, Draining, Closed, Removed, Tenure}
 use Rattle.conn_rules.proofs.Prelude.{WasAsked, Complete, Drain, Down, Asked, Up}
 use Rattle.conn_messages.specs.Out.{out_of}
 use Rattle.conn_rules.specs.declared.input.Input.TheVariants as inputs
 use Rattle.conn_rules.specs.Table.{row_of}
-use Rattle.conn_rules.proofs.CaseRows.{NoneFit, links_on, changes_on, activations_on, all_on, answers, AreRows, case, offered, live}
-use Rattle.conn_rules.proofs.CaseRows.{with_texts, in_stage, ended, target, drains, is_done, held_up, tenure, empty, call, text, relay}
-use Rattle.conn_rules.proofs.CaseRows.{clear_request, clear_complete, assignment_failure, sapi_n_reject, cipher_mode_reject}
-use Rattle.conn_rules.proofs.CaseRows.{release_complete, hand, establish_request, channel_release, rf_channel_release, activation}
 use Rattle.conn_rules.proofs.Lives.{Put, put, cell_1, cell_2, again, on_1, on_2, request}
 use Rattle.rsl_codec.specs.RslText.{rsl_element_text}
 
@@ -323,6 +323,29 @@ in_use_again : AreRows (
     ∷ [])
 unfolding row_of out_of rsl_element_text
 in_use_again = refl
+
+-- ---- a switch that calls the connection 80000f
+
+abbrev other : Connection → Connection
+other s = record s { state = Live 0x80000f Draining }
+
+another_reference : AreRows (
+    case (other one) (inputs.ReleaseAck (on_1 0x0b))
+    (put 0 (hex "06 80 00 0f 00 01 05 01 00 02 03 03") ∷ put 0 (hex "06 80 00 0f 00 01 05 01 c3 02 09 03") ∷ [])
+    (record rested { state = Live 0x80000f Active })
+    ∷ case (other (waiting three)) (inputs.ReleaseAck (on_1 0x41))
+    (put 0 (hex "06 80 00 0f 00 01 05 01 00 02 03 02") ∷ put 0 (hex "06 80 00 0f 00 01 05 01 c3 02 09 02")
+    ∷ put 0 (hex "06 80 00 0f 00 01 06 00 04 03 04 01 21") ∷ []) (other two_left)
+    ∷ offered (cell_1 0x0c) (other (waiting three)) (inputs.ReleaseAck (on_1 0x41))
+    (put 0 (hex "06 80 00 0f 00 01 05 01 00 02 03 02") ∷ put 0 (hex "06 80 00 0f 00 01 05 01 c3 02 09 02") ∷ activation 1 0x0c
+    ∷ [])
+    (in_state (Live 0x80000f (Preparing (target Assignment (cell_1 0x0c)))) two_left)
+    ∷ case (other two) inputs.DrainExpiry
+    (put 0 (hex "06 80 00 0f 00 01 06 00 04 22 04 01 20") ∷ channel_release 2 0x0a 0x01 ∷ rf_channel_release 2 0x0a ∷ [])
+    (ended (Closed (WasAsked 0x80000f)) two)
+    ∷ [])
+unfolding row_of out_of rsl_element_text
+another_reference = refl
 
 -- ---- nothing else has a row, whatever is offered
 

@@ -1,14 +1,14 @@
 -- The rows of Preparing: alone, and while old channels drain.
-use Rattle.conn_rules.proofs.Prelude.{ℕ, true, false, List, [], ◌∷◌, ◌++◌, replicate, Some, None, refl, Zero, Three, hex}
+use Rattle.conn_rules.proofs.CaseRows.{in_state, NoneFit, links_on, dtap_on, changes_on, activations_on, all_on, answers, AreRows, case}
+use Rattle.conn_rules.proofs.CaseRows.{offered, live, with_texts, in_stage, ended, target, drains, is_done, held_up, tenure, empty, call}
+use Rattle.conn_rules.proofs.CaseRows.{text, relay, clear_request, clear_complete, assignment_failure, sapi_n_reject, cipher_mode_reject}
+use Rattle.conn_rules.proofs.CaseRows.{release_complete, hand, establish_request, channel_release, rf_channel_release, activation}
+use Rattle.conn_rules.proofs.Prelude.{Live, ℕ, true, false, List, [], ◌∷◌, ◌++◌, replicate, Some, None, refl, Zero, Three, hex}
 use Rattle.conn_rules.proofs.Prelude.{Connection, Place, Input, Assignment, Handover, Active, Preparing, Changing, Draining, Closed}
 use Rattle.conn_rules.proofs.Prelude.{Removed, WasAsked, Complete, Stage, Down, Asked, Up}
 use Rattle.conn_messages.specs.Out.{out_of}
 use Rattle.conn_rules.specs.declared.input.Input.TheVariants as inputs
 use Rattle.conn_rules.specs.Table.{row_of}
-use Rattle.conn_rules.proofs.CaseRows.{NoneFit, links_on, dtap_on, changes_on, activations_on, all_on, answers, AreRows, case, offered}
-use Rattle.conn_rules.proofs.CaseRows.{live, with_texts, in_stage, ended, target, drains, is_done, held_up, tenure, empty, call, text}
-use Rattle.conn_rules.proofs.CaseRows.{relay, clear_request, clear_complete, assignment_failure, sapi_n_reject, cipher_mode_reject}
-use Rattle.conn_rules.proofs.CaseRows.{release_complete, hand, establish_request, channel_release, rf_channel_release, activation}
 use Rattle.conn_rules.proofs.Lives.{Put, put, cell_1, cell_2, again, on_1, on_2, request}
 use Rattle.rsl_codec.specs.RslText.{rsl_element_text}
 
@@ -277,6 +277,30 @@ ends_beside : AreRows (
     ∷ [])
 unfolding row_of out_of rsl_element_text
 ends_beside = refl
+
+-- ---- a switch that calls the connection 80000f; a request waits
+
+abbrev other : Connection
+other = record (waiting assigning) { state = Live 0x80000f (Preparing (target Assignment (cell_1 0x0a))) }
+
+another_reference : AreRows (
+    case other (inputs.ActivationAck (on_1 0x0a)) (put 1 (hex "03 01 01 41 02 00 0b 00 06 06 2e 0a 20 14 00") ∷ [])
+    (with_texts Down two_texts (in_state (Live 0x80000f (Changing (target Assignment (cell_1 0x0a)))) other))
+    ∷ case other (inputs.ActivationNack (on_1 0x0a))
+    (put 0 (hex "06 80 00 0f 00 01 06 00 04 03 04 01 20") ∷ put 0 (hex "06 80 00 0f 00 01 06 00 04 03 04 01 21") ∷ [])
+    (in_state (Live 0x80000f Active) assigning)
+    ∷ offered (cell_1 0x0b) other (inputs.ActivationNack (on_1 0x0a))
+    (put 0 (hex "06 80 00 0f 00 01 06 00 04 03 04 01 20") ∷ activation 1 0x0b ∷ [])
+    (in_state (Live 0x80000f (Preparing (target Assignment (cell_1 0x0b)))) assigning)
+    ∷ case other request (put 0 (hex "06 80 00 0f 00 01 06 00 04 03 04 01 60") ∷ []) other
+    ∷ case other (inputs.AssignmentRequest false) (put 0 (hex "06 80 00 0f 00 01 06 00 04 03 04 01 25") ∷ []) other
+    ∷ case other inputs.Expiry
+    (put 0 (hex "06 80 00 0f 00 01 06 00 04 22 04 01 00") ∷ channel_release 1 0x41 0x01 ∷ rf_channel_release 1 0x41
+    ∷ rf_channel_release 1 0x0a ∷ [])
+    (ended (Closed (WasAsked 0x80000f)) assigning)
+    ∷ [])
+unfolding row_of out_of rsl_element_text
+another_reference = refl
 
 -- ---- nothing else has a row, whatever is offered
 
