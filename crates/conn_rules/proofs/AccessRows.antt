@@ -40,32 +40,33 @@ before_activation = refl
 
 -- ---- WaitEstablish
 
-abbrev told : Connection
-told = connection WaitEstablish (cell_1 0x41)
+abbrev channel_given : Connection
+channel_given = connection WaitEstablish (cell_1 0x41)
 
 before_the_mobile : AreRows (
-    case told (inputs.EstablishIndication (on_1 0x41) Zero (Some (hex "05 24 71")))
+    case channel_given (inputs.EstablishIndication (on_1 0x41) Zero (Some (hex "05 24 71")))
     (put 0 (hex "01 00 00 01 02 02 04 02 42 fe 0f 12 00 10 57 05 08 00 00 f1 10 00 01 00 01 17 03 05 24 71 00") ∷ [])
-    (in_state WaitConfirm told)
+    (in_state WaitConfirm channel_given)
     -- of connection 012345, on 49 of cell 2
     ∷ case (record (connection WaitEstablish (cell_2 0x49)) { number = 0x012345 })
     (inputs.EstablishIndication (on_2 0x49) Zero (Some (hex "05")))
     (put 0 (hex "01 01 23 45 02 02 04 02 42 fe 0f 10 00 0e 57 05 08 00 00 f1 10 00 01 00 02 17 01 05 00") ∷ [])
     (record (connection WaitConfirm (cell_2 0x49)) { number = 0x012345; waited = 0 })
     -- 113 octets are passed on, 114 aren't
-    ∷ case told (inputs.EstablishIndication (on_1 0x41) Zero (Some (replicate 113 0x05)))
+    ∷ case channel_given (inputs.EstablishIndication (on_1 0x41) Zero (Some (replicate 113 0x05)))
     (put 0 (hex "01 00 00 01 02 02 04 02 42 fe 0f 80 00 7e 57 05 08 00 00 f1 10 00 01 00 01 17 71" ++ replicate 113 0x05 ++ 0x00 ∷ [])
     ∷ [])
-    (in_state WaitConfirm told)
-    ∷ case told (inputs.EstablishIndication (on_1 0x41) Zero (Some (replicate 114 0x05))) (rf_channel_release 1 0x41 ∷ [])
-    (ended Removed told)
-    ∷ case told (inputs.EstablishIndication (on_1 0x41) Zero None) (rf_channel_release 1 0x41 ∷ []) (ended Removed told)
-    ∷ case told (inputs.Dtap (on_1 0x41) Zero (call 1)) (rf_channel_release 1 0x41 ∷ []) (ended Removed told)
-    ∷ case told (inputs.ReleaseIndication (on_1 0x41) Zero) (rf_channel_release 1 0x41 ∷ []) (ended Removed told)
-    ∷ case told (inputs.ConnectionFailure (on_1 0x41)) (rf_channel_release 1 0x41 ∷ []) (ended Removed told)
-    ∷ case told inputs.Expiry (rf_channel_release 1 0x41 ∷ []) (ended Removed told)
-    ∷ case told (inputs.StationDown 1) [] (ended Removed told)
-    ∷ case told inputs.SwitchDown (rf_channel_release 1 0x41 ∷ []) (ended Removed told)
+    (in_state WaitConfirm channel_given)
+    ∷ case channel_given (inputs.EstablishIndication (on_1 0x41) Zero (Some (replicate 114 0x05))) (rf_channel_release 1 0x41 ∷ [])
+    (ended Removed channel_given)
+    ∷ case channel_given (inputs.EstablishIndication (on_1 0x41) Zero None) (rf_channel_release 1 0x41 ∷ [])
+    (ended Removed channel_given)
+    ∷ case channel_given (inputs.Dtap (on_1 0x41) Zero (call 1)) (rf_channel_release 1 0x41 ∷ []) (ended Removed channel_given)
+    ∷ case channel_given (inputs.ReleaseIndication (on_1 0x41) Zero) (rf_channel_release 1 0x41 ∷ []) (ended Removed channel_given)
+    ∷ case channel_given (inputs.ConnectionFailure (on_1 0x41)) (rf_channel_release 1 0x41 ∷ []) (ended Removed channel_given)
+    ∷ case channel_given inputs.Expiry (rf_channel_release 1 0x41 ∷ []) (ended Removed channel_given)
+    ∷ case channel_given (inputs.StationDown 1) [] (ended Removed channel_given)
+    ∷ case channel_given inputs.SwitchDown (rf_channel_release 1 0x41 ∷ []) (ended Removed channel_given)
     ∷ [])
 unfolding row_of out_of rsl_element_text
 before_the_mobile = refl
@@ -131,6 +132,11 @@ once_closed : AreRows (
     ∷ case (closed (Closed Complete)) (inputs.Released 0x800001) (release_complete 0x01 ∷ []) (closed Removed)
     ∷ case (closed (Closed Complete)) (inputs.Released 0x800077) (release_complete 0x77 ∷ []) (closed Removed)
     ∷ case (closed (Closed Complete)) inputs.SwitchDown [] (closed Removed)
+    -- no timer runs in Closed; CC and CLEAR COMMAND enter it anew
+    ∷ case (record (closed (Closed (Due 0x20))) { waited = 700 }) (inputs.ConnectionConfirm 0x800001) (clear_request 0x20 ∷ [])
+    (closed (Closed (WasAsked 0x800001)))
+    ∷ case (record (closed (Closed (WasAsked 0x800001))) { waited = 700 }) inputs.ClearCommand (clear_complete ∷ [])
+    (closed (Closed Complete))
     -- RLC from connection 012345
     ∷ case (record (closed (Closed Complete)) { number = 0x012345 }) (inputs.Released 0x800077)
     (put 0 (hex "05 80 00 77 01 23 45") ∷ []) (record (closed Removed) { number = 0x012345 })
@@ -148,7 +154,7 @@ none_before_activation : NoneFit access (Some (cell_1 0x0a)) (
 unfolding row_of
 none_before_activation = refl
 
-none_before_the_mobile : NoneFit told (Some (cell_1 0x0a)) (
+none_before_the_mobile : NoneFit channel_given (Some (cell_1 0x0a)) (
     activations_on (on_1 0x41) ++ inputs.EstablishIndication (on_1 0x41) Three (Some (call 1)) ∷ inputs.EstablishConfirm (on_1 0x41) Zero
     ∷ inputs.EstablishConfirm (on_1 0x41) Three ∷ inputs.ReleaseIndication (on_1 0x41) Three
     ∷ inputs.ErrorIndication (on_1 0x41) Zero

@@ -209,7 +209,7 @@ moved_behind_two s = record (in_stage Draining s) {
   up = held_up (empty ∷ tenure (call 2 ∷ []) (text 2 ∷ []) ∷ tenure (call 3 ∷ []) (text 3 ∷ []) ∷ empty ∷ []);
 }
 
--- with three the request goes on waiting, also where one of them is done; the drain time runs on
+-- with three the request still waits, also where one of them is done; the drain time runs on
 completed_beside : AreRows (
     case moves_on (inputs.Complete (on_1 0x0a) Handover (record { 0 = 0 })) moved_beside_puts (moved_behind_two moves_on)
     ∷ offered (cell_1 0x12) (waiting moves_on) (inputs.Complete (on_1 0x0a) Handover (record { 0 = 0 })) moved_beside_puts
@@ -298,7 +298,7 @@ one_too_many : AreRows (
 unfolding row_of out_of rsl_element_text
 one_too_many = refl
 
--- an old channel leaves: the change goes on, and nothing begins
+-- an old channel leaves: the change continues, and nothing else begins
 released_beside : AreRows (
     offered (cell_2 0x0c) (waiting moves_on) (inputs.ReleaseAck (on_1 0x41)) (relay 0x00 (call 2) ∷ relay 0xc3 (text 2) ∷ [])
     (record (waiting moves_on)

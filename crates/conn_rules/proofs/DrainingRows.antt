@@ -83,7 +83,7 @@ released_of_one : AreRows (
 unfolding row_of out_of rsl_element_text
 released_of_one = refl
 
--- the timer of Draining goes on, the drain time begins anew with another oldest channel
+-- the timer of Draining runs on, and the drain time begins anew with another oldest channel
 released_of_two : AreRows (
     case two (inputs.ReleaseAck (on_1 0x41)) (relay 0x00 (call 2) ∷ relay 0xc3 (text 2) ∷ []) (record one { drained = 0 })
     ∷ case two (inputs.ReleaseAck (on_1 0x0b)) [] two_one_done
