@@ -1,4 +1,8 @@
 mod Prelude
+mod AccessRows
+mod ActiveRows
+mod CaseRows
+mod ChangingRows
 mod ChannelRows
 pub mod Channels
 pub mod Closing
@@ -6,7 +10,9 @@ pub mod Downlink
 pub mod DownlinkMessages
 pub mod DownlinkSteps
 pub mod DownlinkTable
+mod DrainingRows
 mod Lives
+mod PreparingRows
 pub mod Roles
 pub mod RolesAccount
 pub mod RolesApart
@@ -25,6 +31,7 @@ pub mod UplinkRows
 pub mod UplinkSteps
 pub mod UplinkTable
 pub mod UplinkTenures
+mod ValidRows
 pub mod PutRows
 mod PutOnRows
 pub mod RowPuts
