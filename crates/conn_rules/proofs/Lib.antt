@@ -7,6 +7,7 @@ pub mod DownlinkMessages
 pub mod DownlinkSteps
 pub mod DownlinkTable
 mod Lives
+mod PlantedRows
 pub mod Roles
 pub mod RolesAccount
 pub mod RolesApart
