@@ -1,11 +1,13 @@
 -- What a call makes of a connection and of the outputs that it was lent.
-use Rattle.std.specs.Prelude.{◌≡◌, ℕ, Bool, true, false, List, [], ◌++◌, Option, Some, None, Result, IfOk}
+use Rattle.std.specs.Prelude.{◌≡◌, ℕ, Bool, true, false, List, [], ◌++◌, Option, Some}
+use Rattle.std.specs.Prelude.{None, Result, IfOk, OnErr}
 use Rattle.bssmap_codec.specs.Layer3.{IsLayer3}
 use Rattle.conn_messages.specs.declared.out.Out.{Out}
 use Rattle.std.specs.List.{AllByRecursion}
 use Rattle.conn_messages.specs.Out.{IsSound, outs_of}
 use Rattle.conn_rules.specs.declared.input.Input.{Input}
-use Rattle.conn_rules.specs.declared.input.Input.TheVariants.{Expiry, DrainExpiry, StationDown, SwitchDown}
+use Rattle.conn_rules.specs.declared.input.Input.TheVariants.{Expiry, DrainExpiry, StationDown}
+use Rattle.conn_rules.specs.declared.input.Input.TheVariants.{SwitchDown}
 use Rattle.conn_rules.specs.declared.state.State.{State}
 use Rattle.conn_rules.specs.Connection.{Connection, emptied}
 use Rattle.conn_rules.specs.Steps.{Row}
@@ -21,8 +23,14 @@ Does r old new outs outs_after =
 abbrev pub IsUnchanged : Connection → Connection → List Out → List Out → Type 0
 IsUnchanged old new outs outs_after = (new ≡ old) × (outs_after ≡ outs)
 
+-- a refusal leaves the connection and the outputs as they were
+abbrev pub UnchangedOnErr : {T : Type 0} → Result T Memory →
+    Connection → Connection → List Out → List Out → Type 0
+UnchangedOnErr result old new outs outs_after = OnErr result (IsUnchanged old new outs outs_after)
+
 -- the row that fits is done; where none does, nothing changes
-abbrev pub Steps : Option Row → Bool → Connection → Connection → List Out → List Out → Type 0
+abbrev pub Steps : Option Row → Bool → Connection → Connection → List Out → List Out
+    → Type 0
 Steps (Some r) fits old new outs outs_after = (fits ≡ true) × Does r old new outs outs_after
 Steps None fits old new outs outs_after = (fits ≡ false) × IsUnchanged old new outs outs_after
 

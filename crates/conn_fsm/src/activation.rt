@@ -1,8 +1,8 @@
-ghost use Rattle.std.specs.Prelude.{OnOk, OnErr};
+ghost use Rattle.std.specs.Prelude.{OnOk};
 ghost use Rattle.conn_rules.specs.declared.state.State.TheVariants.{Live, WaitActivation};
 ghost use Rattle.conn_rules.specs.Table.{assign_immediately, command_to, on_activation_ack};
 ghost use Rattle.conn_rules.specs.Table.{on_activation_nack, refuse};
-ghost use Rattle.conn_fsm.specs.Doing.{Does, IsUnchanged, StepsOnOk};
+ghost use Rattle.conn_fsm.specs.Doing.{Does, StepsOnOk, UnchangedOnErr};
 
 use crate::machine::Machine;
 use crate::places::is_at;
@@ -23,7 +23,7 @@ impl Machine {
     ) -> Result<bool, Memory>
         ensures done { StepsOnOk result (on_activation_ack self.old.state self.old at)
             self.old self.new outputs.old.outs outputs.new.outs }
-        ensures err { OnErr result (IsUnchanged self.old self.new outputs.old.outs outputs.new.outs) }
+        ensures err { UnchangedOnErr result self.old self.new outputs.old.outs outputs.new.outs }
     {
         let state = self.state;
         match state {
@@ -36,7 +36,7 @@ impl Machine {
     fn access_activated(&mut self, at: &Place, outputs: &mut Outputs) -> Result<bool, Memory>
         ensures done { StepsOnOk result (on_activation_ack WaitActivation self.old at.now)
             self.old self.new outputs.old.outs outputs.new.outs }
-        ensures err { OnErr result (IsUnchanged self.old self.new outputs.old.outs outputs.new.outs) }
+        ensures err { UnchangedOnErr result self.old self.new outputs.old.outs outputs.new.outs }
     {
         if !is_at(at, &self.serving) {
             return Ok(false);
@@ -49,7 +49,7 @@ impl Machine {
     fn assign_immediately(&mut self, outputs: &mut Outputs) -> Result<(), Memory>
         ensures done { OnOk result (Does (assign_immediately self.old)
             self.old self.new outputs.old.outs outputs.new.outs) }
-        ensures err { OnErr result (IsUnchanged self.old self.new outputs.old.outs outputs.new.outs) }
+        ensures err { UnchangedOnErr result self.old self.new outputs.old.outs outputs.new.outs }
     {
         let mut put = Messages::new(self.alloc);
         put.push(immediate_assign_command(self.alloc, &self.serving, self.request, self.delay)?)?;
@@ -67,7 +67,7 @@ impl Machine {
     ) -> Result<bool, Memory>
         ensures done { StepsOnOk result (on_activation_ack (Live reference stage) self.old at.now)
             self.old self.new outputs.old.outs outputs.new.outs }
-        ensures err { OnErr result (IsUnchanged self.old self.new outputs.old.outs outputs.new.outs) }
+        ensures err { UnchangedOnErr result self.old self.new outputs.old.outs outputs.new.outs }
     {
         let Stage::Preparing(target) = stage else {
             return Ok(false);
@@ -88,7 +88,7 @@ impl Machine {
     ) -> Result<(), Memory>
         ensures done { OnOk result (Does (command_to reference target self.old)
             self.old self.new outputs.old.outs outputs.new.outs) }
-        ensures err { OnErr result (IsUnchanged self.old self.new outputs.old.outs outputs.new.outs) }
+        ensures err { UnchangedOnErr result self.old self.new outputs.old.outs outputs.new.outs }
     {
         let mut put = Messages::new(self.alloc);
         put.push(change_command(self.alloc, &self.serving, target.change, &target.channel)?)?;
@@ -107,7 +107,7 @@ impl Machine {
     ) -> Result<bool, Memory>
         ensures done { StepsOnOk result (on_activation_nack self.old.state self.old at offer)
             self.old self.new outputs.old.outs outputs.new.outs }
-        ensures err { OnErr result (IsUnchanged self.old self.new outputs.old.outs outputs.new.outs) }
+        ensures err { UnchangedOnErr result self.old self.new outputs.old.outs outputs.new.outs }
     {
         let state = self.state;
         match state {
@@ -133,7 +133,7 @@ impl Machine {
         ensures done { StepsOnOk result
             (on_activation_nack (Live reference stage) self.old at.now offer)
             self.old self.new outputs.old.outs outputs.new.outs }
-        ensures err { OnErr result (IsUnchanged self.old self.new outputs.old.outs outputs.new.outs) }
+        ensures err { UnchangedOnErr result self.old self.new outputs.old.outs outputs.new.outs }
     {
         let Stage::Preparing(target) = stage else {
             return Ok(false);
@@ -155,7 +155,7 @@ impl Machine {
     ) -> Result<(), Memory>
         ensures done { OnOk result (Does (refuse reference change offer self.old)
             self.old self.new outputs.old.outs outputs.new.outs) }
-        ensures err { OnErr result (IsUnchanged self.old self.new outputs.old.outs outputs.new.outs) }
+        ensures err { UnchangedOnErr result self.old self.new outputs.old.outs outputs.new.outs }
     {
         let mut put = Messages::new(self.alloc);
         if let Change::Assignment = change {

@@ -1,9 +1,10 @@
-ghost use Rattle.std.specs.Prelude.{◌≡◌, ◌<◌, ◌^◌, None, IfOk, OnErr};
+ghost use Rattle.std.specs.Prelude.{◌≡◌, ◌<◌, ◌^◌, None, IfOk};
 ghost use Rattle.conn_rules.specs.Connection.{new_connection};
 ghost use Rattle.conn_rules.specs.Validity.{IsCarried, IsValid};
 ghost use Rattle.conn_rules.specs.Table.{row_of, serving_after};
 ghost use Rattle.hold_queue.specs.HoldState.{messages};
-ghost use Rattle.conn_fsm.specs.Doing.{Commits, IsAsPlanned, IsPlanned, IsUnchanged, StepsOnOk, outs_in};
+ghost use Rattle.conn_fsm.specs.Doing.{Commits, IsAsPlanned, IsPlanned, StepsOnOk, UnchangedOnErr};
+ghost use Rattle.conn_fsm.specs.Doing.{outs_in};
 ghost use Rattle.conn_rules.specs.Timers.{after_pass};
 ghost use Rattle.conn_fsm.specs.Views.{joined};
 
@@ -68,7 +69,7 @@ impl Conn {
         requires { IsCarried input }
         ensures done { StepsOnOk result (row_of self.old input offer)
             self.old self.new outputs.old.outs outputs.new.outs }
-        ensures err { OnErr result (IsUnchanged self.old self.new outputs.old.outs outputs.new.outs) }
+        ensures err { UnchangedOnErr result self.old self.new outputs.old.outs outputs.new.outs }
     {
         self.machine.step(input, offer, outputs)
     }

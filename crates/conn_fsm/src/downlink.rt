@@ -5,7 +5,7 @@ ghost use Rattle.std.specs.List.{AllByRecursion};
 ghost use Rattle.conn_messages.specs.StationMessage as words;
 ghost use Rattle.conn_rules.specs.Steps.{hold_down, hold_short_message, short_message};
 ghost use Rattle.conn_rules.specs.Table.{on_downlink};
-ghost use Rattle.conn_fsm.specs.Doing.{Does, IsUnchanged, StepsOnOk};
+ghost use Rattle.conn_fsm.specs.Doing.{Does, StepsOnOk, UnchangedOnErr};
 
 use crate::machine::Machine;
 use conn_messages::causes::EQUIPMENT_FAILURE;
@@ -28,7 +28,7 @@ impl Machine {
         requires { IsLayer3 message }
         ensures done { StepsOnOk result (on_downlink self.old.state self.old sapi message)
             self.old self.new outputs.old.outs outputs.new.outs }
-        ensures err { OnErr result (IsUnchanged self.old self.new outputs.old.outs outputs.new.outs) }
+        ensures err { UnchangedOnErr result self.old self.new outputs.old.outs outputs.new.outs }
     {
         let state = self.state;
         match (state, sapi) {
@@ -63,7 +63,7 @@ impl Machine {
     ) -> Result<(), Memory>
         ensures done { OnOk result (Does (hold_down self.old.state sapi message self.old)
             self.old self.new outputs.old.outs outputs.new.outs) }
-        ensures err { OnErr result (IsUnchanged self.old self.new outputs.old.outs outputs.new.outs) }
+        ensures err { UnchangedOnErr result self.old self.new outputs.old.outs outputs.new.outs }
     {
         match self.down.put(sapi, message.into_vec()) {
             Ok(()) => Ok(()),
@@ -78,7 +78,7 @@ impl Machine {
         ensures done { OnOk result (Does
             (short_message self.old.state self.old.link message self.old)
             self.old self.new outputs.old.outs outputs.new.outs) }
-        ensures err { OnErr result (IsUnchanged self.old self.new outputs.old.outs outputs.new.outs) }
+        ensures err { UnchangedOnErr result self.old self.new outputs.old.outs outputs.new.outs }
     {
         match self.link {
             ShortMessageLink::Up => self.hand(Sapi::Three, message, outputs),
@@ -93,7 +93,7 @@ impl Machine {
     fn hold_short_message(&mut self, message: Octets, outputs: &mut Outputs) -> Result<(), Memory>
         ensures done { OnOk result (Does (hold_short_message self.old.state message self.old)
             self.old self.new outputs.old.outs outputs.new.outs) }
-        ensures err { OnErr result (IsUnchanged self.old self.new outputs.old.outs outputs.new.outs) }
+        ensures err { UnchangedOnErr result self.old self.new outputs.old.outs outputs.new.outs }
     {
         if self.down.is_full() {
             return self.fail(EQUIPMENT_FAILURE, outputs);

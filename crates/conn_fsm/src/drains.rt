@@ -1,4 +1,6 @@
-ghost use Rattle.std.specs.Prelude.{◌≡◌, ◌<◌, ◌≤◌, ◌↔◌, [], ◌∷◌, ◌++◌, length, false, IsTrue, IfOk, slice_get, drop as dropped};
+ghost use Rattle.std.specs.Prelude.{◌≡◌, ◌<◌, ◌≤◌, ◌↔◌, [], ◌∷◌};
+ghost use Rattle.std.specs.Prelude.{◌++◌, length, false, IsTrue, IfOk, slice_get};
+ghost use Rattle.std.specs.Prelude.{drop as dropped};
 ghost use Rattle.conn_rules.specs.Connection.{drain_at};
 ghost use Rattle.conn_rules.specs.Steps.{done_at};
 ghost use Rattle.conn_rules.specs.Table.{drains_at};

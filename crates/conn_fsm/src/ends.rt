@@ -1,6 +1,6 @@
-ghost use Rattle.std.specs.Prelude.{◌≡◌, ◌++◌, OnOk, OnErr};
+ghost use Rattle.std.specs.Prelude.{◌≡◌, ◌++◌, OnOk};
 ghost use Rattle.conn_rules.specs.Steps.{dropping, ending, end_outs, failing, target_release};
-ghost use Rattle.conn_fsm.specs.Doing.{Does, IsUnchanged};
+ghost use Rattle.conn_fsm.specs.Doing.{Does, UnchangedOnErr};
 
 use crate::machine::Machine;
 use conn_messages::causes::ABNORMAL_RELEASE;
@@ -36,7 +36,8 @@ impl Machine {
 
     /// fail: the switch is asked to clear, once it confirmed the connection.
     pub(crate) fn put_failing(&self, cause: u8, put: &mut Messages) -> Result<(), Memory>
-        ensures { OnOk result (put.new ≡ put.old ++ (failing self.now.state self.now cause).outs) }
+        ensures { OnOk result (put.new ≡ put.old
+            ++ (failing self.now.state self.now cause).outs) }
     {
         let state = self.state;
         if let State::Live(reference, _) = state {
@@ -59,7 +60,7 @@ impl Machine {
     pub(crate) fn fail(&mut self, cause: u8, outputs: &mut Outputs) -> Result<(), Memory>
         ensures done { OnOk result (Does (failing self.old.state self.old cause)
             self.old self.new outputs.old.outs outputs.new.outs) }
-        ensures err { OnErr result (IsUnchanged self.old self.new outputs.old.outs outputs.new.outs) }
+        ensures err { UnchangedOnErr result self.old self.new outputs.old.outs outputs.new.outs }
     {
         let mut put = Messages::new(self.alloc);
         self.put_failing(cause, &mut put)?;
@@ -77,7 +78,7 @@ impl Machine {
     ) -> Result<(), Memory>
         ensures done { OnOk result (Does (ending self.old.state self.old cause last)
             self.old self.new outputs.old.outs outputs.new.outs) }
-        ensures err { OnErr result (IsUnchanged self.old self.new outputs.old.outs outputs.new.outs) }
+        ensures err { UnchangedOnErr result self.old self.new outputs.old.outs outputs.new.outs }
     {
         let mut put = Messages::new(self.alloc);
         self.put_end(cause, &mut put)?;
@@ -90,7 +91,7 @@ impl Machine {
     pub(crate) fn drop_channel(&mut self, outputs: &mut Outputs) -> Result<(), Memory>
         ensures done { OnOk result (Does (dropping self.old)
             self.old self.new outputs.old.outs outputs.new.outs) }
-        ensures err { OnErr result (IsUnchanged self.old self.new outputs.old.outs outputs.new.outs) }
+        ensures err { UnchangedOnErr result self.old self.new outputs.old.outs outputs.new.outs }
     {
         let mut put = Messages::new(self.alloc);
         put.push(rf_channel_release(&self.serving))?;

@@ -1,9 +1,11 @@
-ghost use Rattle.std.specs.Prelude.{◌≡◌, [], ◌∷◌, ◌++◌, Some, OnOk, OnErr};
+ghost use Rattle.std.specs.Prelude.{◌≡◌, [], ◌∷◌, ◌++◌, Some, OnOk};
 ghost use Rattle.conn_rules.specs.declared.state.ShortMessageLink.TheVariants.{Asked};
 ghost use Rattle.conn_rules.specs.Validity.{IsValid};
 ghost use Rattle.conn_rules.specs.Steps.{link_down, link_up};
-ghost use Rattle.conn_rules.specs.Table.{access, on_connection_failure, on_error_indication, on_establish_confirm, on_establish_indication, on_release_indication};
-ghost use Rattle.conn_fsm.specs.Doing.{Does, IsInitial, IsUnchanged, StepsOnOk};
+ghost use Rattle.conn_rules.specs.Table.{access, on_connection_failure, on_error_indication};
+ghost use Rattle.conn_rules.specs.Table.{on_establish_confirm, on_establish_indication};
+ghost use Rattle.conn_rules.specs.Table.{on_release_indication};
+ghost use Rattle.conn_fsm.specs.Doing.{Does, IsInitial, StepsOnOk, UnchangedOnErr};
 
 use crate::machine::Machine;
 use crate::places::is_at;
@@ -26,12 +28,12 @@ impl Machine {
         message: Option<Octets>,
         outputs: &mut Outputs,
     ) -> Result<bool, Memory>
-        requires stands { IsValid self.old }
+        requires valid { IsValid self.old }
         requires layer3 { IsInitial message }
         ensures done { StepsOnOk result
             (on_establish_indication self.old.state self.old at sapi message)
             self.old self.new outputs.old.outs outputs.new.outs }
-        ensures err { OnErr result (IsUnchanged self.old self.new outputs.old.outs outputs.new.outs) }
+        ensures err { UnchangedOnErr result self.old self.new outputs.old.outs outputs.new.outs }
     {
         if !is_at(&at, &self.serving) {
             return Ok(false);
@@ -56,7 +58,7 @@ impl Machine {
         requires { IsInitial message }
         ensures done { OnOk result (Does (access message self.old)
             self.old self.new outputs.old.outs outputs.new.outs) }
-        ensures err { OnErr result (IsUnchanged self.old self.new outputs.old.outs outputs.new.outs) }
+        ensures err { UnchangedOnErr result self.old self.new outputs.old.outs outputs.new.outs }
     {
         match message {
             Some(initial) if initial.len() <= INITIAL_LIMIT => {
@@ -77,7 +79,7 @@ impl Machine {
         requires { IsValid self.old }
         ensures done { OnOk result (Does (link_up self.old)
             self.old self.new outputs.old.outs outputs.new.outs) }
-        ensures err { OnErr result (IsUnchanged self.old self.new outputs.old.outs outputs.new.outs) }
+        ensures err { UnchangedOnErr result self.old self.new outputs.old.outs outputs.new.outs }
     {
         let mut put = Messages::new(self.alloc);
         self.put_held(&self.serving, Sapi::Three, &mut put)?;
@@ -91,7 +93,7 @@ impl Machine {
     fn link_down(&mut self, reference: Reference, outputs: &mut Outputs) -> Result<(), Memory>
         ensures done { OnOk result (Does (link_down self.old.link reference self.old)
             self.old self.new outputs.old.outs outputs.new.outs) }
-        ensures err { OnErr result (IsUnchanged self.old self.new outputs.old.outs outputs.new.outs) }
+        ensures err { UnchangedOnErr result self.old self.new outputs.old.outs outputs.new.outs }
     {
         if let ShortMessageLink::Asked = self.link {
             let mut put = Messages::new(self.alloc);
@@ -113,7 +115,7 @@ impl Machine {
         requires { IsValid self.old }
         ensures done { StepsOnOk result (on_establish_confirm self.old.state self.old at sapi)
             self.old self.new outputs.old.outs outputs.new.outs }
-        ensures err { OnErr result (IsUnchanged self.old self.new outputs.old.outs outputs.new.outs) }
+        ensures err { UnchangedOnErr result self.old self.new outputs.old.outs outputs.new.outs }
     {
         let ShortMessageLink::Asked = self.link else {
             return Ok(false);
@@ -141,7 +143,7 @@ impl Machine {
     ) -> Result<bool, Memory>
         ensures done { StepsOnOk result (on_error_indication self.old.state self.old at sapi)
             self.old self.new outputs.old.outs outputs.new.outs }
-        ensures err { OnErr result (IsUnchanged self.old self.new outputs.old.outs outputs.new.outs) }
+        ensures err { UnchangedOnErr result self.old self.new outputs.old.outs outputs.new.outs }
     {
         if !is_at(&at, &self.serving) {
             return Ok(false);
@@ -170,7 +172,7 @@ impl Machine {
     ) -> Result<bool, Memory>
         ensures done { StepsOnOk result (on_release_indication self.old.state self.old at sapi)
             self.old self.new outputs.old.outs outputs.new.outs }
-        ensures err { OnErr result (IsUnchanged self.old self.new outputs.old.outs outputs.new.outs) }
+        ensures err { UnchangedOnErr result self.old self.new outputs.old.outs outputs.new.outs }
     {
         match sapi {
             Sapi::Zero => self.on_connection_failure(at, outputs),
@@ -186,7 +188,7 @@ impl Machine {
     ) -> Result<bool, Memory>
         ensures done { StepsOnOk result (on_connection_failure self.old.state self.old at)
             self.old self.new outputs.old.outs outputs.new.outs }
-        ensures err { OnErr result (IsUnchanged self.old self.new outputs.old.outs outputs.new.outs) }
+        ensures err { UnchangedOnErr result self.old self.new outputs.old.outs outputs.new.outs }
     {
         if !is_at(&at, &self.serving) {
             return Ok(false);

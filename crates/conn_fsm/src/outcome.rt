@@ -1,10 +1,10 @@
-ghost use Rattle.std.specs.Prelude.{◌≡◌, ℕ, ◌<◌, ◌≤◌, None, length, OnOk, OnErr};
+ghost use Rattle.std.specs.Prelude.{◌≡◌, ℕ, ◌<◌, ◌≤◌, None, length, OnOk};
 ghost use Rattle.conn_rules.specs.declared.limits.TheConstants.{DRAIN_LIMIT};
 ghost use Rattle.conn_rules.specs.Validity.{IsValid};
 ghost use Rattle.conn_rules.specs.Steps.{moved};
 ghost use Rattle.conn_rules.specs.Table.{complete, failure, on_complete, on_failure};
 ghost use Rattle.conn_rules.specs.Table.{row_of, serving_after};
-ghost use Rattle.conn_fsm.specs.Doing.{Does, IsUnchanged, StepsOnOk};
+ghost use Rattle.conn_fsm.specs.Doing.{Does, StepsOnOk, UnchangedOnErr};
 
 use crate::machine::Machine;
 use crate::places::{is_at, same_change};
@@ -31,7 +31,7 @@ impl Machine {
         ensures done { StepsOnOk result
             (on_complete self.old.state self.old at change cause.0 offer)
             self.old self.new outputs.old.outs outputs.new.outs }
-        ensures err { OnErr result (IsUnchanged self.old self.new outputs.old.outs outputs.new.outs) }
+        ensures err { UnchangedOnErr result self.old self.new outputs.old.outs outputs.new.outs }
     {
         let state = self.state;
         let State::Live(reference, stage) = state else {
@@ -56,12 +56,12 @@ impl Machine {
         offer: Option<Channel>,
         outputs: &mut Outputs,
     ) -> Result<(), Memory>
-        requires stands { IsValid self.old }
+        requires valid { IsValid self.old }
         requires few { length self.old.draining < DRAIN_LIMIT }
         requires tenures { length self.old.up.tenures ≤ DRAIN_LIMIT }
         ensures done { OnOk result (Does (complete reference change channel cause.0 offer self.old)
             self.old self.new outputs.old.outs outputs.new.outs) }
-        ensures err { OnErr result (IsUnchanged self.old self.new outputs.old.outs outputs.new.outs) }
+        ensures err { UnchangedOnErr result self.old self.new outputs.old.outs outputs.new.outs }
     {
         let mut put = Messages::new(self.alloc);
         put.push(change_complete(
@@ -135,7 +135,7 @@ impl Machine {
         requires { IsValid self.old }
         ensures done { StepsOnOk result (on_failure self.old.state self.old at change cause.0 offer)
             self.old self.new outputs.old.outs outputs.new.outs }
-        ensures err { OnErr result (IsUnchanged self.old self.new outputs.old.outs outputs.new.outs) }
+        ensures err { UnchangedOnErr result self.old self.new outputs.old.outs outputs.new.outs }
     {
         let state = self.state;
         let State::Live(reference, stage) = state else {
@@ -163,7 +163,7 @@ impl Machine {
         requires { IsValid self.old }
         ensures done { OnOk result (Does (failure reference change channel cause.0 offer self.old)
             self.old self.new outputs.old.outs outputs.new.outs) }
-        ensures err { OnErr result (IsUnchanged self.old self.new outputs.old.outs outputs.new.outs) }
+        ensures err { UnchangedOnErr result self.old self.new outputs.old.outs outputs.new.outs }
     {
         let mut put = Messages::new(self.alloc);
         if let Change::Assignment = change {

@@ -1,7 +1,8 @@
 ghost use Rattle.std.specs.Prelude.{◌≡◌, ◌++◌, IfOk, OnOk, Some, None, filter, not};
 ghost use Rattle.conn_messages.specs.Out.{IsSound, outs_of};
 ghost use Rattle.std.specs.List.{AllByRecursion};
-ghost use Rattle.conn_messages.specs.declared.causes.TheConstants.{ABNORMAL_RELEASE, EQUIPMENT_FAILURE};
+ghost use Rattle.conn_messages.specs.declared.causes.TheConstants.{ABNORMAL_RELEASE};
+ghost use Rattle.conn_messages.specs.declared.causes.TheConstants.{EQUIPMENT_FAILURE};
 ghost use Rattle.conn_rules.specs.Steps.{dropping, end_outs, failing, is_for_station};
 ghost use Rattle.conn_rules.specs.Steps.{target_release, without_station};
 ghost use Rattle.conn_rules.specs.Table.{on_drain_expiry, on_expiry};

@@ -1,9 +1,10 @@
-ghost use Rattle.std.specs.Prelude.{◌≡◌, ◌<◌, ◌≤◌, ◌+◌, ◌&&◌, ◌++◌, length, OnOk, OnErr, drop as dropped};
+ghost use Rattle.std.specs.Prelude.{◌≡◌, ◌<◌, ◌≤◌, ◌+◌, ◌&&◌, ◌++◌};
+ghost use Rattle.std.specs.Prelude.{length, OnOk, drop as dropped};
 ghost use Rattle.conn_rules.specs.declared.state.State.TheVariants.{Live};
 ghost use Rattle.conn_rules.specs.Validity.{FirstIsEmpty, IsValid};
 ghost use Rattle.conn_rules.specs.Steps.{done_at, may_begin, settled};
 ghost use Rattle.conn_rules.specs.Table.{on_release_ack, release};
-ghost use Rattle.conn_fsm.specs.Doing.{Does, IsUnchanged, StepsOnOk};
+ghost use Rattle.conn_fsm.specs.Doing.{Does, StepsOnOk, UnchangedOnErr};
 ghost use Rattle.conn_fsm.specs.Leaving.{left, left_outs, oldest_left};
 
 use crate::machine::Machine;
@@ -23,7 +24,7 @@ impl Machine {
         requires { IsValid self.old }
         ensures done { StepsOnOk result (on_release_ack self.old.state self.old at offer)
             self.old self.new outputs.old.outs outputs.new.outs }
-        ensures err { OnErr result (IsUnchanged self.old self.new outputs.old.outs outputs.new.outs) }
+        ensures err { UnchangedOnErr result self.old self.new outputs.old.outs outputs.new.outs }
     {
         let state = self.state;
         let State::Live(reference, stage) = state else {
@@ -47,12 +48,12 @@ impl Machine {
         offer: &Option<Channel>,
         outputs: &mut Outputs,
     ) -> Result<(), Memory>
-        requires stands { IsValid self.old }
+        requires valid { IsValid self.old }
         requires live { self.old.state ≡ Live reference stage.now }
         requires within { place < length self.old.draining }
         ensures done { OnOk result (Does (release reference stage.now place offer.now self.old)
             self.old self.new outputs.old.outs outputs.new.outs) }
-        ensures err { OnErr result (IsUnchanged self.old self.new outputs.old.outs outputs.new.outs) }
+        ensures err { UnchangedOnErr result self.old self.new outputs.old.outs outputs.new.outs }
     {
         let leaves = self.draining.leaving(place);
         let begins = self.begins_without(leaves, stage);
@@ -88,7 +89,7 @@ impl Machine {
         leaves: usize,
         put: &mut Messages,
     ) -> Result<(), Memory>
-        requires stands { IsValid self.now }
+        requires valid { IsValid self.now }
         requires few { leaves ≤ length self.now.draining }
         ensures { OnOk result (put.new ≡ put.old ++ left_outs reference leaves self.now) }
     {

@@ -2,9 +2,10 @@ ghost use Rattle.std.specs.Prelude.{◌≡◌, [], ◌∷◌, ◌++◌, None, On
 ghost use Rattle.std.specs.List.{AllByRecursion};
 ghost use Rattle.conn_messages.specs.Out.{IsSound, outs_of};
 ghost use Rattle.conn_messages.specs.SwitchMessage as words;
-ghost use Rattle.conn_rules.specs.Steps.{after_begin, after_waiting, begin, begin_outs, may_begin, waiting_outs};
+ghost use Rattle.conn_rules.specs.Steps.{after_begin, after_waiting, begin, begin_outs, may_begin};
+ghost use Rattle.conn_rules.specs.Steps.{waiting_outs};
 ghost use Rattle.conn_rules.specs.Table.{on_move, on_assignment_request};
-ghost use Rattle.conn_fsm.specs.Doing.{Does, IsUnchanged, StepsOnOk};
+ghost use Rattle.conn_fsm.specs.Doing.{Does, StepsOnOk, UnchangedOnErr};
 
 use crate::machine::Machine;
 use bssmap_codec::Reference;
@@ -24,7 +25,7 @@ impl Machine {
     ) -> Result<bool, Memory>
         ensures done { StepsOnOk result (on_move self.old.state self.old offer)
             self.old self.new outputs.old.outs outputs.new.outs }
-        ensures err { OnErr result (IsUnchanged self.old self.new outputs.old.outs outputs.new.outs) }
+        ensures err { UnchangedOnErr result self.old self.new outputs.old.outs outputs.new.outs }
     {
         let state = self.state;
         match state {
@@ -46,7 +47,7 @@ impl Machine {
         ensures done { StepsOnOk result
             (on_assignment_request self.old.state self.old is_speech offer)
             self.old self.new outputs.old.outs outputs.new.outs }
-        ensures err { OnErr result (IsUnchanged self.old self.new outputs.old.outs outputs.new.outs) }
+        ensures err { UnchangedOnErr result self.old self.new outputs.old.outs outputs.new.outs }
     {
         let state = self.state;
         let State::Live(reference, stage) = state else {
@@ -103,7 +104,7 @@ impl Machine {
     ) -> Result<(), Memory>
         ensures done { OnOk result (Does (begin reference change.now offer.now self.old)
             self.old self.new outputs.old.outs outputs.new.outs) }
-        ensures err { OnErr result (IsUnchanged self.old self.new outputs.old.outs outputs.new.outs) }
+        ensures err { UnchangedOnErr result self.old self.new outputs.old.outs outputs.new.outs }
     {
         let mut put = Messages::new(self.alloc);
         self.put_begin(reference, change, *offer, &mut put)?;

@@ -1,8 +1,8 @@
-ghost use Rattle.std.specs.Prelude.{◌≡◌, None, IfOk, OnErr};
+ghost use Rattle.std.specs.Prelude.{◌≡◌, None, IfOk};
 ghost use Rattle.conn_rules.specs.Validity.{IsCarried, IsValid};
 ghost use Rattle.conn_rules.specs.Table.{row_of};
 ghost use Rattle.conn_fsm.specs.Doing.{Closes, Commits, Finishes, IsAsPlanned, IsPlanned};
-ghost use Rattle.conn_fsm.specs.Doing.{IsUnchanged, StepsOnOk, outs_in};
+ghost use Rattle.conn_fsm.specs.Doing.{StepsOnOk, UnchangedOnErr, outs_in};
 ghost use Rattle.conn_fsm.specs.Endings.{PlansOnOk};
 ghost use Rattle.conn_rules.specs.Timers.{after_pass};
 
@@ -23,11 +23,11 @@ impl Machine {
         offer: Option<Channel>,
         outputs: &mut Outputs,
     ) -> Result<bool, Memory>
-        requires stands { IsValid self.old }
+        requires valid { IsValid self.old }
         requires carried { IsCarried input }
         ensures done { StepsOnOk result (row_of self.old input offer)
             self.old self.new outputs.old.outs outputs.new.outs }
-        ensures err { OnErr result (IsUnchanged self.old self.new outputs.old.outs outputs.new.outs) }
+        ensures err { UnchangedOnErr result self.old self.new outputs.old.outs outputs.new.outs }
     {
         match input {
             Input::ActivationAck { at } => self.on_activation_ack(at, outputs),
@@ -67,7 +67,7 @@ impl Machine {
         requires { IsPlanned input.now }
         ensures done { StepsOnOk result (row_of self.old input.now None)
             self.old self.new outputs.old.outs outputs.new.outs }
-        ensures err { OnErr result (IsUnchanged self.old self.new outputs.old.outs outputs.new.outs) }
+        ensures err { UnchangedOnErr result self.old self.new outputs.old.outs outputs.new.outs }
     {
         let ending = self.ending(input)?;
         self.end_as(ending, outputs)
@@ -77,7 +77,7 @@ impl Machine {
     fn end_as(&mut self, ending: Ending, outputs: &mut Outputs) -> Result<bool, Memory>
         ensures done { IfOk result (λ fits. Finishes ending.last ending.outputs.outs fits
             self.old self.new outputs.old.outs outputs.new.outs) }
-        ensures err { OnErr result (IsUnchanged self.old self.new outputs.old.outs outputs.new.outs) }
+        ensures err { UnchangedOnErr result self.old self.new outputs.old.outs outputs.new.outs }
     {
         let Ending {
             outputs: made,

@@ -1,8 +1,9 @@
-ghost use Rattle.std.specs.Prelude.{◌≡◌, [], ◌∷◌, ◌++◌, OnErr};
+ghost use Rattle.std.specs.Prelude.{◌≡◌, [], ◌∷◌, ◌++◌};
 ghost use Rattle.conn_rules.specs.declared.state.State.TheVariants.{Closed};
 ghost use Rattle.conn_rules.specs.Validity.{IsValid};
-ghost use Rattle.conn_rules.specs.Table.{on_cipher_mode_command, on_clear_command, on_confirm, on_refused, on_released};
-ghost use Rattle.conn_fsm.specs.Doing.{IsUnchanged, StepsOnOk};
+ghost use Rattle.conn_rules.specs.Table.{on_cipher_mode_command, on_clear_command, on_confirm};
+ghost use Rattle.conn_rules.specs.Table.{on_refused, on_released};
+ghost use Rattle.conn_fsm.specs.Doing.{StepsOnOk, UnchangedOnErr};
 
 use crate::machine::Machine;
 use bssmap_codec::Reference;
@@ -25,7 +26,7 @@ impl Machine {
         requires { IsValid self.old }
         ensures done { StepsOnOk result (on_confirm self.old.state self.old source)
             self.old self.new outputs.old.outs outputs.new.outs }
-        ensures err { OnErr result (IsUnchanged self.old self.new outputs.old.outs outputs.new.outs) }
+        ensures err { UnchangedOnErr result self.old self.new outputs.old.outs outputs.new.outs }
     {
         let state = self.state;
         let mut put = Messages::new(self.alloc);
@@ -50,7 +51,7 @@ impl Machine {
     pub(crate) fn on_refused(&mut self, outputs: &mut Outputs) -> Result<bool, Memory>
         ensures done { StepsOnOk result (on_refused self.old.state self.old)
             self.old self.new outputs.old.outs outputs.new.outs }
-        ensures err { OnErr result (IsUnchanged self.old self.new outputs.old.outs outputs.new.outs) }
+        ensures err { UnchangedOnErr result self.old self.new outputs.old.outs outputs.new.outs }
     {
         let state = self.state;
         match state {
@@ -70,7 +71,7 @@ impl Machine {
     ) -> Result<bool, Memory>
         ensures done { StepsOnOk result (on_released self.old.state self.old source)
             self.old self.new outputs.old.outs outputs.new.outs }
-        ensures err { OnErr result (IsUnchanged self.old self.new outputs.old.outs outputs.new.outs) }
+        ensures err { UnchangedOnErr result self.old self.new outputs.old.outs outputs.new.outs }
     {
         let state = self.state;
         let mut put = Messages::new(self.alloc);
@@ -89,7 +90,7 @@ impl Machine {
     pub(crate) fn on_cipher_mode_command(&mut self, outputs: &mut Outputs) -> Result<bool, Memory>
         ensures done { StepsOnOk result (on_cipher_mode_command self.old.state self.old)
             self.old self.new outputs.old.outs outputs.new.outs }
-        ensures err { OnErr result (IsUnchanged self.old self.new outputs.old.outs outputs.new.outs) }
+        ensures err { UnchangedOnErr result self.old self.new outputs.old.outs outputs.new.outs }
     {
         let state = self.state;
         let State::Live(reference, _) = state else {
@@ -105,7 +106,7 @@ impl Machine {
     pub(crate) fn on_clear_command(&mut self, outputs: &mut Outputs) -> Result<bool, Memory>
         ensures done { StepsOnOk result (on_clear_command self.old.state self.old)
             self.old self.new outputs.old.outs outputs.new.outs }
-        ensures err { OnErr result (IsUnchanged self.old self.new outputs.old.outs outputs.new.outs) }
+        ensures err { UnchangedOnErr result self.old self.new outputs.old.outs outputs.new.outs }
     {
         let state = self.state;
         match state {
@@ -126,7 +127,7 @@ impl Machine {
     fn clear_closed(&mut self, clearing: Clearing, outputs: &mut Outputs) -> Result<bool, Memory>
         ensures done { StepsOnOk result (on_clear_command (Closed clearing) self.old)
             self.old self.new outputs.old.outs outputs.new.outs }
-        ensures err { OnErr result (IsUnchanged self.old self.new outputs.old.outs outputs.new.outs) }
+        ensures err { UnchangedOnErr result self.old self.new outputs.old.outs outputs.new.outs }
     {
         let Clearing::Asked(reference) = clearing else {
             return Ok(false);

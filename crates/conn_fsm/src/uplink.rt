@@ -1,4 +1,5 @@
-ghost use Rattle.std.specs.Prelude.{◌≡◌, ◌<◌, ◌≤◌, [], ◌∷◌, ◌++◌, length, map, OnOk, OnErr};
+ghost use Rattle.std.specs.Prelude.{◌≡◌, ◌<◌, ◌≤◌, [], ◌∷◌, ◌++◌, length};
+ghost use Rattle.std.specs.Prelude.{map, OnOk, OnErr};
 ghost use Rattle.std.specs.List.{AllByRecursion};
 ghost use Rattle.bssmap_codec.specs.Layer3.{IsLayer3};
 ghost use Rattle.conn_messages.specs.Out.{IsSound, outs_of};
@@ -9,7 +10,7 @@ ghost use Rattle.conn_rules.specs.Validity.{IsValid};
 ghost use Rattle.conn_rules.specs.Steps.{hold_up};
 ghost use Rattle.conn_rules.specs.Table.{dtap_before_access, dtap_on_target, on_dtap, relay_dtap};
 ghost use Rattle.hold_queue.specs.ChainState.{messages_in};
-ghost use Rattle.conn_fsm.specs.Doing.{Does, IsUnchanged, StepsOnOk};
+ghost use Rattle.conn_fsm.specs.Doing.{Does, StepsOnOk, UnchangedOnErr};
 ghost use Rattle.conn_fsm.specs.Leaving.{channel_of, outs_of_tenure};
 
 use crate::machine::Machine;
@@ -33,11 +34,11 @@ impl Machine {
         message: Octets,
         outputs: &mut Outputs,
     ) -> Result<bool, Memory>
-        requires stands { IsValid self.old }
+        requires valid { IsValid self.old }
         requires layer3 { IsLayer3 message }
         ensures done { StepsOnOk result (on_dtap self.old.state self.old at sapi message)
             self.old self.new outputs.old.outs outputs.new.outs }
-        ensures err { OnErr result (IsUnchanged self.old self.new outputs.old.outs outputs.new.outs) }
+        ensures err { UnchangedOnErr result self.old self.new outputs.old.outs outputs.new.outs }
     {
         let state = self.state;
         match state {
@@ -70,7 +71,7 @@ impl Machine {
     ) -> Result<bool, Memory>
         ensures done { StepsOnOk result (dtap_before_access self.old at.now sapi)
             self.old self.new outputs.old.outs outputs.new.outs }
-        ensures err { OnErr result (IsUnchanged self.old self.new outputs.old.outs outputs.new.outs) }
+        ensures err { UnchangedOnErr result self.old self.new outputs.old.outs outputs.new.outs }
     {
         match sapi {
             Sapi::Zero if is_at(at, &self.serving) => {
@@ -93,7 +94,7 @@ impl Machine {
         requires { self.old.state ≡ Live reference stage }
         ensures done { StepsOnOk result (dtap_on_target reference stage self.old at.now sapi)
             self.old self.new outputs.old.outs outputs.new.outs }
-        ensures err { OnErr result (IsUnchanged self.old self.new outputs.old.outs outputs.new.outs) }
+        ensures err { UnchangedOnErr result self.old self.new outputs.old.outs outputs.new.outs }
     {
         match (stage, sapi) {
             (Stage::Changing(target), Sapi::Zero) if is_at(at, &target.channel) => {
@@ -136,7 +137,7 @@ impl Machine {
         requires { tenure < length self.old.up.tenures }
         ensures done { OnOk result (Does (hold_up self.old.state tenure sapi message self.old)
             self.old self.new outputs.old.outs outputs.new.outs) }
-        ensures err { OnErr result (IsUnchanged self.old self.new outputs.old.outs outputs.new.outs) }
+        ensures err { UnchangedOnErr result self.old self.new outputs.old.outs outputs.new.outs }
     {
         match self.up.put(tenure, sapi, message.into_vec()) {
             Ok(()) => Ok(()),

@@ -13,6 +13,7 @@ pub mod DownlinkTable
 mod DrainingRows
 mod Lives
 mod PreparingRows
+mod PlantedRows
 pub mod Roles
 pub mod RolesAccount
 pub mod RolesApart

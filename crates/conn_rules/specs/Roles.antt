@@ -1,6 +1,7 @@
 -- The roles of channels in a connection, and what rows do to them: the serving channel, the target
 -- of a change, old channels.
-use Rattle.std.specs.Prelude.{◌≡◌, ◌⊎◌, ℕ, Bool, true, false, not, ◌&&◌, if◌then◌else◌, List, []}
+use Rattle.std.specs.Prelude.{◌≡◌, ◌⊎◌, ℕ, Bool, true, false, not, ◌&&◌}
+use Rattle.std.specs.Prelude.{if◌then◌else◌, List, []}
 use Rattle.std.specs.Prelude.{◌∷◌, ◌++◌, filter, Option, Some, None, Contains}
 use Rattle.std.specs.List.{AllByRecursion}
 use Rattle.std.specs.Option.{option_to_list}
@@ -136,7 +137,8 @@ change_by _ = Assignment
 abbrev pub MayBegin : Option Target → Input → Option Channel → Roles → Type 0
 MayBegin None input offer roles = Unit {0}
 MayBegin (Some target) input offer roles =
-    (target.change ≡ change_by input) × (offer ≡ Some target.channel) × (roles.target ≡ None)
+    (target.change ≡ change_by input) × (offer ≡ Some target.channel)
+    × (roles.target ≡ None)
 
 -- ---- what is put
 
@@ -252,7 +254,8 @@ pub data ChangesRoles (s : Connection) (input : Input) (offer : Option Channel)
       → ChangesRoles s input offer r
   ends : IsOpen s.state → (IsOpen r.next.state → ⊥) → Ends (roles_of s) input r
       → ChangesRoles s input offer r
-  had_ended : (IsOpen s.state → ⊥) → (IsOpen r.next.state → ⊥) → to_stations r.outs ≡ []
+  had_ended : (IsOpen s.state → ⊥) → (IsOpen r.next.state → ⊥)
+      → to_stations r.outs ≡ []
       → ChangesRoles s input offer r
 
 -- where no row fits, the input brings no step
@@ -302,8 +305,10 @@ pub record KeepsAccount (s : Connection) (input : Input) (offer : Option Channel
       → Contains (channels_in_use r.next) c ⊎ IsGivenUp c input r.outs
   pub takes : (c : Channel) → Contains (channels_in_use r.next) c
       → Contains (channels_in_use s) c ⊎ IsTaken c input offer r.outs
-  pub begins_to_drain : IsOpen r.next.state → (c : Channel) → Contains (undone r.next.draining) c
-      → Contains (undone s.draining) c ⊎ ((c ≡ s.serving) × Contains r.outs (rf_channel_release c))
+  pub begins_to_drain : IsOpen r.next.state → (c : Channel)
+      → Contains (undone r.next.draining) c
+      → Contains (undone s.draining) c
+      ⊎ ((c ≡ s.serving) × Contains r.outs (rf_channel_release c))
   pub drains : IsOpen r.next.state → (c : Channel) → Contains (undone s.draining) c
       → Contains (undone r.next.draining) c ⊎ IsAcknowledged c input
 

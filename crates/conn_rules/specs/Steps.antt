@@ -1,7 +1,7 @@
 -- What rows are put together of: a row is the messages put, in order, and the connection after it.
 use Rattle.std.specs.Prelude.{ℕ, zero, suc, ◌==◌, ◌&&◌, nat_lt, Bool, true, false, not}
-use Rattle.std.specs.Prelude.{if◌then◌else◌, List, [], ◌∷◌, ◌++◌, length, map, filter, drop, Option}
-use Rattle.std.specs.Prelude.{Some, None}
+use Rattle.std.specs.Prelude.{if◌then◌else◌, List, [], ◌∷◌, ◌++◌, length, map}
+use Rattle.std.specs.Prelude.{filter, drop, Option, Some, None}
 use Rattle.conn_messages.specs.declared.causes.TheConstants.{ABNORMAL_RELEASE, EQUIPMENT_FAILURE}
 use Rattle.conn_messages.specs.declared.causes.TheConstants.{NO_RADIO_RESOURCE}
 use Rattle.conn_messages.specs.declared.channel.Change.{Change}
@@ -75,7 +75,8 @@ is_for_station station (Station to message) = to == station
 is_for_station station _ = false
 
 abbrev pub without_station : ℕ → Row → Row
-without_station station r = row (filter (λ message. not (is_for_station station message)) r.outs) r.next
+without_station station r =
+    row (filter (λ message. not (is_for_station station message)) r.outs) r.next
 
 -- ---- changes begin
 
@@ -138,8 +139,7 @@ abbrev pub hold_down : State → Sapi → List ℕ → Connection → Row
 hold_down state sapi message s =
     if count s.down == s.down.limit then failing state s EQUIPMENT_FAILURE
     else row [] (record s {
-      down =
-          with_messages s.down sapi (messages s.down sapi ++ message ∷ []);
+      down = with_messages s.down sapi (messages s.down sapi ++ message ∷ []);
     })
 
 -- the held messages of a SAPI are handed
@@ -157,7 +157,10 @@ request_where _ serving = []
 abbrev pub hold_short_message : State → List ℕ → Connection → Row
 hold_short_message state message s =
     if count s.down == s.down.limit then failing state s EQUIPMENT_FAILURE
-    else row (request_where s.link s.serving) (record s { link = Asked; down = with_messages s.down Three (messages s.down Three ++ message ∷ []) })
+    else row (request_where s.link s.serving) (record s {
+      link = Asked;
+      down = with_messages s.down Three (messages s.down Three ++ message ∷ []);
+    })
 
 abbrev pub short_message : State → ShortMessageLink → List ℕ → Connection → Row
 short_message state Up message s = row (handing s.serving Three message ∷ []) s
@@ -221,16 +224,19 @@ done_at (suc place) (d ∷ ds) = d ∷ done_at place ds
 -- the oldest leaves, and its tenure with it; the drain time of the next begins
 abbrev pub shifted : List Drain → Connection → Connection
 shifted draining s =
-    record s { draining = draining; up = record s.up { tenures = drop 1 s.up.tenures }; drained = 0 }
+    record s {
+      draining = draining;
+      up = record s.up { tenures = drop 1 s.up.tenures };
+      drained = 0;
+    }
 
 -- while the oldest is done, it leaves, and what is held of the next is relayed
 abbrev pub leave : ℕ → List Drain → Connection → Row
 leave reference [] s = row [] (record s { draining = [] })
 leave reference (d ∷ ds) s =
-    if d.is_done then (row [] (shifted ds s) then relay_held reference then leave reference ds) else row [] (record s {
-      draining =
-          d ∷ ds;
-    })
+    if d.is_done
+    then (row [] (shifted ds s) then relay_held reference then leave reference ds)
+    else row [] (record s { draining = d ∷ ds })
 
 -- Draining without an old channel is Active
 abbrev pub settled_stage : Stage → List Drain → Stage

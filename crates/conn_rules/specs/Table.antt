@@ -1,7 +1,8 @@
 -- The table of a connection: for each input, by the state, the one row that fits; None where none
 -- does.
-use Rattle.std.specs.Prelude.{ℕ, zero, suc, ◌==◌, ◌||◌, ◌&&◌, nat_le, Bool, true, false, not}
-use Rattle.std.specs.Prelude.{if◌then◌else◌, List, [], ◌∷◌, ◌++◌, length, Option, Some, None}
+use Rattle.std.specs.Prelude.{ℕ, zero, suc, ◌==◌, ◌||◌, ◌&&◌, nat_le, Bool, true}
+use Rattle.std.specs.Prelude.{false, not, if◌then◌else◌, List, [], ◌∷◌, ◌++◌}
+use Rattle.std.specs.Prelude.{length, Option, Some, None}
 use Rattle.conn_messages.specs.declared.causes.TheConstants.{ABNORMAL_RELEASE, BSS_NOT_EQUIPPED}
 use Rattle.conn_messages.specs.declared.causes.TheConstants.{EQUIPMENT_FAILURE, NORMAL_EVENT}
 use Rattle.conn_messages.specs.declared.causes.TheConstants.{PROTOCOL_ERROR}
@@ -55,10 +56,8 @@ assign_immediately s =
 -- the mobile is commanded to the target
 abbrev pub command_to : ℕ → Target → Connection → Row
 command_to reference target s =
-    row (change_command s.serving target.change target.channel ∷ []) (enter (Live reference (Changing target)) (record s {
-      link =
-          Down;
-    }))
+    row (change_command s.serving target.change target.channel ∷ [])
+    (enter (Live reference (Changing target)) (record s { link = Down }))
 
 abbrev pub on_activation_ack : State → Connection → Place → Option Row
 on_activation_ack WaitActivation s at = row_if (is_at at s.serving) (assign_immediately s)
@@ -152,9 +151,11 @@ relay_dtap reference sapi message s =
     row (relaying reference (first_channel s.draining s.serving) sapi message ∷ []) s
 
 -- of the first tenure it is relayed, of another it is held
-abbrev pub dtap_in : Option ℕ → ℕ → Stage → Connection → Place → Sapi → List ℕ → Option Row
+abbrev pub dtap_in : Option ℕ → ℕ → Stage → Connection → Place → Sapi → List ℕ
+    → Option Row
 dtap_in (Some zero) reference stage s at sapi message = Some (relay_dtap reference sapi message s)
-dtap_in (Some (suc tenure)) reference stage s at sapi message = Some (hold_up (Live reference stage) (suc tenure) sapi message s)
+dtap_in (Some (suc tenure)) reference stage s at sapi message =
+    Some (hold_up (Live reference stage) (suc tenure) sapi message s)
 dtap_in None reference stage s at sapi message = dtap_on_target reference stage s at sapi
 
 -- before its first message the mobile sends nothing else
@@ -183,10 +184,11 @@ complete reference change channel cause offer s =
     ∷ []) (moved reference channel s)
     then hand_held Zero then ask_for_held then begin_waiting Draining reference offer
 
-abbrev pub on_complete : State → Connection → Place → Change → ℕ → Option Channel → Option Row
+abbrev pub on_complete : State → Connection → Place → Change → ℕ → Option Channel
+    → Option Row
 on_complete (Live reference (Changing target)) s at change cause offer =
-    row_if (is_at at target.channel
-    && same_change change target.change) (complete reference change target.channel cause offer s)
+    row_if (is_at at target.channel && same_change change target.change)
+    (complete reference change target.channel cause offer s)
 on_complete _ s at change cause offer = None
 
 -- the switch learns of an assignment that the mobile refused
@@ -198,11 +200,13 @@ failure_outs Handover reference cause = []
 -- FAILURE of the serving channel: the mobile is back, and the target is released
 abbrev pub failure : ℕ → Change → Channel → ℕ → Option Channel → Connection → Row
 failure reference change channel cause offer s =
-    row (failure_outs change reference cause ++ rf_channel_release channel ∷ []) (resting reference s)
+    row (failure_outs change reference cause ++ rf_channel_release channel ∷ [])
+    (resting reference s)
     then hand_held Zero then ask_for_held
     then begin_waiting (resting_stage s.draining) reference offer
 
-abbrev pub on_failure : State → Connection → Place → Change → ℕ → Option Channel → Option Row
+abbrev pub on_failure : State → Connection → Place → Change → ℕ → Option Channel
+    → Option Row
 on_failure (Live reference (Changing target)) s at change cause offer =
     row_if (is_at at s.serving && same_change change target.change)
     (failure reference change target.channel cause offer s)
@@ -215,7 +219,8 @@ release reference stage place offer s =
     then (λ left. row [] (settled reference stage left.draining left))
     then (λ rests. begin_waiting (settled_stage stage rests.draining) reference offer rests)
 
-abbrev pub release_in : Option ℕ → ℕ → Stage → Option Channel → Connection → Option Row
+abbrev pub release_in : Option ℕ → ℕ → Stage → Option Channel → Connection
+    → Option Row
 release_in (Some place) reference stage offer s = Some (release reference stage place offer s)
 release_in None reference stage offer s = None
 
@@ -306,14 +311,16 @@ is_some_draining [] = false
 is_some_draining (d ∷ ds) = true
 
 abbrev pub on_drain_expiry : State → Connection → Option Row
-on_drain_expiry (Live reference stage) s = row_if (is_some_draining s.draining) (failing (Live reference stage) s EQUIPMENT_FAILURE)
+on_drain_expiry (Live reference stage) s =
+    row_if (is_some_draining s.draining) (failing (Live reference stage) s EQUIPMENT_FAILURE)
 on_drain_expiry _ s = None
 
 -- a station whose break the connection notices: that of the serving channel, of the target, or of
 -- an old channel that isn't done
 abbrev pub drains_at : ℕ → List Drain → Bool
 drains_at station [] = false
-drains_at station (d ∷ ds) = (d.channel.station == station && not d.is_done) || drains_at station ds
+drains_at station (d ∷ ds) =
+    (d.channel.station == station && not d.is_done) || drains_at station ds
 
 abbrev pub targets : ℕ → Stage → Bool
 targets station (Preparing target) = target.channel.station == station
@@ -330,7 +337,8 @@ on_station_down WaitConfirm s station =
     (without_station station (failing WaitConfirm s EQUIPMENT_FAILURE))
 on_station_down (Live reference stage) s station =
     row_if (s.serving.station == station || targets station stage
-    || drains_at station s.draining) (without_station station (failing (Live reference stage) s EQUIPMENT_FAILURE))
+    || drains_at station s.draining)
+    (without_station station (failing (Live reference stage) s EQUIPMENT_FAILURE))
 on_station_down _ s station = None
 
 abbrev pub on_switch_down : State → Connection → Option Row

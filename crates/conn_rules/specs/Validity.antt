@@ -1,5 +1,6 @@
 -- What holds of every connection, whatever came to it.
-use Rattle.std.specs.Prelude.{◌≡◌, ℕ, ◌+◌, ◌≤◌, ◌<◌, Bool, true, false, List, [], ◌∷◌, length, Some}
+use Rattle.std.specs.Prelude.{◌≡◌, ℕ, ◌+◌, ◌≤◌, ◌<◌, Bool, true, false, List}
+use Rattle.std.specs.Prelude.{[], ◌∷◌, length, Some}
 use Rattle.std.specs.List.{AllByRecursion}
 use Rattle.conn_rules.specs.declared.limits.TheConstants.{DOWN_LIMIT, DRAIN_LIMIT, UP_LIMIT}
 use Rattle.conn_rules.specs.declared.input.Input.{Input}
@@ -46,7 +47,8 @@ IsAskedFor Asked three = Unit {0}
 IsAskedFor _ three = three ≡ []
 
 -- how many old channels a stage has, what its holds have, and where a request waits
-abbrev pub IsValidStage : Stage → List Drain → HoldState → ShortMessageLink → Bool → Type 0
+abbrev pub IsValidStage : Stage → List Drain → HoldState → ShortMessageLink → Bool
+    → Type 0
 IsValidStage Active draining down link waits =
     (draining ≡ []) × (down.zero ≡ []) × IsAskedFor link down.three × (waits ≡ false)
 IsValidStage (Preparing target) draining down link waits =
@@ -81,8 +83,8 @@ pub record IsLive (stage : Stage) (draining : List Drain) (down : HoldState) (te
   pub oldest : OldestDrains draining
   pub stands : IsValidStage stage draining down link waits
 
-abbrev pub IsValidState : State → List Drain → HoldState → List Tenure → ShortMessageLink → Bool
-    → Type 0
+abbrev pub IsValidState : State → List Drain → HoldState → List Tenure → ShortMessageLink
+    → Bool → Type 0
 IsValidState WaitActivation draining down tenures link waits =
     IsBare draining down tenures waits × (link ≡ Down)
 IsValidState WaitEstablish draining down tenures link waits =

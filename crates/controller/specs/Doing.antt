@@ -1,5 +1,6 @@
 -- What a call makes of the controller and of the outputs.
-use Rattle.std.specs.Prelude.{◌≡◌, ℕ, Bool, false, List, [], ◌++◌, fold, Option, Some, None}
+use Rattle.std.specs.Prelude.{◌≡◌, ℕ, Bool, false, List, [], ◌++◌, fold, Option, Some}
+use Rattle.std.specs.Prelude.{None, Result, OnErr}
 use Rattle.std.specs.Option.{is_some}
 use Rattle.conn_messages.specs.declared.channel.Channel.{Channel}
 use Rattle.conn_messages.specs.declared.message.Message.{Message}
@@ -16,6 +17,11 @@ Turns t old new outs outs_after = (new ≡ t.next) × (outs_after ≡ outs ++ t.
 -- nothing changed
 abbrev pub IsUnchanged : Controller → Controller → List Out → List Out → Type 0
 IsUnchanged old new outs outs_after = (new ≡ old) × (outs_after ≡ outs)
+
+-- a refusal leaves the controller and the outputs as they were
+abbrev pub UnchangedOnErr : {T E : Type 0} → Result T E →
+    Controller → Controller → List Out → List Out → Type 0
+UnchangedOnErr result old new outs outs_after = OnErr result (IsUnchanged old new outs outs_after)
 
 -- whether a row fits
 abbrev pub fits_in : Controller → Input → Option Entry → Bool

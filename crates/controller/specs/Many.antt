@@ -1,6 +1,7 @@
 -- What comes to all connections: which of them do a step, and what their steps make of the
 -- controller.
-use Rattle.std.specs.Prelude.{◌≡◌, ◌≢◌, ℕ, List, [], ◌∷◌, find, length, Option, Some, None}
+use Rattle.std.specs.Prelude.{◌≡◌, ◌≢◌, ℕ, List, [], ◌∷◌, find, length, Option}
+use Rattle.std.specs.Prelude.{Some, None}
 use Rattle.std.specs.List.{AllByRecursion, flat_map}
 use Rattle.conn_fsm.specs.Doing.{IsAsPlanned, IsPlanned, outs_in}
 use Rattle.conn_fsm.specs.PlanState.{PlanState}

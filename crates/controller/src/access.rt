@@ -1,9 +1,10 @@
-ghost use Rattle.std.specs.Prelude.{◌≡◌, ◌≢◌, ◌<◌, ◌≤◌, ◌^◌, [], ◌∷◌, length, IfOk, OnOk, OnErr};
+ghost use Rattle.std.specs.Prelude.{◌≡◌, ◌≢◌, ◌<◌, ◌≤◌, ◌^◌, []};
+ghost use Rattle.std.specs.Prelude.{◌∷◌, length, IfOk, OnOk};
 ghost use Rattle.conn_messages.specs.Out.{IsLawfulMessage, outs_of};
 ghost use Rattle.conn_messages.specs.StationMessage.{access_activation};
 ghost use Rattle.connections.specs.Entries.{IsOfCell};
 ghost use Rattle.controller_model.specs.Life as words;
-ghost use Rattle.controller.specs.Doing.{IsUnchanged, Turns};
+ghost use Rattle.controller.specs.Doing.{Turns, UnchangedOnErr};
 
 use crate::controller::Controller;
 use conn_fsm::{Channel, Outputs};
@@ -27,7 +28,7 @@ impl Controller {
         requires { station ≢ 0 }
         ensures ok { OnOk result (Turns (words.asked self.old station request delay)
             self.old self.new outputs.old.outs outputs.new.outs) }
-        ensures err { OnErr result (IsUnchanged self.old self.new outputs.old.outs outputs.new.outs) }
+        ensures err { UnchangedOnErr result self.old self.new outputs.old.outs outputs.new.outs }
     {
         if !self.may_open() {
             self.ignore();
@@ -60,7 +61,7 @@ impl Controller {
         requires channel { IsOfCell self.old.settings channel }
         ensures ok { OnOk result (Turns (words.with_connection self.old channel request delay)
             self.old self.new outputs.old.outs outputs.new.outs) }
-        ensures err { OnErr result (IsUnchanged self.old self.new outputs.old.outs outputs.new.outs) }
+        ensures err { UnchangedOnErr result self.old self.new outputs.old.outs outputs.new.outs }
     {
         let number = self.next_number;
         let made = activation_frames(self.alloc, number, &channel, outputs)?;
@@ -92,7 +93,8 @@ fn activation_frames(
 }
 
 fn activation_messages(alloc: Global, channel: &Channel) -> Result<Messages, Memory>
-    ensures messages { IfOk result (λ messages. messages ≡ access_activation channel.now ∷ []) }
+    ensures messages { IfOk result
+        (λ messages. messages ≡ access_activation channel.now ∷ []) }
     ensures lawful { IfOk result (λ _. IsLawfulMessage (access_activation channel.now)) }
 {
     let activation = access_activation(alloc, channel)?;

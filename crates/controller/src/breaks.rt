@@ -1,7 +1,7 @@
-ghost use Rattle.std.specs.Prelude.{◌≡◌, ◌≤◌, OnOk, OnErr};
+ghost use Rattle.std.specs.Prelude.{◌≡◌, ◌≤◌, OnOk};
 ghost use Rattle.controller_model.specs.Controller.{with_down};
 ghost use Rattle.controller_model.specs.Life as words;
-ghost use Rattle.controller.specs.Doing.{IsUnchanged, Turns};
+ghost use Rattle.controller.specs.Doing.{Turns, UnchangedOnErr};
 
 use crate::controller::Controller;
 use crate::many::Cause;
@@ -16,7 +16,7 @@ impl Controller {
     pub(crate) fn on_break(&mut self, source: u16, outputs: &mut Outputs) -> Result<(), Memory>
         ensures ok { OnOk result (Turns (words.on_break source self.old)
             self.old self.new outputs.old.outs outputs.new.outs) }
-        ensures err { OnErr result (IsUnchanged self.old self.new outputs.old.outs outputs.new.outs) }
+        ensures err { UnchangedOnErr result self.old self.new outputs.old.outs outputs.new.outs }
     {
         let planned = self.plan_with_room(&Cause::Break(source), outputs)?;
         self.take_down(source);

@@ -1,11 +1,12 @@
-ghost use Rattle.std.specs.Prelude.{◌≡◌, OnOk, OnErr, None};
+ghost use Rattle.std.specs.Prelude.{◌≡◌, OnOk, None};
 ghost use Rattle.std.specs.Option.{is_some};
 ghost use Rattle.conn_rules.specs.declared.input.Input.TheVariants as inputs;
 ghost use Rattle.conn_rules.specs.Validity.{IsCarried};
 ghost use Rattle.conn_rules.specs.Table.{row_of};
 ghost use Rattle.controller_model.specs.Controller as words;
-ghost use Rattle.controller_model.specs.Life.{concerning_too, entry_at, frees as is_freed, on_state};
-ghost use Rattle.controller.specs.Doing.{IsUnchanged, Turns};
+ghost use Rattle.controller_model.specs.Life.{concerning_too, entry_at, frees as is_freed};
+ghost use Rattle.controller_model.specs.Life.{on_state};
+ghost use Rattle.controller.specs.Doing.{Turns, UnchangedOnErr};
 ghost use Rattle.controller.specs.Offers.{awaits as awaits_by};
 
 use crate::controller::Controller;
@@ -29,7 +30,7 @@ impl Controller {
         ensures ok { OnOk result (Turns (on_state (words.channel_state self.old at.now) at.now input
             self.old (entry_at self.old (words.channel_state self.old at.now)))
             self.old self.new outputs.old.outs outputs.new.outs) }
-        ensures err { OnErr result (IsUnchanged self.old self.new outputs.old.outs outputs.new.outs) }
+        ensures err { UnchangedOnErr result self.old self.new outputs.old.outs outputs.new.outs }
     {
         let state = self.channels.state(*at);
         let Some(number) = holder(&state) else {
@@ -56,7 +57,7 @@ impl Controller {
         ensures ok { OnOk result (Turns (concerning_too input (words.freed at.now self.old)
             (words.entry_of self.old number))
             self.old self.new outputs.old.outs outputs.new.outs) }
-        ensures err { OnErr result (IsUnchanged self.old self.new outputs.old.outs outputs.new.outs) }
+        ensures err { UnchangedOnErr result self.old self.new outputs.old.outs outputs.new.outs }
     {
         let state = self.channels.state(*at);
         self.channels.set(*at, ChannelState::Free);

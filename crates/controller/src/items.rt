@@ -1,7 +1,7 @@
 ghost use Rattle.std.specs.Prelude.{◌≡◌, ◌++◌, ◌∷◌, [], OnOk, OnErr, IfErr};
 ghost use Rattle.controller_model.specs.Life as words;
 ghost use Rattle.controller_model.specs.Reading.{word_of};
-ghost use Rattle.controller.specs.Doing.{IsUnchanged, Turns};
+ghost use Rattle.controller.specs.Doing.{Turns, UnchangedOnErr};
 ghost use Rattle.controller_parts.specs.Words.{IsFromSource, IsCarriedWord};
 
 use crate::controller::Controller;
@@ -21,7 +21,7 @@ impl Controller {
     pub fn step(&mut self, item: Item, outputs: &mut Outputs) -> Result<(), Item>
         ensures ok { OnOk result (Turns (words.take item self.old)
             self.old self.new outputs.old.outs outputs.new.outs) }
-        ensures err { OnErr result (IsUnchanged self.old self.new outputs.old.outs outputs.new.outs) }
+        ensures err { UnchangedOnErr result self.old self.new outputs.old.outs outputs.new.outs }
         ensures back { IfErr result (λ refused. refused ≡ item) }
     {
         match self.take(&item, outputs) {
@@ -34,7 +34,7 @@ impl Controller {
     fn take(&mut self, item: &Item, outputs: &mut Outputs) -> Result<(), Memory>
         ensures ok { OnOk result (Turns (words.take item.now self.old)
             self.old self.new outputs.old.outs outputs.new.outs) }
-        ensures err { OnErr result (IsUnchanged self.old self.new outputs.old.outs outputs.new.outs) }
+        ensures err { UnchangedOnErr result self.old self.new outputs.old.outs outputs.new.outs }
     {
         if !self.is_up(item.source) {
             self.ignore();
@@ -49,7 +49,7 @@ impl Controller {
     fn on_frame(&mut self, source: u16, frame: &Frame, outputs: &mut Outputs) -> Result<(), Memory>
         ensures ok { OnOk result (Turns (words.on_word source (word_of source frame.now) self.old)
             self.old self.new outputs.old.outs outputs.new.outs) }
-        ensures err { OnErr result (IsUnchanged self.old self.new outputs.old.outs outputs.new.outs) }
+        ensures err { UnchangedOnErr result self.old self.new outputs.old.outs outputs.new.outs }
     {
         let word = read_word(self.alloc, source, frame)?;
         self.on_word(source, word, outputs)
@@ -60,7 +60,7 @@ impl Controller {
         requires comes { IsFromSource source word }
         ensures ok { OnOk result (Turns (words.on_word source word self.old)
             self.old self.new outputs.old.outs outputs.new.outs) }
-        ensures err { OnErr result (IsUnchanged self.old self.new outputs.old.outs outputs.new.outs) }
+        ensures err { UnchangedOnErr result self.old self.new outputs.old.outs outputs.new.outs }
     {
         match word {
             Word::Nothing => {

@@ -1,4 +1,4 @@
-ghost use Rattle.std.specs.Prelude.{ℕ, ◌≡◌, ◌≤◌, ◌<◌, IfOk, List, OnErr, OnOk};
+ghost use Rattle.std.specs.Prelude.{ℕ, ◌≡◌, ◌≤◌, ◌<◌, IfOk, List, OnOk};
 ghost use Rattle.std.specs.List.{AllByRecursion};
 ghost use Rattle.conn_messages.specs.declared.parameters.TheConstants.{SWITCH_LINK};
 ghost use Rattle.controller_model.specs.LifeLaws.Acts.{ActsOn};
@@ -18,7 +18,7 @@ ghost use Rattle.controller_model.specs.LifeLaws.Using.{AreUsed};
 ghost use Rattle.controller_model.specs.declared.step.Step.{Step as StepValue};
 ghost use Rattle.controller_model.specs.Controller.{each, is_up, turn};
 ghost use Rattle.controller_model.specs.Life as words;
-ghost use Rattle.controller.specs.Doing.{IsUnchanged, Turns};
+ghost use Rattle.controller.specs.Doing.{Turns, UnchangedOnErr};
 ghost use Rattle.ipa_framing.specs.declared.frame.Frame.{Frame as FrameValue};
 ghost use Rattle.settings.specs.Parameters.{AreAllowed};
 
@@ -53,8 +53,9 @@ pub fn run(
     // closed, whatever comes.
     ensures silence { IfOk result (λ both. (number : ℕ) → 1 ≤ number →
         SilenceIsKept number settings steps.items (turn both.1.outs both.0)) }
-    ensures closed { IfOk result (λ both. (rest : List StepValue) (number : ℕ) → 1 ≤ number →
-        number < both.0.next_number → (IsThere (connection_of both.0 number) → ⊥) →
+    ensures closed { IfOk result (λ both. (rest : List StepValue) (number : ℕ) →
+        1 ≤ number → number < both.0.next_number →
+        (IsThere (connection_of both.0 number) → ⊥) →
         IsSilentThrough number both.0 rest) }
 
     // Told by the messages alone: nothing is handed from the COMMAND until COMPLETE, FAILURE or a
@@ -86,8 +87,8 @@ pub fn run(
     ensures reach { IfOk result (λ both. (next : StepValue) → PutsOnUpLinks both.0 next) }
     ensures named { IfOk result (λ both. (next : StepValue) (number : ℕ) → 1 ≤ number →
         NamesItsMobile number both.0 next) }
-    ensures others { IfOk result (λ both. (number source : ℕ) (frame : FrameValue) → 1 ≤ number →
-        FrameLeaves number both.0 source frame) }
+    ensures others { IfOk result (λ both. (number source : ℕ) (frame : FrameValue) →
+        1 ≤ number → FrameLeaves number both.0 source frame) }
 
     // Where what came was octets, each frame has 2,048 octets at most, and is read as the message
     // that was put.
@@ -125,7 +126,7 @@ impl Controller {
     pub fn run_one(&mut self, step: Step, outputs: &mut Outputs) -> Result<(), Memory>
         ensures ok { OnOk result (Turns (words.step self.old step)
             self.old self.new outputs.old.outs outputs.new.outs) }
-        ensures err { OnErr result (IsUnchanged self.old self.new outputs.old.outs outputs.new.outs) }
+        ensures err { UnchangedOnErr result self.old self.new outputs.old.outs outputs.new.outs }
     {
         match step {
             Step::Take(item) => self.step(item, outputs).map_err(|_| Memory),

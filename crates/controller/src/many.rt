@@ -1,9 +1,11 @@
-ghost use Rattle.std.specs.Prelude.{◌≡◌, ◌+◌, ◌≤◌, ◌++◌, map, sum_by, IfOk, IfSome, OnOk};
+ghost use Rattle.std.specs.Prelude.{◌≡◌, ◌+◌, ◌≤◌, ◌++◌, map, sum_by, IfOk};
+ghost use Rattle.std.specs.Prelude.{IfSome, OnOk};
 ghost use Rattle.conn_fsm.specs.Doing.{IsPlanned};
 ghost use Rattle.connections.specs.Entries.{AreRising};
 ghost use Rattle.controller_model.specs.Controller.{each, entry_of};
 ghost use Rattle.controller.specs.Doing.{Turns};
-ghost use Rattle.controller.specs.Many.{AreReady, IsReadyFor, all_due, due as due_input, due_of, carried_out, frames_of, planned_for};
+ghost use Rattle.controller.specs.Many.{AreReady, IsReadyFor, all_due, due as due_input, due_of};
+ghost use Rattle.controller.specs.Many.{carried_out, frames_of, planned_for};
 
 use crate::breaks::break_of;
 use crate::controller::Controller;
@@ -66,7 +68,8 @@ impl Controller {
         ensures planned { IfOk result (λ planned. map planned_for planned.items
             ≡ all_due cause.now self.now.settings.timers self.now.entries) }
         ensures rising { AreRising self.now.entries }
-        ensures room { IfOk result (λ planned. sum_by frames_of planned.items ≤ outputs.new.spare) }
+        ensures room { IfOk result
+            (λ planned. sum_by frames_of planned.items ≤ outputs.new.spare) }
         ensures outs { outputs.new.outs ≡ outputs.old.outs }
     {
         let planned = self.plan_all(cause)?;

@@ -1,8 +1,8 @@
-ghost use Rattle.std.specs.Prelude.{◌≡◌, ◌≤◌, ◌&&◌, IsSome, OnOk, OnErr, option_map, true};
+ghost use Rattle.std.specs.Prelude.{◌≡◌, ◌≤◌, ◌&&◌, IsSome, OnOk, option_map, true};
 ghost use Rattle.conn_rules.specs.Connection.{is_at as at_channel};
 ghost use Rattle.controller_model.specs.Controller.{channel_state, entry_of};
 ghost use Rattle.controller_model.specs.Life as words;
-ghost use Rattle.controller.specs.Doing.{IsUnchanged, Turns};
+ghost use Rattle.controller.specs.Doing.{Turns, UnchangedOnErr};
 ghost use Rattle.controller.specs.Offers.{HasCell};
 ghost use Rattle.controller.specs.Reporting.{decided_in, measured_in, measures_in, moved_in};
 
@@ -29,7 +29,7 @@ impl Controller {
         ensures ok { OnOk result (Turns (words.on_report at.now number report.now
             self.old (words.entry_at self.old (channel_state self.old at.now)))
             self.old self.new outputs.old.outs outputs.new.outs) }
-        ensures err { OnErr result (IsUnchanged self.old self.new outputs.old.outs outputs.new.outs) }
+        ensures err { UnchangedOnErr result self.old self.new outputs.old.outs outputs.new.outs }
     {
         let state = self.channels.state(*at);
         let Some(connection) = holder(&state) else {
@@ -52,7 +52,7 @@ impl Controller {
         ensures ok { OnOk result (Turns (words.on_report at.now number report.now
             self.old (entry_of self.old connection))
             self.old self.new outputs.old.outs outputs.new.outs) }
-        ensures err { OnErr result (IsUnchanged self.old self.new outputs.old.outs outputs.new.outs) }
+        ensures err { UnchangedOnErr result self.old self.new outputs.old.outs outputs.new.outs }
     {
         if self.measures(connection, at) {
             self.measure(connection, number, report, outputs)
@@ -86,7 +86,7 @@ impl Controller {
         ensures ok { OnOk result (Turns (measured_in number report.now
             self.old (entry_of self.old connection))
             self.old self.new outputs.old.outs outputs.new.outs) }
-        ensures err { OnErr result (IsUnchanged self.old self.new outputs.old.outs outputs.new.outs) }
+        ensures err { UnchangedOnErr result self.old self.new outputs.old.outs outputs.new.outs }
     {
         let decision = self.connections.decide_with(connection, report, number)?;
         self.follow_decision(connection, decision, outputs)?;
@@ -104,7 +104,7 @@ impl Controller {
         ensures ok { OnOk result (Turns (decided_in decision
             self.old (entry_of self.old connection))
             self.old self.new outputs.old.outs outputs.new.outs) }
-        ensures err { OnErr result (IsUnchanged self.old self.new outputs.old.outs outputs.new.outs) }
+        ensures err { UnchangedOnErr result self.old self.new outputs.old.outs outputs.new.outs }
     {
         match decision {
             Decision::Stay => Ok(()),
@@ -117,7 +117,7 @@ impl Controller {
         requires { 1 ≤ cell }
         ensures ok { OnOk result (Turns (moved_in cell self.old (entry_of self.old connection))
             self.old self.new outputs.old.outs outputs.new.outs) }
-        ensures err { OnErr result (IsUnchanged self.old self.new outputs.old.outs outputs.new.outs) }
+        ensures err { UnchangedOnErr result self.old self.new outputs.old.outs outputs.new.outs }
     {
         let Some(serving) = self.serving_of(connection) else {
             return Ok(());
@@ -129,7 +129,8 @@ impl Controller {
 
     // The serving channel of a connection.
     fn serving_of(&self, connection: u32) -> Option<Channel>
-        ensures { result ≡ option_map (λ e. e.connection.serving) (entry_of self.now connection) }
+        ensures { result
+            ≡ option_map (λ e. e.connection.serving) (entry_of self.now connection) }
     {
         match self.connections.get(connection) {
             Some(entry) => Some(entry.connection().serving()),

@@ -1,4 +1,4 @@
-ghost use Rattle.std.specs.Prelude.{◌≡◌, List, IfOk, OnOk, OnErr};
+ghost use Rattle.std.specs.Prelude.{◌≡◌, List, IfOk, OnOk};
 ghost use Rattle.std.specs.List.{AllByRecursion};
 ghost use Rattle.conn_messages.specs.declared.message.Message.{Message};
 ghost use Rattle.conn_messages.specs.Out.{IsSound, outs_of};
@@ -6,7 +6,8 @@ ghost use Rattle.conn_rules.specs.Validity.{IsCarried};
 ghost use Rattle.connections.specs.Entries.{IsOffer};
 ghost use Rattle.controller_model.specs.Controller.{entry_of};
 ghost use Rattle.controller_model.specs.Life.{concerning, concerning_too};
-ghost use Rattle.controller.specs.Doing.{IsUnchanged, Turns, by_offer, fits_in, fits_with, following};
+ghost use Rattle.controller.specs.Doing.{Turns, UnchangedOnErr, by_offer, fits_in, fits_with};
+ghost use Rattle.controller.specs.Doing.{following};
 
 use crate::controller::Controller;
 use conn_fsm::{Channel, Outputs};
@@ -27,7 +28,7 @@ impl Controller {
         requires { IsCarried input }
         ensures ok { OnOk result (Turns (concerning input self.old (entry_of self.old number))
             self.old self.new outputs.old.outs outputs.new.outs) }
-        ensures err { OnErr result (IsUnchanged self.old self.new outputs.old.outs outputs.new.outs) }
+        ensures err { UnchangedOnErr result self.old self.new outputs.old.outs outputs.new.outs }
     {
         if !self.do_row(number, input, outputs)? {
             self.ignore();
@@ -48,7 +49,7 @@ impl Controller {
             (λ fits. fits ≡ fits_in self.old input (entry_of self.old number)) }
         ensures ok { OnOk result (Turns (concerning_too input self.old (entry_of self.old number))
             self.old self.new outputs.old.outs outputs.new.outs) }
-        ensures err { OnErr result (IsUnchanged self.old self.new outputs.old.outs outputs.new.outs) }
+        ensures err { UnchangedOnErr result self.old self.new outputs.old.outs outputs.new.outs }
     {
         let offer = self.offer_for(number, &input);
         self.do_row_with(number, input, offer, outputs)
@@ -68,7 +69,7 @@ impl Controller {
             (λ fits. fits ≡ fits_with input offer (entry_of self.old number)) }
         ensures ok { OnOk result (Turns (by_offer input offer self.old (entry_of self.old number))
             self.old self.new outputs.old.outs outputs.new.outs) }
-        ensures err { OnErr result (IsUnchanged self.old self.new outputs.old.outs outputs.new.outs) }
+        ensures err { UnchangedOnErr result self.old self.new outputs.old.outs outputs.new.outs }
     {
         let from = outputs.len();
         let fits = self.connections.step(number, input, offer, outputs)?;
@@ -82,7 +83,8 @@ impl Controller {
     /// how many handovers they begin.
     pub(crate) fn follow(&mut self, number: u32, outs: &[Out])
         ensures { (messages : List Message) → AllByRecursion IsSound messages →
-            outs.now ≡ outs_of number messages → self.new ≡ following number messages self.old }
+            outs.now ≡ outs_of number messages →
+            self.new ≡ following number messages self.old }
     {
         self.channels.follow(number, outs);
         let begun = handovers_begun(outs);

@@ -1,7 +1,7 @@
-ghost use Rattle.std.specs.Prelude.{◌≡◌, OnOk, OnErr};
+ghost use Rattle.std.specs.Prelude.{◌≡◌, OnOk};
 ghost use Rattle.conn_rules.specs.Timers.{after_pass};
 ghost use Rattle.controller_model.specs.Life as words;
-ghost use Rattle.controller.specs.Doing.{IsUnchanged, Turns};
+ghost use Rattle.controller.specs.Doing.{Turns, UnchangedOnErr};
 
 use crate::controller::Controller;
 use crate::many::Cause;
@@ -17,7 +17,7 @@ impl Controller {
     pub fn tick(&mut self, ms: u32, outputs: &mut Outputs) -> Result<(), Memory>
         ensures ok { OnOk result (Turns (words.tick ms self.old)
             self.old self.new outputs.old.outs outputs.new.outs) }
-        ensures err { OnErr result (IsUnchanged self.old self.new outputs.old.outs outputs.new.outs) }
+        ensures err { UnchangedOnErr result self.old self.new outputs.old.outs outputs.new.outs }
     {
         let planned = self.plan_with_room(&Cause::Time(ms), outputs)?;
         self.connections.age(ms);
