@@ -1,5 +1,6 @@
 -- Definitions against literal octets.
-use Rattle.std.proofs.Common.{◌≡◌, ℕ, List, [], ◌∷◌, true, false, map, Some, None, Result, Ok, Err, refl, arith}
+use Rattle.std.proofs.Common.{◌≡◌, ℕ, List, [], ◌∷◌, true, false, map, replicate, set, take, Some, None, Result, Ok, Err, refl, arith}
+use Rattle.std.specs.List.{range_with_len}
 use Rattle.octets.proofs.Hex.{hex}
 use Rattle.octets.specs.Front.{octet_at}
 use Rattle.dtap_codec.specs.declared.message.TheConstants.{CALL_CONTROL, MOBILITY_MANAGEMENT, RADIO_RESOURCE, SHORT_MESSAGES, SUPPLEMENTARY_SERVICES}
@@ -280,6 +281,26 @@ measurement_report_text = refl
 
 paging_response_text : rr_text (PagingResponse (hex "71 08")) ≡ hex "06 27 71 08"
 paging_response_text = refl
+
+-- ---- a HANDOVER COMMAND that breaks off, and with FF in place of each octet: the first two are read, then any value is one
+
+abbrev command : List ℕ
+command = hex "06 2b 12 1e 41 40 1e 00 00"
+
+abbrev commanded : ℕ → ℕ → ℕ → ℕ → ℕ → ℕ → ℕ → Result RrMessage RrFault
+commanded cell_arfcn ncc bcc channel tsc arfcn reference = Ok (HandoverCommand (record { arfcn = cell_arfcn; ncc = ncc; bcc = bcc })
+    (record { channel = record { 0 = channel }; tsc = tsc; arfcn = arfcn }) reference)
+
+command_cut : map (λ size. rr_reading (take size command)) (range_with_len 0 9) ≡ replicate 9 (refused Short)
+unfolding rr_reading typed_at rr_type handover_command_at three_at octet_at
+command_cut = refl
+
+command_false : map (λ place. rr_reading (set command place 0xff)) (range_with_len 0 9) ≡
+    refused UnknownRr ∷ refused UnknownRr ∷ commanded 0x31e 7 7 0x41 2 0x01e 0x00 ∷ commanded 0x0ff 2 2 0x41 2 0x01e 0x00
+    ∷ commanded 0x01e 2 2 0xff 2 0x01e 0x00 ∷ commanded 0x01e 2 2 0x41 7 0x31e 0x00 ∷ commanded 0x01e 2 2 0x41 2 0x0ff 0x00
+    ∷ commanded 0x01e 2 2 0x41 2 0x01e 0xff ∷ commanded 0x01e 2 2 0x41 2 0x01e 0x00 ∷ []
+unfolding rr_reading typed_at rr_type handover_command_at three_at octet_at
+command_false = refl
 
 -- ---- the RR messages of an access, an assignment and a handover, read and written back
 
