@@ -30,9 +30,9 @@ count_is scene text n high some none are = elim (cases_lt are.count n) [
       let end : is_some (connection_text scene (suc are.count)) ≡ false = ap is_some (are.no_more (omega (arith, fewer, high))) in
       absurd (true≢false (sym (some are.count fewer) ∙ end))
   | inr from ↦ elim (cases_lt n are.count) [
-      | inl more ↦ absurd (true≢false (sym (are.each n more) ∙ ap is_some none))
-      | inr most ↦ let same : are.count ≡ n = omega (arith, from, most) in same
-    ]
+    | inl more ↦ absurd (true≢false (sym (are.each n more) ∙ ap is_some none))
+    | inr most ↦ let same : are.count ≡ n = omega (arith, from, most) in same
+  ]
 ]
 
 -- numbers without a text add nothing
@@ -110,7 +110,7 @@ fixed_report_only : (text : List ℕ) → IsPrinted fixed three_messages text �
 fixed_report_only text (connections, are, is) =
     let count : are.count ≡ 1 = count_is three_taken.scene connections 1 (omega arith) one_connection no_other_connection are in
     let lines : connections ≡ connection_lines = are.is
-        ∙ ap (texts_to (λ number. unwrap_or (connection_text three_taken.scene number) [])) count ∙ its_lines in
+    ∙ ap (texts_to (λ number. unwrap_or (connection_text three_taken.scene number) [])) count ∙ its_lines in
     is ∙ ap (λ mobiles. mobiles ++ connections ++ all_taken_line) its_mobile ∙ ap (λ lines. mobile_lines ++ lines ++ all_taken_line) lines
 
 -- ---- the world of settings: the mobile of the last number connects, and the switch has nothing to take
@@ -159,14 +159,14 @@ report_of_settings = (
     is = sym nothing_of_connections;
   },
   ap (λ mobiles. mobiles ++ [] ++ one_not_taken_line) (sym last_mobile)
-  ∙ ap (λ n. texts_to (mobile_text last_asks.scene) 255 ++ [] ++ not_taken_line n) (sym last_not_taken),
+      ∙ ap (λ n. texts_to (mobile_text last_asks.scene) 255 ++ [] ++ not_taken_line n) (sym last_not_taken),
 )
 
 report_of_settings_only : (text : List ℕ) → IsPrinted (controlled two_cells) last_connects text → text ≡ last_lines ++ [] ++ one_not_taken_line
 report_of_settings_only text (connections, are, is) =
     let count : are.count ≡ 0 = count_is last_asks.scene connections 0 (omega arith) no_connection_before no_connection are in
     let lines : connections ≡ [] = are.is
-        ∙ ap (texts_to (λ number. unwrap_or (connection_text last_asks.scene number) [])) count ∙ nothing_of_connections in
+    ∙ ap (texts_to (λ number. unwrap_or (connection_text last_asks.scene number) [])) count ∙ nothing_of_connections in
     is ∙ ap (λ mobiles. mobiles ++ connections ++ not_taken_line last_asks.not_taken) last_mobile
     ∙ ap (λ lines. last_lines ++ lines ++ not_taken_line last_asks.not_taken) lines ∙ ap (λ n. last_lines ++ [] ++ not_taken_line n) last_not_taken
 
