@@ -162,13 +162,15 @@ report_of_settings = (
       ∙ ap (λ n. texts_to (mobile_text last_asks.scene) 255 ++ [] ++ not_taken_line n) (sym last_not_taken),
 )
 
-report_of_settings_only : (text : List ℕ) → IsPrinted (controlled two_cells) last_connects text → text ≡ last_lines ++ [] ++ one_not_taken_line
+report_of_settings_only : (text : List ℕ) → IsPrinted (controlled two_cells) last_connects text
+    → text ≡ last_lines ++ [] ++ one_not_taken_line
 report_of_settings_only text (connections, are, is) =
     let count : are.count ≡ 0 = count_is last_asks.scene connections 0 (omega arith) no_connection_before no_connection are in
     let lines : connections ≡ [] = are.is
     ∙ ap (texts_to (λ number. unwrap_or (connection_text last_asks.scene number) [])) count ∙ nothing_of_connections in
     is ∙ ap (λ mobiles. mobiles ++ connections ++ not_taken_line last_asks.not_taken) last_mobile
-    ∙ ap (λ lines. last_lines ++ lines ++ not_taken_line last_asks.not_taken) lines ∙ ap (λ n. last_lines ++ [] ++ not_taken_line n) last_not_taken
+    ∙ ap (λ lines. last_lines ++ lines ++ not_taken_line last_asks.not_taken) lines
+    ∙ ap (λ n. last_lines ++ [] ++ not_taken_line n) last_not_taken
 
 -- ---- breaks: of its own station's link before it connects, and of any link once it did
 
@@ -183,11 +185,14 @@ broken_at source place = (broken_world (controlled_world two_cells) last_alone s
 
 nothing_accepted : (scene : Scene) → accepted_list scene 1 ≡ None → accepted_by_all scene ≡ 0
 nothing_accepted scene none =
-    ap (count_from (accepted_list scene) 1) (let e : 2 ^ 32 - 1 ≡ suc (2 ^ 32 - 2) = omega arith in e) ∙ counted_end (accepted_list scene) 1 (2 ^ 32 - 2) none
+    ap (count_from (accepted_list scene) 1) (let e : 2 ^ 32 - 1 ≡ suc (2 ^ 32 - 2) = omega arith in e)
+    ∙ counted_end (accepted_list scene) 1 (2 ^ 32 - 2) none
 
-its_line : (place sent : ℕ) (scene : Scene) → accepted_list scene 1 ≡ None → sent_by_all scene ≡ sent → break_line place scene ≡ line_of place sent
+its_line : (place sent : ℕ) (scene : Scene) → accepted_list scene 1 ≡ None → sent_by_all scene ≡ sent
+    → break_line place scene ≡ line_of place sent
 its_line place sent scene none is =
-    ap (λ n. codes "break " ++ decimal place ++ codes " accepted " ++ decimal n ++ codes " sent " ++ decimal (sent_by_all scene) ++ codes "\n") (nothing_accepted scene none)
+    ap (λ n. codes "break " ++ decimal place ++ codes " accepted " ++ decimal n ++ codes " sent " ++ decimal (sent_by_all scene) ++ codes "\n")
+    (nothing_accepted scene none)
     ∙ ap (λ n. codes "break " ++ decimal place ++ codes " accepted " ++ decimal 0 ++ codes " sent " ++ decimal n ++ codes "\n") is
 
 breaks_of_the_station : break_lines (controlled_world two_cells) last_alone 1 ≡ line_of 0 0 ++ line_of 1 1

@@ -28,14 +28,16 @@ data_form = hex "06 00 00 01 00 01 05 01 03 02 09 01"
 
 -- the pointer leads behind what breaks off before the length
 data_form_cut : map sccp_reading (beginnings data_form) ≡
-    Err Short ∷ Err Short ∷ Err Short ∷ Err Short ∷ Err Short ∷ Err Short ∷ Err BadPointer ∷ Err Short ∷ Err Short ∷ Err Short ∷ Err Short ∷ Err Short ∷ []
+    Err Short ∷ Err Short ∷ Err Short ∷ Err Short ∷ Err Short ∷ Err Short ∷ Err BadPointer ∷ Err Short ∷ Err Short ∷ Err Short
+    ∷ Err Short ∷ Err Short ∷ []
 unfolding sccp_reading octet_at sccp_type reference_at part_at counted_at data_behind_at data_form_at
 data_form_cut = refl
 
 data_form_false : map sccp_reading (with_each_false data_form) ≡
     Err UnknownType ∷ Ok (DataForm1 0xff0001 (hex "01 03 02 09 01")) ∷ Ok (DataForm1 0x00ff01 (hex "01 03 02 09 01"))
     ∷ Ok (DataForm1 0x0000ff (hex "01 03 02 09 01")) ∷ Err UnknownType ∷ Err BadPointer ∷ Err Short
-    ∷ Ok (DataForm1 0x000001 (hex "ff 03 02 09 01")) ∷ Ok (DataForm1 0x000001 (hex "01 ff 02 09 01")) ∷ Ok (DataForm1 0x000001 (hex "01 03 ff 09 01"))
+    ∷ Ok (DataForm1 0x000001 (hex "ff 03 02 09 01")) ∷ Ok (DataForm1 0x000001 (hex "01 ff 02 09 01"))
+    ∷ Ok (DataForm1 0x000001 (hex "01 03 ff 09 01"))
     ∷ Ok (DataForm1 0x000001 (hex "01 03 02 ff 01")) ∷ Ok (DataForm1 0x000001 (hex "01 03 02 09 ff")) ∷ []
 unfolding sccp_reading octet_at sccp_type reference_at part_at counted_at data_behind_at data_form_at
 data_form_false = refl
@@ -50,7 +52,8 @@ unfolding sccp_reading octet_at sccp_type reference_at references_at fixed_refer
 confirm_cut = refl
 
 confirm_false : map sccp_reading (with_each_false confirm) ≡
-    Err UnknownType ∷ Ok (ConnectionConfirm 0xff0001 0x800001) ∷ Ok (ConnectionConfirm 0x00ff01 0x800001) ∷ Ok (ConnectionConfirm 0x0000ff 0x800001)
+    Err UnknownType ∷ Ok (ConnectionConfirm 0xff0001 0x800001) ∷ Ok (ConnectionConfirm 0x00ff01 0x800001)
+    ∷ Ok (ConnectionConfirm 0x0000ff 0x800001)
     ∷ Ok (ConnectionConfirm 0x000001 0xff0001) ∷ Ok (ConnectionConfirm 0x000001 0x80ff01) ∷ Ok (ConnectionConfirm 0x000001 0x8000ff)
     ∷ Ok (ConnectionConfirm 0x000001 0x800001) ∷ Ok (ConnectionConfirm 0x000001 0x800001) ∷ []
 unfolding sccp_reading octet_at sccp_type reference_at references_at fixed_references_at
@@ -80,6 +83,7 @@ unfolding bssap_reading octet_at management_at bssmap_type message_at breaks_off
 clear_cut = refl
 
 clear_false : map bssap_reading (with_each_false clear) ≡
-    Err UnknownType ∷ Err Short ∷ Err UnknownType ∷ Err (MissingElement 0x04) ∷ Err Short ∷ Ok (Management (ClearCommand (cause_of (hex "ff")))) ∷ []
+    Err UnknownType ∷ Err Short ∷ Err UnknownType ∷ Err (MissingElement 0x04) ∷ Err Short
+    ∷ Ok (Management (ClearCommand (cause_of (hex "ff")))) ∷ []
 unfolding bssap_reading octet_at management_at bssmap_type message_at breaks_off elements_of walk needed_value cause_at
 clear_false = refl

@@ -64,7 +64,8 @@ abbrev acknowledged : Air
 acknowledged = after_ack reached_twice
 
 its_answers : (give_answer Empty (hex "03 05") ≡ Ok tt) × (give_answer first_given (hex "03 0f") ≡ Err (hex "03 0f")) ×
-    (is_reached second_handed_back ≡ false) × (offered_message acknowledged_early ≡ Some (hex "03 05")) × (offered_message reached_once ≡ None) ×
+    (is_reached second_handed_back ≡ false) × (offered_message acknowledged_early ≡ Some (hex "03 05"))
+    × (offered_message reached_once ≡ None) ×
     (is_reached reached_twice ≡ true) × (message_in acknowledged ≡ None)
 its_answers = (refl, refl, refl, refl, refl, refl, refl)
 
@@ -144,7 +145,8 @@ life_end = refl
 -- ---- the first life of a station's end: nothing comes up on a channel that isn't active, and none is activated twice
 
 abbrev first_calls : List BaseCall
-first_calls = brings_up 0x41 Zero (hex "03 05") ∷ activates 0x41 ∷ activates 0x41 ∷ releases 0x41 ∷ gives_next ∷ gives_next ∷ gives_next ∷ []
+first_calls = brings_up 0x41 Zero (hex "03 05") ∷ activates 0x41 ∷ activates 0x41 ∷ releases 0x41 ∷ gives_next ∷ gives_next
+    ∷ gives_next ∷ []
 
 its_refusals : (refusal_unless_active (new_base 1) 0x41 ≡ Some NotActive) × (refusal_of_activate (new_base 1) 0x41 ≡ None) ×
     (refusal_of_activate (after_calls (new_base 1) (brings_up 0x41 Zero (hex "03 05") ∷ activates 0x41 ∷ [])) 0x41 ≡ Some Busy)

@@ -67,16 +67,22 @@ abbrev with_l3 : Data
 with_l3 = record { channel = 0x41; link = 0x00; l3 = hex "03 45" }
 
 station_messages : map rsl_message_name
-    (messages.DataRequest with_l3 ∷ messages.DataIndication with_l3 ∷ messages.ErrorIndication (record { channel = 0x41; link = 0x00; cause = None })
-    ∷ messages.EstablishRequest on_link ∷ messages.EstablishConfirm on_link ∷ messages.EstablishIndication (record { channel = 0x41; link = 0x00; l3 = None })
+    (messages.DataRequest with_l3 ∷ messages.DataIndication with_l3
+    ∷ messages.ErrorIndication (record { channel = 0x41; link = 0x00; cause = None })
+    ∷ messages.EstablishRequest on_link ∷ messages.EstablishConfirm on_link
+    ∷ messages.EstablishIndication (record { channel = 0x41; link = 0x00; l3 = None })
     ∷ messages.ReleaseRequest (record { channel = 0x41; link = 0x00; mode = record { 0 = 0x01 } })
     ∷ messages.ReleaseConfirm on_link ∷ messages.ReleaseIndication on_link
-    ∷ messages.ChannelRequired (record { channel = 0x88; reference = record { access = 0x7f; frame = 0x0102 }; access_delay = record { 0 = 0x05 } })
+    ∷ messages.ChannelRequired
+    (record { channel = 0x88; reference = record { access = 0x7f; frame = 0x0102 }; access_delay = record { 0 = 0x05 } })
     ∷ messages.ImmediateAssignCommand (record { channel = 0x90; information = [] })
     ∷ messages.ChannelActivation (record { channel = 0x41; activation = record { 0 = 0x00 }; mode = record { 0 = [] }; reference = None })
-    ∷ messages.ChannelActivationAck (record { channel = 0x41; frame = None }) ∷ messages.ChannelActivationNack (record { channel = 0x41; cause = None })
-    ∷ messages.ConnectionFailure (record { channel = 0x41; cause = None }) ∷ messages.HandoverDetection (record { channel = 0x41; access_delay = None })
-    ∷ messages.MeasurementResult (record { channel = 0x41; number = record { 0 = 0x05 }; uplink = None; bs_power = None; l1 = None; l3 = None })
+    ∷ messages.ChannelActivationAck (record { channel = 0x41; frame = None })
+    ∷ messages.ChannelActivationNack (record { channel = 0x41; cause = None })
+    ∷ messages.ConnectionFailure (record { channel = 0x41; cause = None })
+    ∷ messages.HandoverDetection (record { channel = 0x41; access_delay = None })
+    ∷ messages.MeasurementResult
+    (record { channel = 0x41; number = record { 0 = 0x05 }; uplink = None; bs_power = None; l1 = None; l3 = None })
     ∷ messages.RfChannelRelease 0x41 ∷ messages.RfChannelReleaseAck 0x41 ∷ []) ≡
     codes "DATA REQUEST" ∷ codes "DATA INDICATION" ∷ codes "ERROR INDICATION"
     ∷ codes "ESTABLISH REQUEST" ∷ codes "ESTABLISH CONFIRM" ∷ codes "ESTABLISH INDICATION"

@@ -25,14 +25,16 @@ abbrev indication_on : ℕ → ℕ → List ℕ → Rsl
 indication_on channel link l3 = messages.DataIndication (record { channel = channel; link = link; l3 = l3 })
 
 indication_cut : map rsl_reading (beginnings indication) ≡
-    Err faults.Short ∷ Err faults.Short ∷ Err (faults.MissingElement 0x01) ∷ Err faults.Short ∷ Err (faults.MissingElement 0x02) ∷ Err faults.Short
+    Err faults.Short ∷ Err faults.Short ∷ Err (faults.MissingElement 0x01) ∷ Err faults.Short ∷ Err (faults.MissingElement 0x02)
+    ∷ Err faults.Short
     ∷ Err (faults.MissingElement 0x0b) ∷ Err faults.Short ∷ Err faults.Short ∷ Err faults.Short ∷ Err faults.Short ∷ []
 unfolding rsl_reading message_at elements_of breaks_off rsl_type walk data_at
 indication_cut = refl
 
 -- FF is no discriminator, type, identifier or channel number, and as a length too long
 indication_false : map rsl_reading (with_each_false indication) ≡
-    Err faults.UnknownType ∷ Err faults.UnknownType ∷ Err (faults.MissingElement 0x01) ∷ Err faults.BadChannel ∷ Err (faults.MissingElement 0x02)
+    Err faults.UnknownType ∷ Err faults.UnknownType ∷ Err (faults.MissingElement 0x01) ∷ Err faults.BadChannel
+    ∷ Err (faults.MissingElement 0x02)
     ∷ Ok (indication_on 0x41 0xff (hex "03 45")) ∷ Err (faults.MissingElement 0x0b) ∷ Err faults.Short ∷ Err faults.Short
     ∷ Ok (indication_on 0x41 0x00 (hex "ff 45")) ∷ Ok (indication_on 0x41 0x00 (hex "03 ff")) ∷ []
 unfolding rsl_reading message_at elements_of breaks_off rsl_type walk data_at
@@ -54,7 +56,8 @@ unfolding rsl_reading message_at elements_of breaks_off rsl_type walk channel_re
 required_cut = refl
 
 required_false : map rsl_reading (with_each_false required) ≡
-    Err faults.UnknownType ∷ Err faults.UnknownType ∷ Err (faults.MissingElement 0x01) ∷ Err faults.BadChannel ∷ Err (faults.MissingElement 0x13)
+    Err faults.UnknownType ∷ Err faults.UnknownType ∷ Err (faults.MissingElement 0x01) ∷ Err faults.BadChannel
+    ∷ Err (faults.MissingElement 0x13)
     ∷ Ok (required_at 0xff 0x0102 0x05) ∷ Ok (required_at 0x7f 0xff02 0x05) ∷ Ok (required_at 0x7f 0x01ff 0x05)
     ∷ Err (faults.MissingElement 0x11) ∷ Ok (required_at 0x7f 0x0102 0xff) ∷ []
 unfolding rsl_reading message_at elements_of breaks_off rsl_type walk channel_required_at

@@ -2,7 +2,7 @@
 use Rattle.world_model.proofs.Prelude.{◌≡◌, ℕ, true, false, List, [], ◌∷◌, map, Some, None, option_map, refl, place_at, usual_settings, Zero, Three}
 use Rattle.world_model.proofs.Prelude.{Upper, Connect, AirUp, AirAck, AirDown, AirDownLost, Move, Arrive, Return, BaseTakes, BasePush}
 use Rattle.world_model.proofs.Prelude.{Handle, SwitchTakes, SwitchDoes, Report, Assign, Clear, Dtap, Asking, On, World, new_world}
-use Rattle.world_model.proofs.Prelude.{Assignment, Gone, Moving, Tenure, is_active_at, spot_at, with_spot, with_outbox, event_after}
+use Rattle.world_model.proofs.Prelude.{Assignment, Command, Gone, Moving, Tenure, is_active_at, spot_at, with_spot, with_outbox, event_after}
 use Rattle.octets.proofs.Hex.{hex}
 use Rattle.world_model.specs.Stations.{is_on, is_same, mobile_on}
 use Rattle.world_model.specs.Views.{received, sent}
@@ -236,12 +236,15 @@ sits_on_the_same : map (λ other. is_on (tenure_on 1 0x41 2) (On other None)) te
 sits_on_the_same = refl
 
 -- where it was told to go it isn't yet
-told_to_go : map (λ other. is_on (tenure_on 1 0x41 2) (On other (Some (record { change = Assignment; target = tenure_on 1 0x41 2 })))) tenures
+abbrev told : Command
+told = record { change = Assignment; target = tenure_on 1 0x41 2 }
+
+told_to_go : map (λ other. is_on (tenure_on 1 0x41 2) (On other (Some told))) tenures
     ≡ true ∷ false ∷ false ∷ false ∷ []
 told_to_go = refl
 
 sits_nowhere : map (is_on (tenure_on 1 0x41 2))
-    (Asking ∷ Gone ∷ Moving (tenure_on 1 0x41 2) (record { change = Assignment; target = tenure_on 1 0x41 2 }) ∷ []) ≡ false ∷ false ∷ false ∷ []
+    (Asking ∷ Gone ∷ Moving (tenure_on 1 0x41 2) told ∷ []) ≡ false ∷ false ∷ false ∷ []
 sits_nowhere = refl
 
 -- ---- the mobile of the last number
@@ -257,14 +260,17 @@ abbrev last_seated : World
 last_seated = after_all last_asking (BasePush 1 ∷ Handle ∷ BasePush 1 ∷ Handle ∷ BaseTakes 1 ∷ BaseTakes 1
     ∷ BasePush 1 ∷ Handle ∷ BasePush 1 ∷ Handle ∷ BaseTakes 1 ∷ BaseTakes 1 ∷ [])
 
-seats_the_last_mobile : map (seat_of last_seated) (7 ∷ 255 ∷ []) ≡ Some (On (tenure_on 1 0x41 1) None) ∷ Some (On (tenure_on 1 0x49 1) None) ∷ []
+seats_the_last_mobile : map (seat_of last_seated) (7 ∷ 255 ∷ []) ≡ Some (On (tenure_on 1 0x41 1) None)
+    ∷ Some (On (tenure_on 1 0x49 1) None) ∷ []
 unfolding on_literals
 seats_the_last_mobile = refl
 
-finds_the_last_mobile : map (λ channel. option_map (λ p. p.number) (mobile_on (last_seated).actors (tenure_on 1 channel 1))) (hex "41 49 0a") ≡ Some 7 ∷ Some 255 ∷ None ∷ []
+finds_the_last_mobile : map (λ channel. option_map (λ p. p.number) (mobile_on (last_seated).actors (tenure_on 1 channel 1)))
+    (hex "41 49 0a") ≡ Some 7 ∷ Some 255 ∷ None ∷ []
 unfolding on_literals
 finds_the_last_mobile = refl
 
-last_mobile_sends : map (λ mobile. sent (last_seated).actors mobile) (7 ∷ 254 ∷ 255 ∷ []) ≡ Some ((hex "05 24 71") ∷ []) ∷ None ∷ Some ((hex "05 24 72") ∷ []) ∷ []
+last_mobile_sends : map (λ mobile. sent (last_seated).actors mobile) (7 ∷ 254 ∷ 255 ∷ []) ≡ Some ((hex "05 24 71") ∷ []) ∷ None
+    ∷ Some ((hex "05 24 72") ∷ []) ∷ []
 unfolding on_literals
 last_mobile_sends = refl
