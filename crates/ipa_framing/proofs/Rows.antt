@@ -218,6 +218,49 @@ cut_in_two = (
   ),
 )
 
+-- a frame of which an octet comes at a time
+cut_after_each_octet : Run new_framer
+    (feed (hex "00") (Ok tt) ∷ next (Ok None) ∷ feed (hex "01") (Ok tt) ∷ next (Ok None) ∷ feed (hex "fe") (Ok tt) ∷ next (Ok None)
+    ∷ feed (hex "00") (Ok tt) ∷ next (Ok (Some (frame 0xfe (hex "00")))) ∷ next (Ok None) ∷ [])
+    (holding [])
+cut_after_each_octet = (
+  holding (hex "00"),
+  (refl, refl),
+  (
+    holding (hex "00"),
+    (tt, refl),
+    (
+      holding (hex "00 01"),
+      (refl, refl),
+      (
+        holding (hex "00 01"),
+        ((omega arith, omega arith), refl),
+        (
+          holding (hex "00 01 fe"),
+          (refl, refl),
+          (
+            holding (hex "00 01 fe"),
+            ((omega arith, omega arith), refl),
+            (
+              holding (hex "00 01 fe 00"),
+              (refl, refl),
+              (
+                holding [],
+                ((omega arith, refl), refl),
+                (
+                  holding [],
+                  (tt, refl),
+                  refl,
+                ),
+              ),
+            ),
+          ),
+        ),
+      ),
+    ),
+  ),
+)
+
 octets_of_calls : octets_of (feed (hex "00 01") (Ok tt) ∷ feed (hex "05") (Err Memory) ∷ next (Ok None)
     ∷ feed (hex "fe 00") (Ok tt) ∷ [])
     ≡ hex "00 01 fe 00"
