@@ -15,6 +15,8 @@ mod dtap;
 #[cfg(test)]
 mod exchanges;
 #[cfg(test)]
+mod false_octets;
+#[cfg(test)]
 mod faults;
 #[cfg(test)]
 mod frames;
