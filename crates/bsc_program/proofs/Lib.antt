@@ -6,4 +6,5 @@ pub mod Counting
 pub mod Breaking
 mod Rows
 mod ReplayRows
+mod PrintedRows
 pub mod LineOctets

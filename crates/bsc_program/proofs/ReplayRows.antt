@@ -20,7 +20,7 @@ use Rattle.bsc_program.proofs.Counting.{counted_end, counted_more, counted_past,
 
 -- ---- options
 
-abbrev two_cells : Parameters
+abbrev pub two_cells : Parameters
 two_cells = record {
   network = record { mcc = codes "001"; mnc = codes "01"; release98 = false };
   switch_address = codes "127.0.0.1:5000";

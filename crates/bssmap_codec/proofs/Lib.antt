@@ -7,6 +7,8 @@ pub mod Layer3s
 pub mod Options
 pub mod OptionsGrammar
 mod Rows
+mod FalseOctetRows
 pub mod SccpCauses
 pub mod SccpTexts
 pub mod Sccps
+mod TextRows

@@ -1,5 +1,6 @@
 -- Definitions against literal octets: what is read of them, and what is written.
-use Rattle.std.proofs.Common.{◌≡◌, ℕ, Bool, List, length, map, [], ◌∷◌, ◌++◌, true, false, replicate, Some, None, Ok, Err, refl}
+use Rattle.std.proofs.Common.{◌≡◌, ℕ, Bool, List, filter, length, map, [], ◌∷◌, ◌++◌, true, false, replicate, Some, None, Ok, Err, refl}
+use Rattle.std.specs.List.{range_with_len}
 use Rattle.std.specs.Prelude.{slice_index}
 use Rattle.octets.proofs.Hex.{hex}
 use Rattle.octets.specs.Causes.{first_that_holds}
@@ -190,6 +191,15 @@ data_form_of_no_octets = refl
 data_form_segmented : sccp_reading (hex "06 01 02 03 01 00") ≡ Err UnknownType
 unfolding sccp_reading octet_at sccp_type reference_at part_at counted_at data_behind_at data_form_at
 data_form_segmented = refl
+
+-- more may come, although the rest is a whole text
+data_form_to_be_continued : sccp_reading (hex "06 00 00 01 01 01 01 00") ≡ Err UnknownType
+unfolding sccp_reading octet_at sccp_type reference_at part_at counted_at data_behind_at data_form_at
+data_form_to_be_continued = refl
+
+data_form_with_pointer_0 : sccp_reading (hex "06 00 00 01 00 00 00") ≡ Err BadPointer
+unfolding sccp_reading octet_at sccp_type reference_at part_at counted_at data_behind_at data_form_at
+data_form_with_pointer_0 = refl
 
 data_form_segmented_without_pointer : sccp_reading (hex "06 01 02 03 01") ≡ Err Short
 unfolding sccp_reading octet_at sccp_type reference_at part_at counted_at data_behind_at data_form_at
@@ -636,6 +646,12 @@ dlci_sapi_1 = refl
 sapis : map is_dlci (hex "00 01 02 03 04 05 06 07") ≡ true ∷ false ∷ false ∷ true ∷ false ∷ false ∷ false ∷ false ∷ []
 sapis = refl
 
+-- of all octets those whose bits 3 to 1 are 0 or 3
+all_dlcis : filter is_dlci (range_with_len 0 256) ≡
+    hex "00 03 08 0b 10 13 18 1b 20 23 28 2b 30 33 38 3b 40 43 48 4b 50 53 58 5b 60 63 68 6b 70 73 78 7b"
+    ++ hex "80 83 88 8b 90 93 98 9b a0 a3 a8 ab b0 b3 b8 bb c0 c3 c8 cb d0 d3 d8 db e0 e3 e8 eb f0 f3 f8 fb"
+all_dlcis = refl
+
 dlci_sapi_4 : dlci_of 0x04 ≡ None
 dlci_sapi_4 = refl
 
@@ -653,6 +669,14 @@ asks_for_data = refl
 
 asks_for_nine : is_speech_type (hex "09") ≡ false
 asks_for_nine = refl
+
+-- of all octets those whose bits 4 to 1 are 1; what follows isn't looked at
+all_speech_types : filter (λ octet. is_speech_type (octet ∷ [])) (range_with_len 0 256)
+    ≡ hex "01 11 21 31 41 51 61 71 81 91 a1 b1 c1 d1 e1 f1"
+all_speech_types = refl
+
+only_the_first_octet_counts : map is_speech_type (hex "02 01 01" ∷ hex "00 01" ∷ hex "01 00" ∷ []) ≡ false ∷ false ∷ true ∷ []
+only_the_first_octet_counts = refl
 
 asks_for_nothing : is_speech_type [] ≡ false
 asks_for_nothing = refl

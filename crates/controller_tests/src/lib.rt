@@ -15,6 +15,8 @@ mod dtap;
 #[cfg(test)]
 mod exchanges;
 #[cfg(test)]
+mod false_octets;
+#[cfg(test)]
 mod faults;
 #[cfg(test)]
 mod frames;
@@ -26,6 +28,8 @@ mod hold;
 mod late;
 #[cfg(test)]
 mod life;
+#[cfg(test)]
+mod limits;
 #[cfg(test)]
 mod parts;
 #[cfg(test)]

@@ -1,6 +1,6 @@
 ghost use Rattle.std.specs.Prelude.{◌≤◌, length};
 
-use controller::{Settings, SettingsFault};
+use controller::{Controller, Settings, SettingsFault};
 use ho_decision::Averages;
 use octets::Memory;
 use std::alloc::Global;
@@ -53,5 +53,55 @@ fn faults_of_settings_are_told(rt: HostRuntime) -> Result<(), Fail> {
         let told = fault_of(rt.alloc(), text)?;
         assert!(rt; told.as_str() == *expected);
     }
+    Ok(())
+}
+
+/// The text of settings of so many cells with so many channels each, from 08 on.
+fn text_of(alloc: Global, cells: u8, channels: u8) -> Result<String, Fail> {
+    let mut text = String::new(alloc);
+    text.push_str("[network]\nmcc = \"001\"\nmnc = \"01\"\n[switch]\naddress = \"a\"\n")?;
+    for cell in 1..=cells {
+        text.push_str(format!(in alloc; "[[cell]]\nlisten = \"b{cell}\"\nlac = 1\n")?.as_str())?;
+        text.push_str(format!(in alloc; "ci = {cell}\narfcn = {cell}\nbsic = 9\n")?.as_str())?;
+        text.push_str(channels_text(alloc, channels)?.as_str())?;
+    }
+    Ok(text)
+}
+
+fn channels_text(alloc: Global, channels: u8) -> Result<String, Fail> {
+    let mut text = String::new(alloc);
+    text.push_str("channels = [8")?;
+    for channel in 1..channels {
+        let number = 8 + u32::from(channel);
+        text.push_str(format!(in alloc; ", {number}")?.as_str())?;
+    }
+    text.push_str("]\n")?;
+    Ok(text)
+}
+
+/// How many cells there are and how many channels each has, and what is said of the fault.
+const LIMITS: [(u8, u8, &str); 4] = [
+    (1, 1, ""),
+    (32, 64, ""),
+    (33, 64, "bad value cell"),
+    (32, 65, "bad value cell.channels"),
+];
+
+#[test]
+fn cells_and_their_channels_have_limits(rt: HostRuntime) -> Result<(), Fail> {
+    for (cells, channels, expected) in LIMITS {
+        let text = text_of(rt.alloc(), cells, channels)?;
+        let told = fault_of(rt.alloc(), text.as_str())?;
+        assert!(rt; told.as_str() == expected);
+    }
+    Ok(())
+}
+
+#[test]
+fn a_controller_has_the_links_of_all_cells(rt: HostRuntime) -> Result<(), Fail> {
+    let text = text_of(rt.alloc(), 32, 64)?;
+    let settings = Settings::read(rt.alloc(), text.as_str())?;
+    let controller = Controller::new(rt.alloc(), settings)?;
+    assert!(rt; controller.links() == 33);
     Ok(())
 }

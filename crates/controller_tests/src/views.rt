@@ -111,7 +111,7 @@ fn waits(
 }
 
 /// What a controller puts over these parts of a life.
-fn ran(alloc: Global, parts: &[&[Exchange]]) -> Result<Outputs, Fail> {
+pub(crate) fn ran(alloc: Global, parts: &[&[Exchange]]) -> Result<Outputs, Fail> {
     let steps = steps_of(alloc, parts)?;
     let (_, outputs) = run(alloc, two_cells(alloc)?, steps)?;
     Ok(outputs)

@@ -1,5 +1,6 @@
 -- Definitions against literal octets.
-use Rattle.std.proofs.Common.{◌≡◌, ℕ, List, [], ◌∷◌, true, false, map, Some, None, Result, Ok, Err, refl, arith}
+use Rattle.std.proofs.Common.{◌≡◌, ℕ, List, [], ◌∷◌, true, false, map, replicate, set, take, Some, None, Result, Ok, Err, refl, arith}
+use Rattle.std.specs.List.{range_with_len}
 use Rattle.octets.proofs.Hex.{hex}
 use Rattle.octets.specs.Front.{octet_at}
 use Rattle.dtap_codec.specs.declared.message.TheConstants.{CALL_CONTROL, MOBILITY_MANAGEMENT, RADIO_RESOURCE, SHORT_MESSAGES, SUPPLEMENTARY_SERVICES}
@@ -281,6 +282,59 @@ measurement_report_text = refl
 paging_response_text : rr_text (PagingResponse (hex "71 08")) ≡ hex "06 27 71 08"
 paging_response_text = refl
 
+-- ---- a HANDOVER COMMAND that breaks off, and with FF in place of each octet: the first two are read, then any value is one
+
+abbrev command : List ℕ
+command = hex "06 2b 12 1e 41 40 1e 00 00"
+
+abbrev commanded : ℕ → ℕ → ℕ → ℕ → ℕ → ℕ → ℕ → Result RrMessage RrFault
+commanded cell_arfcn ncc bcc channel tsc arfcn reference = Ok (HandoverCommand (record { arfcn = cell_arfcn; ncc = ncc; bcc = bcc })
+    (record { channel = record { 0 = channel }; tsc = tsc; arfcn = arfcn }) reference)
+
+command_cut : map (λ size. rr_reading (take size command)) (range_with_len 0 9) ≡ replicate 9 (refused Short)
+unfolding rr_reading typed_at rr_type handover_command_at three_at octet_at
+command_cut = refl
+
+command_false : map (λ place. rr_reading (set command place 0xff)) (range_with_len 0 9) ≡
+    refused UnknownRr ∷ refused UnknownRr ∷ commanded 0x31e 7 7 0x41 2 0x01e 0x00 ∷ commanded 0x0ff 2 2 0x41 2 0x01e 0x00
+    ∷ commanded 0x01e 2 2 0xff 2 0x01e 0x00 ∷ commanded 0x01e 2 2 0x41 7 0x31e 0x00 ∷ commanded 0x01e 2 2 0x41 2 0x0ff 0x00
+    ∷ commanded 0x01e 2 2 0x41 2 0x01e 0xff ∷ commanded 0x01e 2 2 0x41 2 0x01e 0x00 ∷ []
+unfolding rr_reading typed_at rr_type handover_command_at three_at octet_at
+command_false = refl
+
+-- ---- the RR messages of an access, an assignment and a handover, read and written back
+
+-- the cell's BCC is 1, and its ARFCN 20
+abbrev of_cell_1 : ℕ → ChannelDescription
+of_cell_1 number = record { channel = record { 0 = number }; tsc = 1; arfcn = 20 }
+
+abbrev IsReadBack : List ℕ → RrMessage → Type 0
+IsReadBack octets message = (rr_reading octets ≡ Ok message) × (rr_text message ≡ octets)
+
+assigned_at_access : IsReadBack (hex "2d 06 3f 00 41 20 14 7f 01 02 05 00 2b 2b 2b 2b 2b 2b 2b 2b 2b 2b 2b")
+    (ImmediateAssignment (of_cell_1 0x41) (hex "7f 01 02") 5)
+unfolding rr_reading pseudo_at immediate_assignment_at three_at octet_at
+assigned_at_access = (refl, refl)
+
+assigned_to_a_tch : IsReadBack (hex "06 2e 0a 20 14 00") (AssignmentCommand (of_cell_1 0x0a))
+unfolding rr_reading typed_at rr_type assignment_command_at three_at octet_at
+assigned_to_a_tch = (refl, refl)
+
+-- to a cell with NCC 2, BCC 2 and ARFCN 30
+handed_over : IsReadBack (hex "06 2b 12 1e 41 40 1e 00 00")
+    (HandoverCommand (record { arfcn = 30; ncc = 2; bcc = 2 }) (record { channel = record { 0 = 0x41 }; tsc = 2; arfcn = 30 }) 0x00)
+unfolding rr_reading typed_at rr_type handover_command_at three_at octet_at
+handed_over = (refl, refl)
+
+arrived : IsReadBack (hex "06 2c 00") (HandoverComplete (cause 0x00))
+unfolding rr_reading typed_at rr_type cause_at octet_at
+arrived = (refl, refl)
+
+reported : IsReadBack (hex "06 15 14 14 00 57 02 40 00 00 00 00 00 00 00 00 00 00")
+    (MeasurementReport (hex "14 14 00 57 02 40 00 00 00 00 00 00 00 00 00 00"))
+unfolding rr_reading typed_at rr_type measurement_report_at octet_at
+reported = (refl, refl)
+
 -- ---- reports
 
 abbrev entry : ℕ → ℕ → ℕ → Neighbour
@@ -330,6 +384,31 @@ invalid_report = record {
   enough = omega arith;
   value = record { second = 0; third = 1; six = refl; fit = search arith; text = refl };
 }
+
+-- RXLEV-FULL 20, and a first neighbour of RXLEV 23, at place 0, with BSIC 18
+usual_report : IsReport (hex "14 14 00 57 02 40 00 00 00 00 00 00 00 00 00 00")
+    (record {
+      ba_used = 0;
+      dtx_used = false;
+      rxlev_full = 20;
+      valid = true;
+      rxlev_sub = 20;
+      rxqual_full = 0;
+      rxqual_sub = 0;
+      no_ncell = 1;
+      entries = entry 23 0 18 ∷ nothing ∷ nothing ∷ nothing ∷ nothing ∷ nothing ∷ [];
+    })
+usual_report = record {
+  enough = omega arith;
+  value = record { second = 0; third = 0; six = refl; fit = search arith; text = refl };
+}
+
+-- fifteen octets are no report's
+report_cut : (report : Report) → IsReport (hex "14 14 00 57 02 40 00 00 00 00 00 00 00 00 00") report → ⊥
+report_cut report is = omega (arith, is.enough)
+
+no_octets_of_a_report : (report : Report) → IsReport [] report → ⊥
+no_octets_of_a_report report is = omega (arith, is.enough)
 
 neighbours : map (λ no_ncell. neighbours_of (a_report no_ncell)) (0 ∷ 1 ∷ 6 ∷ 7 ∷ []) ≡ [] ∷ (entry 10 1 18 ∷ []) ∷ six_entries ∷ [] ∷ []
 neighbours = refl

@@ -1,6 +1,6 @@
 -- Definitions against literal octets: frames of each stream, and those at the limit of a body, 2048
 -- octets.
-use Rattle.std.proofs.Common.{◌≡◌, ℕ, List, [], ◌∷◌, ◌++◌, replicate, true, false, Some, None, Ok, Err, inl, inr, refl, arith}
+use Rattle.std.proofs.Common.{◌≡◌, ℕ, List, [], ◌∷◌, ◌++◌, ◌≤◌, replicate, true, false, Some, None, Ok, Err, inl, inr, refl, sym, ap, arith}
 use Rattle.octets.proofs.Hex.{hex}
 use Rattle.ipa_framing.specs.declared.streams.TheConstants.{CCM_STREAM, OML_STREAM, PING, PONG, RSL_STREAM, SCCP_STREAM}
 use Rattle.ipa_framing.specs.declared.fault.FrameFault.TheVariants.{TooLong, Memory}
@@ -119,6 +119,78 @@ longer_met = (omega arith, refl)
 longer_met_again : Takes (failed (hex "08 01")) (Err TooLong) (failed (hex "08 01"))
 longer_met_again = (omega arith, refl)
 
+memory_ran_out : Takes (holding (hex "00 00 00 07")) (Err Memory) (holding (hex "00 00 00 07"))
+memory_ran_out = ((frame 0x00 [], hex "07", (omega arith, refl)), refl)
+
+-- ---- what calls don't answer
+
+pieces_exchanged : Feeds {X = Unit {0}} (holding (hex "00")) (hex "01") (Ok tt) (holding (hex "01 00")) → ⊥
+pieces_exchanged is = let same : hex "01 00" ≡ hex "00 01" = ap (λ (held : FramerState). held.octets) is.1 in absurd (cc same)
+
+piece_dropped : Feeds {X = Unit {0}} (holding (hex "00")) (hex "01") (Ok tt) (holding (hex "00")) → ⊥
+piece_dropped is = let same : hex "00" ≡ hex "00 01" = ap (λ (held : FramerState). held.octets) is.1 in absurd (cc same)
+
+taken_after_a_failure : Feeds {X = Unit {0}} (failed (hex "08 01")) (hex "00") (Ok tt) (failed (hex "08 01 00")) → ⊥
+taken_after_a_failure is = absurd (cc is.0)
+
+refused_without_failure : Feeds {X = Unit {0}} (holding (hex "08")) (hex "01") (Err TooLong) (holding (hex "08")) → ⊥
+refused_without_failure is = absurd (cc is.0)
+
+taken_without_memory : Feeds {X = Unit {0}} (holding (hex "00")) (hex "01") (Err Memory) (holding (hex "00 01")) → ⊥
+taken_without_memory is = let same : hex "00 01" ≡ hex "00" = ap (λ (held : FramerState). held.octets) is.1 in absurd (cc same)
+
+memory_after_a_failure : Feeds {X = Unit {0}} (failed (hex "08 01")) (hex "00") (Err Memory) (failed (hex "08 01")) → ⊥
+memory_after_a_failure is = absurd (cc is.0)
+
+another_stream : Takes (holding (hex "00 01 fe 00 07")) (Ok (Some (frame 0x00 (hex "00")))) (holding (hex "07")) → ⊥
+another_stream is = absurd (cc is.0.1)
+
+another_body : Takes (holding (hex "00 01 fe 00 07")) (Ok (Some (frame 0xfe (hex "07")))) (holding (hex "07")) → ⊥
+another_body is = absurd (cc is.0.1)
+
+longer_body : Takes (holding (hex "00 01 fe 00 07")) (Ok (Some (frame 0xfe (hex "00 07")))) (holding []) → ⊥
+longer_body is = absurd (cc is.0.1)
+
+rest_dropped : Takes (holding (hex "00 01 fe 00 07")) (Ok (Some (frame 0xfe (hex "00")))) (holding []) → ⊥
+rest_dropped is = absurd (cc is.0.1)
+
+frame_left : Takes (holding (hex "00 01 fe 00")) (Ok (Some (frame 0xfe (hex "00")))) (holding (hex "00 01 fe 00")) → ⊥
+frame_left is = absurd (cc is.0.1)
+
+frame_that_fails : Takes (holding (hex "00 01 fe 00")) (Ok (Some (frame 0xfe (hex "00")))) (failed []) → ⊥
+frame_that_fails is = absurd (cc is.1)
+
+frame_of_2049 : Takes (holding (hex "08 01 00" ++ replicate 2049 0x33)) (Ok (Some (frame 0x00 (replicate 2049 0x33)))) (holding []) → ⊥
+frame_of_2049 is = let size : 2049 ≤ 2048 = is.0.0 in omega (arith, size)
+
+waits_for_a_whole_frame : Takes (holding (hex "00 01 fe 00")) (Ok None) (holding (hex "00 01 fe 00")) → ⊥
+waits_for_a_whole_frame is = omega (arith, is.0.1)
+
+waits_for_one_that_is_too_long : Takes (holding (hex "08 01")) (Ok None) (holding (hex "08 01")) → ⊥
+waits_for_one_that_is_too_long is = omega (arith, is.0.0)
+
+start_dropped : Takes (holding (hex "00 01 fe")) (Ok None) (holding []) → ⊥
+start_dropped is = let same : hex "00 01 fe" ≡ [] = ap (λ (held : FramerState). held.octets) (sym is.1) in absurd (cc same)
+
+fails_at_the_longest : Takes (holding (hex "08 00")) (Err TooLong) (failed (hex "08 00")) → ⊥
+fails_at_the_longest is = omega (arith, is.0)
+
+fails_before_the_length : Takes (holding (hex "08")) (Err TooLong) (failed (hex "08")) → ⊥
+fails_before_the_length is = is.0
+
+fails_once : Takes (holding (hex "08 01")) (Err TooLong) (holding (hex "08 01")) → ⊥
+fails_once is = let same : false ≡ true = ap (λ (held : FramerState). held.failed) is.1 in absurd (cc same)
+
+memory_for_nothing : Takes (holding []) (Err Memory) (holding []) → ⊥
+memory_for_nothing is = absurd (cc is.0.2.1)
+
+-- only the length of a frame is there
+memory_for_a_start : Takes (holding (hex "00 00")) (Err Memory) (holding (hex "00 00")) → ⊥
+memory_for_a_start is = absurd (cc is.0.2.1)
+
+frame_dropped : Takes (holding (hex "00 00 00")) (Err Memory) (holding []) → ⊥
+frame_dropped is = let same : hex "00 00 00" ≡ [] = ap (λ (held : FramerState). held.octets) (sym is.1) in absurd (cc same)
+
 -- a frame in two pieces, and behind it the length of one that is too long
 cut_in_two : Run new_framer
     (feed (hex "00 01 fe") (Ok tt) ∷ next (Ok None) ∷ feed (hex "00 08 01") (Ok tt)
@@ -140,6 +212,49 @@ cut_in_two = (
           failed (hex "08 01"),
           (omega arith, refl),
           refl,
+        ),
+      ),
+    ),
+  ),
+)
+
+-- a frame of which an octet comes at a time
+cut_after_each_octet : Run new_framer
+    (feed (hex "00") (Ok tt) ∷ next (Ok None) ∷ feed (hex "01") (Ok tt) ∷ next (Ok None) ∷ feed (hex "fe") (Ok tt) ∷ next (Ok None)
+    ∷ feed (hex "00") (Ok tt) ∷ next (Ok (Some (frame 0xfe (hex "00")))) ∷ next (Ok None) ∷ [])
+    (holding [])
+cut_after_each_octet = (
+  holding (hex "00"),
+  (refl, refl),
+  (
+    holding (hex "00"),
+    (tt, refl),
+    (
+      holding (hex "00 01"),
+      (refl, refl),
+      (
+        holding (hex "00 01"),
+        ((omega arith, omega arith), refl),
+        (
+          holding (hex "00 01 fe"),
+          (refl, refl),
+          (
+            holding (hex "00 01 fe"),
+            ((omega arith, omega arith), refl),
+            (
+              holding (hex "00 01 fe 00"),
+              (refl, refl),
+              (
+                holding [],
+                ((omega arith, refl), refl),
+                (
+                  holding [],
+                  (tt, refl),
+                  refl,
+                ),
+              ),
+            ),
+          ),
         ),
       ),
     ),

@@ -43,6 +43,32 @@ reached_ones = refl
 acks : map after_ack airs ≡ Empty ∷ Given (hex "0a") ∷ Empty ∷ []
 acks = refl
 
+-- ---- a life of a link: a second message is handed back, and the first acknowledged only once the station took it, which it does once
+
+abbrev first_given : Air
+first_given = after_give Empty (hex "03 05")
+
+abbrev second_handed_back : Air
+second_handed_back = after_give first_given (hex "03 0f")
+
+abbrev acknowledged_early : Air
+acknowledged_early = after_ack second_handed_back
+
+abbrev reached_once : Air
+reached_once = after_reach acknowledged_early
+
+abbrev reached_twice : Air
+reached_twice = after_reach reached_once
+
+abbrev acknowledged : Air
+acknowledged = after_ack reached_twice
+
+its_answers : (give_answer Empty (hex "03 05") ≡ Ok tt) × (give_answer first_given (hex "03 0f") ≡ Err (hex "03 0f")) ×
+    (is_reached second_handed_back ≡ false) × (offered_message acknowledged_early ≡ Some (hex "03 05"))
+    × (offered_message reached_once ≡ None) ×
+    (is_reached reached_twice ≡ true) × (message_in acknowledged ≡ None)
+its_answers = (refl, refl, refl, refl, refl, refl, refl)
+
 -- ---- links: SAPI 3 takes the SACCH of a TCH, 08 to 1F, and the main link of an SDCCH, 20 to 7F
 
 links : map (λ channel. link_on channel Three) (hex "08 0f 10 1f 20 27 3a 3f 40 7f") ≡
@@ -115,6 +141,23 @@ life_end : after_calls (new_base 1) life ≡ record {
       ∷ messages.RfChannelReleaseAck 0x0a ∷ messages.RfChannelReleaseAck 0x7f ∷ [];
 }
 life_end = refl
+
+-- ---- the first life of a station's end: nothing comes up on a channel that isn't active, and none is activated twice
+
+abbrev first_calls : List BaseCall
+first_calls = brings_up 0x41 Zero (hex "03 05") ∷ activates 0x41 ∷ activates 0x41 ∷ releases 0x41 ∷ gives_next ∷ gives_next
+    ∷ gives_next ∷ []
+
+its_refusals : (refusal_unless_active (new_base 1) 0x41 ≡ Some NotActive) × (refusal_of_activate (new_base 1) 0x41 ≡ None) ×
+    (refusal_of_activate (after_calls (new_base 1) (brings_up 0x41 Zero (hex "03 05") ∷ activates 0x41 ∷ [])) 0x41 ≡ Some Busy)
+its_refusals = (refl, refl, refl)
+
+its_messages : messages_given (new_base 1) first_calls ≡
+    messages.ChannelActivationAck (record { channel = 0x41; frame = Some (record { 0 = 0 }) }) ∷ messages.RfChannelReleaseAck 0x41 ∷ []
+its_messages = refl
+
+nothing_is_left : after_calls (new_base 1) first_calls ≡ new_base 1
+nothing_is_left = refl
 
 -- ---- what `tell` makes: CHANNEL REQUIRED, HANDOVER DETECTION, MEASUREMENT RESULT, ESTABLISH CONFIRM, RELEASE INDICATION
 

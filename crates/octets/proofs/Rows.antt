@@ -1,14 +1,16 @@
 -- Definitions against literal octets. The table has an identifier of each format: 01 with one
 -- octet, 0B with two octets of length, 1A with one.
-use Rattle.std.proofs.Common.{◌≡◌, ℕ, List, [], ◌∷◌, map, replicate, true, false, Some, None, Result, Ok, Err, refl}
+use Rattle.std.proofs.Common.{◌≡◌, ℕ, List, [], ◌∷◌, map, length, replicate, true, false, Option, Some, None, Result, Ok, Err, inl, inr, refl, arith}
 use Rattle.octets.proofs.Hex.{hex, octets_in}
 use Rattle.octets.specs.declared.element.Entry.{Entry}
 use Rattle.octets.specs.declared.element.Format.TheVariants.{Tv, Tlv, TlvE}
 use Rattle.octets.specs.declared.limits.TheConstants.{LENGTH_LIMIT, MESSAGE_LIMIT}
+use Rattle.octets.specs.Answer.{Gives}
+use Rattle.octets.specs.Causes.{first_that_holds}
 use Rattle.octets.specs.Element.{element}
 use Rattle.octets.specs.Field.{field, fields_text, are_distinct}
 use Rattle.octets.specs.Front.{octet_at, split_at, counted_at, counted_text}
-use Rattle.octets.specs.Refusal.{first_refusal}
+use Rattle.octets.specs.Refusal.{first_refusal, RefusesBy}
 use Rattle.octets.specs.Walk.{walk, finding, first_of}
 
 abbrev table : List Entry
@@ -116,6 +118,80 @@ earlier = refl
 
 later : first_refusal {F = ℕ} None (Some 2) ≡ Some 2
 later = refl
+
+first_cause : first_that_holds {F = ℕ} ((false, 1) ∷ (true, 2) ∷ (true, 3) ∷ []) ≡ Some 2
+first_cause = refl
+
+no_cause : first_that_holds {F = ℕ} ((false, 1) ∷ (false, 2) ∷ []) ≡ None
+no_cause = refl
+
+-- ---- what a call answers, against what octets are read as: 0 is want of memory, 7 and 8 are faults
+
+abbrev memory : ℕ
+memory = 0
+
+-- a call that gives octets, and a reading of how many there are
+abbrev gives : Result (List ℕ) ℕ → Result ℕ ℕ → Type 0
+gives = Gives memory length
+
+gives_what_is_read : gives (Ok (hex "05 24")) (Ok 2)
+gives_what_is_read = refl
+
+gives_another : gives (Ok (hex "05 24")) (Ok 3) → ⊥
+gives_another is = absurd (cc is)
+
+gives_what_is_refused : gives (Ok (hex "05 24")) (Err 7) → ⊥
+gives_what_is_refused is = absurd (cc is)
+
+gives_where_memory_is_the_fault : gives (Ok (hex "05 24")) (Err memory) → ⊥
+gives_where_memory_is_the_fault is = absurd (cc is)
+
+gives_the_fault : gives (Err 7) (Err 7)
+gives_the_fault = inl refl
+
+gives_another_fault : gives (Err 7) (Err 8) → ⊥
+gives_another_fault (inl is) = absurd (cc is)
+gives_another_fault (inr is) = omega (arith, is.0)
+
+gives_a_fault_of_what_is_read : gives (Err 7) (Ok 2) → ⊥
+gives_a_fault_of_what_is_read (inl is) = absurd (cc is)
+gives_a_fault_of_what_is_read (inr is) = omega (arith, is.0)
+
+runs_out_where_it_is_read : gives (Err memory) (Ok 2)
+runs_out_where_it_is_read = inr (refl, refl)
+
+runs_out_where_it_is_refused : gives (Err memory) (Err 7) → ⊥
+runs_out_where_it_is_refused (inl is) = absurd (cc is)
+runs_out_where_it_is_refused (inr is) = absurd (cc is.1)
+
+-- ---- what a call answers, against its first cause of refusal
+
+abbrev refuses_by : Result (List ℕ) ℕ → Option ℕ → Type 0
+refuses_by = RefusesBy memory
+
+answers_without_cause : refuses_by (Ok (hex "05")) None
+answers_without_cause = refl
+
+answers_with_a_cause : refuses_by (Ok (hex "05")) (Some 7) → ⊥
+answers_with_a_cause is = absurd (cc is)
+
+refuses_by_the_first : refuses_by (Err 7) (Some 7)
+refuses_by_the_first = inl refl
+
+refuses_by_another : refuses_by (Err 7) (Some 8) → ⊥
+refuses_by_another (inl is) = absurd (cc is)
+refuses_by_another (inr is) = omega (arith, is.0)
+
+refuses_without_cause : refuses_by (Err 7) None → ⊥
+refuses_without_cause (inl is) = absurd (cc is)
+refuses_without_cause (inr is) = omega (arith, is.0)
+
+runs_out_without_cause : refuses_by (Err memory) None
+runs_out_without_cause = inr (refl, refl)
+
+runs_out_before_a_cause : refuses_by (Err memory) (Some 7) → ⊥
+runs_out_before_a_cause (inl is) = absurd (cc is)
+runs_out_before_a_cause (inr is) = absurd (cc is.1)
 
 -- ---- octets as text
 

@@ -1,5 +1,5 @@
 -- Definitions against literal frames.
-use Rattle.std.proofs.Common.{◌≡◌, ℕ, List, [], ◌∷◌, ◌++◌, map, refl, ap, inr, lit<, lit≤}
+use Rattle.std.proofs.Common.{◌≡◌, ℕ, List, [], ◌∷◌, ◌++◌, map, None, refl, ap, inr, lit<, lit≤}
 use Rattle.std.specs.Prelude.{codes, decimal}
 use Rattle.std.specs.IoError.{error_kind}
 use Rattle.std.specs.declared.io.Error.{Error}
@@ -9,14 +9,18 @@ use Rattle.octets.proofs.Hex.{hex}
 use Rattle.hex.proofs.OnLiterals.{hex_on_literals}
 use Rattle.ipa_framing.specs.declared.fault.FrameFault.TheVariants as frame_faults
 use Rattle.rsl_codec.specs.declared.fault.RslFault.TheVariants as faults
+use Rattle.rsl_codec.specs.declared.radio_link.Data.{Data}
+use Rattle.rsl_codec.specs.declared.radio_link.Link.{Link}
+use Rattle.rsl_codec.specs.declared.rsl.Rsl.TheVariants as messages
 use Rattle.bssmap_codec.specs.declared.fault.InterfaceFault.TheVariants as interface
+use Rattle.bssmap_codec.specs.declared.sccp.Sccp.TheVariants as connection
 use Rattle.program_base.specs.declared.input.Unread.TheVariants as unread
 use Rattle.program_base.specs.declared.input.Unread.TheVariants.{Endless, Refused}
 use Rattle.program_base.specs.declared.failure.Failure.TheVariants.{Memory, Device}
 use Rattle.program_base.specs.Status.{failure_of}
 use Rattle.program_base.specs.declared.decode_command.Stop.TheVariants.{TooLong, Failed}
 use Rattle.program_base.specs.Decoded.{IsOutput, IsRefused, frame_lines, rest_line}
-use Rattle.program_base.specs.Names.{ccm_name, rsl_fault_name, sccp_fault_name}
+use Rattle.program_base.specs.Names.{ccm_name, rsl_fault_name, rsl_message_name, sccp_fault_name, sccp_message_name}
 use Rattle.program_base.specs.Stopping.{stop_of, stop_unread}
 
 -- ---- why a stream isn't decoded to its end
@@ -53,6 +57,51 @@ maintenance = refl
 other_streams : line 0x01 [] ++ line 0xfc (0x05 ∷ []) ≡ codes "01 unknown\nfc unknown\n"
 unfolding hex_on_literals
 other_streams = refl
+
+-- ---- the names of messages
+
+abbrev on_link : Link
+on_link = record { channel = 0x41; link = 0x00 }
+
+abbrev with_l3 : Data
+with_l3 = record { channel = 0x41; link = 0x00; l3 = hex "03 45" }
+
+station_messages : map rsl_message_name
+    (messages.DataRequest with_l3 ∷ messages.DataIndication with_l3
+    ∷ messages.ErrorIndication (record { channel = 0x41; link = 0x00; cause = None })
+    ∷ messages.EstablishRequest on_link ∷ messages.EstablishConfirm on_link
+    ∷ messages.EstablishIndication (record { channel = 0x41; link = 0x00; l3 = None })
+    ∷ messages.ReleaseRequest (record { channel = 0x41; link = 0x00; mode = record { 0 = 0x01 } })
+    ∷ messages.ReleaseConfirm on_link ∷ messages.ReleaseIndication on_link
+    ∷ messages.ChannelRequired
+    (record { channel = 0x88; reference = record { access = 0x7f; frame = 0x0102 }; access_delay = record { 0 = 0x05 } })
+    ∷ messages.ImmediateAssignCommand (record { channel = 0x90; information = [] })
+    ∷ messages.ChannelActivation (record { channel = 0x41; activation = record { 0 = 0x00 }; mode = record { 0 = [] }; reference = None })
+    ∷ messages.ChannelActivationAck (record { channel = 0x41; frame = None })
+    ∷ messages.ChannelActivationNack (record { channel = 0x41; cause = None })
+    ∷ messages.ConnectionFailure (record { channel = 0x41; cause = None })
+    ∷ messages.HandoverDetection (record { channel = 0x41; access_delay = None })
+    ∷ messages.MeasurementResult
+    (record { channel = 0x41; number = record { 0 = 0x05 }; uplink = None; bs_power = None; l1 = None; l3 = None })
+    ∷ messages.RfChannelRelease 0x41 ∷ messages.RfChannelReleaseAck 0x41 ∷ []) ≡
+    codes "DATA REQUEST" ∷ codes "DATA INDICATION" ∷ codes "ERROR INDICATION"
+    ∷ codes "ESTABLISH REQUEST" ∷ codes "ESTABLISH CONFIRM" ∷ codes "ESTABLISH INDICATION"
+    ∷ codes "RELEASE REQUEST" ∷ codes "RELEASE CONFIRM" ∷ codes "RELEASE INDICATION"
+    ∷ codes "CHANNEL REQUIRED" ∷ codes "IMMEDIATE ASSIGN COMMAND" ∷ codes "CHANNEL ACTIVATION"
+    ∷ codes "CHANNEL ACTIVATION ACK" ∷ codes "CHANNEL ACTIVATION NACK" ∷ codes "CONNECTION FAILURE"
+    ∷ codes "HANDOVER DETECTION" ∷ codes "MEASUREMENT RESULT" ∷ codes "RF CHANNEL RELEASE" ∷ codes "RF CHANNEL RELEASE ACK" ∷ []
+station_messages = refl
+
+switch_messages : map sccp_message_name
+    (connection.ConnectionRequest 0x000001 None ∷ connection.ConnectionConfirm 0x000001 0x800001 ∷ connection.ConnectionRefused 0x000001
+    ∷ connection.Released 0x000001 0x800001 ∷ connection.ReleaseComplete 0x000001 0x800001 ∷ connection.DataForm1 0x000001 [] ∷ []) ≡
+    codes "CR" ∷ codes "CC" ∷ codes "CREF" ∷ codes "RLSD" ∷ codes "RLC" ∷ codes "DT1" ∷ []
+switch_messages = refl
+
+-- ---- the names of faults
+
+memory_names : rsl_fault_name faults.Memory ∷ sccp_fault_name interface.Memory ∷ [] ≡ codes "fault S5" ∷ codes "fault A6" ∷ []
+memory_names = refl
 
 station_faults : map rsl_fault_name (faults.Short ∷ faults.UnknownType ∷ faults.MissingElement 0x1b ∷ faults.BadChannel ∷ faults.TooLong ∷ []) ≡
     codes "fault S1" ∷ codes "fault S2" ∷ codes "fault S3" ∷ codes "fault S4" ∷ codes "fault S6" ∷ []

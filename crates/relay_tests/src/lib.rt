@@ -15,4 +15,6 @@ mod program;
 #[cfg(test)]
 mod reception;
 #[cfg(test)]
+mod settled_worlds;
+#[cfg(test)]
 mod switch;

@@ -5,7 +5,17 @@ use std::process::Abort;
 use std::test::Fail;
 
 /// An input, and the status, the output and the errors that are wanted of it.
-type Row<'a> = (&'a [u8], u8, &'a str, &'a str);
+pub(crate) type Row<'a> = (&'a [u8], u8, &'a str, &'a str);
+
+/// A command of the program.
+#[derive(Clone, Copy)]
+pub(crate) enum Command<'a> {
+    /// `replay`, with the text of the settings and the word behind `--break`.
+    Replay(Option<&'a str>, Option<&'a str>),
+    Decode,
+}
+
+const FIXED_WORLD: Command<'static> = Command::Replay(None, None);
 
 const SCRIPTS: &[Row] = &[
     (THREE_MESSAGES, 0, THREE_REPORTED, ""),
@@ -156,13 +166,19 @@ struct Answer {
     errors: Vec<u8>,
 }
 
-/// Runs `replay` in the fixed world, or `decode`.
-fn run(alloc: Global, replays: bool, mut input: Pieces<'_>, mut output: Paper) -> Answer {
+/// Runs a command.
+fn run(alloc: Global, command: Command, mut input: Pieces<'_>, mut output: Paper) -> Answer {
     let mut errors = Vec::new(alloc);
-    let status = if replays {
-        replay(alloc, None, None, &mut input, &mut output, &mut errors)
-    } else {
-        decode(alloc, &mut input, &mut output, &mut errors)
+    let status = match command {
+        Command::Replay(settings, breaks) => replay(
+            alloc,
+            settings,
+            breaks,
+            &mut input,
+            &mut output,
+            &mut errors,
+        ),
+        Command::Decode => decode(alloc, &mut input, &mut output, &mut errors),
     };
     Answer {
         status,
@@ -172,10 +188,10 @@ fn run(alloc: Global, replays: bool, mut input: Pieces<'_>, mut output: Paper) -
 }
 
 /// Asserts the status, the output and the errors of a row.
-fn answers(rt: &(impl Abort + AllocGlobal), replays: bool, row: Row<'_>, input: Pieces<'_>) {
+fn answers(rt: &(impl Abort + AllocGlobal), command: Command, row: Row<'_>, input: Pieces<'_>) {
     let (_, status, text, told) = row;
     let output = Paper::new(rt.alloc(), usize::MAX, false);
-    let found = run(rt.alloc(), replays, input, output);
+    let found = run(rt.alloc(), command, input, output);
     assert!(rt; found.status == status, "status {}", found.status);
     assert!(rt; found.output.taken.as_slice() == text.as_bytes());
     assert!(rt; found.errors.as_slice() == told.as_bytes());
@@ -183,31 +199,41 @@ fn answers(rt: &(impl Abort + AllocGlobal), replays: bool, row: Row<'_>, input: 
 }
 
 /// Asserts the rows over inputs in pieces of several sizes.
-fn answers_in_pieces(rt: &(impl Abort + AllocGlobal), replays: bool, rows: &[Row<'_>]) {
+fn answers_in_pieces(rt: &(impl Abort + AllocGlobal), command: Command, rows: &[Row<'_>]) {
     for row in rows {
         for size in [1, 7, 65536] {
-            answers(rt, replays, *row, Pieces::new(row.0, size));
+            answers(rt, command, *row, Pieces::new(row.0, size));
         }
+    }
+}
+
+/// Asserts each row of its command.
+pub(crate) fn all_answer(rt: &(impl Abort + AllocGlobal), rows: &[(Command, Row)]) {
+    for (command, row) in rows {
+        answers(rt, *command, *row, Pieces::new(row.0, 65536));
     }
 }
 
 #[test]
 fn scripts_are_reported_however_they_come(rt: HostRuntime) {
-    answers_in_pieces(&rt, true, SCRIPTS);
+    answers_in_pieces(&rt, FIXED_WORLD, SCRIPTS);
 }
 
 #[test]
 fn frames_are_named_however_they_come(rt: HostRuntime) {
-    answers_in_pieces(&rt, false, STREAMS);
+    answers_in_pieces(&rt, Command::Decode, STREAMS);
 }
 
-/// Whether it replays, and what comes of an input whose reader fails at its end: what was read is
+/// A command, and what comes of an input whose reader fails at its end: what was read is
 /// named before the break, and a bad line before it comes first.
-const BROKEN: &[(bool, Row)] = &[
-    (true, (THREE_MESSAGES, 3, "", FAILED)),
-    (true, (b"bad\nhandle\n", 2, "", "bsc: line 1: bad event\n")),
+const BROKEN: &[(Command, Row)] = &[
+    (FIXED_WORLD, (THREE_MESSAGES, 3, "", FAILED)),
     (
-        false,
+        FIXED_WORLD,
+        (b"bad\nhandle\n", 2, "", "bsc: line 1: bad event\n"),
+    ),
+    (
+        Command::Decode,
         (&[0x00, 0x01, 0xfe, 0x00, 0x00], 3, "fe PING\n", FAILED),
     ),
 ];
@@ -216,34 +242,34 @@ const FAILED: &str = "bsc: device failed\n";
 
 #[test]
 fn a_reader_that_fails_in_mid_stream_is_told(rt: HostRuntime) {
-    for (replays, row) in BROKEN {
+    for (command, row) in BROKEN {
         let mut input = Pieces::new(row.0, 3);
         input.fails = true;
-        answers(&rt, *replays, *row, input);
+        answers(&rt, *command, *row, input);
     }
 }
 
-/// Whether it replays, and what comes of an input that has to be read to its end.
-const WHOLE: [(bool, Row<'static>); 2] = [
-    (true, (THREE_MESSAGES, 0, THREE_REPORTED, "")),
-    (false, (FRAMES, 0, FRAMES_NAMED, "")),
+/// A command, and what comes of an input that has to be read to its end.
+const WHOLE: [(Command<'static>, Row<'static>); 2] = [
+    (FIXED_WORLD, (THREE_MESSAGES, 0, THREE_REPORTED, "")),
+    (Command::Decode, (FRAMES, 0, FRAMES_NAMED, "")),
 ];
 
 #[test]
 fn an_interrupted_read_is_tried_again(rt: HostRuntime) {
-    for (replays, row) in WHOLE {
+    for (command, row) in WHOLE {
         let mut input = Pieces::new(row.0, 7);
         input.is_interrupted = true;
-        answers(&rt, replays, row, input);
+        answers(&rt, command, row, input);
     }
 }
 
 #[test]
 fn a_writer_that_fails_in_mid_stream_is_told(rt: HostRuntime) {
-    for (replays, row) in WHOLE {
+    for (command, row) in WHOLE {
         for fails in [true, false] {
             let output = Paper::new(rt.alloc(), 10, fails);
-            let found = run(rt.alloc(), replays, Pieces::new(row.0, 65536), output);
+            let found = run(rt.alloc(), command, Pieces::new(row.0, 65536), output);
             assert!(rt; found.status == 3 && found.errors.as_slice() == FAILED.as_bytes());
         }
     }
@@ -251,10 +277,11 @@ fn a_writer_that_fails_in_mid_stream_is_told(rt: HostRuntime) {
 
 #[test]
 fn output_is_flushed_at_the_end_and_by_decode_after_each_read(rt: HostRuntime) {
-    for (replays, (octets, ..)) in WHOLE {
+    for (command, (octets, ..)) in WHOLE {
         let output = Paper::new(rt.alloc(), usize::MAX, false);
-        let found = run(rt.alloc(), replays, Pieces::new(octets, 1), output);
+        let found = run(rt.alloc(), command, Pieces::new(octets, 1), output);
         assert!(rt; found.status == 0 && found.output.waiting == 0 && found.output.flushes > 0);
+        let replays = matches!(command, Command::Replay(..));
         assert!(rt; replays || found.output.flushes >= octets.len());
     }
 }

@@ -4,3 +4,4 @@ pub mod InOrder
 pub mod Lines
 pub mod Messages
 mod Rows
+mod FalseOctetRows

@@ -1,5 +1,6 @@
 -- Definitions against literal octets (TS 48.058 clauses 8 and 9).
-use Rattle.std.proofs.Common.{◌≡◌, ℕ, Bool, List, [], ◌∷◌, ◌++◌, length, map, replicate, true, false, Some, None, Ok, Err, refl}
+use Rattle.std.proofs.Common.{◌≡◌, ℕ, Bool, List, [], ◌∷◌, ◌++◌, filter, length, map, replicate, true, false, Some, None, Ok, Err, refl}
+use Rattle.std.specs.List.{range_with_len}
 use Rattle.octets.proofs.Hex.{hex}
 use Rattle.octets.specs.declared.element.Format.TheVariants.{Tv, Tlv, TlvE}
 use Rattle.octets.specs.Element.{format_in}
@@ -104,6 +105,10 @@ channels = refl
 no_channels : map is_channel (hex "00 07 80 87 89 8f 91 98 a0 c0 e0 ff") ≡ replicate 12 false
 no_channels = refl
 
+-- of all octets: TCH 08 to 1F and SDCCH 20 to 7F, RACH 88, PCH and AGCH 90
+all_channels : filter is_channel (range_with_len 0 256) ≡ range_with_len 0x08 24 ++ range_with_len 0x20 96 ++ hex "88 90"
+all_channels = refl
+
 channel_read : channel_by 0x0a ≡ Ok 0x0a
 channel_read = refl
 
@@ -115,6 +120,10 @@ channel_refused = refl
 -- SAPI 3 on a TCH/F, the last TCH/H, the first SDCCH/4, an SDCCH/8
 short_message_links : map short_message_link (hex "0a 1f 20 41") ≡ hex "43 43 03 03"
 short_message_links = refl
+
+-- on each TCH the SACCH, on each SDCCH the main link
+all_short_message_links : map short_message_link (range_with_len 0x08 120) ≡ replicate 24 0x43 ++ replicate 96 0x03
+all_short_message_links = refl
 
 -- immediate assignment, normal assignment, asynchronous handover
 activation_types : map (λ kind. kind.0) (IMMEDIATE_ASSIGNMENT ∷ NORMAL_ASSIGNMENT ∷ ASYNCHRONOUS_HANDOVER ∷ []) ≡ hex "00 01 02"
@@ -261,6 +270,53 @@ rf_channel_release = (refl, refl)
 rf_channel_release_ack : Stands (hex "08 33 01 41") (messages.RfChannelReleaseAck 0x41)
 unfolding rsl_reading message_at elements_of breaks_off rsl_type walk channel_only_at rsl_element_text
 rf_channel_release_ack = (refl, refl)
+
+-- ---- the messages of an access, a handover and a report
+
+access_acknowledged : Stands (hex "08 22 01 41 08 00 00")
+    (messages.ChannelActivationAck (record { channel = 0x41; frame = Some (record { 0 = 0 }) }))
+unfolding rsl_reading message_at elements_of breaks_off rsl_type walk activation_ack_at rsl_element_text
+access_acknowledged = (refl, refl)
+
+-- with the whole IMMEDIATE ASSIGNMENT
+access_granted : Stands
+    (hex "0c 16 01 90 2b 17 2d 06 3f 00 41 20 14 7f 01 02 05 00 2b 2b 2b 2b 2b 2b 2b 2b 2b 2b 2b")
+    (messages.ImmediateAssignCommand
+    (record { channel = 0x90; information = hex "2d 06 3f 00 41 20 14 7f 01 02 05 00 2b 2b 2b 2b 2b 2b 2b 2b 2b 2b 2b" }))
+unfolding rsl_reading message_at elements_of breaks_off rsl_type walk assignment_at rsl_element_text
+access_granted = (refl, refl)
+
+target_activated : Stands (hex "08 21 01 41 03 02 06 04 00 03 01 00 09 00")
+    (messages.ChannelActivation
+    (record {
+      channel = 0x41;
+      activation = record { 0 = 0x02 };
+      mode = record { 0 = hex "00 03 01 00" };
+      reference = Some (record { 0 = 0x00 });
+    }))
+unfolding rsl_reading message_at elements_of breaks_off rsl_type walk activation_at rsl_element_text
+target_activated = (refl, refl)
+
+-- with the whole HANDOVER COMMAND
+handover_commanded : Stands (hex "03 01 01 41 02 00 0b 00 09 06 2b 12 1e 41 40 1e 00 00")
+    (messages.DataRequest (record { channel = 0x41; link = 0x00; l3 = hex "06 2b 12 1e 41 40 1e 00 00" }))
+unfolding rsl_reading message_at elements_of breaks_off rsl_type walk data_at rsl_element_text
+handover_commanded = (refl, refl)
+
+-- with the whole MEASUREMENT REPORT
+report_measured : Stands
+    (hex "08 28 01 41 1b 05 19 03 14 14 00 04 00 0b 00 12 06 15 14 14 00 57 02 40 00 00 00 00 00 00 00 00 00 00")
+    (messages.MeasurementResult
+    (record {
+      channel = 0x41;
+      number = record { 0 = 5 };
+      uplink = Some (record { 0 = hex "14 14 00" });
+      bs_power = Some (record { 0 = 0 });
+      l1 = None;
+      l3 = Some (hex "06 15 14 14 00 57 02 40 00 00 00 00 00 00 00 00 00 00");
+    }))
+unfolding rsl_reading message_at elements_of breaks_off rsl_type walk measurement_result_at rsl_element_text
+report_measured = (refl, refl)
 
 -- ---- what else is read
 

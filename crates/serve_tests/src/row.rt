@@ -62,8 +62,9 @@ fn judge<R>(ended: &[Ended<R>], texts: &[Vec<u8>; 3]) -> Result<(), Fail> {
     }
 }
 
+/// The stations reach the switch in the order of the gates, and no device failed.
 #[test]
-fn the_stations_reach_the_switch_in_the_order_of_the_gates(rt: HostRuntime) -> Result<(), Fail> {
+fn refuses_workers_in_turn_and_faults_without_failure(rt: HostRuntime) -> Result<(), Fail> {
     let alloc = rt.alloc();
     let texts = texts(alloc)?;
     let ended = serve(rt, alloc, &plays(), LIMIT)?;

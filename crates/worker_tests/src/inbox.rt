@@ -64,8 +64,9 @@ fn is_foreign(put: Result<(), PutFault>, source: u16, octet: u8) -> bool {
     }
 }
 
+/// An inbox of one item for each of two sources.
 #[test]
-fn an_inbox_of_one_item_for_each_of_two_sources(rt: HostRuntime) -> Result<(), Fail> {
+fn refuses_take_never_gives_and_put_is_always_full(rt: HostRuntime) -> Result<(), Fail> {
     let alloc = rt.alloc();
     let (mut desk, mut passes) = Inbox::new(alloc, 2, 1)?;
     let (one, two, foreign) = items(alloc)?;

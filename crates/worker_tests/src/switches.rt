@@ -16,8 +16,9 @@ const CONFIRM: &[u8] = &[
     0x00, 0x09, 0xfd, 0x02, 0x00, 0x00, 0x01, 0x80, 0x00, 0x01, 0x02, 0x00,
 ];
 
+/// A connection request is confirmed, over a device that works.
 #[test]
-fn a_connection_request_is_confirmed(rt: HostRuntime) -> Result<(), Fail> {
+fn refuses_faults_without_failure_at_a_connection_request(rt: HostRuntime) -> Result<(), Fail> {
     let alloc = rt.alloc();
     let calls = [
         Call::Octets(&[0x00, 0x01, 0xfe, 0x00]),

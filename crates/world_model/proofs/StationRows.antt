@@ -1,10 +1,11 @@
 -- What stations make of what they take.
-use Rattle.world_model.proofs.Prelude.{◌≡◌, true, false, [], ◌∷◌, map, Some, None, option_map, refl, place_at, usual_settings, Zero, Three}
+use Rattle.world_model.proofs.Prelude.{◌≡◌, ℕ, true, false, List, [], ◌∷◌, map, Some, None, option_map, refl, place_at, usual_settings, Zero, Three}
 use Rattle.world_model.proofs.Prelude.{Upper, Connect, AirUp, AirAck, AirDown, AirDownLost, Move, Arrive, Return, BaseTakes, BasePush}
 use Rattle.world_model.proofs.Prelude.{Handle, SwitchTakes, SwitchDoes, Report, Assign, Clear, Dtap, Asking, On, World, new_world}
-use Rattle.world_model.proofs.Prelude.{is_active_at, spot_at, with_spot, with_outbox, event_after}
+use Rattle.world_model.proofs.Prelude.{Assignment, Command, Gone, Moving, Tenure, is_active_at, spot_at, with_spot, with_outbox, event_after}
 use Rattle.octets.proofs.Hex.{hex}
-use Rattle.world_model.specs.Views.{received}
+use Rattle.world_model.specs.Stations.{is_on, is_same, mobile_on}
+use Rattle.world_model.specs.Views.{received, sent}
 use Rattle.world_model.proofs.Worlds.{on_literals, after_all, bodies, made_bodies, seat_of, takes}
 use Rattle.world_model.proofs.Rows.{opened}
 
@@ -216,3 +217,60 @@ list_goes_at_a_move = refl
 list_stays_without_move : map (takes (after_all with_link (SwitchDoes (Clear 1) ∷ BasePush 0 ∷ Handle ∷ BaseTakes 1 ∷ []))) (AirDown 1 ∷ []) ≡ true ∷ []
 unfolding on_literals
 list_stays_without_move = refl
+
+-- ---- who is on a tenure: the same station, channel and number
+
+abbrev tenure_on : ℕ → ℕ → ℕ → Tenure
+tenure_on station channel number = record { at = place_at station channel; number = number }
+
+abbrev tenures : List Tenure
+tenures = tenure_on 1 0x41 2 ∷ tenure_on 2 0x41 2 ∷ tenure_on 1 0x49 2 ∷ tenure_on 1 0x41 3 ∷ []
+
+one_is_the_same : map (is_same (tenure_on 1 0x41 2)) tenures ≡ true ∷ false ∷ false ∷ false ∷ []
+one_is_the_same = refl
+
+the_same_the_other_way : map (λ other. is_same other (tenure_on 1 0x41 2)) tenures ≡ true ∷ false ∷ false ∷ false ∷ []
+the_same_the_other_way = refl
+
+sits_on_the_same : map (λ other. is_on (tenure_on 1 0x41 2) (On other None)) tenures ≡ true ∷ false ∷ false ∷ false ∷ []
+sits_on_the_same = refl
+
+-- where it was told to go it isn't yet
+abbrev told : Command
+told = record { change = Assignment; target = tenure_on 1 0x41 2 }
+
+told_to_go : map (λ other. is_on (tenure_on 1 0x41 2) (On other (Some told))) tenures
+    ≡ true ∷ false ∷ false ∷ false ∷ []
+told_to_go = refl
+
+sits_nowhere : map (is_on (tenure_on 1 0x41 2))
+    (Asking ∷ Gone ∷ Moving (tenure_on 1 0x41 2) told ∷ []) ≡ false ∷ false ∷ false ∷ []
+sits_nowhere = refl
+
+-- ---- the mobile of the last number
+
+abbrev last_asking : World
+last_asking = after_all (new_world usual_settings) (Connect 7 1 (hex "05 24 71") true ∷ Connect 255 1 (hex "05 24 72") true ∷ [])
+
+request_names_the_last_mobile : made_bodies last_asking 1 ≡ hex "0c 13 01 88 13 07 00 00 11 00" ∷ hex "0c 13 01 88 13 ff 00 00 11 00" ∷ []
+unfolding on_literals
+request_names_the_last_mobile = refl
+
+abbrev last_seated : World
+last_seated = after_all last_asking (BasePush 1 ∷ Handle ∷ BasePush 1 ∷ Handle ∷ BaseTakes 1 ∷ BaseTakes 1
+    ∷ BasePush 1 ∷ Handle ∷ BasePush 1 ∷ Handle ∷ BaseTakes 1 ∷ BaseTakes 1 ∷ [])
+
+seats_the_last_mobile : map (seat_of last_seated) (7 ∷ 255 ∷ []) ≡ Some (On (tenure_on 1 0x41 1) None)
+    ∷ Some (On (tenure_on 1 0x49 1) None) ∷ []
+unfolding on_literals
+seats_the_last_mobile = refl
+
+finds_the_last_mobile : map (λ channel. option_map (λ p. p.number) (mobile_on (last_seated).actors (tenure_on 1 channel 1)))
+    (hex "41 49 0a") ≡ Some 7 ∷ Some 255 ∷ None ∷ []
+unfolding on_literals
+finds_the_last_mobile = refl
+
+last_mobile_sends : map (λ mobile. sent (last_seated).actors mobile) (7 ∷ 254 ∷ 255 ∷ []) ≡ Some ((hex "05 24 71") ∷ []) ∷ None
+    ∷ Some ((hex "05 24 72") ∷ []) ∷ []
+unfolding on_literals
+last_mobile_sends = refl

@@ -2,7 +2,7 @@
 use Rattle.controller_model.proofs.Prelude.{◌≡◌, ℕ, true, false, List, [], ◌∷◌, ◌++◌, None, refl, Management, CompleteLayer3Information, hex}
 use Rattle.controller_model.proofs.Prelude.{Message, Request, Data, Zero, Three, AssignmentComplete, ClearRequest, HandoverPerformed}
 use Rattle.controller_model.proofs.Prelude.{Moment, all_messages, Tenure, joined, service, messages_on, Step, Tick, life, forwarded}
-use Rattle.controller_model.proofs.Prelude.{held_up}
+use Rattle.controller_model.proofs.Prelude.{held_up, is_on, is_same, map, Place}
 use Rattle.controller_model.proofs.Lives.{down, eager_settings, from_station, from_switch}
 use Rattle.controller_model.proofs.OnLiterals.{on_literals}
 
@@ -186,3 +186,20 @@ on_sapi_3 = refl
 
 all_in_order : all_messages (moment (Tick 1) (request ∷ assigned ∷ []) ∷ moment (Tick 2) [] ∷ moment (Tick 3) (clears ∷ []) ∷ []) ≡ request ∷ assigned ∷ clears ∷ []
 all_in_order = refl
+
+-- ---- which tenure is on a channel: that of the same station and number, while it isn't over
+
+abbrev place : ℕ → ℕ → Place
+place station number = record { station = station; number = number }
+
+abbrev places : List Place
+places = place 1 0x41 ∷ place 2 0x41 ∷ place 1 0x49 ∷ []
+
+one_is_the_same : map (is_same (place 1 0x41)) places ≡ true ∷ false ∷ false ∷ []
+one_is_the_same = refl
+
+on_its_channel : map (λ at. is_on at (tenure 1 0x41 [] [])) places ≡ true ∷ false ∷ false ∷ []
+on_its_channel = refl
+
+on_no_channel_once_over : map (λ at. is_on at (over (tenure 1 0x41 [] []))) places ≡ false ∷ false ∷ false ∷ []
+on_no_channel_once_over = refl
