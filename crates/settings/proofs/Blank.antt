@@ -24,10 +24,12 @@ missing_first (Err (BadType other)) value key reads = absurd (cc (reads))
 missing_first (Err (BadValue other)) value key reads = absurd (cc (reads))
 missing_first (Err (Repeated other)) value key reads = absurd (cc (reads))
 
-blank_members : (r : Result Parameters SettingsFault) (ms : Members) → no_members ≡ ms → Reads r (parameters_of ms) (first_fault ms) → r ≡ settings_in (Some no_members)
+blank_members : (r : Result Parameters SettingsFault) (ms : Members) → no_members ≡ ms → Reads r (parameters_of ms) (first_fault ms)
+    → r ≡ settings_in (Some no_members)
 blank_members r ms same reads = missing_first r _ _ (subst (λ ms. Reads r (parameters_of ms) (first_fault ms)) (sym same) reads)
 
-pub blank_answer : (text : List ℕ) (ms : Members) (r : Result Parameters SettingsFault) → IsBlank text → parse_document text ≡ Some ms → Reads r (parameters_of ms) (first_fault ms) → r ≡ settings_in (parse_document text)
+pub blank_answer : (text : List ℕ) (ms : Members) (r : Result Parameters SettingsFault) → IsBlank text → parse_document text ≡ Some ms
+    → Reads r (parameters_of ms) (first_fault ms) → r ≡ settings_in (parse_document text)
 blank_answer text ms r blank parsed reads =
     let empty = parse_blank text blank in
     rw empty (blank_members r ms (cc (sym empty ∙ parsed)) reads)

@@ -18,8 +18,10 @@ fault_found (found.BadType key) = BadType key
 fault_found (found.BadValue key) = BadValue key
 fault_found (found.Repeated key) = Repeated key
 
--- Where nothing is at fault, what is seen in the answer is this value. Else the first fault is found.
-abbrev pub Finds : {X Y : Type 0} → Result X Finding → (X → Y) → Y → Option SettingsFault → Type 0
+-- Where nothing is at fault, what is seen in the answer is this value. Else the first fault is
+-- found.
+abbrev pub Finds : {X Y : Type 0} → Result X Finding → (X → Y) → Y → Option SettingsFault
+    → Type 0
 Finds (Ok x) seen value first = (first ≡ None) × (seen x ≡ value)
 Finds (Err finding) seen value first = first ≡ Some (fault_found finding)
 

@@ -12,17 +12,20 @@ use Rattle.settings.specs.Tables.{by_rule, members_in}
 -- the key of a rule, in a table's members
 abbrev pub FindsKey : {X Y : Type 0} → Result X Finding → (X → Y) → Rule → (Option Data → Y)
     → Members → Type 0
-FindsKey result seen rule value ms = Finds result seen (value (by_rule rule ms)) (key_fault rule ms)
+FindsKey result seen rule value ms =
+    Finds result seen (value (by_rule rule ms)) (key_fault rule ms)
 
 -- a value of a kind that stands at a key
 abbrev pub FindsValue : {X Y : Type 0} → Result X Finding → (X → Y) → Key → Kind
     → (Option Data → Y) → Data → Type 0
-FindsValue result seen key kind value d = Finds result seen (value (Some d)) (value_fault key kind d)
+FindsValue result seen key kind value d =
+    Finds result seen (value (Some d)) (value_fault key kind d)
 
 -- a table, by the rules of its keys
 abbrev pub FindsTable : {X Y : Type 0} → Result X Finding → (X → Y) → Key → List Rule
     → (Members → Y) → Members → Type 0
-FindsTable result seen key rules value ms = Finds result seen (value ms) (table_fault key rules ms)
+FindsTable result seen key rules value ms =
+    Finds result seen (value ms) (table_fault key rules ms)
 
 -- what stands at the key of a table that has to be there
 abbrev pub FindsRequired : {X Y : Type 0} → Result X Finding → (X → Y) → Key → List Rule

@@ -1,5 +1,6 @@
 // The channels of a cell: a list of the numbers of TCHs and SDCCHs.
-ghost use Rattle.std.specs.Prelude.{◌≡◌, ◌≤◌, Some, true, All, IfOk, IfSome, is_some, length};
+ghost use Rattle.std.specs.Prelude.{◌≡◌, ◌≤◌, Some, true, All, IfOk, IfSome, is_some};
+ghost use Rattle.std.specs.Prelude.{length};
 ghost use Rattle.toml.specs.Data.{array};
 ghost use Rattle.toml.specs.View.{view, items_view, table_view};
 ghost use Rattle.settings.specs.Answer.{Finds};

@@ -77,7 +77,8 @@ fn listens_differ(cells: &[Value]) -> bool
 }
 
 fn has_listen(cells: &[Value], cell: &Value) -> bool
-    ensures { result ≡ list_any (same_listen (cell_seen cell.now)) (cells_of (items_view cells.now)) }
+    ensures { result ≡
+        list_any (same_listen (cell_seen cell.now)) (cells_of (items_view cells.now)) }
 {
     for other in cells {
         if listen_in(cell) == listen_in(other) {
@@ -99,7 +100,8 @@ fn airs_differ(cells: &[Value]) -> bool
 }
 
 fn has_air(cells: &[Value], cell: &Value) -> bool
-    ensures { result ≡ list_any (same_air (cell_seen cell.now)) (cells_of (items_view cells.now)) }
+    ensures { result ≡
+        list_any (same_air (cell_seen cell.now)) (cells_of (items_view cells.now)) }
 {
     for other in cells {
         if is_same_air(cell, other) {
