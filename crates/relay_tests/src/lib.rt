@@ -16,3 +16,5 @@ mod program;
 mod reception;
 #[cfg(test)]
 mod switch;
+#[cfg(test)]
+mod words;
