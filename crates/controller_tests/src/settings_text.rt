@@ -55,3 +55,34 @@ fn faults_of_settings_are_told(rt: HostRuntime) -> Result<(), Fail> {
     }
     Ok(())
 }
+
+/// The settings of 32 cells of 64 channels each, which is as many as there may be.
+fn full(alloc: Global) -> Result<String, Fail> {
+    let mut channels = String::new(alloc);
+    for channel in 0x20..0x60u8 {
+        channels.push_str(format!(in alloc; "{channel}, ")?.as_str())?;
+    }
+    let mut text = String::from_str(
+        alloc,
+        "[network]\nmcc = \"001\"\nmnc = \"01\"\n[switch]\naddress = \"a\"\n",
+    )?;
+    for cell in 1..33u8 {
+        let table = format!(in alloc;
+            "[[cell]]\nlisten = \"{cell}\"\nlac = 1\nci = 1\n\
+            arfcn = {cell}\nbsic = 1\nchannels = [{channels}]\n"
+        )?;
+        text.push_str(table.as_str())?;
+    }
+    Ok(text)
+}
+
+#[test]
+fn as_many_cells_and_channels_as_there_may_be_are_read(rt: HostRuntime) -> Result<(), Fail> {
+    let text = full(rt.alloc())?;
+    let settings = Settings::read(rt.alloc(), text.as_str())?;
+    assert!(rt; settings.cell_count() == 32);
+    for cell in settings.cells() {
+        assert!(rt; cell.channels().len() == 64);
+    }
+    Ok(())
+}
