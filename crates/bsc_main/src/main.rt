@@ -2,9 +2,12 @@
 //! network.
 #![tactic(auto)]
 
-use bsc_program::{Failure, ProgramFault, decode, replay};
+pub use bsc_program::{decode, replay};
+use bsc_program::{Failure, ProgramFault};
 use link_sockets::relay;
-use program_base::{Task, TaskFault, asked, settings_text};
+pub use link_sockets::{RunFault, run_links};
+pub use program_base::{Task, TaskFault, task};
+use program_base::{asked, settings_text};
 use std::io::BufWriter;
 use std::process::ExitCode;
 

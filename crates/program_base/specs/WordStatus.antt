@@ -1,7 +1,15 @@
--- The status of words that aren't read.
+-- Why words ask for no task, and the status that the program ends with then.
 use Rattle.std.specs.Prelude.{ℕ}
+use Rattle.program_base.specs.declared.no_task.NoTask.{NoTask}
+use Rattle.program_base.specs.declared.no_task.NoTask.TheVariants.{Refused}
+use Rattle.program_base.specs.declared.no_task.NoTask.TheVariants.{Memory as NoMemory}
 use Rattle.program_base.specs.declared.words.TaskFault.{TaskFault}
 use Rattle.program_base.specs.declared.words.TaskFault.TheVariants.{Words, Memory}
+
+-- words that `clap` refuses are no command
+abbrev pub task_fault : NoTask → TaskFault
+task_fault (Refused complaint) = Words
+task_fault NoMemory = Memory
 
 -- 2 for words that are no command, 3 for memory
 abbrev pub status_of_words : TaskFault → ℕ

@@ -17,10 +17,11 @@ pub fn asked<R: Runtime + AllocGlobal>(rt: &R) -> Result<Task, TaskFault> {
     let texts: Vec<&str> = words.iter().map(|word| word.as_str()).collect(rt.alloc())?;
     match found_task(rt.alloc(), &texts) {
         Ok(task) => Ok(task),
-        Err(NoTask::Memory) => Err(TaskFault::Memory),
-        Err(NoTask::Refused(complaint)) => {
-            complain(rt, &complaint);
-            Err(TaskFault::Words)
+        Err(none) => {
+            if let NoTask::Refused(complaint) = &none {
+                complain(rt, complaint);
+            }
+            Err(none.fault())
         }
     }
 }

@@ -2,9 +2,11 @@ ghost use Rattle.std.specs.Prelude.{◌≡◌, ◌≢◌};
 ghost use Rattle.clap.specs.Words.{kind_of};
 ghost use Rattle.clap.specs.declared.error.Error.{Error as Complaint};
 ghost use Rattle.clap.specs.declared.error.kind.ErrorKind.TheVariants.{OutOfMemory};
+ghost use Rattle.program_base.specs.WordStatus.{task_fault};
 ghost use Rattle.program_base.specs.declared.no_task.NoTask.TheVariants.{Refused};
 ghost use Rattle.program_base.specs.declared.no_task.NoTask.TheVariants.{Memory as NoMemory};
 
+use crate::words::TaskFault;
 use clap::Error;
 use clap::error::ErrorKind;
 use std::alloc::AllocError;
@@ -15,6 +17,18 @@ pub(crate) enum NoTask {
     /// It refuses them, and says this of them.
     Refused(Error),
     Memory,
+}
+
+impl NoTask {
+    /// What the program makes of it.
+    pub(crate) fn fault(&self) -> TaskFault
+        ensures { result ≡ task_fault self.now }
+    {
+        match self {
+            NoTask::Refused(_) => TaskFault::Words,
+            NoTask::Memory => TaskFault::Memory,
+        }
+    }
 }
 
 impl From<Error> for NoTask {

@@ -92,8 +92,7 @@ pub fn task<'a>(alloc: Global, words: &'a [&'a str]) -> Result<Task, TaskFault>
 {
     match found_task(alloc, words) {
         Ok(task) => Ok(task),
-        Err(NoTask::Refused(_)) => Err(TaskFault::Words),
-        Err(NoTask::Memory) => Err(TaskFault::Memory),
+        Err(none) => Err(none.fault()),
     }
 }
 

@@ -18,3 +18,5 @@ mod reception;
 mod settled_worlds;
 #[cfg(test)]
 mod switch;
+#[cfg(test)]
+mod words;

@@ -1,3 +1,5 @@
+mod AnswerRows
+mod Blank
 mod FaultRows
 mod Least
 pub mod Lists

@@ -2,8 +2,9 @@
 use Rattle.std.proofs.Common.{◌≡◌, ℕ, true, false, nat_eq, List, [], ◌∷◌, replicate, codes, refl, arith}
 use Rattle.octets.proofs.Hex.{hex}
 use Rattle.ho_decision.specs.declared.settings.HoParameters.{HoParameters}
+use Rattle.settings.specs.declared.network.Network.{Network}
 use Rattle.settings.specs.declared.timers.Timers.{Timers}
-use Rattle.settings.specs.Parameters.{IsDigit, AreDigits, IsTimer, AreTimers, IsWindow, IsInterval, IsHandover, IsChannel, AreChannels, CellParameters, IsCell, AreCells, bsic_of, all_differ, channels_differ, air_of}
+use Rattle.settings.specs.Parameters.{IsNetwork, IsUnrepeated, IsDigit, AreDigits, IsTimer, AreTimers, IsWindow, IsInterval, IsHandover, IsChannel, AreChannels, CellParameters, IsCell, AreCells, bsic_of, all_differ, channels_differ, air_of}
 
 -- ---- numbers
 
@@ -100,6 +101,23 @@ interval_below h = omega (arith, h.interval.0)
 hysteresis_above : IsHandover (handover 2 3 4 5 64) → ⊥
 hysteresis_above h = omega (arith, h.hysteresis)
 
+-- ---- network
+
+abbrev network : List ℕ → List ℕ → Network
+network mcc mnc = record { mcc = mcc; mnc = mnc; release98 = false }
+
+mcc_of_two : IsNetwork (network (codes "01") (codes "01")) → ⊥
+mcc_of_two n = omega (arith, n.mcc.count.0)
+
+mcc_of_four : IsNetwork (network (codes "0001") (codes "01")) → ⊥
+mcc_of_four n = omega (arith, n.mcc.count.1)
+
+mnc_too_short : IsNetwork (network (codes "001") (codes "1")) → ⊥
+mnc_too_short n = omega (arith, n.mnc.count.0)
+
+mnc_too_long : IsNetwork (network (codes "001") (codes "0001")) → ⊥
+mnc_too_long n = omega (arith, n.mnc.count.1)
+
 -- ---- texts, channels and cells
 
 mnc_of_one : AreDigits 2 3 (codes "1") → ⊥
@@ -145,6 +163,24 @@ first_channel_again = refl
 
 last_two_the_same : all_differ nat_eq (1 ∷ 2 ∷ 2 ∷ []) ≡ false
 last_two_the_same = refl
+
+abbrev cell_at : List ℕ → ℕ → ℕ → List ℕ → CellParameters
+cell_at listen arfcn bsic channels = record (cell arfcn bsic channels) { listen = listen }
+
+abbrev one_cell : CellParameters
+one_cell = cell_at (codes "a") 20 9 (hex "41 0a")
+
+unrepeated : IsUnrepeated (one_cell ∷ cell_at (codes "b") 20 10 (hex "41 0a") ∷ cell_at (codes "c") 30 9 (hex "0a 41") ∷ [])
+unrepeated = record { channels = refl; listens = refl; airs = refl }
+
+channel_twice : IsUnrepeated (one_cell ∷ cell_at (codes "b") 30 9 (hex "41 0a 41") ∷ []) → ⊥
+channel_twice u = absurd (cc (u.channels))
+
+listen_twice : IsUnrepeated (one_cell ∷ cell_at (codes "b") 30 9 (hex "41") ∷ cell_at (codes "a") 40 9 (hex "41") ∷ []) → ⊥
+listen_twice u = absurd (cc (u.listens))
+
+air_twice : IsUnrepeated (one_cell ∷ cell_at (codes "b") 30 9 (hex "41") ∷ cell_at (codes "c") 20 9 (hex "41") ∷ []) → ⊥
+air_twice u = absurd (cc (u.airs))
 
 -- ---- as the handover decision sees a cell
 

@@ -1,5 +1,6 @@
 pub mod Answer
 pub mod Faults
+pub mod Found
 pub mod Keys
 pub mod Parameters
 pub mod Reading

@@ -1,10 +1,15 @@
-ghost use Rattle.std.specs.Prelude.{◌≡◌, ◌≤◌};
+ghost use Rattle.std.specs.Prelude.{◌≡◌, ◌≤◌, IfOk};
+ghost use Rattle.settings.specs.Found.{cell_found, IsCellFound};
 ghost use Rattle.settings.specs.Parameters.{AreChannels, IsCell, air_of};
 
+use crate::channels::copy_channels;
 use crate::{Bsic, Text};
 use dtap_codec::Arfcn;
+use octets::Memory;
 use rsl_codec::ChanNo;
+use std::alloc::Global;
 use std::marker::Model;
+use toml::Value;
 
 /// A cell of the settings.
 #[derive(Drop)]
@@ -82,5 +87,34 @@ impl Cell {
             arfcn: self.arfcn.number(),
             bsic: self.bsic.number(),
         }
+    }
+}
+
+/// A cell as it is found in a table, whose text and channels these are.
+#[derive(Clone, Copy)]
+pub(crate) struct CellFound<'a> {
+    pub(crate) listen: &'a str,
+    pub(crate) location_area_code: u16,
+    pub(crate) cell_identity: u16,
+    pub(crate) arfcn: Arfcn,
+    pub(crate) bsic: Bsic,
+    pub(crate) channels: &'a [Value],
+}
+
+impl CellFound<'_> {
+    /// The cell, with a text and channels of its own.
+    pub(crate) fn copy(&self, alloc: Global) -> Result<Cell, Memory>
+        requires { IsCellFound self.now }
+        ensures within { IfOk result IsCell }
+        ensures cell { IfOk result (λ cell. cell ≡ cell_found self.now) }
+    {
+        Ok(Cell {
+            listen: Text::copy(alloc, self.listen)?,
+            location_area_code: self.location_area_code,
+            cell_identity: self.cell_identity,
+            arfcn: self.arfcn,
+            bsic: self.bsic,
+            channels: copy_channels(alloc, self.channels)?,
+        })
     }
 }

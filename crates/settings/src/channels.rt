@@ -1,75 +1,79 @@
 // The channels of a cell: a list of the numbers of TCHs and SDCCHs.
-ghost use Rattle.std.specs.Prelude.{◌≡◌, Some, All, IfOk, length};
+ghost use Rattle.std.specs.Prelude.{◌≡◌, ◌≤◌, Some, true, All, IfOk, IfSome, is_some};
+ghost use Rattle.std.specs.Prelude.{length};
 ghost use Rattle.toml.specs.Data.{array};
 ghost use Rattle.toml.specs.View.{view, items_view, table_view};
-ghost use Rattle.settings.specs.Answer.{Reads, ReadsItems};
-ghost use Rattle.settings.specs.Faults.{all_items, is_integer, is_channel};
-ghost use Rattle.settings.specs.Faults.{valued, value_fault, key_fault};
-ghost use Rattle.settings.specs.Parameters.{IsChannel, AreChannels};
+ghost use Rattle.settings.specs.Answer.{Finds};
+ghost use Rattle.settings.specs.Faults.{all_items, is_integer, is_channel, value_fault};
+ghost use Rattle.settings.specs.Parameters.{IsChannel};
+ghost use Rattle.settings.specs.Reading.{FindsKey, FindsValue};
 ghost use Rattle.settings.specs.Rules.{channels, required};
-ghost use Rattle.settings.specs.Tables.{by_rule, number_in, items_in, numbers_in};
+ghost use Rattle.settings.specs.Tables.{number_in, items_in, numbers_in};
 
+use crate::Key;
+use crate::finding::Finding;
 use crate::lookup::{held, is_count};
-use crate::{Key, SettingsFault};
+use octets::Memory;
 use rsl_codec::{ChanNo, FIRST_TCH, LAST_SDCCH};
 use std::alloc::Global;
 use toml::{Table, Value};
 
+// ---- what is found
+
 // Channels that have to be there, at least and at most so many.
-pub(crate) fn channels_at(
-    alloc: Global,
-    table: &Table,
+pub(crate) fn channels_at<'a>(
+    table: &'a Table,
     key: Key,
     least: usize,
     most: usize,
-) -> Result<Vec<ChanNo>, SettingsFault>
-    ensures within { IfOk result (λ cs. AreChannels least most cs.items) }
-    ensures reads { let rule = required key (channels least most) in
-        ReadsItems result (numbers_in (items_in (by_rule rule (table_view table.now))))
-        (key_fault rule (table_view table.now)) }
+) -> Result<&'a [Value], Finding<'a>>
+    ensures count { IfOk result (λ vs. (least ≤ length vs.now) × (length vs.now ≤ most)) }
+    ensures each { IfOk result (λ vs. all_items is_channel (items_view vs.now) ≡ true) }
+    ensures finds { FindsKey result (λ vs. items_view vs.now)
+        (required key (channels least most)) items_in (table_view table.now) }
 {
     match held(table, key) {
-        None => Err(SettingsFault::Missing(key)),
-        Some(value) => channels_of(alloc, value, key, least, most),
+        None => Err(Finding::Missing(key)),
+        Some(value) => channels_of(value, key, least, most),
     }
 }
 
-fn channels_of(
-    alloc: Global,
-    value: &Value,
+fn channels_of<'a>(
+    value: &'a Value,
     key: Key,
     least: usize,
     most: usize,
-) -> Result<Vec<ChanNo>, SettingsFault>
-    ensures within { IfOk result (λ cs. AreChannels least most cs.items) }
-    ensures reads { ReadsItems result (numbers_in (items_in (Some (view value.now))))
-        (value_fault key (channels least most) (view value.now)) }
+) -> Result<&'a [Value], Finding<'a>>
+    ensures count { IfOk result (λ vs. (least ≤ length vs.now) × (length vs.now ≤ most)) }
+    ensures each { IfOk result (λ vs. all_items is_channel (items_view vs.now) ≡ true) }
+    ensures finds { FindsValue result (λ vs. items_view vs.now)
+        key (channels least most) items_in (view value.now) }
 {
-    let Value::Array(values) = value else {
-        return Err(SettingsFault::BadType(key));
-    };
-    channels_in(alloc, values, key, least, most)
+    match value {
+        Value::Array(values) => channels_in(values, key, least, most),
+        _ => Err(Finding::BadType(key)),
+    }
 }
 
 #[tactic(auto, using(crate::proofs::Lists::count_items_view))]
-fn channels_in(
-    alloc: Global,
-    values: &[Value],
+fn channels_in<'a>(
+    values: &'a [Value],
     key: Key,
     least: usize,
     most: usize,
-) -> Result<Vec<ChanNo>, SettingsFault>
-    ensures within { IfOk result (λ cs. AreChannels least most cs.items) }
-    ensures reads { ReadsItems result (numbers_in (items_view values.now))
+) -> Result<&'a [Value], Finding<'a>>
+    ensures count { IfOk result (λ vs. (least ≤ length vs.now) × (length vs.now ≤ most)) }
+    ensures each { IfOk result (λ vs. all_items is_channel (items_view vs.now) ≡ true) }
+    ensures finds { Finds result (λ vs. items_view vs.now) (items_view values.now)
         (value_fault key (channels least most) (array (items_view values.now))) }
 {
     if !are_integers(values) {
-        return Err(SettingsFault::BadType(key));
+        return Err(Finding::BadType(key));
     }
-    if !is_count(values.len(), least, most) {
-        return Err(SettingsFault::BadValue(key));
+    if !is_count(values.len(), least, most) || !are_channels(values) {
+        return Err(Finding::BadValue(key));
     }
-    each_channel(alloc, values, key)
+    Ok(values)
 }
 
 fn are_integers(values: &[Value]) -> bool
@@ -83,33 +87,60 @@ fn are_integers(values: &[Value]) -> bool
     true
 }
 
-fn each_channel(alloc: Global, values: &[Value], key: Key) -> Result<Vec<ChanNo>, SettingsFault>
-    ensures count { IfOk result (λ cs. length cs.items ≡ length values.now) }
-    ensures within { IfOk result (λ cs. All IsChannel cs.items) }
-    ensures reads { ReadsItems result (numbers_in (items_view values.now))
-        (valued key (all_items is_channel (items_view values.now))) }
+fn are_channels(values: &[Value]) -> bool
+    ensures { result ≡ all_items is_channel (items_view values.now) }
+{
+    for value in values {
+        if channel_in(value).is_none() {
+            return false;
+        }
+    }
+    true
+}
+
+// The channel that a value is the number of, if it is a TCH or an SDCCH.
+fn channel_in(value: &Value) -> Option<ChanNo>
+    ensures is { is_some result ≡ is_channel (view value.now) }
+    ensures number { IfSome result (λ channel. channel ≡ number_in (Some (view value.now))) }
+    ensures within { IfSome result IsChannel }
+{
+    let Value::Integer(number) = value else {
+        return None;
+    };
+    let number = *number;
+    if number < i64::from(FIRST_TCH) || i64::from(LAST_SDCCH) < number {
+        return None;
+    }
+    match ChanNo::read(number as u8) {
+        Ok(channel) => Some(channel),
+        Err(_) => None,
+    }
+}
+
+// ---- what is made of it
+
+// The channels, where each value is one.
+pub(crate) fn copy_channels(alloc: Global, values: &[Value]) -> Result<Vec<ChanNo>, Memory>
+    requires { all_items is_channel (items_view values.now) ≡ true }
+    ensures count { IfOk result (λ channels. length channels.items ≡ length values.now) }
+    ensures within { IfOk result (λ channels. All IsChannel channels.items) }
+    ensures numbers { IfOk result (λ channels.
+        channels.items ≡ numbers_in (items_view values.now)) }
 {
     let mut channels = Vec::new(alloc);
     for value in values {
-        channels.push(channel_of(value, key)?)?;
+        channels.push(channel_of(value))?;
     }
     Ok(channels)
 }
 
-fn channel_of(value: &Value, key: Key) -> Result<ChanNo, SettingsFault>
-    ensures within { IfOk result IsChannel }
-    ensures reads { Reads result
-        (number_in (Some (view value.now))) (valued key (is_channel (view value.now))) }
+fn channel_of(value: &Value) -> ChanNo
+    requires { is_channel (view value.now) ≡ true }
+    ensures number { result ≡ number_in (Some (view value.now)) }
+    ensures within { IsChannel result }
 {
-    let Value::Integer(number) = value else {
-        return Err(SettingsFault::BadValue(key));
-    };
-    let number = *number;
-    if number < i64::from(FIRST_TCH) || i64::from(LAST_SDCCH) < number {
-        return Err(SettingsFault::BadValue(key));
-    }
-    match ChanNo::read(number as u8) {
-        Ok(channel) => Ok(channel),
-        Err(_) => Err(SettingsFault::BadValue(key)),
+    match channel_in(value) {
+        Some(channel) => channel,
+        None => unreachable!(),
     }
 }

@@ -11,13 +11,17 @@ pub use text::Text;
 
 mod bsic;
 mod cell;
+mod cells;
 mod channels;
 mod fault;
+mod finding;
+mod found;
 mod key;
 mod lookup;
 mod network;
 mod parameters;
 mod repeats;
+mod seen;
 mod tables;
 mod text;
 mod timers;

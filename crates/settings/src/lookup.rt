@@ -5,13 +5,13 @@ ghost use Rattle.std.specs.Char.{is_ascii_digit};
 ghost use Rattle.toml.specs.View.{view, table_view};
 ghost use Rattle.settings.specs.Faults.{is_within};
 ghost use Rattle.settings.specs.Parameters.{AreDigits};
-ghost use Rattle.settings.specs.Reading.{ReadsKey, ReadsValue};
+ghost use Rattle.settings.specs.Reading.{FindsKey, FindsValue, as_it_is};
 ghost use Rattle.settings.specs.Rules.{text, digits, number, required};
 ghost use Rattle.settings.specs.Rules.{optional_number, optional_flag};
 ghost use Rattle.settings.specs.Tables.{at_key, text_in, number_in, flag_in};
 
-use crate::{Key, SettingsFault, Text};
-use std::alloc::Global;
+use crate::Key;
+use crate::finding::Finding;
 use toml::{Table, Value};
 
 // The value at a key.
@@ -22,62 +22,61 @@ pub(crate) fn held<'a>(table: &'a Table, key: Key) -> Option<&'a Value>
 }
 
 // A text that has to be there and isn't empty.
-pub(crate) fn text_at(alloc: Global, table: &Table, key: Key) -> Result<Text, SettingsFault>
-    ensures { ReadsKey result (required key text) text_in (table_view table.now) }
+pub(crate) fn text_at<'a>(table: &'a Table, key: Key) -> Result<&'a str, Finding<'a>>
+    ensures { FindsKey result (λ t. t.now) (required key text) text_in (table_view table.now) }
 {
     match held(table, key) {
-        None => Err(SettingsFault::Missing(key)),
-        Some(value) => text_of(alloc, value, key),
+        None => Err(Finding::Missing(key)),
+        Some(value) => text_of(value, key),
     }
 }
 
-fn text_of(alloc: Global, value: &Value, key: Key) -> Result<Text, SettingsFault>
-    ensures { ReadsValue result key text text_in (view value.now) }
+fn text_of<'a>(value: &'a Value, key: Key) -> Result<&'a str, Finding<'a>>
+    ensures { FindsValue result (λ t. t.now) key text text_in (view value.now) }
 {
     let Value::String(text) = value else {
-        return Err(SettingsFault::BadType(key));
+        return Err(Finding::BadType(key));
     };
     if text.is_empty() {
-        return Err(SettingsFault::BadValue(key));
+        return Err(Finding::BadValue(key));
     }
-    Ok(Text::copy(alloc, text.as_str())?)
+    Ok(text.as_str())
 }
 
 // Decimal digits that have to be there, at least and at most so many.
-pub(crate) fn digits_at(
-    alloc: Global,
-    table: &Table,
+pub(crate) fn digits_at<'a>(
+    table: &'a Table,
     key: Key,
     least: usize,
     most: usize,
-) -> Result<Text, SettingsFault>
-    ensures within { IfOk result (AreDigits least most) }
-    ensures reads { ReadsKey result
+) -> Result<&'a str, Finding<'a>>
+    ensures within { IfOk result (λ t. AreDigits least most t.now) }
+    ensures finds { FindsKey result (λ t. t.now)
         (required key (digits least most)) text_in (table_view table.now) }
 {
     match held(table, key) {
-        None => Err(SettingsFault::Missing(key)),
-        Some(value) => digits_of(alloc, value, key, least, most),
+        None => Err(Finding::Missing(key)),
+        Some(value) => digits_of(value, key, least, most),
     }
 }
 
-fn digits_of(
-    alloc: Global,
-    value: &Value,
+fn digits_of<'a>(
+    value: &'a Value,
     key: Key,
     least: usize,
     most: usize,
-) -> Result<Text, SettingsFault>
-    ensures within { IfOk result (AreDigits least most) }
-    ensures reads { ReadsValue result key (digits least most) text_in (view value.now) }
+) -> Result<&'a str, Finding<'a>>
+    ensures within { IfOk result (λ t. AreDigits least most t.now) }
+    ensures finds { FindsValue result (λ t. t.now)
+        key (digits least most) text_in (view value.now) }
 {
     let Value::String(text) = value else {
-        return Err(SettingsFault::BadType(key));
+        return Err(Finding::BadType(key));
     };
     if !is_count(text.len(), least, most) || !are_digits(text.as_str()) {
-        return Err(SettingsFault::BadValue(key));
+        return Err(Finding::BadValue(key));
     }
-    Ok(Text::copy(alloc, text.as_str())?)
+    Ok(text.as_str())
 }
 
 fn are_digits(text: &str) -> bool
@@ -87,32 +86,32 @@ fn are_digits(text: &str) -> bool
 }
 
 // A number that has to be there, between the least and the greatest.
-pub(crate) fn number_at(
-    table: &Table,
+pub(crate) fn number_at<'a>(
+    table: &'a Table,
     key: Key,
     least: u32,
     greatest: u32,
-) -> Result<u32, SettingsFault>
-    ensures reads { ReadsKey result
+) -> Result<u32, Finding<'a>>
+    ensures finds { FindsKey result as_it_is
         (required key (number least greatest)) number_in (table_view table.now) }
     ensures within { IfOk result (λ n. (least ≤ n) × (n ≤ greatest)) }
 {
     match held(table, key) {
-        None => Err(SettingsFault::Missing(key)),
+        None => Err(Finding::Missing(key)),
         Some(value) => number_of(value, key, least, greatest),
     }
 }
 
 // A number between the least and the greatest, with a default.
-pub(crate) fn optional_number_at(
-    table: &Table,
+pub(crate) fn optional_number_at<'a>(
+    table: &'a Table,
     key: Key,
     least: u32,
     greatest: u32,
     default: u32,
-) -> Result<u32, SettingsFault>
+) -> Result<u32, Finding<'a>>
     requires { (least ≤ default) × (default ≤ greatest) }
-    ensures reads { ReadsKey result
+    ensures finds { FindsKey result as_it_is
         (optional_number key least greatest default) number_in (table_view table.now) }
     ensures within { IfOk result (λ n. (least ≤ n) × (n ≤ greatest)) }
 {
@@ -122,28 +121,29 @@ pub(crate) fn optional_number_at(
     }
 }
 
-fn number_of(value: &Value, key: Key, least: u32, greatest: u32) -> Result<u32, SettingsFault>
-    ensures reads { ReadsValue result key (number least greatest) number_in (view value.now) }
+fn number_of<'a>(value: &'a Value, key: Key, least: u32, greatest: u32) -> Result<u32, Finding<'a>>
+    ensures finds { FindsValue result as_it_is
+        key (number least greatest) number_in (view value.now) }
     ensures within { IfOk result (λ n. (least ≤ n) × (n ≤ greatest)) }
 {
     let Value::Integer(number) = value else {
-        return Err(SettingsFault::BadType(key));
+        return Err(Finding::BadType(key));
     };
     let number = *number;
     if number < i64::from(least) || i64::from(greatest) < number {
-        return Err(SettingsFault::BadValue(key));
+        return Err(Finding::BadValue(key));
     }
     Ok(number as u32)
 }
 
 // True or false, false by default.
-pub(crate) fn flag_at(table: &Table, key: Key) -> Result<bool, SettingsFault>
-    ensures { ReadsKey result (optional_flag key) flag_in (table_view table.now) }
+pub(crate) fn flag_at<'a>(table: &'a Table, key: Key) -> Result<bool, Finding<'a>>
+    ensures { FindsKey result as_it_is (optional_flag key) flag_in (table_view table.now) }
 {
     match held(table, key) {
         None => Ok(false),
         Some(Value::Boolean(flag)) => Ok(*flag),
-        Some(_) => Err(SettingsFault::BadType(key)),
+        Some(_) => Err(Finding::BadType(key)),
     }
 }
 

@@ -1,4 +1,9 @@
+ghost use Rattle.std.specs.Prelude.{◌≡◌, IfOk};
+ghost use Rattle.settings.specs.Found.{network_found};
+
 use crate::Text;
+use octets::Memory;
+use std::alloc::Global;
 
 /// The network that the cells belong to.
 #[derive(Drop)]
@@ -9,4 +14,25 @@ pub(crate) struct Network {
     pub(crate) mnc: Text,
     /// Whether the mobiles count their send sequence numbers by release 98.
     pub(crate) release98: bool,
+}
+
+/// The network as it is found in a table, whose texts these are.
+#[derive(Clone, Copy)]
+pub(crate) struct NetworkFound<'a> {
+    pub(crate) mcc: &'a str,
+    pub(crate) mnc: &'a str,
+    pub(crate) release98: bool,
+}
+
+impl NetworkFound<'_> {
+    /// The network, with texts of its own.
+    pub(crate) fn copy(&self, alloc: Global) -> Result<Network, Memory>
+        ensures { IfOk result (λ network. network ≡ network_found self.now) }
+    {
+        Ok(Network {
+            mcc: Text::copy(alloc, self.mcc)?,
+            mnc: Text::copy(alloc, self.mnc)?,
+            release98: self.release98,
+        })
+    }
 }

@@ -1,17 +1,18 @@
 ghost use Rattle.std.specs.Prelude.{◌≡◌, ◌≢◌, ◌≤◌, ◌-◌, true, Some, map, length, IfOk, slice_get};
+ghost use Rattle.toml.specs.Errors.{IsBlank};
 ghost use Rattle.toml.specs.Parse.{parse_document};
 ghost use Rattle.toml.specs.View.{table_view};
 ghost use Rattle.settings.specs.Answer.{Reads};
+ghost use Rattle.settings.specs.Found.{settings_found, AreFound};
 ghost use Rattle.settings.specs.Parameters.{AreAllowed, AreDigits, IsTimer, IsWindow, IsInterval};
 ghost use Rattle.settings.specs.Parameters.{IsCell, channels_differ, air_of, handover_settings_of};
 ghost use Rattle.settings.specs.Tables.{parameters_of, first_fault, settings_in};
 
+use crate::cells::copy_cells;
+use crate::found::{Found, found_in};
 use crate::network::Network;
-use crate::repeats::refuse_repeats;
-use crate::tables::{cells_at, handover_at, network_at, switch_at, timers_at};
 use crate::timers::Timers;
-use crate::unknown::refuse_unknown;
-use crate::{Cell, Key, SettingsFault, Text};
+use crate::{Cell, SettingsFault, Text};
 use ho_decision::{HoParameters, HoSettings};
 use octets::Memory;
 use std::alloc::Global;
@@ -40,13 +41,16 @@ impl Model for Settings {
 }
 
 impl Settings {
-    /// The settings in a text in TOML, or its first fault. It may answer `Memory` for any text.
+    /// The settings in a text in TOML, or its first fault. `Memory` is answered where `toml` has
+    /// none for its table, which can be so for any text that isn't blank, and where `from_table`
+    /// answers it.
     pub fn read(alloc: Global, text: &str) -> Result<Settings, SettingsFault>
-        ensures { result ≢ Err SettingsFault.Memory
+        ensures reads { result ≢ Err SettingsFault.Memory
             → result ≡ settings_in (parse_document text.now) }
+        ensures blank { IsBlank text.now → result ≡ settings_in (parse_document text.now) }
     {
         match toml::table_from_str(alloc, text) {
-            Ok(table) => in_table(alloc, &table),
+            Ok(table) => Settings::from_table(alloc, &table),
             Err(error) => {
                 if error.is_memory() {
                     Err(SettingsFault::Memory)
@@ -54,6 +58,19 @@ impl Settings {
                     Err(SettingsFault::NotToml)
                 }
             }
+        }
+    }
+
+    /// The settings in a table of TOML, or its first fault. The whole table is looked at before
+    /// memory is taken: `Memory` is answered only where nothing is at fault, or where the fault is
+    /// a key that isn't known, whose name is copied.
+    pub fn from_table(alloc: Global, table: &Table) -> Result<Settings, SettingsFault>
+        ensures { Reads result
+            (parameters_of (table_view table.now)) (first_fault (table_view table.now)) }
+    {
+        match found_in(table) {
+            Ok(found) => Ok(copy(alloc, &found)?),
+            Err(finding) => Err(finding.fault(alloc)),
         }
     }
 
@@ -205,30 +222,16 @@ fn airs(alloc: Global, cells: &[Cell]) -> Result<Vec<ho_decision::Cell>, Memory>
     Ok(airs)
 }
 
-// The settings in a table, or its first fault.
-fn in_table(alloc: Global, table: &Table) -> Result<Settings, SettingsFault>
-    ensures { Reads result
-        (parameters_of (table_view table.now)) (first_fault (table_view table.now)) }
+// The settings, with texts, cells and channels of their own.
+fn copy(alloc: Global, found: &Found) -> Result<Settings, Memory>
+    requires { AreFound found.now }
+    ensures { IfOk result (λ settings. settings ≡ settings_found found.now) }
 {
-    let tables = [
-        Key::Network,
-        Key::Switch,
-        Key::Timers,
-        Key::Handover,
-        Key::Cell,
-    ];
-    refuse_unknown(alloc, table, None, &tables)?;
-    let network = network_at(alloc, table)?;
-    let switch_address = switch_at(alloc, table)?;
-    let timers = timers_at(alloc, table)?;
-    let handover = handover_at(alloc, table)?;
-    let cells = cells_at(alloc, table)?;
-    refuse_repeats(&cells)?;
     Ok(Settings {
-        network,
-        switch_address,
-        timers,
-        handover,
-        cells,
+        network: found.network.copy(alloc)?,
+        switch_address: Text::copy(alloc, found.switch_address)?,
+        timers: found.timers,
+        handover: found.handover,
+        cells: copy_cells(alloc, found.cells)?,
     })
 }

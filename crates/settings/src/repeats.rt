@@ -1,57 +1,72 @@
-// What stands twice in the settings of cells.
+// What stands twice in the cells of a table.
 ghost use Rattle.std.specs.Prelude.{◌≡◌, nat_eq, OnOk};
 ghost use Rattle.std.specs.List.{list_all, list_any};
-ghost use Rattle.settings.specs.Answer.{Reads};
+ghost use Rattle.toml.specs.View.{items_view};
+ghost use Rattle.settings.specs.Answer.{Finds};
+ghost use Rattle.settings.specs.Found.{cell_seen};
 ghost use Rattle.settings.specs.Parameters.{all_differ, channels_differ};
 ghost use Rattle.settings.specs.Parameters.{same_listen, same_air, IsUnrepeated};
-ghost use Rattle.settings.specs.Tables.{repeated_fault};
+ghost use Rattle.settings.specs.Reading.{as_it_is};
+ghost use Rattle.settings.specs.Tables.{cells_of, numbers_in, repeated_fault};
 
-use crate::{Cell, Key, SettingsFault};
-use rsl_codec::ChanNo;
+use crate::Key;
+use crate::finding::Finding;
+use crate::seen::{channels_in, listen_in, number_at, number_of};
+use toml::Value;
 
 // Refuses a channel that a cell has twice, then an address of two cells, then an ARFCN with one
 // BSIC of two cells.
-pub(crate) fn refuse_repeats(cells: &[Cell]) -> Result<(), SettingsFault>
-    ensures reads { Reads result tt (repeated_fault cells.now) }
-    ensures ok { OnOk result (IsUnrepeated cells.now) }
+pub(crate) fn refuse_repeats<'a>(cells: &'a [Value]) -> Result<(), Finding<'a>>
+    ensures finds { Finds result as_it_is tt (repeated_fault (cells_of (items_view cells.now))) }
+    ensures ok { OnOk result (IsUnrepeated (cells_of (items_view cells.now))) }
 {
     if !all_channels_differ(cells) {
-        return Err(SettingsFault::Repeated(Key::Channels));
+        return Err(Finding::Repeated(Key::Channels));
     }
     if !listens_differ(cells) {
-        return Err(SettingsFault::Repeated(Key::Listen));
+        return Err(Finding::Repeated(Key::Listen));
     }
     if !airs_differ(cells) {
-        return Err(SettingsFault::Repeated(Key::Bsic));
+        return Err(Finding::Repeated(Key::Bsic));
     }
     Ok(())
 }
 
-fn all_channels_differ(cells: &[Cell]) -> bool
-    ensures { result ≡ list_all channels_differ cells.now }
+fn all_channels_differ(cells: &[Value]) -> bool
+    ensures { result ≡ list_all channels_differ (cells_of (items_view cells.now)) }
 {
-    cells.iter().all(|cell| are_different(cell.channels()))
-}
-
-fn are_different(channels: &[ChanNo]) -> bool
-    ensures { result ≡ all_differ nat_eq channels.now }
-{
-    for (i, channel) in channels.iter().enumerate() {
-        if has_channel(&channels[i + 1..], *channel) {
+    for cell in cells {
+        if !are_different(channels_in(cell)) {
             return false;
         }
     }
     true
 }
 
-fn has_channel(channels: &[ChanNo], channel: ChanNo) -> bool
-    ensures { result ≡ list_any (nat_eq channel) channels.now }
+fn are_different(channels: &[Value]) -> bool
+    ensures { result ≡ all_differ nat_eq (numbers_in (items_view channels.now)) }
 {
-    channels.iter().any(|other| channel == *other)
+    for (i, channel) in channels.iter().enumerate() {
+        if has_number(&channels[i + 1..], number_of(channel)) {
+            return false;
+        }
+    }
+    true
 }
 
-fn listens_differ(cells: &[Cell]) -> bool
-    ensures { result ≡ all_differ same_listen cells.now }
+fn has_number(values: &[Value], number: u64) -> bool
+    ensures { result ≡ list_any (nat_eq number) (numbers_in (items_view values.now)) }
+{
+    for value in values {
+        if number == number_of(value) {
+            return true;
+        }
+    }
+    false
+}
+
+fn listens_differ(cells: &[Value]) -> bool
+    ensures { result ≡ all_differ same_listen (cells_of (items_view cells.now)) }
 {
     for (i, cell) in cells.iter().enumerate() {
         if has_listen(&cells[i + 1..], cell) {
@@ -61,14 +76,20 @@ fn listens_differ(cells: &[Cell]) -> bool
     true
 }
 
-fn has_listen(cells: &[Cell], cell: &Cell) -> bool
-    ensures { result ≡ list_any (same_listen cell.now) cells.now }
+fn has_listen(cells: &[Value], cell: &Value) -> bool
+    ensures { result ≡
+        list_any (same_listen (cell_seen cell.now)) (cells_of (items_view cells.now)) }
 {
-    cells.iter().any(|other| cell.listen() == other.listen())
+    for other in cells {
+        if listen_in(cell) == listen_in(other) {
+            return true;
+        }
+    }
+    false
 }
 
-fn airs_differ(cells: &[Cell]) -> bool
-    ensures { result ≡ all_differ same_air cells.now }
+fn airs_differ(cells: &[Value]) -> bool
+    ensures { result ≡ all_differ same_air (cells_of (items_view cells.now)) }
 {
     for (i, cell) in cells.iter().enumerate() {
         if has_air(&cells[i + 1..], cell) {
@@ -78,16 +99,22 @@ fn airs_differ(cells: &[Cell]) -> bool
     true
 }
 
-fn has_air(cells: &[Cell], cell: &Cell) -> bool
-    ensures { result ≡ list_any (same_air cell.now) cells.now }
+fn has_air(cells: &[Value], cell: &Value) -> bool
+    ensures { result ≡
+        list_any (same_air (cell_seen cell.now)) (cells_of (items_view cells.now)) }
 {
-    cells.iter().any(|other| is_same_air(cell, other))
+    for other in cells {
+        if is_same_air(cell, other) {
+            return true;
+        }
+    }
+    false
 }
 
-fn is_same_air(cell: &Cell, other: &Cell) -> bool
-    ensures { result ≡ same_air cell.now other.now }
+#[tactic(auto, using(crate::proofs::Lists::or_none, crate::proofs::Lists::same_bsic))]
+fn is_same_air(cell: &Value, other: &Value) -> bool
+    ensures { result ≡ same_air (cell_seen cell.now) (cell_seen other.now) }
 {
-    cell.arfcn().number() == other.arfcn().number()
-        && cell.bsic().ncc.number() == other.bsic().ncc.number()
-        && cell.bsic().bcc.number() == other.bsic().bcc.number()
+    number_at(cell, Key::Arfcn) == number_at(other, Key::Arfcn)
+        && number_at(cell, Key::Bsic) == number_at(other, Key::Bsic)
 }

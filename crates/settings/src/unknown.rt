@@ -4,27 +4,26 @@ ghost use Rattle.std.specs.Option.{option_copied};
 ghost use Rattle.std.specs.BTreeMap.{IsOrdered, keys};
 ghost use Rattle.std.specs.String.{string_cmp};
 ghost use Rattle.toml.specs.View.{table_view};
-ghost use Rattle.settings.specs.Answer.{Reads};
+ghost use Rattle.settings.specs.Answer.{Finds};
 ghost use Rattle.settings.specs.Faults.{is_known, least_unknown, unknown_fault};
+ghost use Rattle.settings.specs.Reading.{as_it_is};
 
-use crate::key::path;
-use crate::{Key, SettingsFault};
-use std::alloc::Global;
+use crate::Key;
+use crate::finding::Finding;
 use toml::Table;
 
 // Refuses a table that has another key than these, and names the least such key. The table is this
 // one, or the top.
-pub(crate) fn refuse_unknown(
-    alloc: Global,
-    table: &Table,
+pub(crate) fn refuse_unknown<'a>(
+    table: &'a Table,
     place: Option<Key>,
     known: &[Key],
-) -> Result<(), SettingsFault>
-    ensures { Reads result tt (unknown_fault place known.now (table_view table.now)) }
+) -> Result<(), Finding<'a>>
+    ensures { Finds result as_it_is tt (unknown_fault place known.now (table_view table.now)) }
 {
     match least_other(table, known) {
         None => Ok(()),
-        Some(name) => Err(SettingsFault::Unknown(path(alloc, place, name.as_str())?)),
+        Some(name) => Err(Finding::Unknown(place, name.as_str())),
     }
 }
 

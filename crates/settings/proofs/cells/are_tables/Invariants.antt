@@ -2,7 +2,7 @@
 use Rattle.std.proofs.Common.{◌≡◌, drop}
 use Rattle.toml.specs.View.{items_view}
 use Rattle.settings.specs.Faults.{all_items, is_table}
-use Rattle.settings.proofs.tables.are_tables.Given as goal
+use Rattle.settings.proofs.cells.are_tables.Given as goal
 
 abbrev pub invariant-loop-value : goal.invariant-loop-value
 invariant-loop-value l = all_items is_table (items_view (drop l.value-index l.values)) ≡ all_items is_table (items_view l.values)

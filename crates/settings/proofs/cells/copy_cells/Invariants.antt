@@ -1,5 +1,5 @@
 use Rattle.settings.proofs.Turns.{EachCell}
-use Rattle.settings.proofs.tables.each_cell.Given as goal
+use Rattle.settings.proofs.cells.copy_cells.Given as goal
 
 abbrev pub invariant-loop-value : goal.invariant-loop-value
 invariant-loop-value l = EachCell l.values l.value-index l.cells.items

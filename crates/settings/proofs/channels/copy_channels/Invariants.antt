@@ -1,5 +1,5 @@
 use Rattle.settings.proofs.Turns.{EachChannel}
-use Rattle.settings.proofs.channels.each_channel.Given as goal
+use Rattle.settings.proofs.channels.copy_channels.Given as goal
 
 abbrev pub invariant-loop-value : goal.invariant-loop-value
 invariant-loop-value l = EachChannel l.values l.value-index l.channels.items
