@@ -91,8 +91,8 @@ pub fn run(
         FrameLeaves number both.0 source frame) }
 
     // The settings are allowed, as all settings of the code are, and what came was octets. So the
-    // laws above hold also of what is read from the frames; and each frame has 2,048 octets at most,
-    // and is read as the message that was put.
+    // laws above hold also of what is read from the frames. Each frame has 2,048 octets at most, and
+    // is read as the message that was put.
     ensures allowed { AreAllowed settings }
     ensures octets { AllByRecursion IsOctetStep steps.items }
     ensures sent { IfOk result (λ both. AllByRecursion IsSent both.1.outs) }

@@ -14,7 +14,7 @@ acknowledged_by_call mobile (acknowledges Zero) =
     if is_acknowledged mobile Zero then option_to_list (message_in mobile.zero.air) else []
 acknowledged_by_call mobile _ = []
 
--- What is acknowledged on SAPI 0 in each establishment, in order; so_far was in the first of them.
+-- What is acknowledged on SAPI 0 in each establishment, in order; so_far was in the first one.
 abbrev pub acknowledgements : MobileState → List (List ℕ) → List Call → List (List (List ℕ))
 acknowledgements mobile so_far [] = so_far ∷ []
 acknowledgements mobile so_far (call ∷ calls) =
