@@ -14,4 +14,5 @@ pub mod Planning
 mod Reporting
 mod Rows
 mod Stepping
+pub mod InOctets
 pub mod LifeLaws

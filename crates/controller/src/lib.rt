@@ -8,6 +8,7 @@ pub use controller::Controller;
 pub use controller_model::{Forwarded, Item, Step, What};
 pub use controller_parts::{forwarded, handed};
 pub use life::run;
+pub use of_octets::{come_in_octets, comes_in_octets};
 pub use settings::{Settings, SettingsFault};
 
 mod access;
@@ -17,6 +18,7 @@ mod controller;
 mod items;
 mod life;
 mod many;
+mod of_octets;
 mod offers;
 mod reports;
 mod rest;

@@ -23,6 +23,7 @@ ghost use Rattle.ipa_framing.specs.declared.frame.Frame.{Frame as FrameValue};
 ghost use Rattle.settings.specs.Parameters.{AreAllowed};
 
 use crate::controller::Controller;
+use crate::of_octets::come_in_octets;
 use conn_fsm::Outputs;
 use controller_model::Step;
 use octets::Memory;
@@ -90,11 +91,14 @@ pub fn run(
     ensures others { IfOk result (λ both. (number source : ℕ) (frame : FrameValue) →
         1 ≤ number → FrameLeaves number both.0 source frame) }
 
-    // Where what came was octets, each frame has 2,048 octets at most, and is read as the message
-    // that was put.
-    ensures sent { IfOk result (λ both. AllByRecursion IsOctetStep steps.items →
-        AllByRecursion IsSent both.1.outs) }
+    // The settings are allowed, as all settings of the code are, and what came was octets. So the
+    // laws above hold also of what is read from the frames. Each frame has 2,048 octets at most, and
+    // is read as the message that was put.
+    ensures allowed { AreAllowed settings }
+    ensures octets { AllByRecursion IsOctetStep steps.items }
+    ensures sent { IfOk result (λ both. AllByRecursion IsSent both.1.outs) }
 {
+    come_in_octets(&steps);
     live(alloc, settings, steps)
 }
 

@@ -58,7 +58,7 @@ pub record IsKept (old new : MobileState) : Type 0 where
 is_kept_same : (old new : MobileState) → new.modulus ≡ old.modulus → new.sent ≡ old.sent → IsKept old new
 is_kept_same old new modulus sent = record { modulus = modulus; more = []; sent = sent ∙ sym (append-nil old.sent) }
 
-is_kept_then : {old mid new : MobileState} → IsKept old mid → IsKept mid new → IsKept old new
+pub is_kept_then : {old mid new : MobileState} → IsKept old mid → IsKept mid new → IsKept old new
 is_kept_then {old} {mid} {new} one two = record {
   modulus = two.modulus ∙ one.modulus;
   more = one.more ++ two.more;
@@ -95,7 +95,7 @@ is_kept_arrival mobile control =
     cond_both (may_arrive mobile control) (after_arrival mobile control) mobile (IsKept mobile)
     (λ _. is_kept_same mobile (after_arrival mobile control) refl refl) (λ _. is_kept_same mobile mobile refl refl)
 
-is_kept_call : (mobile : MobileState) (call : Call) → IsKept mobile (after_call mobile call)
+pub is_kept_call : (mobile : MobileState) (call : Call) → IsKept mobile (after_call mobile call)
 is_kept_call mobile (connects initial) = unless_connected_by (IsKept mobile) mobile.stage mobile _ (is_kept_same mobile mobile refl refl) (is_kept_connect mobile initial)
 is_kept_call mobile (sends sapi message) =
     unless_refused_by (IsKept mobile) (is_sendable sapi message) (refusal_before_connect mobile.stage) mobile (after_queue mobile sapi message)
@@ -177,7 +177,7 @@ is_going_refused m before mobile taken control not_so going =
     subst (λ (new : MobileState). IsGoing m before new taken) (sym (cond-false (may_arrive mobile control) (after_arrival mobile control) mobile not_so)) going
 
 -- each call in an establishment
-is_going_call : (m : ℕ) (before : List (List ℕ)) (mobile : MobileState) (taken : List (List ℕ)) (call : Call) → begins mobile call ≡ false → IsGoing m before mobile taken → IsGoing m before (after_call mobile call) (taken ++ taken_by_call mobile call)
+pub is_going_call : (m : ℕ) (before : List (List ℕ)) (mobile : MobileState) (taken : List (List ℕ)) (call : Call) → begins mobile call ≡ false → IsGoing m before mobile taken → IsGoing m before (after_call mobile call) (taken ++ taken_by_call mobile call)
 is_going_call m before mobile taken (connects initial) doesnt going =
     nothing_taken m before _ taken (unless_connected_by (λ new. IsGoing m before new taken) mobile.stage mobile _ going (is_going_connect m before mobile taken initial going))
 is_going_call m before mobile taken (sends sapi message) doesnt going =
@@ -220,7 +220,7 @@ one_repeat_cut m before sent more taken unsent others cut rule =
     ]
 
 -- a call that begins an establishment is an arrival
-record IsArrival (mobile : MobileState) (call : Call) : Type 0 where
+pub record IsArrival (mobile : MobileState) (call : Call) : Type 0 where
   pub control : List ℕ
   pub is_one : is_control control ≡ true
   pub arrived : after_call mobile call ≡ after_arrival mobile control
@@ -232,7 +232,7 @@ arrival_of mobile control call does is = record {
   arrived = is ∙ cond-true (may_arrive mobile control) (after_arrival mobile control) mobile does;
 }
 
-is_arrival_begins : (mobile : MobileState) (call : Call) → begins mobile call ≡ true → IsArrival mobile call
+pub is_arrival_begins : (mobile : MobileState) (call : Call) → begins mobile call ≡ true → IsArrival mobile call
 is_arrival_begins mobile (arrives complete) does = arrival_of mobile complete (arrives complete) does refl
 is_arrival_begins mobile (gives_up failure) does = arrival_of mobile failure (gives_up failure) does refl
 is_arrival_begins mobile (connects initial) does = absurd cc

@@ -19,6 +19,8 @@ use Rattle.mobile_end.specs.Calls.{Call, after_calls, taken_by_calls, taken_on_t
 use Rattle.mobile_end.specs.Calls.Call.{connects, sends, frames, acknowledges, leaves, arrives, gives_up}
 use Rattle.mobile_end.specs.OneRepeat.{OneRepeat}
 use Rattle.mobile_end.specs.OneRepeat.OneRepeat.{over as ended, goes_on, repeats}
+use Rattle.mobile_end.specs.Unacknowledged.{acknowledgements, RepeatsUnacknowledged}
+use Rattle.mobile_end.specs.Unacknowledged.RepeatsUnacknowledged.{over as none_left, next as one_by_one}
 use Rattle.mobile_end.specs.RunsToEnd.{RunsToEnd}
 use Rattle.dtap_codec.specs.Places.{Carries, Rise}
 use Rattle.dtap_codec.specs.Places.Rise.{over, next, again}
@@ -323,6 +325,19 @@ each_repeats_the_last =
     repeats {p = 0} (omega arith) (record { begins = omega arith; ends = omega arith; taken = refl })
     (repeats {p = 1} (omega arith) (record { begins = omega arith; ends = omega arith; taken = refl })
     (goes_on {e = 2} (record { begins = omega arith; ends = omega arith; taken = refl }) (ended 2)))
+
+acknowledged_in_life : acknowledgements (new_mobile 4) [] life ≡
+    [] ∷ (hex "06 29 00" ∷ hex "03 05" ∷ []) ∷ (hex "06 28 03" ∷ []) ∷ []
+acknowledged_in_life = refl
+
+each_begins_unacknowledged : RepeatsUnacknowledged 4 (hex "03 05" ∷ hex "03 0f" ∷ []) 0
+    ((hex "03 05" ∷ []) ∷ (hex "06 29 00" ∷ hex "03 05" ∷ hex "03 4f" ∷ []) ∷ (hex "06 28 03" ∷ hex "03 4f" ∷ []) ∷ [])
+    ([] ∷ (hex "06 29 00" ∷ hex "03 05" ∷ []) ∷ (hex "06 28 03" ∷ []) ∷ [])
+each_begins_unacknowledged =
+    one_by_one {e = 1} {a = 0} (record { begins = omega arith; ends = omega arith; taken = refl }) (record { begins = omega arith; ends = omega arith; taken = refl }) (omega arith) (omega arith)
+    (one_by_one {e = 2} {a = 1} (record { begins = omega arith; ends = omega arith; taken = refl }) (record { begins = omega arith; ends = omega arith; taken = refl }) (omega arith) (omega arith)
+    (one_by_one {e = 2} {a = 1} (record { begins = omega arith; ends = omega arith; taken = refl }) (record { begins = omega arith; ends = omega arith; taken = refl }) (omega arith) (omega arith)
+    (none_left 1)))
 
 taken_behind_service_request : taken_by_calls (new_mobile 4) (connects (Some (hex "05 24 71"))
     ∷ sends Zero (hex "03 05") ∷ frames Zero ∷ acknowledges Zero ∷ frames Zero ∷ []) ≡

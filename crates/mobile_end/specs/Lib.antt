@@ -7,5 +7,6 @@ pub mod Mobile
 pub mod RestsFramed
 pub mod Calls
 pub mod OneRepeat
+pub mod Unacknowledged
 pub mod RestsLent
 pub mod RunsToEnd

@@ -8,6 +8,7 @@ ghost use Rattle.mobile_end.specs.Mobile.{new_mobile};
 ghost use Rattle.mobile_end.specs.Calls.{Call, after_calls, taken_by_calls};
 ghost use Rattle.mobile_end.specs.Calls.{taken_on_three_by_calls, establishments};
 ghost use Rattle.mobile_end.specs.OneRepeat.{OneRepeat};
+ghost use Rattle.mobile_end.specs.Unacknowledged.{RepeatsUnacknowledged, acknowledgements};
 
 /// The one-repeat rule: whatever is called and in whatever order, in each establishment a station
 /// takes a slice of the sent list, in order, the one at place k with the number k modulo m. The
@@ -17,6 +18,15 @@ pub fn repeats_at_most_one()
     ensures { (m : ℕ) (calls : List Call) →
         OneRepeat m (after_calls (new_mobile m) calls).sent 0
         (establishments (new_mobile m) [] calls) }
+{}
+
+/// And the message that comes again is the one that wasn't acknowledged: of the messages that a
+/// station takes in an establishment at most the last one isn't acknowledged there. The next
+/// establishment begins with that message, and else behind the last one.
+pub fn repeats_the_unacknowledged()
+    ensures { (m : ℕ) (calls : List Call) →
+        RepeatsUnacknowledged m (after_calls (new_mobile m) calls).sent 0
+        (establishments (new_mobile m) [] calls) (acknowledgements (new_mobile m) [] calls) }
 {}
 
 /// So the places of what stations take, over all channels, rise by steps of 0 or 1 from place 0.

@@ -4,7 +4,10 @@
 
 pub use fault::MobileFault;
 pub use lawful::is_initial;
-pub use laws::{link_goes_on, numbers_run_on, repeats_at_most_one};
+pub use laws::{
+    flow_takes_sapi_zero, link_goes_on, numbers_run_on, repeats_at_most_one,
+    repeats_the_unacknowledged,
+};
 pub use mobile_end::{MobileEnd, Place, Stage};
 
 mod data_link;

@@ -156,6 +156,28 @@ replies connections (DataForm1 destination user) =
     replies_by (connection_of connections (destination - REFERENCE_BASE)) (message_in user)
 replies connections _ = []
 
+-- how many messages that is: a CLEAR REQUEST and a CLEAR COMPLETE are answered, on a connection that
+-- hasn't ended, and each connection request
+abbrev pub live_reply_count : Bssap → ℕ
+live_reply_count (Management (ClearRequest cause)) = 1
+live_reply_count (Management ClearComplete) = 1
+live_reply_count _ = 0
+
+abbrev pub reply_count_by : Stage → Bssap → ℕ
+reply_count_by Open message = live_reply_count message
+reply_count_by Clearing message = live_reply_count message
+reply_count_by Ended message = 0
+
+abbrev pub reply_count_of : Option Connection → Option Bssap → ℕ
+reply_count_of (Some c) (Some message) = reply_count_by c.stage message
+reply_count_of _ _ = 0
+
+abbrev pub reply_count : List Connection → Sccp → ℕ
+reply_count connections (ConnectionRequest source user) = 1
+reply_count connections (DataForm1 destination user) =
+    reply_count_of (connection_of connections (destination - REFERENCE_BASE)) (message_in user)
+reply_count connections _ = 0
+
 -- the octet of a SAPI's DLCI
 abbrev pub dlci_for : Sapi → ℕ
 dlci_for Zero = SAPI_0_LINK

@@ -8,7 +8,7 @@ ghost use Rattle.msc_end.specs.declared.connection.Stage.TheVariants.{Clearing};
 ghost use Rattle.msc_end.specs.declared.fault.MscFault.TheVariants.{Memory as OutOfMemory};
 ghost use Rattle.msc_end.specs.Refusal.{send_fault};
 ghost use Rattle.msc_end.specs.Switch.{after, after_clear, assignment_request, clear_command};
-ghost use Rattle.msc_end.specs.Switch.{replies, connection_in, accepted_on, taken_on};
+ghost use Rattle.msc_end.specs.Switch.{replies, reply_count, connection_in, accepted_on, taken_on};
 ghost use Rattle.msc_end.specs.Switch.{unnumbered_on, data_form as data_form_of, data_forms_on};
 ghost use Rattle.msc_end.specs.Switch.{dlci_for, initial_message_of, initial_messages};
 
@@ -63,12 +63,18 @@ impl MscEnd {
         ensures state { OnOk result (self.new ≡ after self.old message.now) }
         ensures replies { OnOk result (out.new.items ≡ out.old.items
             ++ replies self.old.connections message.now) }
+        // A connection request is answered, and on a connection that hasn't ended a CLEAR REQUEST
+        // and a CLEAR COMPLETE, each by one message; nothing else is.
+        ensures sent { OnOk result (length out.new.items ≡ length out.old.items
+            + reply_count self.old.connections message.now) }
         ensures unchanged { OnErr result (self.new ≡ self.old) }
         ensures unanswered { OnErr result (out.new.items ≡ out.old.items) }
     {
         match message {
             Sccp::ConnectionRequest { source, data } => self.on_request(*source, data, out),
-            Sccp::DataForm1 { destination, data } => self.on_data(*destination, data, out),
+            Sccp::DataForm1 { destination, data } => {
+                self.on_data(*destination, data.as_slice(), out)
+            }
             _ => Ok(()),
         }
     }
@@ -84,6 +90,7 @@ impl MscEnd {
             (self.new ≡ after self.old (Sccp.ConnectionRequest source user.now)) }
         ensures replies { OnOk result (out.new.items ≡ out.old.items
             ++ replies self.old.connections (Sccp.ConnectionRequest source user.now)) }
+        ensures sent { OnOk result (length out.new.items ≡ length out.old.items + 1) }
         ensures unchanged { OnErr result (self.new ≡ self.old) }
         ensures unanswered { OnErr result (out.new.items ≡ out.old.items) }
     {
@@ -115,13 +122,15 @@ impl MscEnd {
     fn on_data(
         &mut self,
         destination: Reference,
-        user: &Octets,
+        user: &[u8],
         out: &mut Vec<Sccp>,
     ) -> Result<(), Memory>
         ensures state { OnOk result
             (self.new ≡ after self.old (Sccp.DataForm1 destination user.now)) }
         ensures replies { OnOk result (out.new.items ≡ out.old.items
             ++ replies self.old.connections (Sccp.DataForm1 destination user.now)) }
+        ensures sent { OnOk result (length out.new.items ≡ length out.old.items
+            + reply_count self.old.connections (Sccp.DataForm1 destination user.now)) }
         ensures unchanged { OnErr result (self.new ≡ self.old) }
         ensures unanswered { OnErr result (out.new.items ≡ out.old.items) }
     {
@@ -130,7 +139,7 @@ impl MscEnd {
         if number == 0 || number > self.connections.len() {
             return Ok(());
         }
-        let Some(message) = read_data(self.alloc, user.as_slice())? else {
+        let Some(message) = read_data(self.alloc, user)? else {
             return Ok(());
         };
         let alloc = self.alloc;

@@ -15,6 +15,7 @@ use Rattle.world_model.proofs.Living.{RunsByTable-new}
 use Rattle.world_laws.specs.Order.OctetEvents.{AreOctetEvents}
 use Rattle.world_laws.specs.Order.Order.{IsInOrderFor}
 use Rattle.world_laws.proofs.Order.Fairly.{ComeInOctets-new}
+use Rattle.world_laws.proofs.Order.LineUps.{all_numbers_stand_new, all_places_rise_new}
 use Rattle.world_laws.proofs.Order.Whole.{runs_are_in_order}
 use Rattle.world.specs.declared.world.Scene.{Scene}
 use Rattle.world.specs.declared.world.Scene.TheVariants.{Controlled}
@@ -45,6 +46,10 @@ IsInOrder-controlled settings events allowed octets =
           let first = order.in_order connection list is in
           record { mobile = first.mobile; opened = first.opened; sent = first.sent_list; is_sent = first.is_sent; is_prefix = first.is_prefix };
       no_gap = order.no_gap;
+      line_up = record {
+        numbers = λ number from_one. all_numbers_stand_new settings events number allowed octets from_one;
+        places = λ s up had requested. all_places_rise_new settings events s allowed octets up had requested;
+      };
       handed = IsHandedInOrder-controlled settings events allowed octets;
       queues = QueuesKeepOrder-controlled settings events;
     })

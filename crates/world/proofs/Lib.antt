@@ -5,5 +5,6 @@ pub mod SwitchHistory
 pub mod ControlledQueues
 pub mod ControlledOrder
 pub mod Breaking
+pub mod Made
 mod Rows
 mod ControlledRows

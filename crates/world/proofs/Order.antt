@@ -34,15 +34,18 @@ scene-after_all world state [] is = is
 scene-after_all world state (event ∷ events) is =
     scene-after_all (after world event) (fixed_next state event) events (ap (λ (scene : Scene). actors_after scene event) is ∙ actors_after-fixed state event)
 
--- the places of what the switch took rise
-taken-rise : (world : FixedState) → IsFixedKept world → (k : ℕ) × Rise world.mobile.modulus world.mobile.sent 0 world.switch.taken k
-taken-rise world kept =
+-- the places of what the switch took, of what waits for it and of the mobile's link rise
+lined_up : (world : FixedState) → IsFixedKept world → Rise world.mobile.modulus world.mobile.sent 0 (world.switch.taken ++ (world.outbox ++ to_be_taken world.mobile.zero)) (length world.mobile.sent)
+lined_up world kept =
     let sent = world.mobile.sent in
-    let behind : List (List ℕ) = world.outbox ++ to_be_taken world.mobile.zero in
     let clear = subst AreClear (sym kept.numbered.parts) kept.numbered.clear in
     let whole = Rise-with_numbers_from world.mobile.modulus sent _ [] kept.numbered.after 0 kept.numbered.parts refl clear kept.numbered.numbers in
-    let regrouped = subst (λ (xs : List (List ℕ)). Rise world.mobile.modulus sent 0 xs (length sent)) (append_assoc world.switch.taken world.outbox (to_be_taken world.mobile.zero)) whole in
-    let cut = Rise-cut world.switch.taken behind regrouped in
+    subst (λ (xs : List (List ℕ)). Rise world.mobile.modulus sent 0 xs (length sent)) (append_assoc world.switch.taken world.outbox (to_be_taken world.mobile.zero)) whole
+
+-- so those of what it took do
+taken-rise : (world : FixedState) → IsFixedKept world → (k : ℕ) × Rise world.mobile.modulus world.mobile.sent 0 world.switch.taken k
+taken-rise world kept =
+    let cut = Rise-cut world.switch.taken (world.outbox ++ to_be_taken world.mobile.zero) (lined_up world kept) in
     (cut.0, cut.1)
 
 -- so what the switch accepts is the beginning of the sent list, and there is no gap
@@ -87,6 +90,7 @@ IsInOrder-fixed m two events =
             is_prefix = subst (λ (list : List (List ℕ)). IsPrefix list world.mobile.sent) found.1 (accepted_is_prefix world kept);
           };
       no_gap = λ connection p is. progress_is_some world kept p (cond_some (nat_eq connection FIXED_CONNECTION) _ _ is).1;
+      line_up = lined_up world kept;
       handed = tt;
       queues = record {
         first_out = λ queue. (in_switch_outbox queue world.outbox, sym (left_fixed m events queue));

@@ -10,11 +10,12 @@ use Rattle.world_model.specs.declared.event.Event.{Event}
 use Rattle.world.specs.declared.world.Scene.{Scene}
 use Rattle.world.specs.declared.world.Scene.TheVariants.{Fixed, Controlled}
 use Rattle.world.specs.Handing.{HandsInOrder}
+use Rattle.world.specs.LineUp.{LinesUp}
 use Rattle.world.specs.Openers.{opener_in}
 use Rattle.world.specs.Queues.{Queue, outbox, all_messages_put, all_messages_taken}
 use Rattle.world.specs.Queues.{messages_left, is_kept, IsTakenBySwitch}
 use Rattle.world.specs.Views.{sent_list, accepted_list, progress_in}
-use Rattle.world.specs.World.{fixed_world, controlled_world}
+use Rattle.world.specs.World.{fixed_world, controlled_world, after_all}
 use Rattle.world.specs.WorldState.{WorldState}
 
 -- the worlds in which nothing has happened: the fixed one, and that of settings which `bsc` accepts
@@ -27,6 +28,12 @@ pub data Begins : WorldState → Type 0 where
 abbrev pub AreEventsFor : Scene → List Event → Type 0
 AreEventsFor (Fixed world) events = Unit {0}
 AreEventsFor (Controlled w) events = AreOctetEvents events
+
+-- The world is what these events made of a beginning.
+pub record IsMadeBy (begin : WorldState) (events : List Event) (world : WorldState) : Type 0 where
+  pub begins : Begins begin
+  pub octets : AreEventsFor begin.scene events
+  pub made : world ≡ after_all begin events
 
 -- the list is the beginning of what the mobile sent whose connection this is
 pub record IsBeginningOfSent (begin : Scene) (events : List Event) (scene : Scene) (connection : ℕ)
@@ -58,6 +65,9 @@ pub record IsInOrder (begin : Scene) (events : List Event) (scene : Scene) : Typ
   -- no gap is ever judged
   pub no_gap : (connection : ℕ) (progress : Option ℕ)
       → progress_in scene connection ≡ Some progress → IsSome progress
+  -- what keeps both: the places of the mobile's messages, lined up from the switch down to the
+  -- mobile, rise
+  pub line_up : LinesUp begin events scene
   -- what the switch sends is handed to the mobile in order, and after CLEAR COMPLETE only RLC is
   -- put
   pub handed : HandsInOrder begin events

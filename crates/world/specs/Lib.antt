@@ -6,4 +6,5 @@ pub mod Views
 pub mod Openers
 pub mod Queues
 pub mod Handing
+pub mod LineUp
 pub mod Headline

@@ -3,9 +3,11 @@
 #![tactic(auto)]
 
 pub use laws::{keeps_order, queues_keep_order};
+pub use of_octets::{are_of_octets, is_of_octets};
 pub use world::World;
 pub use world_model::{Event, SwitchAction};
 
 mod fixed;
 mod laws;
+mod of_octets;
 mod world;

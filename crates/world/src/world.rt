@@ -1,4 +1,4 @@
-ghost use Rattle.std.specs.Prelude.{IsSome, ◌≡◌, ◌++◌, List, false, true};
+ghost use Rattle.std.specs.Prelude.{IsSome, ◌≡◌, ◌++◌, ◌∷◌, List, [], false, true};
 ghost use Rattle.std.specs.Prelude.{IfOk, OnOk, OnErr, is_some, option_map};
 ghost use Rattle.dtap_codec.specs.Number.{count_of};
 ghost use Rattle.settings.specs.Parameters.{Parameters};
@@ -9,10 +9,11 @@ ghost use Rattle.world.specs.World.{fixed_world, controlled_world};
 ghost use Rattle.world.specs.World.{scene_after, after, after_all, broken};
 ghost use Rattle.world.specs.Views.{sent_list, received_list, taken_list};
 ghost use Rattle.world.specs.Views.{accepted_list, unnumbered_list};
-ghost use Rattle.world.specs.Headline.{AreEventsFor, Begins, IsInOrder, QueuesKeepOrder};
+ghost use Rattle.world.specs.Headline.{Begins, IsInOrder, IsMadeBy, QueuesKeepOrder};
 
 use crate::Event;
 use crate::fixed::{FIXED_CONNECTION, FIXED_MOBILE, FixedWorld};
+use crate::of_octets::{are_of_octets, is_of_octets};
 use dtap_codec::Modulus;
 use octets::{Memory, Octets};
 use settings::Settings;
@@ -57,6 +58,7 @@ impl World {
     pub fn fixed(alloc: Global, modulus: Modulus) -> World
         ensures world { result ≡ fixed_world (count_of modulus) }
         ensures begins { Begins result }
+        ensures made { IsMadeBy result [] result }
     {
         World {
             scene: Scene::Fixed(FixedWorld::new(alloc, modulus)),
@@ -71,6 +73,7 @@ impl World {
     pub fn new(alloc: Global, settings: Settings) -> Result<World, Memory>
         ensures world { IfOk result (λ world. world ≡ controlled_world settings) }
         ensures begins { IfOk result (λ world. Begins world) }
+        ensures made { IfOk result (λ world. IsMadeBy (controlled_world settings) [] world) }
     {
         Ok(World {
             scene: Scene::Controlled(Network::new(alloc, settings)?),
@@ -84,6 +87,28 @@ impl World {
     /// switch, else a station's number; the break of one that isn't there is an event that isn't
     /// taken. It is refused only for lack of memory.
     pub fn with_break(
+        alloc: Global,
+        settings: Settings,
+        events: &[Event],
+        place: usize,
+        source: u16,
+    ) -> Result<World, Memory>
+        ensures world { IfOk result (λ world.
+            world ≡ after_all (controlled_world settings) (broken events.now place source)) }
+
+        // What it is made of is a beginning, and the events are of octets: so it is in order.
+        ensures begins { Begins (controlled_world settings) }
+        ensures made { IfOk result (λ world. IsMadeBy (controlled_world settings)
+            (broken events.now place source) world) }
+        ensures in_order { IfOk result (λ world. IsInOrder (controlled_world settings).scene
+            (broken events.now place source) world.scene) }
+    {
+        are_of_octets(events);
+        World::broken(alloc, settings, events, place, source)
+    }
+
+    // The world after these events, with the break of a link among them.
+    fn broken(
         alloc: Global,
         settings: Settings,
         events: &[Event],
@@ -123,7 +148,15 @@ impl World {
         ensures failed { OnErr result (self.new.failed ≡ true) }
         ensures memory { OnErr result
             (self.old.failed ≡ false → IsSome (scene_after self.old.scene event)) }
+
+        // What events made of a beginning is so after one more, and is in order.
+        ensures made { OnOk result ((begin : WorldState) (before : List WorldEvent)
+            → IsMadeBy begin before self.old → IsMadeBy begin (before ++ event ∷ []) self.new) }
+        ensures in_order { OnOk result ((begin : WorldState) (before : List WorldEvent)
+            → IsMadeBy begin before self.old
+            → IsInOrder begin.scene (before ++ event ∷ []) self.new.scene) }
     {
+        is_of_octets(&event);
         self.act(&event)
     }
 
@@ -131,12 +164,14 @@ impl World {
     pub fn run(&mut self, events: &[Event]) -> Result<(), Memory>
         ensures ok { OnOk result (self.new ≡ after_all self.old events.now) }
 
-        // Whatever events made the world from a beginning, what the switch accepts in a connection
-        // is the beginning of what its mobile sent, no filter ever finds a gap, and each queue
-        // gives what was put there, in order. The events are of octets.
+        // Whatever events made the world of a beginning, with these it is made of it too, since
+        // events of the code are of octets. What the switch accepts in a connection is the
+        // beginning of what its mobile sent, no filter ever finds a gap, and each queue gives what
+        // was put there, in order.
+        ensures made { OnOk result ((begin : WorldState) (before : List WorldEvent)
+            → IsMadeBy begin before self.old → IsMadeBy begin (before ++ events.now) self.new) }
         ensures in_order { OnOk result ((begin : WorldState) (before : List WorldEvent)
-            → Begins begin → AreEventsFor begin.scene (before ++ events.now)
-            → self.old ≡ after_all begin before
+            → IsMadeBy begin before self.old
             → IsInOrder begin.scene (before ++ events.now) self.new.scene) }
 
         // And whatever events made the world from one with a controller, of whatever settings, each
@@ -152,6 +187,7 @@ impl World {
         if self.failed {
             return Err(Memory);
         }
+        are_of_octets(events);
         for event in events {
             self.act(event)?;
         }

@@ -1,4 +1,4 @@
-use Rattle.controller.proofs.Prelude.{ℕ, ◌≤◌, ◌<◌, List, arith, Step, Controller}
+use Rattle.controller.proofs.Prelude.{ℕ, ◌≤◌, ◌<◌, List, subst, arith, AllByRecursion, Step, Controller}
 use Rattle.conn_messages.specs.declared.parameters.TheConstants.{SWITCH_LINK}
 use Rattle.controller.proofs.LifeLaws.{channels_of, downlink_of, handing_of, if_so, next_of, sent_of, silence_of, uplink_of, used_of}
 use Rattle.controller.proofs.life.run.Goals as goal
@@ -18,6 +18,7 @@ use Rattle.controller_model.specs.LifeLaws.Numbers.{IsNumbered}
 use Rattle.controller_model.specs.LifeLaws.Owning.{LinkedOf}
 use Rattle.controller_model.specs.LifeLaws.Placing.{KeepsToChannels}
 use Rattle.controller_model.specs.LifeLaws.Reach.{PutsOnUpLinks}
+use Rattle.controller_model.specs.LifeLaws.Sending.{IsOctetStep}
 use Rattle.controller_model.specs.Controller.{is_up}
 use Rattle.controller_model.specs.Life.{life}
 use Rattle.ipa_framing.specs.declared.frame.Frame.{Frame}
@@ -41,7 +42,7 @@ pub returns-clause-used : goal.returns-clause-used
 returns-clause-used c = if_so _ _ c.live.result (λ both is. used_of c.args.settings c.args.steps.items both.0 both.1.outs c.live.ensures.allowed is) c.live.ensures.life
 
 pub returns-clause-sent : goal.returns-clause-sent
-returns-clause-sent c = if_so _ _ c.live.result (λ both is. sent_of c.args.settings c.args.steps.items both.0 both.1.outs c.live.ensures.allowed is) c.live.ensures.life
+returns-clause-sent c = if_so _ _ c.live.result (λ both is. sent_of c.args.settings c.args.steps.items both.0 both.1.outs c.live.ensures.allowed is (subst (AllByRecursion IsOctetStep) c.deref.ensures.value c.come_in_octets.ensures)) c.live.ensures.life
 
 pub returns-clause-closed : goal.returns-clause-closed
 returns-clause-closed c = if_so _ _ c.live.result (λ both is. next_of (λ (d : Controller). (rest : List Step) (number : ℕ) → 1 ≤ number → number < d.next_number → (IsThere (connection_of d number) → ⊥) → IsSilentThrough number d rest) c.args.settings c.args.steps.items both.0 both.1.outs is (λ rest number from_one below over. stays_silent number (life c.args.settings c.args.steps.items).next rest from_one (life_fits c.args.settings c.args.steps.items number from_one) below over)) c.live.ensures.life

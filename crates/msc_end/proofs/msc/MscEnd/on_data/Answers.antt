@@ -4,6 +4,7 @@ use Rattle.msc_end.specs.declared.parameters.TheConstants.{REFERENCE_BASE}
 use Rattle.msc_end.specs.SwitchState.{SwitchState}
 use Rattle.msc_end.specs.declared.connection.Connection.{Connection}
 use Rattle.bssmap_codec.specs.declared.sccp.Sccp.{Sccp}
+use Rattle.msc_end.proofs.Answering.{appended}
 use Rattle.msc_end.proofs.Places.{switch_is, reply_is, silent}
 use Rattle.msc_end.proofs.msc.MscEnd.on_data.Goals as goal
 use Rattle.msc_end.proofs.msc.MscEnd.on_data.Goals.{then-number-eq0-via-then-number-eq0, then-number-eq0-via-else-number-eq0+then-number-len, in-Some-reply, in_default-reply}
@@ -22,14 +23,14 @@ returns-then-number-eq0-clause-replies c =
 pub returns-clause-state : goal.returns-clause-state
 returns-clause-state c =
     let n : c.saturating_sub-number.result ≡ c.args.destination - REFERENCE_BASE = omega arith in
-    let hm : message_in c.args.user.now ≡ Some c.in-Some.message = sym (c.in_ok-message.ensures ∙ ap message_in c.as_slice.ensures) ∙ c.in-Some.is in
+    let hm : message_in c.args.user.now ≡ Some c.in-Some.message = sym c.in_ok-message.ensures ∙ c.in-Some.is in
     switch_is c.args.self.now _ c.self.inside.connections.items _ c.args.destination c.index_mut-connection.result.now _ c.in-Some.message c.args.user.now c.self.view_is n c.if-number-eq0.false (omega arith) c.index_mut-connection.ensures.value hm c.in_ok-reply.ensures.state
 
 pub returns-clause-replies : goal.returns-clause-replies
 returns-clause-replies c =
     let n : c.saturating_sub-number.result ≡ c.args.destination - REFERENCE_BASE = omega arith in
     let view : c.self.inside.connections.items ≡ c.args.self.now.connections = ap (λ (s : SwitchState). s.connections) c.self.view_is in
-    let hm : message_in c.args.user.now ≡ Some c.in-Some.message = sym (c.in_ok-message.ensures ∙ ap message_in c.as_slice.ensures) ∙ c.in-Some.is in
+    let hm : message_in c.args.user.now ≡ Some c.in-Some.message = sym c.in_ok-message.ensures ∙ c.in-Some.is in
     (elim c.match-reply.branch [
       | in-Some-reply w ↦ ap (λ v. v.items) w.out-is ∙ w.push_reserved.ensures.items ∙ ap (λ (xs : List Sccp). xs ++ w.in-Some-reply.reply ∷ []) c.reserve.ensures.items
           ∙ ap (λ (ys : List Sccp). c.args.out.now.items ++ ys)
@@ -39,3 +40,9 @@ returns-clause-replies c =
           (reply_is c.self.inside.connections.items _ c.args.destination c.index_mut-connection.result.now c.in-Some.message (message_in c.args.user.now) None n c.if-number-eq0.false (omega arith) c.index_mut-connection.ensures.value hm (sym w.in_default-reply.is ∙ c.in_ok-reply.ensures.reply))
     ])
     ∙ ap (λ (cs : List Connection). c.args.out.now.items ++ replies_by (connection_of cs (c.args.destination - REFERENCE_BASE)) (message_in c.args.user.now)) view
+
+pub returns-then-number-eq0-clause-sent : goal.returns-then-number-eq0-clause-sent
+returns-then-number-eq0-clause-sent c = appended _ _ c.args.self.now.connections c.args.destination c.args.user.now (λ i. omega (arith, c.type_inv.user i)) (returns-then-number-eq0-clause-replies c)
+
+pub returns-clause-sent : goal.returns-clause-sent
+returns-clause-sent c = appended _ _ c.args.self.now.connections c.args.destination c.args.user.now (λ i. omega (arith, c.type_inv.user i)) (returns-clause-replies c)

@@ -1,0 +1,5 @@
+use Rattle.std.proofs.Common.{arith}
+use Rattle.controller.proofs.of_octets.octets_of.Goals as goal
+
+pub returns : goal.returns
+returns c i = omega (arith, c.type_inv.octets i)
