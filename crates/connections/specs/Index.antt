@@ -1,6 +1,7 @@
 -- Entries in slots, and an index of them: their numbers, each with the key of its slot, in order.
 -- No public clause cites it.
-use Rattle.std.specs.Prelude.{◌≡◌, ◌≢◌, ℕ, ◌==◌, ◌||◌, Bool, true, false, List, [], ◌∷◌, ◌++◌, slice_index_or, Option, Some, None}
+use Rattle.std.specs.Prelude.{◌≡◌, ◌≢◌, ℕ, ◌==◌, ◌||◌, Bool, true, false}
+use Rattle.std.specs.Prelude.{List, [], ◌∷◌, ◌++◌, slice_index_or, Option, Some, None}
 use Rattle.std.specs.Option.{option_to_list}
 use Rattle.std.specs.Map.{remove_entry}
 use Rattle.controller_model.specs.Controller.{Entry}
@@ -18,7 +19,8 @@ listed slots (p ∷ ps) = option_to_list (at slots p.1) ++ listed slots ps
 -- of this number, and not removed
 abbrev pub HasNumber : ℕ → Option Entry → Type 0
 HasNumber number None = ⊥
-HasNumber number (Some e) = (e.connection.number ≡ number) × (is_removed e.connection.state ≡ false)
+HasNumber number (Some e) =
+    (e.connection.number ≡ number) × (is_removed e.connection.state ≡ false)
 
 abbrev pub is_key : ℕ → List (ℕ × ℕ) → Bool
 is_key key [] = false
@@ -42,4 +44,5 @@ Settles false number key old new ps ps_after = (new ≡ old) × (ps_after ≡ ps
 -- each number stands beside the key of its entry, and no key stands twice
 abbrev pub IsIndex : List (Option Entry) → List (ℕ × ℕ) → Type 0
 IsIndex slots [] = Unit {0}
-IsIndex slots (p ∷ ps) = HasNumber p.0 (at slots p.1) × (is_key p.1 ps ≡ false) × IsIndex slots ps
+IsIndex slots (p ∷ ps) =
+    HasNumber p.0 (at slots p.1) × (is_key p.1 ps ≡ false) × IsIndex slots ps

@@ -1,10 +1,12 @@
-ghost use Rattle.std.specs.Prelude.{◌≡◌, ◌<◌, ◌^◌, ◌++◌, None, IfOk, OnOk, OnErr, length};
+ghost use Rattle.std.specs.Prelude.{◌≡◌, ◌<◌, ◌^◌, ◌++◌, None, IfOk, OnOk, OnErr};
+ghost use Rattle.std.specs.Prelude.{length};
 ghost use Rattle.std.specs.Option.{is_some};
 ghost use Rattle.conn_fsm.specs.Doing.{AreSound, IsAsPlanned, outs_in};
 ghost use Rattle.conn_rules.specs.Validity.{IsCarried};
 ghost use Rattle.conn_rules.specs.Table.{row_of};
 ghost use Rattle.controller_model.specs.Life.{aged, averages_after, new_entry, with_report};
-ghost use Rattle.connections.specs.Entries.{IsKept, IsOfCell, IsOffer, decision_over_all, is_removed};
+ghost use Rattle.connections.specs.Entries.{IsKept, IsOfCell, IsOffer, decision_over_all};
+ghost use Rattle.connections.specs.Entries.{is_removed};
 ghost use Rattle.connections.specs.Steps.{after_row};
 
 use crate::cells::Cells;

@@ -1,4 +1,5 @@
-ghost use Rattle.std.specs.Prelude.{◌≡◌, ◌==◌, ◌++◌, None, IfOk, OnOk, OnErr, option_map};
+ghost use Rattle.std.specs.Prelude.{◌≡◌, ◌==◌, ◌++◌, None, IfOk, OnOk, OnErr};
+ghost use Rattle.std.specs.Prelude.{option_map};
 ghost use Rattle.std.specs.Map.{lookup};
 ghost use Rattle.std.specs.Option.{ForSome, is_some};
 ghost use Rattle.conn_fsm.specs.Doing.{AreSound, outs_in};
@@ -36,7 +37,8 @@ pub(crate) fn step_at(
     requires carried { IsCarried input }
     requires kept { ForSome (get slots.old key) (IsKept cells.now) }
     requires offer { IsOffer cells.now offer }
-    ensures fits { IfOk result (λ fits. fits ≡ is_some (row_at input offer (get slots.old key))) }
+    ensures fits { IfOk result
+        (λ fits. fits ≡ is_some (row_at input offer (get slots.old key))) }
     ensures slot { OnOk result (Updates slots.old slots.new key
         (option_map (stepped cells.now input offer) (get slots.old key))) }
     ensures outputs { OnOk result (outputs.new.outs ≡ outputs.old.outs

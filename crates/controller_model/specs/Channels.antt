@@ -1,7 +1,7 @@
 -- The channels of the cells, and which of them a connection is given or offered.
-use Rattle.std.specs.Prelude.{ℕ, ◌+◌, ◌-◌, ◌*◌, ◌/◌, ◌%◌, ◌&&◌, nat_lt, Bool, true, false}
-use Rattle.std.specs.Prelude.{if◌then◌else◌, List, [], ◌∷◌, find, slice_get, slice_index_or, Option}
-use Rattle.std.specs.Prelude.{None, option_map}
+use Rattle.std.specs.Prelude.{ℕ, ◌+◌, ◌-◌, ◌*◌, ◌/◌, ◌%◌, ◌&&◌, nat_lt}
+use Rattle.std.specs.Prelude.{Bool, true, false, if◌then◌else◌, List, [], ◌∷◌, find}
+use Rattle.std.specs.Prelude.{slice_get, slice_index_or, Option, None, option_map}
 use Rattle.std.specs.Option.{option_and_then}
 use Rattle.controller_model.specs.Prelude.{Channel, Input, Connection, row_of, Parameters}
 use Rattle.conn_rules.specs.Table.{serving_after}
@@ -14,7 +14,8 @@ use Rattle.rsl_codec.specs.declared.channel_number.TheConstants.{FIRST_SDCCH}
 use Rattle.settings.specs.declared.network.Network.{Network}
 use Rattle.settings.specs.Parameters.{CellParameters}
 
--- ---- the identifier of a cell (TS 48.008 clause 3.2.2.17): the digits of the country and the network, two an octet; location area code; cell identity
+-- ---- the identifier of a cell (TS 48.008 clause 3.2.2.17): the digits of the country and the
+-- network, two an octet; location area code; cell identity
 
 abbrev pub digit_at : List ℕ → ℕ → ℕ
 digit_at text place = slice_index_or text place 48 - 48
@@ -29,10 +30,11 @@ digits high low = 16 * high + low
 
 abbrev pub cell_identifier : Network → CellParameters → List ℕ
 cell_identifier n cell =
-    0 ∷ digits (digit_at n.mcc 1) (digit_at n.mcc 0) ∷ digits (third_digit n.mnc) (digit_at n.mcc 2)
+    0 ∷ digits (digit_at n.mcc 1) (digit_at n.mcc 0)
+    ∷ digits (third_digit n.mnc) (digit_at n.mcc 2)
     ∷ digits (digit_at n.mnc 1) (digit_at n.mnc 0)
-    ∷ (cell.location_area_code / 256) ∷ (cell.location_area_code % 256) ∷ (cell.cell_identity / 256)
-    ∷ (cell.cell_identity % 256) ∷ []
+    ∷ (cell.location_area_code / 256) ∷ (cell.location_area_code % 256)
+    ∷ (cell.cell_identity / 256) ∷ (cell.cell_identity % 256) ∷ []
 
 -- ---- channels
 
@@ -62,9 +64,11 @@ abbrev pub is_free : List (List ChannelState) → ℕ → ℕ → Bool
 is_free channels station number = is_unused (state_in channels (place_at station number))
 
 -- the first free channel of this kind in a cell, in the order of the settings
-abbrev pub free_in : List (List ChannelState) → ℕ → ChannelKind → CellParameters → Option ℕ
+abbrev pub free_in : List (List ChannelState) → ℕ → ChannelKind → CellParameters
+    → Option ℕ
 free_in channels station kind cell =
-    find (λ number. is_alike kind (kind_of number) && is_free channels station number) cell.channels
+    find (λ number. is_alike kind (kind_of number) && is_free channels station number)
+    cell.channels
 
 abbrev pub channel_of_kind : Parameters → List (List ChannelState) → ℕ → ℕ → ChannelKind
     → CellParameters → Option Channel

@@ -1,7 +1,7 @@
 -- The controller, as a record of plain lists.
-use Rattle.std.specs.Prelude.{ℕ, ◌+◌, ◌==◌, min, Bool, true, false, if◌then◌else◌, List, [], ◌∷◌}
-use Rattle.std.specs.Prelude.{◌++◌, length, replicate, unwrap_or, find, slice_get, slice_index_or}
-use Rattle.std.specs.Prelude.{set, Option, Some, None}
+use Rattle.std.specs.Prelude.{ℕ, ◌+◌, ◌==◌, min, Bool, true, false, if◌then◌else◌}
+use Rattle.std.specs.Prelude.{List, [], ◌∷◌, ◌++◌, length, replicate, unwrap_or, find}
+use Rattle.std.specs.Prelude.{slice_get, slice_index_or, set, Option, Some, None}
 use Rattle.controller_model.specs.Prelude.{Channel, Place, Message, Out, State, Connection}
 use Rattle.controller_model.specs.Prelude.{Parameters}
 use Rattle.conn_messages.specs.declared.uses.ChannelUse.{ChannelUse}
@@ -123,7 +123,8 @@ holder Free = None
 holder (InUse number) = Some number
 holder (Releasing number) = Some number
 
-abbrev pub with_state : Place → ChannelState → List (List ChannelState) → List (List ChannelState)
+abbrev pub with_state : Place → ChannelState → List (List ChannelState)
+    → List (List ChannelState)
 with_state at state channels =
     set channels at.station (set (slice_index_or channels at.station []) at.number state)
 
@@ -140,5 +141,6 @@ after_use number channels (Activated at why) = with_state at (InUse number) chan
 after_use number channels (Released at) = with_state at (Releasing number) channels
 after_use number channels Unchanged = channels
 
-abbrev pub channels_after : ℕ → List (List ChannelState) → Message → List (List ChannelState)
+abbrev pub channels_after : ℕ → List (List ChannelState) → Message
+    → List (List ChannelState)
 channels_after number channels message = after_use number channels (use_by message)

@@ -1,5 +1,6 @@
 -- What a frame says to the controller.
-use Rattle.std.specs.Prelude.{ℕ, ◌%◌, ◌/◌, ◌==◌, ◌&&◌, ◌||◌, Bool, true, false, not, if◌then◌else◌}
+use Rattle.std.specs.Prelude.{ℕ, ◌%◌, ◌/◌, ◌==◌, ◌&&◌, ◌||◌, Bool, true}
+use Rattle.std.specs.Prelude.{false, not, if◌then◌else◌}
 use Rattle.std.specs.Prelude.{List, [], ◌∷◌, Option, Some, None, Result, Ok, Err}
 use Rattle.bssmap_codec.specs.declared.bssap.Bssap.{Bssap}
 use Rattle.controller_model.specs.Prelude.{Management, Place, SWITCH_LINK, Input, is_dtap, Report}

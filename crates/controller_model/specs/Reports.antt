@@ -1,5 +1,6 @@
 -- Measurement reports, and what is decided over them.
-use Rattle.std.specs.Prelude.{ℕ, ◌+◌, ◌/◌, ◌%◌, ◌^◌, ◌==◌, ◌&&◌, nat_le, Bool, true, false, not}
+use Rattle.std.specs.Prelude.{ℕ, ◌+◌, ◌/◌, ◌%◌, ◌^◌, ◌==◌, ◌&&◌, nat_le}
+use Rattle.std.specs.Prelude.{Bool, true, false, not}
 use Rattle.std.specs.Prelude.{List, [], ◌∷◌, find, filter, map, Option, Some, None}
 use Rattle.std.specs.List.{list_all}
 use Rattle.std.specs.Int.{from_be_bytes, w128}

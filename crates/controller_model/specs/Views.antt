@@ -1,6 +1,6 @@
 -- What is seen of the controller, and of what it put.
-use Rattle.std.specs.Prelude.{ℕ, ◌==◌, ◌&&◌, not, Bool, if◌then◌else◌, List, [], ◌∷◌, filter}
-use Rattle.std.specs.Prelude.{length, Option, Some, None, Result, Ok}
+use Rattle.std.specs.Prelude.{ℕ, ◌==◌, ◌&&◌, not, Bool, if◌then◌else◌, List, []}
+use Rattle.std.specs.Prelude.{◌∷◌, filter, length, Option, Some, None, Result, Ok}
 use Rattle.std.specs.List.{flat_map}
 use Rattle.std.specs.Option.{option_and_then}
 use Rattle.bssmap_codec.specs.declared.bssap.Bssap.{Bssap}
@@ -77,7 +77,8 @@ held c conn sapi = held_for sapi (entry_of c conn)
 
 abbrev pub held_up_for : Sapi → Option Entry → List (List ℕ)
 held_up_for sapi None = []
-held_up_for sapi (Some e) = flat_map (λ tenure. tenure_messages tenure sapi) e.connection.up.tenures
+held_up_for sapi (Some e) =
+    flat_map (λ tenure. tenure_messages tenure sapi) e.connection.up.tenures
 
 -- the messages of the mobile that are held, tenure by tenure
 abbrev pub held_up : Controller → ℕ → Sapi → List (List ℕ)

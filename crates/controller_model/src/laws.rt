@@ -1,4 +1,5 @@
-ghost use Rattle.std.specs.Prelude.{◌≡◌, ◌≢◌, ℕ, List, Option, Some, option_map, take};
+ghost use Rattle.std.specs.Prelude.{◌≡◌, ◌≢◌, ℕ, List, Option, Some, option_map};
+ghost use Rattle.std.specs.Prelude.{take};
 ghost use Rattle.conn_messages.specs.declared.channel.Channel.{Channel};
 ghost use Rattle.conn_rules.specs.declared.input.Input.{Input};
 ghost use Rattle.conn_rules.specs.Connection.{Connection};
@@ -40,8 +41,8 @@ pub fn row_keeps_number()
 pub fn others_are_left()
     ensures frames { (m source : ℕ) (word : Word) (c : Controller) → concerned c word ≢ Some m
         → Leaves m c (on_word source word c).next }
-    ensures breaks { (m : ℕ) (input : Input) (c : Controller) (e : Entry) → m ≢ e.connection.number
-        → Leaves m c (with_own_input input c e).next }
+    ensures breaks { (m : ℕ) (input : Input) (c : Controller) (e : Entry)
+        → m ≢ e.connection.number → Leaves m c (with_own_input input c e).next }
     ensures ages { (m ms : ℕ) (c : Controller) → entry_of (all_aged ms c) m
         ≡ option_map (aged ms) (entry_of c m) }
     ensures time { (m : ℕ) (c : Controller) (e : Entry) → m ≢ e.connection.number

@@ -97,7 +97,8 @@ pub fn channels_are_owned()
 /// connection, which is open: so by one at most. One that is releasing was a connection's, which
 /// may be gone. Of a link that is down, or isn't there, and of the switch's, all channels are free.
 pub fn channels_are_used()
-    ensures { (p : Parameters) (steps : List Step) → AreAllowed p → AreUsed (life p steps).next }
+    ensures { (p : Parameters) (steps : List Step) → AreAllowed p
+        → AreUsed (life p steps).next }
 {}
 
 /// Each frame that a step puts goes to a link that is there and is up after the step: none to the

@@ -3,7 +3,8 @@ use Rattle.std.specs.Prelude.{◌≡◌, ◌≢◌, ℕ, true}
 use Rattle.conn_messages.specs.declared.parameters.TheConstants.{SWITCH_LINK}
 use Rattle.conn_rules.specs.Validity.{IsCarried}
 use Rattle.controller_model.specs.declared.word.Word.{Word}
-use Rattle.controller_model.specs.declared.word.Word.TheVariants.{Asks, OnChannel, Reports, OnConnection}
+use Rattle.controller_model.specs.declared.word.Word.TheVariants.{Asks, OnChannel, Reports}
+use Rattle.controller_model.specs.declared.word.Word.TheVariants.{OnConnection}
 use Rattle.rsl_codec.specs.declared.rsl.Rsl.{Rsl}
 use Rattle.rsl_codec.specs.declared.rsl.Rsl.TheVariants.{EstablishIndication, DataIndication}
 

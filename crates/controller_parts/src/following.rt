@@ -47,8 +47,8 @@ impl Channels {
 /// one.
 #[tactic(auto, using(crate::proofs::Follows::handovers_follow))]
 pub fn handovers_begun(outs: &[Out]) -> usize
-    ensures { (number : ℕ) (messages : List Message) → AllByRecursion IsLawfulMessage messages →
-        outs.now ≡ outs_of number messages →
+    ensures { (number : ℕ) (messages : List Message) →
+        AllByRecursion IsLawfulMessage messages → outs.now ≡ outs_of number messages →
         result ≡ count_by (λ m. words.begins_handover (use_by m)) messages }
 {
     count_handovers(outs)

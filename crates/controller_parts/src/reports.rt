@@ -64,7 +64,8 @@ fn failed(at: &Place, change: Change, cause: RrCause) -> Word
 
 /// The report in a message, where it has a valid one, which came with this number.
 pub(crate) fn report_word(alloc: Global, at: &Place, number: u8, l3: &[u8]) -> Result<Word, Memory>
-    ensures { IfOk result (λ word. word ≡ reading.report_word at.now number (rr_reading l3.now)) }
+    ensures { IfOk result
+        (λ word. word ≡ reading.report_word at.now number (rr_reading l3.now)) }
 {
     match RrMessage::read(alloc, l3) {
         Ok(RrMessage::MeasurementReport { value }) => Ok(valid_word(at, number, &value)),

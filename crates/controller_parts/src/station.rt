@@ -117,7 +117,8 @@ fn error_word(station: u16, error: &ErrorReport) -> Word
 
 // DATA INDICATION: DTAP, or a message of radio resource management.
 fn data_word(alloc: Global, station: u16, data: Data) -> Result<Word, Memory>
-    ensures { IfOk result (λ word. word ≡ reading.rsl_word station (rsl.DataIndication «data»)) }
+    ensures { IfOk result
+        (λ word. word ≡ reading.rsl_word station (rsl.DataIndication «data»)) }
 {
     let at = &place_at(station, data.channel);
     match (is_dtap(data.l3.as_slice()), sapi_of(data.link)) {

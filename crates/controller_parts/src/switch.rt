@@ -48,7 +48,8 @@ fn sccp_word(alloc: Global, message: Sccp) -> Result<Word, Memory>
 
 // The user data for the connection with this number.
 fn bssap_word(alloc: Global, number: u32, user: &[u8]) -> Result<Word, Memory>
-    ensures word { IfOk result (λ word. word ≡ reading.bssap_word number (bssap_reading user.now)) }
+    ensures word { IfOk result
+        (λ word. word ≡ reading.bssap_word number (bssap_reading user.now)) }
     ensures carried { IfOk result IsCarriedWord }
 {
     match read_bssap(alloc, user) {
