@@ -1,5 +1,6 @@
 -- The lines of a script that is broken at each place.
-use Rattle.std.specs.Prelude.{ℕ, zero, suc, ◌+◌, ◌-◌, ◌^◌, List, [], ◌++◌, length, codes, decimal}
+use Rattle.std.specs.Prelude.{ℕ, zero, suc, ◌+◌, ◌-◌, ◌^◌, List, [], ◌++◌, length}
+use Rattle.std.specs.Prelude.{codes, decimal}
 use Rattle.std.specs.Prelude.{Option, Some, None, unwrap_or}
 use Rattle.world_model.specs.declared.event.Event.{Event}
 use Rattle.world.specs.declared.world.Scene.{Scene}

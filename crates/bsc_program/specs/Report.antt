@@ -1,5 +1,6 @@
 -- The report of a world.
-use Rattle.std.specs.Prelude.{◌≡◌, ℕ, zero, suc, ◌<◌, ◌≤◌, ◌-◌, ◌^◌, List, [], ◌++◌, length, codes}
+use Rattle.std.specs.Prelude.{◌≡◌, ℕ, zero, suc, ◌<◌, ◌≤◌, ◌-◌, ◌^◌, List}
+use Rattle.std.specs.Prelude.{[], ◌++◌, length, codes}
 use Rattle.std.specs.Prelude.{decimal, Option, Some, None, IsSome, unwrap_or, Bool, true, false}
 use Rattle.std.specs.Io.KnownBytes.{Appends, Keeps}
 use Rattle.std.specs.List.{flat_map}

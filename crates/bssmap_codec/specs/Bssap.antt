@@ -1,5 +1,6 @@
 -- Messages of BSSAP and BSSMAP, octet by octet (TS 48.006 clause 9.3, TS 48.008 clause 3.2).
-use Rattle.std.specs.Prelude.{◌≡◌, ℕ, ◌≤◌, true, false, List, [], ◌∷◌, ◌++◌, length, Option, Some}
+use Rattle.std.specs.Prelude.{◌≡◌, ℕ, ◌≤◌, true, false, List, [], ◌∷◌, ◌++◌}
+use Rattle.std.specs.Prelude.{length, Option, Some}
 use Rattle.std.specs.Prelude.{option_map}
 use Rattle.octets.specs.Element.{Element, AreElements}
 use Rattle.octets.specs.Field.{Field, field, Carries}
@@ -7,7 +8,14 @@ use Rattle.octets.specs.Front.{counted_text}
 use Rattle.bssmap_codec.specs.declared.bssap.Bssap.{Bssap}
 use Rattle.bssmap_codec.specs.declared.bssap.Bssap.TheVariants.{Management, Transfer}
 use Rattle.bssmap_codec.specs.declared.bssmap.Bssmap.{Bssmap}
-use Rattle.bssmap_codec.specs.declared.bssmap.Bssmap.TheVariants.{AssignmentRequest, AssignmentComplete, AssignmentFailure, HandoverPerformed, ClearCommand, ClearComplete, ClearRequest, SapiNReject, CipherModeCommand, CompleteLayer3Information, CipherModeReject}
+use Rattle.bssmap_codec.specs.declared.bssmap.Bssmap.TheVariants.{AssignmentRequest}
+use Rattle.bssmap_codec.specs.declared.bssmap.Bssmap.TheVariants.{AssignmentComplete}
+use Rattle.bssmap_codec.specs.declared.bssmap.Bssmap.TheVariants.{AssignmentFailure}
+use Rattle.bssmap_codec.specs.declared.bssmap.Bssmap.TheVariants.{HandoverPerformed, ClearCommand}
+use Rattle.bssmap_codec.specs.declared.bssmap.Bssmap.TheVariants.{ClearComplete, ClearRequest}
+use Rattle.bssmap_codec.specs.declared.bssmap.Bssmap.TheVariants.{SapiNReject, CipherModeCommand}
+use Rattle.bssmap_codec.specs.declared.bssmap.Bssmap.TheVariants.{CompleteLayer3Information}
+use Rattle.bssmap_codec.specs.declared.bssmap.Bssmap.TheVariants.{CipherModeReject}
 use Rattle.bssmap_codec.specs.declared.bssap.TheConstants.{MANAGEMENT, TRANSFER}
 use Rattle.bssmap_codec.specs.declared.identifiers.TheConstants.{ELEMENTS, CAUSE, CELL_IDENTIFIER}
 use Rattle.bssmap_codec.specs.declared.identifiers.TheConstants.{CHANNEL_TYPE, RR_CAUSE}

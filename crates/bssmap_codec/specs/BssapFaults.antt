@@ -1,6 +1,7 @@
 -- Which fault octets have that are no text of a message of BSSAP, by its elements (TS 48.006 clause
 -- 9.3, TS 48.008 clause 3.2).
-use Rattle.std.specs.Prelude.{◌≡◌, ◌≢◌, ℕ, ◌<◌, Bool, not, ◌==◌, nat_lt, List, [], ◌∷◌, ◌++◌, map}
+use Rattle.std.specs.Prelude.{◌≡◌, ◌≢◌, ℕ, ◌<◌, Bool, not, ◌==◌, nat_lt, List}
+use Rattle.std.specs.Prelude.{[], ◌∷◌, ◌++◌, map}
 use Rattle.std.specs.Prelude.{length, take, Option, Some, None, is_none, Result}
 use Rattle.octets.specs.Causes.{first_that_holds}
 use Rattle.octets.specs.Element.{Element, AreElements}
@@ -10,7 +11,17 @@ use Rattle.octets.specs.declared.limits.TheConstants.{MESSAGE_LIMIT}
 use Rattle.bssmap_codec.specs.declared.bssap.Bssap.{Bssap}
 use Rattle.bssmap_codec.specs.declared.bssap.TheConstants.{MANAGEMENT, TRANSFER}
 use Rattle.bssmap_codec.specs.declared.bssmap_type.BssmapType.{BssmapType}
-use Rattle.bssmap_codec.specs.declared.bssmap_type.BssmapType.TheVariants.{AssignmentRequest, AssignmentComplete, AssignmentFailure, HandoverPerformed, ClearCommand, ClearComplete, ClearRequest, SapiNReject, CipherModeCommand, CompleteLayer3Information, CipherModeReject}
+use Rattle.bssmap_codec.specs.declared.bssmap_type.BssmapType.TheVariants.{AssignmentRequest}
+use Rattle.bssmap_codec.specs.declared.bssmap_type.BssmapType.TheVariants.{AssignmentComplete}
+use Rattle.bssmap_codec.specs.declared.bssmap_type.BssmapType.TheVariants.{AssignmentFailure}
+use Rattle.bssmap_codec.specs.declared.bssmap_type.BssmapType.TheVariants.{HandoverPerformed}
+use Rattle.bssmap_codec.specs.declared.bssmap_type.BssmapType.TheVariants.{ClearCommand}
+use Rattle.bssmap_codec.specs.declared.bssmap_type.BssmapType.TheVariants.{ClearComplete}
+use Rattle.bssmap_codec.specs.declared.bssmap_type.BssmapType.TheVariants.{ClearRequest}
+use Rattle.bssmap_codec.specs.declared.bssmap_type.BssmapType.TheVariants.{SapiNReject}
+use Rattle.bssmap_codec.specs.declared.bssmap_type.BssmapType.TheVariants.{CipherModeCommand}
+use Rattle.bssmap_codec.specs.declared.bssmap_type.BssmapType.TheVariants.{CompleteLayer3Information}
+use Rattle.bssmap_codec.specs.declared.bssmap_type.BssmapType.TheVariants.{CipherModeReject}
 use Rattle.bssmap_codec.specs.declared.fault.InterfaceFault.{InterfaceFault}
 use Rattle.bssmap_codec.specs.declared.fault.InterfaceFault.TheVariants.{Short, UnknownType}
 use Rattle.bssmap_codec.specs.declared.fault.InterfaceFault.TheVariants.{MissingElement, TooLong}

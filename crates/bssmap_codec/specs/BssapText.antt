@@ -1,5 +1,6 @@
 -- The text in which a message of BSSAP is written, and why it may not be.
-use Rattle.std.specs.Prelude.{◌≡◌, ℕ, ◌+◌, true, List, ◌∷◌, length, Option, Some, None}
+use Rattle.std.specs.Prelude.{◌≡◌, ℕ, ◌+◌, true, List, ◌∷◌, length, Option, Some}
+use Rattle.std.specs.Prelude.{None}
 use Rattle.octets.specs.Field.{fields_text}
 use Rattle.octets.specs.Front.{counted_text}
 use Rattle.octets.specs.Refusal.{first_refusal}
@@ -7,7 +8,14 @@ use Rattle.bssmap_codec.specs.declared.fault.InterfaceFault.{InterfaceFault}
 use Rattle.bssmap_codec.specs.declared.bssap.Bssap.{Bssap}
 use Rattle.bssmap_codec.specs.declared.bssap.Bssap.TheVariants.{Management, Transfer}
 use Rattle.bssmap_codec.specs.declared.bssmap.Bssmap.{Bssmap}
-use Rattle.bssmap_codec.specs.declared.bssmap.Bssmap.TheVariants.{AssignmentRequest, AssignmentComplete, AssignmentFailure, HandoverPerformed, ClearCommand, ClearComplete, ClearRequest, SapiNReject, CipherModeCommand, CompleteLayer3Information, CipherModeReject}
+use Rattle.bssmap_codec.specs.declared.bssmap.Bssmap.TheVariants.{AssignmentRequest}
+use Rattle.bssmap_codec.specs.declared.bssmap.Bssmap.TheVariants.{AssignmentComplete}
+use Rattle.bssmap_codec.specs.declared.bssmap.Bssmap.TheVariants.{AssignmentFailure}
+use Rattle.bssmap_codec.specs.declared.bssmap.Bssmap.TheVariants.{HandoverPerformed, ClearCommand}
+use Rattle.bssmap_codec.specs.declared.bssmap.Bssmap.TheVariants.{ClearComplete, ClearRequest}
+use Rattle.bssmap_codec.specs.declared.bssmap.Bssmap.TheVariants.{SapiNReject, CipherModeCommand}
+use Rattle.bssmap_codec.specs.declared.bssmap.Bssmap.TheVariants.{CompleteLayer3Information}
+use Rattle.bssmap_codec.specs.declared.bssmap.Bssmap.TheVariants.{CipherModeReject}
 use Rattle.bssmap_codec.specs.declared.bssap.TheConstants.{MANAGEMENT, TRANSFER}
 use Rattle.bssmap_codec.specs.declared.identifiers.TheConstants.{ELEMENTS}
 use Rattle.bssmap_codec.specs.declared.values.RrCause.{RrCause}

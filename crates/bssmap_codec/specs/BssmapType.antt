@@ -4,7 +4,17 @@ use Rattle.std.specs.List.{find}
 use Rattle.bssmap_codec.specs.declared.bssmap.Bssmap.{Bssmap}
 use Rattle.bssmap_codec.specs.declared.bssmap.Bssmap.TheVariants as messages
 use Rattle.bssmap_codec.specs.declared.bssmap_type.BssmapType.{BssmapType}
-use Rattle.bssmap_codec.specs.declared.bssmap_type.BssmapType.TheVariants.{AssignmentRequest, AssignmentComplete, AssignmentFailure, HandoverPerformed, ClearCommand, ClearComplete, ClearRequest, SapiNReject, CipherModeCommand, CompleteLayer3Information, CipherModeReject}
+use Rattle.bssmap_codec.specs.declared.bssmap_type.BssmapType.TheVariants.{AssignmentRequest}
+use Rattle.bssmap_codec.specs.declared.bssmap_type.BssmapType.TheVariants.{AssignmentComplete}
+use Rattle.bssmap_codec.specs.declared.bssmap_type.BssmapType.TheVariants.{AssignmentFailure}
+use Rattle.bssmap_codec.specs.declared.bssmap_type.BssmapType.TheVariants.{HandoverPerformed}
+use Rattle.bssmap_codec.specs.declared.bssmap_type.BssmapType.TheVariants.{ClearCommand}
+use Rattle.bssmap_codec.specs.declared.bssmap_type.BssmapType.TheVariants.{ClearComplete}
+use Rattle.bssmap_codec.specs.declared.bssmap_type.BssmapType.TheVariants.{ClearRequest}
+use Rattle.bssmap_codec.specs.declared.bssmap_type.BssmapType.TheVariants.{SapiNReject}
+use Rattle.bssmap_codec.specs.declared.bssmap_type.BssmapType.TheVariants.{CipherModeCommand}
+use Rattle.bssmap_codec.specs.declared.bssmap_type.BssmapType.TheVariants.{CompleteLayer3Information}
+use Rattle.bssmap_codec.specs.declared.bssmap_type.BssmapType.TheVariants.{CipherModeReject}
 use Rattle.bssmap_codec.specs.declared.bssmap_type.TheConstants.{BSSMAP_TYPES}
 
 abbrev pub bssmap_octet : BssmapType → ℕ

@@ -1,5 +1,6 @@
 -- Local references: three octets, the high one first (Q.713 clause 3.2).
-use Rattle.std.specs.Prelude.{ℕ, ◌+◌, ◌*◌, ◌/◌, ◌%◌, ◌^◌, ◌<◌, List, [], ◌∷◌, ◌++◌, Result, Ok}
+use Rattle.std.specs.Prelude.{ℕ, ◌+◌, ◌*◌, ◌/◌, ◌%◌, ◌^◌, ◌<◌, List, []}
+use Rattle.std.specs.Prelude.{◌∷◌, ◌++◌, Result, Ok}
 use Rattle.octets.specs.Answer.{◌>>=◌}
 use Rattle.octets.specs.Front.{octet_at}
 use Rattle.bssmap_codec.specs.declared.fault.InterfaceFault.{InterfaceFault}

@@ -1,7 +1,9 @@
 -- Which fault octets have that are no text of a message of SCCP, by its pointers (Q.713 clauses 2.3
 -- and 4).
-use Rattle.std.specs.Prelude.{◌≡◌, ℕ, ◌<◌, ◌≤◌, Bool, true, false, MatchBool, not, ◌&&◌, ◌||◌, ◌==◌}
-use Rattle.std.specs.Prelude.{nat_le, nat_lt, List, [], ◌∷◌, ◌++◌, length, drop, Option, Some, None}
+use Rattle.std.specs.Prelude.{◌≡◌, ℕ, ◌<◌, ◌≤◌, Bool, true, false, MatchBool, not}
+use Rattle.std.specs.Prelude.{◌&&◌, ◌||◌, ◌==◌}
+use Rattle.std.specs.Prelude.{nat_le, nat_lt, List, [], ◌∷◌, ◌++◌, length, drop, Option}
+use Rattle.std.specs.Prelude.{Some, None}
 use Rattle.std.specs.Prelude.{Result}
 use Rattle.octets.specs.Causes.{first_that_holds}
 use Rattle.octets.specs.Refusal.{RefusesBy}
@@ -11,7 +13,10 @@ use Rattle.bssmap_codec.specs.declared.fault.InterfaceFault.TheVariants.{BadPoin
 use Rattle.bssmap_codec.specs.declared.sccp.Sccp.{Sccp}
 use Rattle.bssmap_codec.specs.declared.sccp_parameters.TheConstants.{NO_PART, UNSEGMENTED}
 use Rattle.bssmap_codec.specs.declared.sccp_type.SccpType.{SccpType}
-use Rattle.bssmap_codec.specs.declared.sccp_type.SccpType.TheVariants.{ConnectionRequest, ConnectionConfirm, ConnectionRefused, Released, ReleaseComplete, DataForm1}
+use Rattle.bssmap_codec.specs.declared.sccp_type.SccpType.TheVariants.{ConnectionRequest}
+use Rattle.bssmap_codec.specs.declared.sccp_type.SccpType.TheVariants.{ConnectionConfirm}
+use Rattle.bssmap_codec.specs.declared.sccp_type.SccpType.TheVariants.{ConnectionRefused, Released}
+use Rattle.bssmap_codec.specs.declared.sccp_type.SccpType.TheVariants.{ReleaseComplete, DataForm1}
 use Rattle.bssmap_codec.specs.Sccp.{Options}
 use Rattle.bssmap_codec.specs.SccpType.{sccp_type}
 

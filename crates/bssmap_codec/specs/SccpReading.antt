@@ -1,6 +1,7 @@
 -- What octets are read as, as a function of them: each step in the order in which faults are looked
 -- for.
-use Rattle.std.specs.Prelude.{ℕ, zero, suc, nat_le, ◌||◌, ◌==◌, if◌then◌else◌, List, [], ◌∷◌}
+use Rattle.std.specs.Prelude.{ℕ, zero, suc, nat_le, ◌||◌, ◌==◌, if◌then◌else◌, List}
+use Rattle.std.specs.Prelude.{[], ◌∷◌}
 use Rattle.std.specs.Prelude.{length, drop, Option, Some, None, Result, Ok, Err}
 use Rattle.std.specs.Option.{ok_or}
 use Rattle.octets.specs.Answer.{◌>>=◌, result_map}

@@ -1,5 +1,6 @@
 -- The text in which a message of SCCP is written, and why it may not be.
-use Rattle.std.specs.Prelude.{ℕ, nat_lt, if◌then◌else◌, List, [], ◌∷◌, ◌++◌, length, Option, Some}
+use Rattle.std.specs.Prelude.{ℕ, nat_lt, if◌then◌else◌, List, [], ◌∷◌, ◌++◌}
+use Rattle.std.specs.Prelude.{length, Option, Some}
 use Rattle.std.specs.Prelude.{None}
 use Rattle.octets.specs.Front.{counted_text}
 use Rattle.bssmap_codec.specs.declared.fault.InterfaceFault.{InterfaceFault}
@@ -10,7 +11,11 @@ use Rattle.bssmap_codec.specs.declared.sccp.Sccp.{Sccp}
 use Rattle.bssmap_codec.specs.declared.sccp.Sccp.TheVariants.{ConnectionRequest, ConnectionConfirm}
 use Rattle.bssmap_codec.specs.declared.sccp.Sccp.TheVariants.{ConnectionRefused, Released}
 use Rattle.bssmap_codec.specs.declared.sccp.Sccp.TheVariants.{ReleaseComplete, DataForm1}
-use Rattle.bssmap_codec.specs.declared.sccp_parameters.TheConstants.{ADDRESS_POINTER, CALLED_ADDRESS, DATA_POINTER, END_USER_ORIGINATED, NO_PART, OPTIONS_POINTER, PROTOCOL_CLASS, UNSEGMENTED}
+use Rattle.bssmap_codec.specs.declared.sccp_parameters.TheConstants.{ADDRESS_POINTER}
+use Rattle.bssmap_codec.specs.declared.sccp_parameters.TheConstants.{CALLED_ADDRESS, DATA_POINTER}
+use Rattle.bssmap_codec.specs.declared.sccp_parameters.TheConstants.{END_USER_ORIGINATED, NO_PART}
+use Rattle.bssmap_codec.specs.declared.sccp_parameters.TheConstants.{OPTIONS_POINTER}
+use Rattle.bssmap_codec.specs.declared.sccp_parameters.TheConstants.{PROTOCOL_CLASS, UNSEGMENTED}
 use Rattle.bssmap_codec.specs.Reference.{IsReference, reference_text, references_text}
 use Rattle.bssmap_codec.specs.SccpType.{sccp_octet, type_of}
 

@@ -4,7 +4,10 @@ use Rattle.std.specs.List.{find}
 use Rattle.bssmap_codec.specs.declared.sccp.Sccp.{Sccp}
 use Rattle.bssmap_codec.specs.declared.sccp.Sccp.TheVariants as messages
 use Rattle.bssmap_codec.specs.declared.sccp_type.SccpType.{SccpType}
-use Rattle.bssmap_codec.specs.declared.sccp_type.SccpType.TheVariants.{ConnectionRequest, ConnectionConfirm, ConnectionRefused, Released, ReleaseComplete, DataForm1}
+use Rattle.bssmap_codec.specs.declared.sccp_type.SccpType.TheVariants.{ConnectionRequest}
+use Rattle.bssmap_codec.specs.declared.sccp_type.SccpType.TheVariants.{ConnectionConfirm}
+use Rattle.bssmap_codec.specs.declared.sccp_type.SccpType.TheVariants.{ConnectionRefused, Released}
+use Rattle.bssmap_codec.specs.declared.sccp_type.SccpType.TheVariants.{ReleaseComplete, DataForm1}
 use Rattle.bssmap_codec.specs.declared.sccp_type.TheConstants.{SCCP_TYPES}
 
 abbrev pub sccp_octet : SccpType → ℕ

@@ -1,5 +1,6 @@
 -- Values of elements.
-use Rattle.std.specs.Prelude.{ℕ, ◌%◌, Bool, false, ◌||◌, ◌==◌, if◌then◌else◌, List, [], ◌∷◌, Option}
+use Rattle.std.specs.Prelude.{ℕ, ◌%◌, Bool, false, ◌||◌, ◌==◌, if◌then◌else◌}
+use Rattle.std.specs.Prelude.{List, [], ◌∷◌, Option}
 use Rattle.std.specs.Prelude.{Some, None}
 use Rattle.bssmap_codec.specs.declared.values.TheConstants.{SHORT_MESSAGE_SAPI, SIGNALLING_SAPI}
 use Rattle.bssmap_codec.specs.declared.values.TheConstants.{SPEECH}

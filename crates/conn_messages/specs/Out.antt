@@ -10,7 +10,8 @@ use Rattle.bssmap_codec.specs.Reference.{IsReference}
 use Rattle.bssmap_codec.specs.SccpReading.{sccp_reading}
 use Rattle.bssmap_codec.specs.SccpText.{sccp_text}
 use Rattle.conn_messages.specs.declared.message.Message.{Message}
-use Rattle.conn_messages.specs.declared.message.Message.TheVariants.{Station, Request, Data, ReleaseComplete}
+use Rattle.conn_messages.specs.declared.message.Message.TheVariants.{Station, Request, Data}
+use Rattle.conn_messages.specs.declared.message.Message.TheVariants.{ReleaseComplete}
 use Rattle.conn_messages.specs.declared.out.Out.{Out}
 use Rattle.conn_messages.specs.declared.parameters.TheConstants.{SWITCH_LINK}
 use Rattle.ipa_framing.specs.declared.streams.TheConstants.{RSL_STREAM, SCCP_STREAM}

@@ -6,18 +6,24 @@ use Rattle.conn_messages.specs.declared.channel.Change.TheVariants.{Assignment, 
 use Rattle.conn_messages.specs.declared.channel.Channel.{Channel}
 use Rattle.conn_messages.specs.declared.message.Message.{Message}
 use Rattle.conn_messages.specs.declared.message.Message.TheVariants.{Station}
-use Rattle.conn_messages.specs.declared.parameters.TheConstants.{SDCCH_MODE, FULL_RATE_MODE, HALF_RATE_MODE, MAX_TIMING_ADVANCE}
+use Rattle.conn_messages.specs.declared.parameters.TheConstants.{SDCCH_MODE, FULL_RATE_MODE}
+use Rattle.conn_messages.specs.declared.parameters.TheConstants.{HALF_RATE_MODE, MAX_TIMING_ADVANCE}
 use Rattle.dtap_codec.specs.declared.rr.ChannelDescription.{ChannelDescription}
 use Rattle.dtap_codec.specs.declared.rr.RrMessage.{RrMessage}
-use Rattle.dtap_codec.specs.declared.rr.RrMessage.TheVariants.{AssignmentCommand, HandoverCommand, ChannelRelease, ImmediateAssignment}
+use Rattle.dtap_codec.specs.declared.rr.RrMessage.TheVariants.{AssignmentCommand, HandoverCommand}
+use Rattle.dtap_codec.specs.declared.rr.RrMessage.TheVariants.{ChannelRelease, ImmediateAssignment}
 use Rattle.dtap_codec.specs.declared.sapi.Sapi.{Sapi}
 use Rattle.dtap_codec.specs.declared.sapi.Sapi.TheVariants.{Zero, Three}
 use Rattle.dtap_codec.specs.RrText.{rr_text}
-use Rattle.rsl_codec.specs.declared.channel_number.TheConstants.{FIRST_TCH_H, FIRST_SDCCH, PCH_AND_AGCH}
+use Rattle.rsl_codec.specs.declared.channel_number.TheConstants.{FIRST_TCH_H, FIRST_SDCCH}
+use Rattle.rsl_codec.specs.declared.channel_number.TheConstants.{PCH_AND_AGCH}
 use Rattle.rsl_codec.specs.declared.link_identifier.TheConstants.{MAIN_LINK_SAPI_0}
-use Rattle.rsl_codec.specs.declared.rsl.Rsl.TheVariants.{DataRequest, EstablishRequest, ImmediateAssignCommand, ChannelActivation, RfChannelRelease}
+use Rattle.rsl_codec.specs.declared.rsl.Rsl.TheVariants.{DataRequest, EstablishRequest}
+use Rattle.rsl_codec.specs.declared.rsl.Rsl.TheVariants.{ImmediateAssignCommand, ChannelActivation}
+use Rattle.rsl_codec.specs.declared.rsl.Rsl.TheVariants.{RfChannelRelease}
 use Rattle.rsl_codec.specs.declared.values.ActivationType.{ActivationType}
-use Rattle.rsl_codec.specs.declared.values.TheConstants.{IMMEDIATE_ASSIGNMENT, NORMAL_ASSIGNMENT, ASYNCHRONOUS_HANDOVER}
+use Rattle.rsl_codec.specs.declared.values.TheConstants.{IMMEDIATE_ASSIGNMENT, NORMAL_ASSIGNMENT}
+use Rattle.rsl_codec.specs.declared.values.TheConstants.{ASYNCHRONOUS_HANDOVER}
 use Rattle.rsl_codec.specs.declared.values.HandoverReference.{HandoverReference}
 use Rattle.rsl_codec.specs.declared.values.RequestReference.{RequestReference}
 use Rattle.rsl_codec.specs.Fields.{reference_value}

@@ -2,17 +2,24 @@
 use Rattle.std.specs.Prelude.{ℕ, nat_le, if◌then◌else◌, List, [], ◌∷◌, Option, Some}
 use Rattle.bssmap_codec.specs.declared.bssap.Bssap.TheVariants.{Management, Transfer}
 use Rattle.bssmap_codec.specs.declared.bssmap.Bssmap.{Bssmap}
-use Rattle.bssmap_codec.specs.declared.bssmap.Bssmap.TheVariants.{AssignmentComplete, AssignmentFailure, HandoverPerformed, ClearComplete, ClearRequest, SapiNReject, CompleteLayer3Information, CipherModeReject}
+use Rattle.bssmap_codec.specs.declared.bssmap.Bssmap.TheVariants.{AssignmentComplete}
+use Rattle.bssmap_codec.specs.declared.bssmap.Bssmap.TheVariants.{AssignmentFailure}
+use Rattle.bssmap_codec.specs.declared.bssmap.Bssmap.TheVariants.{HandoverPerformed, ClearComplete}
+use Rattle.bssmap_codec.specs.declared.bssmap.Bssmap.TheVariants.{ClearRequest, SapiNReject}
+use Rattle.bssmap_codec.specs.declared.bssmap.Bssmap.TheVariants.{CompleteLayer3Information}
+use Rattle.bssmap_codec.specs.declared.bssmap.Bssmap.TheVariants.{CipherModeReject}
 use Rattle.bssmap_codec.specs.declared.values.Cause.{Cause}
 use Rattle.bssmap_codec.specs.declared.values.RrCause.{RrCause}
-use Rattle.conn_messages.specs.declared.causes.TheConstants.{BETTER_CELL, BSS_NOT_EQUIPPED, CIPHERING_NOT_SUPPORTED}
+use Rattle.conn_messages.specs.declared.causes.TheConstants.{BETTER_CELL, BSS_NOT_EQUIPPED}
+use Rattle.conn_messages.specs.declared.causes.TheConstants.{CIPHERING_NOT_SUPPORTED}
 use Rattle.conn_messages.specs.declared.channel.Change.{Change}
 use Rattle.conn_messages.specs.declared.channel.Change.TheVariants.{Assignment, Handover}
 use Rattle.conn_messages.specs.declared.channel.Channel.{Channel}
 use Rattle.conn_messages.specs.declared.message.Message.{Message}
 use Rattle.conn_messages.specs.declared.message.Message.TheVariants.{Request, Data}
 use Rattle.conn_messages.specs.declared.message.Message.TheVariants as messages
-use Rattle.conn_messages.specs.declared.parameters.TheConstants.{SAPI_0_DLCI, SDCCH_SAPI_3_DLCI, SACCH_SAPI_3_DLCI}
+use Rattle.conn_messages.specs.declared.parameters.TheConstants.{SAPI_0_DLCI, SDCCH_SAPI_3_DLCI}
+use Rattle.conn_messages.specs.declared.parameters.TheConstants.{SACCH_SAPI_3_DLCI}
 use Rattle.dtap_codec.specs.declared.sapi.Sapi.{Sapi}
 use Rattle.dtap_codec.specs.declared.sapi.Sapi.TheVariants.{Zero, Three}
 use Rattle.rsl_codec.specs.declared.channel_number.TheConstants.{FIRST_SDCCH}

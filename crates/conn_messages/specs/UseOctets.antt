@@ -1,11 +1,13 @@
 -- How the octets of a frame tell what its message makes of a channel.
-use Rattle.std.specs.Prelude.{ℕ, ◌==◌, ◌&&◌, if◌then◌else◌, List, slice_index_or, Result, Ok, Err}
+use Rattle.std.specs.Prelude.{ℕ, ◌==◌, ◌&&◌, if◌then◌else◌, List, slice_index_or}
+use Rattle.std.specs.Prelude.{Result, Ok, Err}
 use Rattle.conn_messages.specs.declared.out.Out.{Out}
 use Rattle.conn_messages.specs.declared.uses.ChannelUse.{ChannelUse}
 use Rattle.conn_messages.specs.declared.uses.ChannelUse.TheVariants.{Activated, Released, Unchanged}
 use Rattle.ipa_framing.specs.declared.streams.TheConstants.{RSL_STREAM}
 use Rattle.rsl_codec.specs.declared.fault.RslFault.{RslFault}
-use Rattle.rsl_codec.specs.declared.rsl_type.TheConstants.{CHANNEL_ACTIVATION, DEDICATED_CHANNEL, RF_CHANNEL_RELEASE}
+use Rattle.rsl_codec.specs.declared.rsl_type.TheConstants.{CHANNEL_ACTIVATION, DEDICATED_CHANNEL}
+use Rattle.rsl_codec.specs.declared.rsl_type.TheConstants.{RF_CHANNEL_RELEASE}
 use Rattle.rsl_codec.specs.ChannelNumber.{channel_by}
 
 abbrev pub octet_at : List ℕ → ℕ → ℕ

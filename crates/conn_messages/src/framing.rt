@@ -1,7 +1,8 @@
 ghost use Rattle.std.specs.Prelude.{◌≡◌, ◌<◌, ◌^◌, None, IfOk};
 ghost use Rattle.bssmap_codec.specs.BssapText.{bssap_text};
 ghost use Rattle.bssmap_codec.specs.SccpText.{sccp_write_fault};
-ghost use Rattle.conn_messages.specs.Out.{IsCarried, IsWritable, out_of, station_out as station_frame, switch_out as switch_frame};
+ghost use Rattle.conn_messages.specs.Out.{IsCarried, IsWritable, out_of};
+ghost use Rattle.conn_messages.specs.Out.{station_out as station_frame, switch_out as switch_frame};
 ghost use Rattle.rsl_codec.specs.RslText.{rsl_write_fault};
 
 use crate::parameters::SWITCH_LINK;

@@ -1,6 +1,8 @@
 -- The call worker on its way: what its calls do to it.
-use Rattle.std.specs.Prelude.{◌≡◌, ℕ, ◌+◌, ◌<◌, ◌≤◌, nat_lt, ◌&&◌, not, Bool, true, false, List, []}
-use Rattle.std.specs.Prelude.{◌∷◌, ◌++◌, length, slice_index_or, slice_set, Result, MatchResult}
+use Rattle.std.specs.Prelude.{◌≡◌, ℕ, ◌+◌, ◌<◌, ◌≤◌, nat_lt, ◌&&◌, not}
+use Rattle.std.specs.Prelude.{Bool, true, false, List, []}
+use Rattle.std.specs.Prelude.{◌∷◌, ◌++◌, length, slice_index_or, slice_set, Result}
+use Rattle.std.specs.Prelude.{MatchResult}
 use mathlib.Core.Option.{some}
 use lib.ListN.{get_elem?}
 use Rattle.controller_worker.specs.declared.limits.TheConstants.{TICK_MS}

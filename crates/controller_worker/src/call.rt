@@ -1,4 +1,5 @@
-ghost use Rattle.std.specs.Prelude.{◌≡◌, ◌<◌, ◌↔◌, length, IsTrue, OnOk, replicate, vec_len};
+ghost use Rattle.std.specs.Prelude.{◌≡◌, ◌<◌, ◌↔◌, length, IsTrue, OnOk, replicate};
+ghost use Rattle.std.specs.Prelude.{vec_len};
 ghost use Rattle.controller_worker.specs.Call.{AreNew, AreUnmarked, IsMemory, Runs, relayed_parts};
 ghost use Rattle.controller_worker.specs.Advancing.{AreAllDown, Finishes, GoesOrStops, IsSettled};
 ghost use Rattle.controller_worker.specs.Advancing.{IsValid, unmarked};

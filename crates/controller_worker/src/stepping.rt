@@ -1,8 +1,10 @@
 //! Steps of the controller: an item that was taken, time that has gathered, or the `Down` of a link
 //! that was given up.
-ghost use Rattle.std.specs.Prelude.{◌≡◌, ◌+◌, ◌<◌, ◌^◌, ◌↔◌, [], min, IsTrue, MatchOption};
+ghost use Rattle.std.specs.Prelude.{◌≡◌, ◌+◌, ◌<◌, ◌^◌, ◌↔◌, [], min};
+ghost use Rattle.std.specs.Prelude.{IsTrue, MatchOption};
 ghost use Rattle.std.specs.Prelude.{OnOk, OnErr, vec_len};
-ghost use Rattle.controller_worker.specs.Advancing.{DoesStep, Advances, GoesOrStops, IsPending, IsSettled};
+ghost use Rattle.controller_worker.specs.Advancing.{DoesStep, Advances, GoesOrStops, IsPending};
+ghost use Rattle.controller_worker.specs.Advancing.{IsSettled};
 ghost use Rattle.controller_worker.specs.Advancing.{SendsAll, IsValid, not_ended, noted, pends};
 ghost use Rattle.controller_worker.specs.Advancing.{with_added};
 ghost use Rattle.controller_worker.specs.Seen.{seen};

@@ -1,5 +1,6 @@
 -- Fields of bits, one after the other, the high bit first.
-use Rattle.std.specs.Prelude.{◌≡◌, ℕ, ◌+◌, ◌*◌, ◌^◌, ◌<◌, List, [], ◌∷◌}
+use Rattle.std.specs.Prelude.{◌≡◌, ℕ, ◌+◌, ◌*◌, ◌^◌, ◌<◌, List, []}
+use Rattle.std.specs.Prelude.{◌∷◌}
 
 -- a field: how many bits it has, and the number that they write
 pub record Field : Type 0 where

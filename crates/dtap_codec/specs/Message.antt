@@ -1,5 +1,6 @@
 -- Layer 3 messages as lists of octets (TS 24.007 clause 11.2.3).
-use Rattle.std.specs.Prelude.{ℕ, ◌%◌, Bool, false, ◌||◌, ◌==◌, Option, Some, None, List, [], ◌∷◌}
+use Rattle.std.specs.Prelude.{ℕ, ◌%◌, Bool, false, ◌||◌, ◌==◌, Option, Some, None}
+use Rattle.std.specs.Prelude.{List, [], ◌∷◌}
 use Rattle.dtap_codec.specs.declared.message.TheConstants.{CALL_CONTROL, MOBILITY_MANAGEMENT}
 use Rattle.dtap_codec.specs.declared.message.TheConstants.{SUPPLEMENTARY_SERVICES}
 

@@ -1,6 +1,7 @@
 -- The send sequence number N(SD) of a message of the flow, for any number m of numbers (TS 24.007
 -- clause 11.2.3.2.3).
-use Rattle.std.specs.Prelude.{ℕ, ◌+◌, ◌*◌, ◌/◌, ◌%◌, Option, Some, None, List, ◌∷◌, if◌then◌else◌}
+use Rattle.std.specs.Prelude.{ℕ, ◌+◌, ◌*◌, ◌/◌, ◌%◌, Option, Some, None, List}
+use Rattle.std.specs.Prelude.{◌∷◌, if◌then◌else◌}
 use Rattle.dtap_codec.specs.Message.{is_flow_protocol}
 use Rattle.dtap_codec.specs.declared.number.Modulus.{Modulus}
 use Rattle.dtap_codec.specs.declared.number.Modulus.TheVariants.{Four, Two}

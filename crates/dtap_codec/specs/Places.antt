@@ -1,7 +1,8 @@
 -- Places: the messages of the flow that a mobile sent are at places 0, 1, 2 and so on of its sent
 -- list, and the one at place k carries the number k modulo m (TS 24.007 clause 11.2.3.2.3). Here
 -- sent is that list, numbers cleared.
-use Rattle.std.specs.Prelude.{◌≡◌, ℕ, ◌+◌, ◌%◌, true, false, Some, List, [], ◌∷◌, slice_get}
+use Rattle.std.specs.Prelude.{◌≡◌, ℕ, ◌+◌, ◌%◌, true, false, Some, List, []}
+use Rattle.std.specs.Prelude.{◌∷◌, slice_get}
 use Rattle.dtap_codec.specs.Message.{is_flow_message}
 use Rattle.dtap_codec.specs.Number.{with_number, without_number}
 

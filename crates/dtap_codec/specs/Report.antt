@@ -1,5 +1,6 @@
 -- The value of a measurement report, bit by bit (TS 44.018 clause 10.5.2.20).
-use Rattle.std.specs.Prelude.{◌≡◌, ℕ, ◌≤◌, nat_le, Bool, true, false, not, List, [], ◌∷◌, ◌++◌}
+use Rattle.std.specs.Prelude.{◌≡◌, ℕ, ◌≤◌, nat_le, Bool, true, false, not, List, []}
+use Rattle.std.specs.Prelude.{◌∷◌, ◌++◌}
 use Rattle.std.specs.Prelude.{length, take, if◌then◌else◌}
 use Rattle.std.specs.Int.{from_be_bytes, w128}
 use Rattle.dtap_codec.specs.Bits.{Field, field, number_of, Fit}

@@ -2,7 +2,12 @@
 use Rattle.std.specs.Prelude.{ℕ, ◌==◌, if◌then◌else◌, List, [], ◌∷◌, ◌++◌}
 use Rattle.dtap_codec.specs.declared.message.TheConstants.{RADIO_RESOURCE}
 use Rattle.dtap_codec.specs.declared.rr.RrMessage.{RrMessage}
-use Rattle.dtap_codec.specs.declared.rr.RrMessage.TheVariants.{HandoverCommand, AssignmentCommand, HandoverComplete, HandoverFailure, AssignmentComplete, AssignmentFailure, ChannelRelease, ImmediateAssignment, MeasurementReport, PagingResponse}
+use Rattle.dtap_codec.specs.declared.rr.RrMessage.TheVariants.{HandoverCommand, AssignmentCommand}
+use Rattle.dtap_codec.specs.declared.rr.RrMessage.TheVariants.{HandoverComplete, HandoverFailure}
+use Rattle.dtap_codec.specs.declared.rr.RrMessage.TheVariants.{AssignmentComplete}
+use Rattle.dtap_codec.specs.declared.rr.RrMessage.TheVariants.{AssignmentFailure, ChannelRelease}
+use Rattle.dtap_codec.specs.declared.rr.RrMessage.TheVariants.{ImmediateAssignment}
+use Rattle.dtap_codec.specs.declared.rr.RrMessage.TheVariants.{MeasurementReport, PagingResponse}
 use Rattle.dtap_codec.specs.declared.rr.TheConstants.{HIGHEST_POWER, NORMAL_PAGING, IMMEDIATE_END}
 use Rattle.dtap_codec.specs.declared.rr_type.TheConstants.{PSEUDO_LENGTH, IMMEDIATE_ASSIGNMENT}
 use Rattle.dtap_codec.specs.Rr.{cell_text, channel_text}

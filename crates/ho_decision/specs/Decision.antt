@@ -1,5 +1,6 @@
 -- The handover decision over reports, the oldest first, of which the last has this number.
-use Rattle.std.specs.Prelude.{◌≡◌, ◌≢◌, ℕ, ◌+◌, ◌-◌, ◌%◌, ◌<◌, ◌≤◌, ◌==◌, nat_le, Bool}
+use Rattle.std.specs.Prelude.{◌≡◌, ◌≢◌, ℕ, ◌+◌, ◌-◌, ◌%◌, ◌<◌}
+use Rattle.std.specs.Prelude.{◌≤◌, ◌==◌, nat_le, Bool}
 use Rattle.std.specs.Prelude.{true, false, ◌||◌, List, [], length, count_by, slice_index_or}
 use Rattle.dtap_codec.specs.declared.report.Report.{Report}
 use Rattle.ho_decision.specs.declared.decision.Decision.{Decision}

@@ -1,4 +1,5 @@
-ghost use Rattle.std.specs.Prelude.{◌≡◌, ◌+◌, ◌-◌, ◌<◌, ◌≤◌, [], ◌∷◌, ◌++◌, length};
+ghost use Rattle.std.specs.Prelude.{◌≡◌, ◌+◌, ◌-◌, ◌<◌, ◌≤◌, [], ◌∷◌};
+ghost use Rattle.std.specs.Prelude.{◌++◌, length};
 ghost use Rattle.ho_decision.specs.Average.{average};
 ghost use Rattle.ho_decision.specs.Measure.{value_of};
 ghost use Rattle.ho_decision.specs.Sums.{IsSum, total_over};

@@ -1,4 +1,5 @@
-ghost use Rattle.std.specs.Prelude.{◌≡◌, ◌<◌, ◌≤◌, ◌↔◌, ◌∷◌, [], ◌++◌, length, IsTrue, IfOk, OnOk};
+ghost use Rattle.std.specs.Prelude.{◌≡◌, ◌<◌, ◌≤◌, ◌↔◌, ◌∷◌, []};
+ghost use Rattle.std.specs.Prelude.{◌++◌, length, IsTrue, IfOk, OnOk};
 ghost use Rattle.std.specs.Prelude.{OnErr, IfErr, Some, option_map, slice_get, drop as dropped};
 ghost use Rattle.hold_queue.specs.ChainState.{new_chain, empty_tenure, chain_count};
 ghost use Rattle.hold_queue.specs.ChainState.{messages_in, put_in, first_taken, first_cleared};

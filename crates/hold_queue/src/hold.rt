@@ -1,4 +1,5 @@
-ghost use Rattle.std.specs.Prelude.{◌≡◌, ◌==◌, ◌<◌, ◌≤◌, ◌↔◌, [], ◌∷◌, ◌++◌, length, IsTrue};
+ghost use Rattle.std.specs.Prelude.{◌≡◌, ◌==◌, ◌<◌, ◌≤◌, ◌↔◌, []};
+ghost use Rattle.std.specs.Prelude.{◌∷◌, ◌++◌, length, IsTrue};
 ghost use Rattle.std.specs.Prelude.{OnOk, OnErr, IfErr, option_map, slice_get, drop as dropped};
 ghost use Rattle.hold_queue.specs.ChainState.{tenure_count};
 ghost use Rattle.hold_queue.specs.HoldState.{HoldState, new_hold, messages, with_messages, count};

@@ -1,4 +1,5 @@
-ghost use Rattle.std.specs.Prelude.{◌≡◌, ◌≤◌, ◌+◌, [], ◌∷◌, ◌++◌, length, OnOk, OnErr};
+ghost use Rattle.std.specs.Prelude.{◌≡◌, ◌≤◌, ◌+◌, [], ◌∷◌, ◌++◌, length};
+ghost use Rattle.std.specs.Prelude.{OnOk, OnErr};
 ghost use Rattle.std.specs.Prelude.{IfErr, option_map, slice_get, drop as dropped};
 ghost use Rattle.hold_queue.specs.ChainState.{Tenure, empty_tenure, tenure_messages};
 ghost use Rattle.hold_queue.specs.ChainState.{with_tenure_messages, tenure_count};

@@ -1,5 +1,6 @@
 -- The frame at the front of octets, as a function.
-use Rattle.std.specs.Prelude.{ℕ, ◌+◌, ◌*◌, List, [], ◌∷◌, length, take, drop, Option, Some, None}
+use Rattle.std.specs.Prelude.{ℕ, ◌+◌, ◌*◌, List, [], ◌∷◌, length, take, drop}
+use Rattle.std.specs.Prelude.{Option, Some, None}
 use Rattle.std.specs.Prelude.{Result, Ok, Err, nat_lt, if◌then◌else◌}
 use Rattle.ipa_framing.specs.declared.frame.TheConstants.{MAX_BODY}
 use Rattle.ipa_framing.specs.declared.fault.FrameFault.{FrameFault}

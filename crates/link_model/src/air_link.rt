@@ -1,4 +1,5 @@
-ghost use Rattle.std.specs.Prelude.{◌≡◌, None, Ok, Err, is_some, option_map, if◌then◌else◌};
+ghost use Rattle.std.specs.Prelude.{◌≡◌, None, Ok, Err, is_some, option_map};
+ghost use Rattle.std.specs.Prelude.{if◌then◌else◌};
 ghost use Rattle.std.specs.Result.{result_map_both};
 ghost use Rattle.std.specs.Borrow.{sem};
 ghost use Rattle.link_model.specs.AirLink.{give_answer, after_give, offered_message, after_reach};

@@ -1,4 +1,5 @@
-ghost use Rattle.std.specs.Prelude.{◌≡◌, ◌≤◌, true, None, [], OnOk, OnErr, option_map, filter, not};
+ghost use Rattle.std.specs.Prelude.{◌≡◌, ◌≤◌, true, None, [], OnOk, OnErr, option_map};
+ghost use Rattle.std.specs.Prelude.{filter, not};
 ghost use Rattle.std.specs.Prelude.{◌==◌};
 ghost use Rattle.octets.specs.Refusal.{RefusesBy};
 ghost use Rattle.link_model.specs.Message.{link_on};

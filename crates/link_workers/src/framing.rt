@@ -1,4 +1,5 @@
-ghost use Rattle.std.specs.Prelude.{◌≡◌, ◌+◌, ◌<◌, ◌≤◌, false, length, IfErr, OnOk};
+ghost use Rattle.std.specs.Prelude.{◌≡◌, ◌+◌, ◌<◌, ◌≤◌, false, length, IfErr};
+ghost use Rattle.std.specs.Prelude.{OnOk};
 ghost use Rattle.link_workers.specs.declared.link_reads.TheConstants.{MOST_READS};
 ghost use Rattle.link_workers.specs.Reading.{ReadsOn};
 ghost use Rattle.link_workers.specs.Unread.{IsUnread};

@@ -1,8 +1,10 @@
-ghost use Rattle.std.specs.Prelude.{◌≡◌, ◌≢◌, ◌⊎◌, ◌++◌, ℕ, IfErr, IfSome, List, Some};
+ghost use Rattle.std.specs.Prelude.{◌≡◌, ◌≢◌, ◌⊎◌, ◌++◌, ℕ, IfErr, IfSome};
+ghost use Rattle.std.specs.Prelude.{List, Some};
 ghost use Rattle.ipa_framing.specs.declared.frame.Frame.{Frame as FrameValue};
 ghost use Rattle.ipa_framing.specs.Frame.{IsPartial, IsTooLong, Splits};
 ghost use Rattle.link_workers.specs.declared.fault.IoFault.TheVariants.{ReadFailed};
-ghost use Rattle.link_workers.specs.Reading.{IsReported, Parts, PutsAll, PutsDown, PutsWhole, Serves};
+ghost use Rattle.link_workers.specs.Reading.{IsReported, Parts, PutsAll, PutsDown, PutsWhole};
+ghost use Rattle.link_workers.specs.Reading.{Serves};
 ghost use Rattle.link_workers.specs.Unread.{IsUnread};
 
 use crate::framing::{BLOCK, read_on};

@@ -1,6 +1,7 @@
 -- A life of a mobile: any list of calls, in any order.
 use Rattle.std.specs.Prelude.{ℕ, Bool, false, ◌&&◌, not, Option, Some, None, Result, Ok}
-use Rattle.std.specs.Prelude.{Err, List, [], ◌∷◌, ◌++◌, option_to_list, if◌then◌else◌}
+use Rattle.std.specs.Prelude.{Err, List, [], ◌∷◌, ◌++◌, option_to_list}
+use Rattle.std.specs.Prelude.{if◌then◌else◌}
 use Rattle.dtap_codec.specs.declared.sapi.Sapi.{Sapi}
 use Rattle.dtap_codec.specs.declared.sapi.Sapi.TheVariants.{Zero, Three}
 use Rattle.mobile_end.specs.declared.fault.MobileFault.{MobileFault}

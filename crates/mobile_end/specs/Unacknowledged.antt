@@ -1,5 +1,6 @@
 -- Which message a mobile sends again: the one that wasn't acknowledged (TS 44.006 clause 5.4.3).
-use Rattle.std.specs.Prelude.{ℕ, ◌+◌, ◌≤◌, List, [], ◌∷◌, ◌++◌, option_to_list, if◌then◌else◌}
+use Rattle.std.specs.Prelude.{ℕ, ◌+◌, ◌≤◌, List, [], ◌∷◌, ◌++◌}
+use Rattle.std.specs.Prelude.{option_to_list, if◌then◌else◌}
 use Rattle.dtap_codec.specs.declared.sapi.Sapi.TheVariants.{Zero}
 use Rattle.link_model.specs.AirLink.{message_in}
 use Rattle.mobile_end.specs.Calls.{Call, after_call, begins}

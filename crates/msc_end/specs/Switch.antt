@@ -1,6 +1,7 @@
 -- What the switch end does with a message, as functions of the connections that it has, the first
 -- one first.
-use Rattle.std.specs.Prelude.{ℕ, ◌+◌, ◌-◌, nat_le, ◌==◌, if◌then◌else◌, List, [], ◌∷◌, ◌++◌, length}
+use Rattle.std.specs.Prelude.{ℕ, ◌+◌, ◌-◌, nat_le, ◌==◌, if◌then◌else◌, List}
+use Rattle.std.specs.Prelude.{[], ◌∷◌, ◌++◌, length}
 use Rattle.std.specs.Prelude.{slice_get, slice_set, Option, Some, None, option_map, option_to_list}
 use Rattle.std.specs.Result.{result_ok}
 use Rattle.bssmap_codec.specs.declared.bssap.Bssap.{Bssap}

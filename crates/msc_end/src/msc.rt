@@ -1,4 +1,5 @@
-ghost use Rattle.std.specs.Prelude.{◌≡◌, ◌≤◌, ◌+◌, ◌-◌, ◌∷◌, [], ◌++◌, length};
+ghost use Rattle.std.specs.Prelude.{◌≡◌, ◌≤◌, ◌+◌, ◌-◌, ◌∷◌, []};
+ghost use Rattle.std.specs.Prelude.{◌++◌, length};
 ghost use Rattle.std.specs.Prelude.{Some, None, OnOk, OnErr, IfOk, MatchResult};
 ghost use Rattle.std.specs.Prelude.{option_map, option_to_list};
 ghost use Rattle.octets.specs.Refusal.{RefusesBy};

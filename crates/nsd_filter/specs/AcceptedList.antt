@@ -1,6 +1,7 @@
 -- What the network gives up to its upper layers of the messages of a connection, in the order in
 -- which they came.
-use Rattle.std.specs.Prelude.{ℕ, Option, Some, None, option_map, List, [], ◌∷◌, ◌++◌, filter, not}
+use Rattle.std.specs.Prelude.{ℕ, Option, Some, None, option_map, List, [], ◌∷◌, ◌++◌}
+use Rattle.std.specs.Prelude.{filter, not}
 use Rattle.dtap_codec.specs.Message.{is_flow_message}
 use Rattle.dtap_codec.specs.Number.{number_in, without_number}
 use Rattle.nsd_filter.specs.Judgement.{judgement, progress_by}

@@ -1,6 +1,7 @@
 -- How the network judges a send sequence number, for any number m of numbers (TS 24.007 clause
 -- 11.2.3.2.3).
-use Rattle.std.specs.Prelude.{ℕ, ◌+◌, ◌-◌, ◌%◌, ◌==◌, Option, Some, None, if◌then◌else◌}
+use Rattle.std.specs.Prelude.{ℕ, ◌+◌, ◌-◌, ◌%◌, ◌==◌, Option, Some, None}
+use Rattle.std.specs.Prelude.{if◌then◌else◌}
 use Rattle.nsd_filter.specs.declared.verdict.Verdict.{Verdict}
 use Rattle.nsd_filter.specs.declared.verdict.Verdict.TheVariants.{Accept, Duplicate, Gap}
 

@@ -1,4 +1,5 @@
-ghost use Rattle.std.specs.Prelude.{◌≡◌, [], ◌∷◌, ◌++◌, ◌<◌, OnOk, OnErr, Some, None, vec_len};
+ghost use Rattle.std.specs.Prelude.{◌≡◌, [], ◌∷◌, ◌++◌, ◌<◌, OnOk, OnErr, Some};
+ghost use Rattle.std.specs.Prelude.{None, vec_len};
 ghost use Rattle.std.specs.Prelude.{vec_capacity};
 ghost use Rattle.dtap_codec.specs.Number.{count_of, number_in};
 ghost use Rattle.nsd_filter.specs.AcceptedList.{accepted_list, delivery_by, not_of_the_flow};

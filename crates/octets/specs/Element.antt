@@ -1,6 +1,7 @@
 -- Information elements one behind the other, over a table of the known identifiers (TS 24.007
 -- clause 11.2.1.1).
-use Rattle.std.specs.Prelude.{◌≡◌, ◌≢◌, ℕ, ◌/◌, ◌%◌, ◌<◌, Bool, MatchBool, ◌==◌, List, [], ◌∷◌}
+use Rattle.std.specs.Prelude.{◌≡◌, ◌≢◌, ℕ, ◌/◌, ◌%◌, ◌<◌, Bool, MatchBool}
+use Rattle.std.specs.Prelude.{◌==◌, List, [], ◌∷◌}
 use Rattle.std.specs.Prelude.{◌++◌, length, slice_index, Option, Some, None, option_map}
 use Rattle.std.specs.List.{find}
 use Rattle.octets.specs.declared.element.Entry.{Entry}

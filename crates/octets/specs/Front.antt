@@ -1,6 +1,7 @@
 -- What stands at the front of octets, with the octets behind it; a fault where they end before it
 -- does.
-use Rattle.std.specs.Prelude.{ℕ, nat_lt, if◌then◌else◌, List, [], ◌∷◌, length, take, drop, Result}
+use Rattle.std.specs.Prelude.{ℕ, nat_lt, if◌then◌else◌, List, [], ◌∷◌, length, take}
+use Rattle.std.specs.Prelude.{drop, Result}
 use Rattle.std.specs.Prelude.{Ok, Err}
 use Rattle.octets.specs.Answer.{◌>>=◌}
 

@@ -1,4 +1,5 @@
-ghost use Rattle.std.specs.Prelude.{◌≡◌, ◌++◌, ℕ, Bool, true, false, List, length, option_map};
+ghost use Rattle.std.specs.Prelude.{◌≡◌, ◌++◌, ℕ, Bool, true, false, List, length};
+ghost use Rattle.std.specs.Prelude.{option_map};
 ghost use Rattle.std.specs.Prelude.{OnErr, OnOk};
 ghost use Rattle.octets.specs.Element.{AreElements, AreOctets, Element, HasLength, Stops, element};
 ghost use Rattle.octets.specs.Element.{element_text, format_in};

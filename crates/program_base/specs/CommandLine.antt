@@ -1,5 +1,6 @@
 -- The command line of the program, as `clap` sees it.
-use Rattle.std.specs.Prelude.{◌≡◌, ◌≢◌, ℕ, true, Option, Some, None, option_map, unwrap_or, List}
+use Rattle.std.specs.Prelude.{◌≡◌, ◌≢◌, ℕ, true, Option, Some, None, option_map}
+use Rattle.std.specs.Prelude.{unwrap_or, List}
 use Rattle.std.specs.Prelude.{[], map, codes, string_bytes}
 use Rattle.std.specs.Borrow.{Bor}
 use Rattle.clap.specs.Words.{App, Rule, Row, Text, new_app, new_rule, with_rule, with_subcommand}

@@ -1,5 +1,6 @@
 -- The names of what frames carry, as `decode` prints them.
-use Rattle.std.specs.Prelude.{ℕ, ◌==◌, if◌then◌else◌, List, [], ◌∷◌, codes, Result, Ok, Err}
+use Rattle.std.specs.Prelude.{ℕ, ◌==◌, if◌then◌else◌, List, [], ◌∷◌, codes}
+use Rattle.std.specs.Prelude.{Result, Ok, Err}
 use Rattle.ipa_framing.specs.declared.frame.Frame.{Frame}
 use Rattle.ipa_framing.specs.declared.streams.TheConstants.{CCM_STREAM, OML_STREAM, PING, PONG}
 use Rattle.ipa_framing.specs.declared.streams.TheConstants.{RSL_STREAM, SCCP_STREAM}

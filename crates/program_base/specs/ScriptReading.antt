@@ -1,6 +1,7 @@
 -- Reading a script line word by word, as a function of its words. The grammar of lines stands in
 -- Script.
-use Rattle.std.specs.Prelude.{◌≡◌, ℕ, find, Option, Some, None, IsSome, Result, Ok, Err, List, []}
+use Rattle.std.specs.Prelude.{◌≡◌, ℕ, find, Option, Some, None, IsSome, Result, Ok, Err}
+use Rattle.std.specs.Prelude.{List, []}
 use Rattle.std.specs.Prelude.{◌∷◌}
 use Rattle.dtap_codec.specs.declared.sapi.Sapi.{Sapi}
 use Rattle.program_base.specs.Words.{value_at, end_of, mobile_in, station_in, source_in}

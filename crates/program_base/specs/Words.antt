@@ -1,6 +1,8 @@
 -- Reading the words of a script line, one after the other.
-use Rattle.std.specs.Prelude.{◌≡◌, ℕ, ◌+◌, ◌-◌, ◌*◌, ◌^◌, ◌&&◌, ◌==◌, nat_le, not, length, Bool}
-use Rattle.std.specs.Prelude.{true, false, Option, Some, None, Result, MatchResult, List, [], ◌∷◌}
+use Rattle.std.specs.Prelude.{◌≡◌, ℕ, ◌+◌, ◌-◌, ◌*◌, ◌^◌, ◌&&◌}
+use Rattle.std.specs.Prelude.{◌==◌, nat_le, not, length, Bool}
+use Rattle.std.specs.Prelude.{true, false, Option, Some, None, Result, MatchResult, List, []}
+use Rattle.std.specs.Prelude.{◌∷◌}
 use Rattle.std.specs.Prelude.{if◌then◌else◌}
 use Rattle.std.specs.Char.{is_ascii_digit}
 use Rattle.std.specs.List.{list_all}

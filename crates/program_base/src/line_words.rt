@@ -1,4 +1,5 @@
-ghost use Rattle.std.specs.Prelude.{◌≡◌, ◌≢◌, ◌≤◌, [], ◌∷◌, option_map, IfOk};
+ghost use Rattle.std.specs.Prelude.{◌≡◌, ◌≢◌, ◌≤◌, [], ◌∷◌, option_map};
+ghost use Rattle.std.specs.Prelude.{IfOk};
 ghost use Rattle.std.specs.List.{slice_split};
 ghost use Rattle.program_base.specs.WordsLeft.{is_space, words_left};
 ghost use Rattle.program_base.specs.Words.{word_at, value_at, number_in, mobile_in, station_in};

@@ -1,5 +1,6 @@
 -- Channel numbers (TS 48.058 clause 9.3.1).
-use Rattle.std.specs.Prelude.{ℕ, Bool, ◌||◌, ◌&&◌, ◌==◌, nat_le, if◌then◌else◌, Result, Ok, Err}
+use Rattle.std.specs.Prelude.{ℕ, Bool, ◌||◌, ◌&&◌, ◌==◌, nat_le, if◌then◌else◌}
+use Rattle.std.specs.Prelude.{Result, Ok, Err}
 use Rattle.rsl_codec.specs.declared.channel_number.TheConstants.{FIRST_TCH, LAST_SDCCH, RACH}
 use Rattle.rsl_codec.specs.declared.channel_number.TheConstants.{PCH_AND_AGCH}
 use Rattle.rsl_codec.specs.declared.fault.RslFault.{RslFault}

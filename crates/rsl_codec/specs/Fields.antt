@@ -1,7 +1,15 @@
 -- The elements of each message, in written order (TS 48.058 clause 8).
 use Rattle.std.specs.Prelude.{ℕ, ◌/◌, ◌%◌, List, [], ◌∷◌, Some, option_map}
 use Rattle.octets.specs.Field.{Field, field}
-use Rattle.rsl_codec.specs.declared.identifiers.TheConstants.{ACCESS_DELAY, ACTIVATION_TYPE, BS_POWER, CAUSE, CHANNEL_MODE, CHANNEL_NUMBER, FRAME_NUMBER, FULL_IMMEDIATE_ASSIGN, HANDOVER_REFERENCE, L1_INFORMATION, L3_INFORMATION, LINK_IDENTIFIER, MEASUREMENT_NUMBER, RELEASE_MODE, REQUEST_REFERENCE, RLM_CAUSE, UPLINK_MEASUREMENTS}
+use Rattle.rsl_codec.specs.declared.identifiers.TheConstants.{ACCESS_DELAY, ACTIVATION_TYPE}
+use Rattle.rsl_codec.specs.declared.identifiers.TheConstants.{BS_POWER, CAUSE, CHANNEL_MODE}
+use Rattle.rsl_codec.specs.declared.identifiers.TheConstants.{CHANNEL_NUMBER, FRAME_NUMBER}
+use Rattle.rsl_codec.specs.declared.identifiers.TheConstants.{FULL_IMMEDIATE_ASSIGN}
+use Rattle.rsl_codec.specs.declared.identifiers.TheConstants.{HANDOVER_REFERENCE, L1_INFORMATION}
+use Rattle.rsl_codec.specs.declared.identifiers.TheConstants.{L3_INFORMATION, LINK_IDENTIFIER}
+use Rattle.rsl_codec.specs.declared.identifiers.TheConstants.{MEASUREMENT_NUMBER, RELEASE_MODE}
+use Rattle.rsl_codec.specs.declared.identifiers.TheConstants.{REQUEST_REFERENCE, RLM_CAUSE}
+use Rattle.rsl_codec.specs.declared.identifiers.TheConstants.{UPLINK_MEASUREMENTS}
 use Rattle.rsl_codec.specs.declared.radio_link.Data.{Data}
 use Rattle.rsl_codec.specs.declared.radio_link.Link.{Link}
 use Rattle.rsl_codec.specs.declared.radio_link.ErrorReport.{ErrorReport}

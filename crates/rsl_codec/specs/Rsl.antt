@@ -1,13 +1,26 @@
 -- When octets are a text of a message: the grammar.
-use Rattle.std.specs.Prelude.{◌≡◌, ℕ, ◌<◌, ◌≤◌, true, false, List, ◌∷◌, length, Option, Some, None}
+use Rattle.std.specs.Prelude.{◌≡◌, ℕ, ◌<◌, ◌≤◌, true, false, List, ◌∷◌}
+use Rattle.std.specs.Prelude.{length, Option, Some, None}
 use Rattle.octets.specs.Element.{Element, AreElements}
 use Rattle.octets.specs.Field.{Field, Carries}
 use Rattle.octets.specs.declared.limits.TheConstants.{MESSAGE_LIMIT}
 use Rattle.rsl_codec.specs.declared.identifiers.TheConstants.{ELEMENTS}
 use Rattle.rsl_codec.specs.declared.rsl.Rsl.{Rsl}
-use Rattle.rsl_codec.specs.declared.rsl.Rsl.TheVariants.{DataRequest, DataIndication, ErrorIndication, EstablishRequest, EstablishConfirm, EstablishIndication, ReleaseRequest, ReleaseConfirm, ReleaseIndication, ChannelRequired, ImmediateAssignCommand, ChannelActivation, ChannelActivationAck, ChannelActivationNack, ConnectionFailure, HandoverDetection, MeasurementResult, RfChannelRelease, RfChannelReleaseAck}
+use Rattle.rsl_codec.specs.declared.rsl.Rsl.TheVariants.{DataRequest, DataIndication}
+use Rattle.rsl_codec.specs.declared.rsl.Rsl.TheVariants.{ErrorIndication, EstablishRequest}
+use Rattle.rsl_codec.specs.declared.rsl.Rsl.TheVariants.{EstablishConfirm, EstablishIndication}
+use Rattle.rsl_codec.specs.declared.rsl.Rsl.TheVariants.{ReleaseRequest, ReleaseConfirm}
+use Rattle.rsl_codec.specs.declared.rsl.Rsl.TheVariants.{ReleaseIndication, ChannelRequired}
+use Rattle.rsl_codec.specs.declared.rsl.Rsl.TheVariants.{ImmediateAssignCommand, ChannelActivation}
+use Rattle.rsl_codec.specs.declared.rsl.Rsl.TheVariants.{ChannelActivationAck}
+use Rattle.rsl_codec.specs.declared.rsl.Rsl.TheVariants.{ChannelActivationNack, ConnectionFailure}
+use Rattle.rsl_codec.specs.declared.rsl.Rsl.TheVariants.{HandoverDetection, MeasurementResult}
+use Rattle.rsl_codec.specs.declared.rsl.Rsl.TheVariants.{RfChannelRelease, RfChannelReleaseAck}
 use Rattle.rsl_codec.specs.ChannelNumber.{is_channel}
-use Rattle.rsl_codec.specs.Fields.{channel_fields, link_fields, data_fields, error_fields, establishment_fields, release_fields, channel_required_fields, assignment_fields, activation_fields, activation_ack_fields, failure_fields, detection_fields, measurement_result_fields}
+use Rattle.rsl_codec.specs.Fields.{channel_fields, link_fields, data_fields, error_fields}
+use Rattle.rsl_codec.specs.Fields.{establishment_fields, release_fields, channel_required_fields}
+use Rattle.rsl_codec.specs.Fields.{assignment_fields, activation_fields, activation_ack_fields}
+use Rattle.rsl_codec.specs.Fields.{failure_fields, detection_fields, measurement_result_fields}
 use Rattle.rsl_codec.specs.RslType.{rsl_type, type_of}
 
 -- its elements, in written order

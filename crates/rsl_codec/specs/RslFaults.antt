@@ -1,7 +1,9 @@
 -- Which fault octets have that are no text of a message, by their elements (TS 48.058 clauses 8 and
 -- 9).
-use Rattle.std.specs.Prelude.{◌≡◌, ℕ, ◌<◌, Bool, true, false, not, ◌==◌, nat_lt, List, [], ◌∷◌}
-use Rattle.std.specs.Prelude.{◌++◌, map, length, slice_index, Option, Some, None, is_none, Result}
+use Rattle.std.specs.Prelude.{◌≡◌, ℕ, ◌<◌, Bool, true, false, not, ◌==◌, nat_lt}
+use Rattle.std.specs.Prelude.{List, [], ◌∷◌}
+use Rattle.std.specs.Prelude.{◌++◌, map, length, slice_index, Option, Some, None, is_none}
+use Rattle.std.specs.Prelude.{Result}
 use Rattle.octets.specs.Causes.{first_that_holds}
 use Rattle.octets.specs.Element.{Element, AreElements}
 use Rattle.octets.specs.Refusal.{RefusesBy}
@@ -10,10 +12,30 @@ use Rattle.octets.specs.declared.limits.TheConstants.{MESSAGE_LIMIT}
 use Rattle.rsl_codec.specs.declared.fault.RslFault.{RslFault}
 use Rattle.rsl_codec.specs.declared.fault.RslFault.TheVariants.{Short, UnknownType, MissingElement}
 use Rattle.rsl_codec.specs.declared.fault.RslFault.TheVariants.{BadChannel, Memory, TooLong}
-use Rattle.rsl_codec.specs.declared.identifiers.TheConstants.{ELEMENTS, ACCESS_DELAY, ACTIVATION_TYPE, CHANNEL_MODE, CHANNEL_NUMBER, FULL_IMMEDIATE_ASSIGN, L3_INFORMATION, LINK_IDENTIFIER, MEASUREMENT_NUMBER, RELEASE_MODE, REQUEST_REFERENCE}
+use Rattle.rsl_codec.specs.declared.identifiers.TheConstants.{ELEMENTS, ACCESS_DELAY}
+use Rattle.rsl_codec.specs.declared.identifiers.TheConstants.{ACTIVATION_TYPE, CHANNEL_MODE}
+use Rattle.rsl_codec.specs.declared.identifiers.TheConstants.{CHANNEL_NUMBER, FULL_IMMEDIATE_ASSIGN}
+use Rattle.rsl_codec.specs.declared.identifiers.TheConstants.{L3_INFORMATION, LINK_IDENTIFIER}
+use Rattle.rsl_codec.specs.declared.identifiers.TheConstants.{MEASUREMENT_NUMBER, RELEASE_MODE}
+use Rattle.rsl_codec.specs.declared.identifiers.TheConstants.{REQUEST_REFERENCE}
 use Rattle.rsl_codec.specs.declared.rsl.Rsl.{Rsl}
 use Rattle.rsl_codec.specs.declared.rsl_type.RslType.{RslType}
-use Rattle.rsl_codec.specs.declared.rsl_type.RslType.TheVariants.{DataRequest, DataIndication, ErrorIndication, EstablishRequest, EstablishConfirm, EstablishIndication, ReleaseRequest, ReleaseConfirm, ReleaseIndication, ChannelRequired, ImmediateAssignCommand, ChannelActivation, ChannelActivationAck, ChannelActivationNack, ConnectionFailure, HandoverDetection, MeasurementResult, RfChannelRelease, RfChannelReleaseAck}
+use Rattle.rsl_codec.specs.declared.rsl_type.RslType.TheVariants.{DataRequest, DataIndication}
+use Rattle.rsl_codec.specs.declared.rsl_type.RslType.TheVariants.{ErrorIndication, EstablishRequest}
+use Rattle.rsl_codec.specs.declared.rsl_type.RslType.TheVariants.{EstablishConfirm}
+use Rattle.rsl_codec.specs.declared.rsl_type.RslType.TheVariants.{EstablishIndication}
+use Rattle.rsl_codec.specs.declared.rsl_type.RslType.TheVariants.{ReleaseRequest, ReleaseConfirm}
+use Rattle.rsl_codec.specs.declared.rsl_type.RslType.TheVariants.{ReleaseIndication}
+use Rattle.rsl_codec.specs.declared.rsl_type.RslType.TheVariants.{ChannelRequired}
+use Rattle.rsl_codec.specs.declared.rsl_type.RslType.TheVariants.{ImmediateAssignCommand}
+use Rattle.rsl_codec.specs.declared.rsl_type.RslType.TheVariants.{ChannelActivation}
+use Rattle.rsl_codec.specs.declared.rsl_type.RslType.TheVariants.{ChannelActivationAck}
+use Rattle.rsl_codec.specs.declared.rsl_type.RslType.TheVariants.{ChannelActivationNack}
+use Rattle.rsl_codec.specs.declared.rsl_type.RslType.TheVariants.{ConnectionFailure}
+use Rattle.rsl_codec.specs.declared.rsl_type.RslType.TheVariants.{HandoverDetection}
+use Rattle.rsl_codec.specs.declared.rsl_type.RslType.TheVariants.{MeasurementResult}
+use Rattle.rsl_codec.specs.declared.rsl_type.RslType.TheVariants.{RfChannelRelease}
+use Rattle.rsl_codec.specs.declared.rsl_type.RslType.TheVariants.{RfChannelReleaseAck}
 use Rattle.rsl_codec.specs.ChannelNumber.{is_channel}
 use Rattle.rsl_codec.specs.RslType.{rsl_type}
 

@@ -1,5 +1,6 @@
 -- Reading a message as a function of its octets, with the fault that stands first.
-use Rattle.std.specs.Prelude.{ℕ, ◌+◌, ◌*◌, Bool, List, [], ◌∷◌, length, Option, Some, None}
+use Rattle.std.specs.Prelude.{ℕ, ◌+◌, ◌*◌, Bool, List, [], ◌∷◌, length, Option}
+use Rattle.std.specs.Prelude.{Some, None}
 use Rattle.std.specs.Prelude.{option_map, Result, Ok, Err, nat_lt, if◌then◌else◌}
 use Rattle.octets.specs.Answer.{◌>>=◌, result_map}
 use Rattle.octets.specs.Element.{Element, element}
@@ -8,7 +9,15 @@ use Rattle.rsl_codec.specs.declared.fault.RslFault.{RslFault}
 use Rattle.rsl_codec.specs.declared.fault.RslFault.TheVariants as faults
 use Rattle.rsl_codec.specs.declared.rsl_type.RslType.{RslType}
 use Rattle.rsl_codec.specs.declared.rsl_type.RslType.TheVariants as types
-use Rattle.rsl_codec.specs.declared.identifiers.TheConstants.{ELEMENTS, ACCESS_DELAY, ACTIVATION_TYPE, BS_POWER, CAUSE, CHANNEL_MODE, CHANNEL_NUMBER, FRAME_NUMBER, FULL_IMMEDIATE_ASSIGN, HANDOVER_REFERENCE, L1_INFORMATION, L3_INFORMATION, LINK_IDENTIFIER, MEASUREMENT_NUMBER, RELEASE_MODE, REQUEST_REFERENCE, RLM_CAUSE, UPLINK_MEASUREMENTS}
+use Rattle.rsl_codec.specs.declared.identifiers.TheConstants.{ELEMENTS, ACCESS_DELAY}
+use Rattle.rsl_codec.specs.declared.identifiers.TheConstants.{ACTIVATION_TYPE, BS_POWER, CAUSE}
+use Rattle.rsl_codec.specs.declared.identifiers.TheConstants.{CHANNEL_MODE, CHANNEL_NUMBER}
+use Rattle.rsl_codec.specs.declared.identifiers.TheConstants.{FRAME_NUMBER, FULL_IMMEDIATE_ASSIGN}
+use Rattle.rsl_codec.specs.declared.identifiers.TheConstants.{HANDOVER_REFERENCE, L1_INFORMATION}
+use Rattle.rsl_codec.specs.declared.identifiers.TheConstants.{L3_INFORMATION, LINK_IDENTIFIER}
+use Rattle.rsl_codec.specs.declared.identifiers.TheConstants.{MEASUREMENT_NUMBER, RELEASE_MODE}
+use Rattle.rsl_codec.specs.declared.identifiers.TheConstants.{REQUEST_REFERENCE, RLM_CAUSE}
+use Rattle.rsl_codec.specs.declared.identifiers.TheConstants.{UPLINK_MEASUREMENTS}
 use Rattle.octets.specs.declared.limits.TheConstants.{MESSAGE_LIMIT}
 use Rattle.rsl_codec.specs.declared.radio_link.Data.{Data}
 use Rattle.rsl_codec.specs.declared.radio_link.Link.{Link}

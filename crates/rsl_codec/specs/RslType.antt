@@ -1,11 +1,30 @@
 -- The types of the messages (TS 48.058 clauses 9.1 and 9.2).
-use Rattle.std.specs.Prelude.{ℕ, ◌/◌, Bool, true, false, ◌==◌, ◌&&◌, nat_lt, if◌then◌else◌, Option}
+use Rattle.std.specs.Prelude.{ℕ, ◌/◌, Bool, true, false, ◌==◌, ◌&&◌, nat_lt}
+use Rattle.std.specs.Prelude.{if◌then◌else◌, Option}
 use Rattle.std.specs.List.{find}
 use Rattle.rsl_codec.specs.declared.rsl.Rsl.{Rsl}
 use Rattle.rsl_codec.specs.declared.rsl.Rsl.TheVariants as messages
 use Rattle.rsl_codec.specs.declared.rsl_type.RslType.{RslType}
-use Rattle.rsl_codec.specs.declared.rsl_type.RslType.TheVariants.{DataRequest, DataIndication, ErrorIndication, EstablishRequest, EstablishConfirm, EstablishIndication, ReleaseRequest, ReleaseConfirm, ReleaseIndication, ChannelRequired, ImmediateAssignCommand, ChannelActivation, ChannelActivationAck, ChannelActivationNack, ConnectionFailure, HandoverDetection, MeasurementResult, RfChannelRelease, RfChannelReleaseAck}
-use Rattle.rsl_codec.specs.declared.rsl_type.TheConstants.{RSL_TYPES, FIRST_COMMON_CHANNEL, FIRST_DEDICATED_CHANNEL, RADIO_LINK, RADIO_LINK_TRANSPARENT, DEDICATED_CHANNEL, COMMON_CHANNEL}
+use Rattle.rsl_codec.specs.declared.rsl_type.RslType.TheVariants.{DataRequest, DataIndication}
+use Rattle.rsl_codec.specs.declared.rsl_type.RslType.TheVariants.{ErrorIndication, EstablishRequest}
+use Rattle.rsl_codec.specs.declared.rsl_type.RslType.TheVariants.{EstablishConfirm}
+use Rattle.rsl_codec.specs.declared.rsl_type.RslType.TheVariants.{EstablishIndication}
+use Rattle.rsl_codec.specs.declared.rsl_type.RslType.TheVariants.{ReleaseRequest, ReleaseConfirm}
+use Rattle.rsl_codec.specs.declared.rsl_type.RslType.TheVariants.{ReleaseIndication}
+use Rattle.rsl_codec.specs.declared.rsl_type.RslType.TheVariants.{ChannelRequired}
+use Rattle.rsl_codec.specs.declared.rsl_type.RslType.TheVariants.{ImmediateAssignCommand}
+use Rattle.rsl_codec.specs.declared.rsl_type.RslType.TheVariants.{ChannelActivation}
+use Rattle.rsl_codec.specs.declared.rsl_type.RslType.TheVariants.{ChannelActivationAck}
+use Rattle.rsl_codec.specs.declared.rsl_type.RslType.TheVariants.{ChannelActivationNack}
+use Rattle.rsl_codec.specs.declared.rsl_type.RslType.TheVariants.{ConnectionFailure}
+use Rattle.rsl_codec.specs.declared.rsl_type.RslType.TheVariants.{HandoverDetection}
+use Rattle.rsl_codec.specs.declared.rsl_type.RslType.TheVariants.{MeasurementResult}
+use Rattle.rsl_codec.specs.declared.rsl_type.RslType.TheVariants.{RfChannelRelease}
+use Rattle.rsl_codec.specs.declared.rsl_type.RslType.TheVariants.{RfChannelReleaseAck}
+use Rattle.rsl_codec.specs.declared.rsl_type.TheConstants.{RSL_TYPES, FIRST_COMMON_CHANNEL}
+use Rattle.rsl_codec.specs.declared.rsl_type.TheConstants.{FIRST_DEDICATED_CHANNEL, RADIO_LINK}
+use Rattle.rsl_codec.specs.declared.rsl_type.TheConstants.{RADIO_LINK_TRANSPARENT}
+use Rattle.rsl_codec.specs.declared.rsl_type.TheConstants.{DEDICATED_CHANNEL, COMMON_CHANNEL}
 
 -- the message type
 abbrev pub rsl_octet : RslType → ℕ

@@ -1,4 +1,5 @@
-ghost use Rattle.std.specs.Prelude.{◌≡◌, ◌<◌, length, List, IfOk, MatchOption, map, vec_len};
+ghost use Rattle.std.specs.Prelude.{◌≡◌, ◌<◌, length, List, IfOk, MatchOption, map};
+ghost use Rattle.std.specs.Prelude.{vec_len};
 ghost use Rattle.ruled_relay.specs.Row.{Row};
 ghost use Rattle.ruled_relay.specs.Left.{GivesAll, left_from};
 ghost use Rattle.ruled_relay.specs.Inbox.{AreJoined, AreNewInbox, GivesItem};

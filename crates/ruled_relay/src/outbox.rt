@@ -1,4 +1,5 @@
-ghost use Rattle.std.specs.Prelude.{◌≡◌, ℕ, ◌<◌, ◌++◌, List, IfOk, MatchOption, IfNone, min};
+ghost use Rattle.std.specs.Prelude.{◌≡◌, ℕ, ◌<◌, ◌++◌, List, IfOk, MatchOption};
+ghost use Rattle.std.specs.Prelude.{IfNone, min};
 ghost use Rattle.ruled_relay.specs.Outbox.{AreNewOutbox, PutsLine, PutterView};
 ghost use Rattle.ruled_relay.specs.Outbox.{TakerView, TakesLine, GivesLine};
 ghost use Rattle.ruled_relay.specs.Refusals.{Fate, Meets, lines_put, most_refused};

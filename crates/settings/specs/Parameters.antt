@@ -1,5 +1,6 @@
 -- What settings hold, and what holds of it.
-use Rattle.std.specs.Prelude.{◌≡◌, ℕ, ◌+◌, ◌*◌, ◌/◌, ◌%◌, ◌≤◌, Bool, true, ◌==◌}
+use Rattle.std.specs.Prelude.{◌≡◌, ℕ, ◌+◌, ◌*◌, ◌/◌, ◌%◌, ◌≤◌, Bool}
+use Rattle.std.specs.Prelude.{true, ◌==◌}
 use Rattle.std.specs.Prelude.{not, ◌&&◌, List, [], ◌∷◌, length, map, All, nat_eq}
 use Rattle.std.specs.List.{list_all, list_any}
 use Rattle.std.specs.Str.{bytes_eq}

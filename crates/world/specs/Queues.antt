@@ -1,5 +1,6 @@
 -- The relay queues of a world, and their histories over any list of events.
-use Rattle.std.specs.Prelude.{◌≡◌, ℕ, ◌==◌, Bool, true, List, [], ◌∷◌, ◌++◌, fold}
+use Rattle.std.specs.Prelude.{◌≡◌, ℕ, ◌==◌, Bool, true, List, [], ◌∷◌, ◌++◌}
+use Rattle.std.specs.Prelude.{fold}
 use Rattle.std.specs.Prelude.{map, option_to_list, Option, Some, None, if◌then◌else◌}
 use Rattle.bssmap_codec.specs.declared.sccp.Sccp.{Sccp}
 use Rattle.dtap_codec.specs.declared.sapi.Sapi.TheVariants.{Zero}

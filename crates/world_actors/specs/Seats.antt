@@ -1,5 +1,6 @@
 -- The channel that a mobile is on, where it can act there.
-use Rattle.std.specs.Prelude.{ℕ, ◌&&◌, nat_lt, Bool, true, false, if◌then◌else◌, Option, Some, None}
+use Rattle.std.specs.Prelude.{ℕ, ◌&&◌, nat_lt, Bool, true, false, if◌then◌else◌, Option}
+use Rattle.std.specs.Prelude.{Some, None}
 use Rattle.std.specs.Option.{is_none, option_and_then}
 use Rattle.world_ends.specs.Mobiles.{mobile_in}
 use Rattle.world_model.specs.World.{Actors, Mobile, is_reached}

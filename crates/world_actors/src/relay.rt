@@ -1,4 +1,5 @@
-ghost use Rattle.std.specs.Prelude.{◌≡◌, ◌+◌, [], IfOk, OnOk, None, length, option_map, replicate};
+ghost use Rattle.std.specs.Prelude.{◌≡◌, ◌+◌, [], IfOk, OnOk, None, length, option_map};
+ghost use Rattle.std.specs.Prelude.{replicate};
 ghost use Rattle.bssmap_codec.specs.SccpText.{sccp_write_fault};
 ghost use Rattle.controller_model.specs.Controller.{new_controller};
 ghost use Rattle.ruled_relay.specs.declared.item.What.TheVariants as whats;

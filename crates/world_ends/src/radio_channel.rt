@@ -1,4 +1,5 @@
-ghost use Rattle.std.specs.Prelude.{◌≡◌, ◌≢◌, ◌+◌, ◌%◌, ◌++◌, ◌∷◌, [], false, OnOk};
+ghost use Rattle.std.specs.Prelude.{◌≡◌, ◌≢◌, ◌+◌, ◌%◌, ◌++◌, ◌∷◌};
+ghost use Rattle.std.specs.Prelude.{[], false, OnOk};
 ghost use Rattle.world_model.specs.declared.limits.TheConstants.{MAX_TENURE};
 ghost use Rattle.world_model.specs.Lists.{behind_first, first_in};
 ghost use Rattle.world_model.specs.Stations.{new_tenure};

@@ -1,4 +1,5 @@
-ghost use Rattle.std.specs.Prelude.{◌≡◌, ◌≢◌, ◌-◌, length, Some, true, OnOk, IfOk, IfSome};
+ghost use Rattle.std.specs.Prelude.{◌≡◌, ◌≢◌, ◌-◌, length, Some, true, OnOk, IfOk};
+ghost use Rattle.std.specs.Prelude.{IfSome};
 ghost use Rattle.dtap_codec.specs.declared.report.TheConstants.{REPORT_LENGTH};
 ghost use Rattle.link_model.specs.Base.{first_message, is_told};
 ghost use Rattle.rsl_codec.specs.Rsl.{IsL3};

@@ -1,6 +1,7 @@
 -- How a connection of a run fares: it lives, lined up with its mobile, or it ended, or the switch
 -- never heard of it.
-use Rattle.std.specs.Prelude.{◌≡◌, ◌⊎◌, ℕ, ◌≤◌, ◌<◌, ◌==◌, false, if◌then◌else◌, List, [], ◌∷◌}
+use Rattle.std.specs.Prelude.{◌≡◌, ◌⊎◌, ℕ, ◌≤◌, ◌<◌, ◌==◌, false}
+use Rattle.std.specs.Prelude.{if◌then◌else◌, List, [], ◌∷◌}
 use Rattle.std.specs.Prelude.{find, Option, Some, None}
 use Rattle.std.specs.List.{flat_map, AllByRecursion}
 use Rattle.world_laws.specs.Prelude.{Place, State, WaitConfirm, Closed, Removed, Connection}

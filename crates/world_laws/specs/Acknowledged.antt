@@ -1,5 +1,6 @@
 -- The acknowledgements of a channel that are on their way up.
-use Rattle.std.specs.Prelude.{◌≡◌, ◌≢◌, ℕ, ◌≤◌, ◌==◌, Bool, true, false, if◌then◌else◌, List, []}
+use Rattle.std.specs.Prelude.{◌≡◌, ◌≢◌, ℕ, ◌≤◌, ◌==◌, Bool, true, false}
+use Rattle.std.specs.Prelude.{if◌then◌else◌, List, []}
 use Rattle.std.specs.Prelude.{◌∷◌, ◌++◌, length, option_to_list}
 use Rattle.std.specs.List.{flat_map, AllByRecursion}
 use Rattle.world_laws.specs.Prelude.{Place, SWITCH_LINK, Item, Rsl, Parameters, Event, rsl_in}

@@ -1,5 +1,6 @@
 -- What is on its way up from a channel: what its station made and what stands in the inbox.
-use Rattle.std.specs.Prelude.{ℕ, ◌==◌, if◌then◌else◌, List, [], ◌∷◌, ◌++◌, Option, Some, None}
+use Rattle.std.specs.Prelude.{ℕ, ◌==◌, if◌then◌else◌, List, [], ◌∷◌, ◌++◌}
+use Rattle.std.specs.Prelude.{Option, Some, None}
 use Rattle.std.specs.List.{flat_map}
 use Rattle.world_laws.specs.Prelude.{Place, sapi_of, Zero, Item, Rsl, rsl_in, Actors, base_of}
 use Rattle.dtap_codec.specs.declared.sapi.Sapi.{Sapi}

@@ -1,6 +1,7 @@
 -- Which commands are on their way down on a channel: in its station's outbox, and among the
 -- messages for the air.
-use Rattle.std.specs.Prelude.{ℕ, ◌==◌, if◌then◌else◌, List, [], ◌∷◌, ◌++◌, Option, Some, None}
+use Rattle.std.specs.Prelude.{ℕ, ◌==◌, if◌then◌else◌, List, [], ◌∷◌, ◌++◌}
+use Rattle.std.specs.Prelude.{Option, Some, None}
 use Rattle.std.specs.List.{flat_map}
 use Rattle.world_laws.specs.Prelude.{Place, Rsl, AirMessage, OutboxEntry, Tenure, rsl_in, Actors}
 use Rattle.world_laws.specs.Prelude.{spot_at, outbox_of}

@@ -1,6 +1,7 @@
 -- The line-up of a connection in the world: what its mobile sent, where it stands on its way to the
 -- switch.
-use Rattle.std.specs.Prelude.{ℕ, ◌+◌, ◌==◌, ◌&&◌, not, Bool, true, false, if◌then◌else◌, List, []}
+use Rattle.std.specs.Prelude.{ℕ, ◌+◌, ◌==◌, ◌&&◌, not, Bool, true, false}
+use Rattle.std.specs.Prelude.{if◌then◌else◌, List, []}
 use Rattle.std.specs.Prelude.{◌∷◌, length, map, find, Option, Some, None}
 use Rattle.world_laws.specs.Prelude.{Channel, Place, SWITCH_LINK, Drain, State, Live, WaitEstablish}
 use Rattle.world_laws.specs.Prelude.{Target, Connection, place_of}

@@ -1,5 +1,6 @@
 -- The controller handles an item for the connection itself.
-use Rattle.std.specs.Prelude.{◌≡◌, ◌≢◌, ℕ, true, false, List, [], ◌∷◌, map, Option, Some, None}
+use Rattle.std.specs.Prelude.{◌≡◌, ◌≢◌, ℕ, true, false, List, [], ◌∷◌, map}
+use Rattle.std.specs.Prelude.{Option, Some, None}
 use Rattle.std.specs.List.{AllByRecursion}
 use Rattle.world_laws.specs.Prelude.{Channel, Place, SWITCH_LINK, Input, Connection, IsCarried}
 use Rattle.world_laws.specs.Prelude.{IsValid, Row, AreApart, IsOpen, relayed}

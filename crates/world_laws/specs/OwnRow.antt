@@ -1,5 +1,6 @@
 -- A row of the table keeps its connection's line-up.
-use Rattle.std.specs.Prelude.{◌≡◌, ℕ, ◌+◌, Bool, List, [], ◌∷◌, ◌++◌, Option, Some}
+use Rattle.std.specs.Prelude.{◌≡◌, ℕ, ◌+◌, Bool, List, [], ◌∷◌, ◌++◌, Option}
+use Rattle.std.specs.Prelude.{Some}
 use Rattle.world_laws.specs.Prelude.{Channel, Place, Input, WaitConfirm, Connection, IsCarried}
 use Rattle.world_laws.specs.Prelude.{IsValid, Row, AreApart, IsOpen, relayed}
 use Rattle.world_laws.specs.Prelude.{used_channels, row_of, Zero, place_of, to_be_taken, RunsToEnd}

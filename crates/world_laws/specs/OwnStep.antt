@@ -1,5 +1,6 @@
 -- What a row does to the line-up of its connection, by the roles of its channels.
-use Rattle.std.specs.Prelude.{◌≡◌, ℕ, ◌+◌, ◌≤◌, ◌&&◌, ◌||◌, not, Bool, true, false, if◌then◌else◌}
+use Rattle.std.specs.Prelude.{◌≡◌, ℕ, ◌+◌, ◌≤◌, ◌&&◌, ◌||◌, not, Bool}
+use Rattle.std.specs.Prelude.{true, false, if◌then◌else◌}
 use Rattle.std.specs.Prelude.{List, [], ◌∷◌, Option, Some, None}
 use Rattle.world_laws.specs.Prelude.{Place, Drain, State, Target, Connection, place_of}
 use Rattle.world_laws.specs.LineUp.ChangeStep.{after_complete}

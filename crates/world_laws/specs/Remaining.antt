@@ -1,6 +1,7 @@
 -- What is still due of a channel's acknowledgements, by the state in which the controller has the
 -- channel.
-use Rattle.std.specs.Prelude.{◌≡◌, ℕ, ◌==◌, Bool, true, false, if◌then◌else◌, List, [], ◌∷◌, ◌++◌}
+use Rattle.std.specs.Prelude.{◌≡◌, ℕ, ◌==◌, Bool, true, false, if◌then◌else◌}
+use Rattle.std.specs.Prelude.{List, [], ◌∷◌, ◌++◌}
 use Rattle.world_laws.specs.Prelude.{Place, Out, Free, Rsl, rsl_in}
 use Rattle.controller_model.specs.declared.channel_state.ChannelState.{ChannelState}
 use Rattle.controller_model.specs.declared.channel_state.ChannelState.TheVariants.{InUse, Releasing}

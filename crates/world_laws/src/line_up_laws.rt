@@ -1,6 +1,7 @@
 //! Laws: each contract states what holds of the definitions that it names. Their bodies are empty.
 
-ghost use Rattle.std.specs.Prelude.{◌≡◌, ℕ, ◌+◌, ◌≤◌, List, [], ◌∷◌, ◌++◌};
+ghost use Rattle.std.specs.Prelude.{◌≡◌, ℕ, ◌+◌, ◌≤◌, List, [], ◌∷◌};
+ghost use Rattle.std.specs.Prelude.{◌++◌};
 ghost use Rattle.mobile_end.specs.DataLink.{to_be_taken};
 ghost use Rattle.mobile_end.specs.DataLinkState.{DataLinkState};
 ghost use Rattle.mobile_end.specs.RunsToEnd.{RunsToEnd};

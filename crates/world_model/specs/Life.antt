@@ -1,5 +1,6 @@
 -- The world over any list of events.
-use Rattle.std.specs.Prelude.{◌+◌, min, if◌then◌else◌, is_some, unwrap_or, List, fold, Option}
+use Rattle.std.specs.Prelude.{◌+◌, min, if◌then◌else◌, is_some, unwrap_or, List, fold}
+use Rattle.std.specs.Prelude.{Option}
 use Rattle.settings.specs.Parameters.{Parameters}
 use Rattle.world_model.specs.declared.event.Event.{Event}
 use Rattle.world_model.specs.declared.event.Event.TheVariants.{Upper, Connect, AirUp, AirAck}

@@ -1,7 +1,9 @@
 -- Whose each tenure is, while it is on its way: what waits for a station agrees with an ownership
 -- of tenures, and what comes of a channel fits its state at the controller.
-use Rattle.std.specs.Prelude.{◌<◌, ◌≤◌, length, ◌≡◌, ℕ, ◌+◌, ◌==◌, ◌&&◌, not, Bool, true, false}
-use Rattle.std.specs.Prelude.{if◌then◌else◌, List, [], ◌∷◌, ◌++◌, slice_index_or, option_map}
+use Rattle.std.specs.Prelude.{◌<◌, ◌≤◌, length, ◌≡◌, ℕ, ◌+◌, ◌==◌}
+use Rattle.std.specs.Prelude.{◌&&◌, not, Bool, true, false}
+use Rattle.std.specs.Prelude.{if◌then◌else◌, List, [], ◌∷◌, ◌++◌, slice_index_or}
+use Rattle.std.specs.Prelude.{option_map}
 use Rattle.std.specs.Prelude.{option_to_list, Option, Some, Result, Ok}
 use Rattle.std.specs.List.{flat_map}
 use Rattle.conn_messages.specs.declared.channel.Place.{Place}

@@ -1,5 +1,6 @@
 -- Whose each tenure is: the mobile for which its channel was activated.
-use Rattle.std.specs.Prelude.{ℕ, ◌&&◌, nat_lt, nat_le, Bool, if◌then◌else◌, unwrap_or, List, []}
+use Rattle.std.specs.Prelude.{ℕ, ◌&&◌, nat_lt, nat_le, Bool, if◌then◌else◌, unwrap_or}
+use Rattle.std.specs.Prelude.{List, []}
 use Rattle.std.specs.Prelude.{◌∷◌}
 use Rattle.conn_messages.specs.declared.channel.Place.{Place}
 use Rattle.controller_model.specs.declared.channel_state.ChannelState.{ChannelState}

@@ -1,6 +1,7 @@
 -- The pipe of one channel: the acknowledgements of its station follow what the controller puts, in
 -- order.
-use Rattle.std.specs.Prelude.{◌≡◌, ℕ, ◌==◌, ◌&&◌, ◌||◌, ◌≤◌, not, Bool, true, false, if◌then◌else◌}
+use Rattle.std.specs.Prelude.{◌≡◌, ℕ, ◌==◌, ◌&&◌, ◌||◌, ◌≤◌, not, Bool}
+use Rattle.std.specs.Prelude.{true, false, if◌then◌else◌}
 use Rattle.std.specs.Prelude.{List, [], ◌∷◌, ◌++◌, filter, length, Option, Some}
 use Rattle.link_model.specs.Message.{activation_ack}
 use Rattle.link_model.specs.Base.{is_active}

@@ -1,6 +1,7 @@
 -- What goes through the controller and its queues: pushes into the inbox, what is handled, ticks,
 -- and breaks of links.
-use Rattle.std.specs.Prelude.{ℕ, ◌==◌, Bool, true, false, if◌then◌else◌, List, [], ◌∷◌, ◌++◌, fold}
+use Rattle.std.specs.Prelude.{ℕ, ◌==◌, Bool, true, false, if◌then◌else◌, List, []}
+use Rattle.std.specs.Prelude.{◌∷◌, ◌++◌, fold}
 use Rattle.std.specs.Prelude.{Option, Some, None, Result, Ok}
 use Rattle.bssmap_codec.specs.declared.sccp.Sccp.{Sccp}
 use Rattle.bssmap_codec.specs.SccpText.{sccp_text}

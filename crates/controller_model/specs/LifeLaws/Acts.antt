@@ -1,5 +1,6 @@
 -- What a step does to one connection.
-use Rattle.std.specs.Prelude.{◌≡◌, Bool, true, fold, ℕ, ◌==◌, if◌then◌else◌, List, [], ◌∷◌, Option}
+use Rattle.std.specs.Prelude.{◌≡◌, Bool, true, fold, ℕ, ◌==◌, if◌then◌else◌, List}
+use Rattle.std.specs.Prelude.{[], ◌∷◌, Option}
 use Rattle.std.specs.Prelude.{Some, None}
 use Rattle.controller_model.specs.Prelude.{Channel, Message, Input, State, Connection, row_of}
 use Rattle.controller_model.specs.Prelude.{SWITCH_LINK, outs_of, What, RequestReference}

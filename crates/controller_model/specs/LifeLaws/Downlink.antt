@@ -1,5 +1,6 @@
 -- The switch's messages of a connection: those that came, were rejected, were handed.
-use Rattle.std.specs.Prelude.{◌≡◌, ◌⊎◌, ℕ, ◌==◌, ◌&&◌, ◌||◌, Bool, true, false, if◌then◌else◌, List}
+use Rattle.std.specs.Prelude.{◌≡◌, ◌⊎◌, ℕ, ◌==◌, ◌&&◌, ◌||◌, Bool, true}
+use Rattle.std.specs.Prelude.{false, if◌then◌else◌, List}
 use Rattle.std.specs.Prelude.{[], ◌∷◌, ◌++◌, filter, fold, Option, Some, None}
 use Rattle.std.specs.List.{AllByRecursion}
 use Rattle.controller_model.specs.Prelude.{Message, outs_of, Input, Connection, IsOpen, handed}

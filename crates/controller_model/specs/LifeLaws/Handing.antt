@@ -1,6 +1,7 @@
 -- Where messages are handed, told by what came and what was put: nothing while the mobile changes
 -- its channel, else on the channel that serves, and after CLEAR COMPLETE only RLC is put.
-use Rattle.std.specs.Prelude.{◌≡◌, ℕ, ◌==◌, ◌&&◌, ◌||◌, not, Bool, true, false, List, [], ◌∷◌, ◌++◌}
+use Rattle.std.specs.Prelude.{◌≡◌, ℕ, ◌==◌, ◌&&◌, ◌||◌, not, Bool, true, false}
+use Rattle.std.specs.Prelude.{List, [], ◌∷◌, ◌++◌}
 use Rattle.std.specs.Prelude.{fold}
 use Rattle.std.specs.List.{AllByRecursion, list_any}
 use Rattle.controller_model.specs.Prelude.{Management, Place, Message, SWITCH_LINK, outs_of, Input}

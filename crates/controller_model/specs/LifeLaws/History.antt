@@ -1,5 +1,6 @@
 -- What came to the controller, step by step, and what it put for one connection.
-use Rattle.std.specs.Prelude.{◌≡◌, ℕ, ◌==◌, Bool, List, [], ◌∷◌, filter, Option, option_map}
+use Rattle.std.specs.Prelude.{◌≡◌, ℕ, ◌==◌, Bool, List, [], ◌∷◌, filter, Option}
+use Rattle.std.specs.Prelude.{option_map}
 use Rattle.std.specs.List.{flat_map}
 use Rattle.controller_model.specs.Prelude.{Message, Out, outs_of, Connection, What}
 use Rattle.controller_model.specs.declared.step.Step.{Step}

@@ -1,5 +1,6 @@
 -- The mobile's messages of a connection: those of its tenures.
-use Rattle.std.specs.Prelude.{◌≡◌, ℕ, ◌==◌, ◌&&◌, ◌||◌, not, Bool, true, false, if◌then◌else◌, List}
+use Rattle.std.specs.Prelude.{◌≡◌, ℕ, ◌==◌, ◌&&◌, ◌||◌, not, Bool, true, false}
+use Rattle.std.specs.Prelude.{if◌then◌else◌, List}
 use Rattle.std.specs.Prelude.{[], ◌∷◌, ◌++◌, fold, map, Some}
 use Rattle.std.specs.List.{AllByRecursion}
 use Rattle.controller_model.specs.Prelude.{Place, Message, outs_of, Management, Input, Sapi, Zero}

@@ -1,5 +1,6 @@
 -- By whom each channel is in use.
-use Rattle.std.specs.Prelude.{◌≡◌, ◌↔◌, ℕ, ◌≤◌, ◌<◌, false, List, [], map, Contains, Option, Some}
+use Rattle.std.specs.Prelude.{◌≡◌, ◌↔◌, ℕ, ◌≤◌, ◌<◌, false, List, [], map}
+use Rattle.std.specs.Prelude.{Contains, Option, Some}
 use Rattle.std.specs.Prelude.{None}
 use Rattle.controller_model.specs.Prelude.{Place, SWITCH_LINK, Connection}
 use Rattle.conn_rules.specs.Roles.{channels_in_use}

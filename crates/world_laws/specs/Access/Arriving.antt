@@ -1,5 +1,6 @@
 -- What becomes of a connection that is coming, event by event.
-use Rattle.std.specs.Prelude.{◌≡◌, ◌⊎◌, ℕ, Bool, true, false, List, [], find, None, Result, Ok}
+use Rattle.std.specs.Prelude.{◌≡◌, ◌⊎◌, ℕ, Bool, true, false, List, [], find, None}
+use Rattle.std.specs.Prelude.{Result, Ok}
 use Rattle.std.specs.List.{AllByRecursion}
 use Rattle.world_laws.specs.Prelude.{SWITCH_LINK, WaitEstablish, Connection, place_of, RrMessage}
 use Rattle.world_laws.specs.Prelude.{RrFault, rr_reading, AreAllowed}

@@ -1,11 +1,13 @@
 -- A connection that is coming: it has its channel, and hasn't asked the switch for its connection
 -- yet. How its mobile comes to it.
-use Rattle.std.specs.Prelude.{◌≡◌, ℕ, ◌+◌, ◌≤◌, ◌==◌, if◌then◌else◌, true, false, List, [], ◌∷◌}
+use Rattle.std.specs.Prelude.{◌≡◌, ℕ, ◌+◌, ◌≤◌, ◌==◌, if◌then◌else◌}
+use Rattle.std.specs.Prelude.{true, false, List, [], ◌∷◌}
 use Rattle.std.specs.Prelude.{length, slice_index_or, Option, Some, None, Result, Ok}
 use Rattle.std.specs.List.{AllByRecursion, flat_map}
 use Rattle.world_laws.specs.Prelude.{WaitEstablish, Place, Connection, place_of, sapi_of, RrMessage}
 use Rattle.world_laws.specs.Prelude.{RrFault, rr_reading, to_be_taken}
-use Rattle.world_laws.specs.Prelude.{RunsToEnd, Rsl, OutboxEntry, Asking, On, rsl_in, Actors, Mobile}
+use Rattle.world_laws.specs.Prelude.{RunsToEnd, Rsl, OutboxEntry, Asking, On, rsl_in, Actors}
+use Rattle.world_laws.specs.Prelude.{Mobile}
 use Rattle.world_laws.specs.Prelude.{mobile_of, outbox_of, tenure_at}
 use Rattle.controller_model.specs.Controller.{place_at}
 use Rattle.dtap_codec.specs.declared.rr.RrMessage.TheVariants.{ImmediateAssignment}

@@ -1,5 +1,6 @@
 -- What becomes of a connection that is coming when the controller takes a step.
-use Rattle.std.specs.Prelude.{◌≡◌, ◌≢◌, ℕ, true, false, List, [], ◌∷◌, ◌++◌, option_map}
+use Rattle.std.specs.Prelude.{◌≡◌, ◌≢◌, ℕ, true, false, List, [], ◌∷◌, ◌++◌}
+use Rattle.std.specs.Prelude.{option_map}
 use Rattle.std.specs.Prelude.{slice_index_or, Option, Some, Result, Ok}
 use Rattle.std.specs.List.{AllByRecursion}
 use Rattle.world_laws.specs.Prelude.{Out, SWITCH_LINK, WaitConfirm, Connection, IsThere}

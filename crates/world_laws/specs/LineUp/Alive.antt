@@ -1,5 +1,6 @@
 -- What holds of a connection's line-up while the connection lives.
-use Rattle.std.specs.Prelude.{◌≡◌, ℕ, ◌+◌, ◌≤◌, Bool, true, false, ◌||◌, List, [], ◌∷◌}
+use Rattle.std.specs.Prelude.{◌≡◌, ℕ, ◌+◌, ◌≤◌, Bool, true, false, ◌||◌, List}
+use Rattle.std.specs.Prelude.{[], ◌∷◌}
 use Rattle.dtap_codec.specs.Places.{Rise}
 use Rattle.world_laws.specs.Prelude.{to_be_taken, DataLinkState, RunsToEnd}
 use Rattle.world_laws.specs.LineUp.Places.{Tenure, Seat, LineUp, line, controls_in, controls_of}

@@ -1,5 +1,6 @@
 -- What a mobile's doings change of its connection's line-up.
-use Rattle.std.specs.Prelude.{◌≡◌, ℕ, ◌%◌, true, false, Some, List, [], ◌∷◌, ◌++◌, length}
+use Rattle.std.specs.Prelude.{◌≡◌, ℕ, ◌%◌, true, false, Some, List, [], ◌∷◌}
+use Rattle.std.specs.Prelude.{◌++◌, length}
 use Rattle.world_laws.specs.Prelude.{is_flow_message, is_control}
 use Rattle.dtap_codec.specs.Number.{with_number}
 use Rattle.dtap_codec.specs.Places.{IsClear}

@@ -1,6 +1,7 @@
 -- The line-up of one connection: where the mobile's messages of SAPI 0 stand on their way to the
 -- switch.
-use Rattle.std.specs.Prelude.{ℕ, Bool, false, List, [], ◌∷◌, ◌++◌, filter, length, if◌then◌else◌}
+use Rattle.std.specs.Prelude.{ℕ, Bool, false, List, [], ◌∷◌, ◌++◌, filter, length}
+use Rattle.std.specs.Prelude.{if◌then◌else◌}
 use Rattle.world_laws.specs.Prelude.{is_flow_message, is_control, DataLinkState}
 
 -- what is on its way up from a channel, made by its station and not yet taken by the controller

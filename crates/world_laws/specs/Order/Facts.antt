@@ -1,12 +1,14 @@
 -- What the order of a run rests on, event by event: what holds of each world of the run, and of
 -- each event.
-use Rattle.std.specs.Prelude.{◌≡◌, ◌⊎◌, ℕ, ◌≤◌, ◌<◌, true, false, Option, Some, None}
+use Rattle.std.specs.Prelude.{◌≡◌, ◌⊎◌, ℕ, ◌≤◌, ◌<◌, true, false, Option}
+use Rattle.std.specs.Prelude.{Some, None}
 use Rattle.world_laws.specs.Prelude.{SWITCH_LINK, WaitConfirm, Connection, IsThere, connection_of}
 use Rattle.world_laws.specs.Prelude.{Event, BaseTakes}
 use Rattle.world_laws.specs.Prelude.{SwitchTakes, actors_after, Actors, Mobile, is_station_up}
 use Rattle.world_laws.specs.Prelude.{is_up, mobile_of, outbox_of}
 use Rattle.world_laws.specs.Ended.{PutsNoMore}
-use Rattle.world_laws.specs.AccountedFor.{AcksAgree, HasOpened, IsUnknownForGood, IsOpenAndLinedUp, TargetIsFresh}
+use Rattle.world_laws.specs.AccountedFor.{AcksAgree, HasOpened, IsUnknownForGood, IsOpenAndLinedUp}
+use Rattle.world_laws.specs.AccountedFor.{TargetIsFresh}
 use Rattle.world_laws.specs.OthersFrame.{IsHad}
 use Rattle.world_laws.specs.OwnFrame.{IsRequested}
 use Rattle.world_laws.specs.Seated.{AreActiveAt, IsAlone}

@@ -1,6 +1,7 @@
 -- In each run: where each connection stands, and how the places of its mobile's messages rise, from
 -- the switch down to the mobile.
-use Rattle.std.specs.Prelude.{◌≡◌, ◌⊎◌, ℕ, ◌≤◌, true, if◌then◌else◌, length, List, [], ◌++◌, Option}
+use Rattle.std.specs.Prelude.{◌≡◌, ◌⊎◌, ℕ, ◌≤◌, true, if◌then◌else◌}
+use Rattle.std.specs.Prelude.{length, List, [], ◌++◌, Option}
 use Rattle.std.specs.Prelude.{Some}
 use Rattle.world_laws.specs.Prelude.{SWITCH_LINK, Connection, to_be_taken, AreAllowed, Parameters}
 use Rattle.world_laws.specs.Prelude.{Event}

@@ -1,5 +1,6 @@
 -- The order of a run, end to end, and what it rests on.
-use Rattle.std.specs.Prelude.{◌≡◌, ℕ, ◌≤◌, false, Option, Some, IsSome, List, [], ◌∷◌, ◌++◌}
+use Rattle.std.specs.Prelude.{◌≡◌, ℕ, ◌≤◌, false, Option, Some, IsSome, List, []}
+use Rattle.std.specs.Prelude.{◌∷◌, ◌++◌}
 use Rattle.std.specs.Option.{option_and_then}
 use Rattle.world_laws.specs.Prelude.{SWITCH_LINK, AreAllowed, Parameters, Event, actors_after_all}
 use Rattle.world_laws.specs.Prelude.{Actors, is_up, modulus_in, new_actors}

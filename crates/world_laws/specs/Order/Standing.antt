@@ -1,6 +1,7 @@
 -- Where a connection of a run stands, from before its number is given until nothing more of it
 -- comes.
-use Rattle.std.specs.Prelude.{◌≡◌, ℕ, ◌≤◌, ◌<◌, true, false, List, [], Option, Some, None}
+use Rattle.std.specs.Prelude.{◌≡◌, ℕ, ◌≤◌, ◌<◌, true, false, List, [], Option}
+use Rattle.std.specs.Prelude.{Some, None}
 use Rattle.std.specs.List.{AllByRecursion}
 use Rattle.world_laws.specs.Prelude.{SWITCH_LINK, Connection, IsThere, connection_of}
 use Rattle.world_laws.specs.Prelude.{SwitchConnection, Parameters, Event}

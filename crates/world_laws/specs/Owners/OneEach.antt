@@ -1,5 +1,6 @@
 -- Each mobile asks for a channel once, and one connection at most is the answer to it.
-use Rattle.std.specs.Prelude.{◌≡◌, ◌≢◌, ℕ, ◌+◌, ◌≤◌, ◌==◌, Bool, false, if◌then◌else◌, List, []}
+use Rattle.std.specs.Prelude.{◌≡◌, ◌≢◌, ℕ, ◌+◌, ◌≤◌, ◌==◌, Bool, false}
+use Rattle.std.specs.Prelude.{if◌then◌else◌, List, []}
 use Rattle.std.specs.Prelude.{◌∷◌, ◌++◌, Some}
 use Rattle.std.specs.List.{flat_map}
 use Rattle.world_laws.specs.Prelude.{Connection, connection_of, Item, Rsl, Parameters, Event}

@@ -1,6 +1,7 @@
 -- How the switch's connections, what is on its way to the switch and the controller's connections
 -- agree by references.
-use Rattle.std.specs.Prelude.{◌≡◌, ◌⊎◌, ℕ, zero, suc, ◌+◌, ◌≤◌, ◌<◌, Bool, true, false, List, []}
+use Rattle.std.specs.Prelude.{◌≡◌, ◌⊎◌, ℕ, zero, suc, ◌+◌, ◌≤◌, ◌<◌}
+use Rattle.std.specs.Prelude.{Bool, true, false, List, []}
 use Rattle.std.specs.Prelude.{◌∷◌, map, find, None}
 use Rattle.std.specs.List.{AllByRecursion}
 use Rattle.world_laws.specs.Prelude.{Sccp, Out, SWITCH_LINK, connection_of, word_by, Word}

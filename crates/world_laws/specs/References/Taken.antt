@@ -1,5 +1,6 @@
 -- The switch takes each entry as it was put, or refuses its connection, and never hears of that.
-use Rattle.std.specs.Prelude.{◌≡◌, ◌⊎◌, ℕ, ◌≤◌, true, List, [], find, Some, None}
+use Rattle.std.specs.Prelude.{◌≡◌, ◌⊎◌, ℕ, ◌≤◌, true, List, [], find, Some}
+use Rattle.std.specs.Prelude.{None}
 use Rattle.world_laws.specs.Prelude.{SWITCH_LINK, State, WaitActivation, WaitEstablish, Connection, IsThere, connection_of}
 use Rattle.world_laws.specs.Prelude.{SwitchConnection, AreAllowed, Parameters, Event, SwitchTakes}
 use Rattle.world_laws.specs.Prelude.{actors_after, Actors}

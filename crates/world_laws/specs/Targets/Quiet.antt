@@ -1,5 +1,6 @@
 -- Channels that are free are quiet: nothing comes of them, and no command is on its way there.
-use Rattle.std.specs.Prelude.{◌≡◌, ◌⊎◌, ℕ, ◌≤◌, Bool, true, false, List, [], ◌∷◌, length}
+use Rattle.std.specs.Prelude.{◌≡◌, ◌⊎◌, ℕ, ◌≤◌, Bool, true, false, List, []}
+use Rattle.std.specs.Prelude.{◌∷◌, length}
 use Rattle.std.specs.List.{list_any}
 use Rattle.world_laws.specs.Prelude.{Place, Free, channel_state, hears, AreAllowed, Parameters}
 use Rattle.world_laws.specs.Prelude.{Event, OutboxEntry}
