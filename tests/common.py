@@ -1,3 +1,4 @@
+# SPDX-License-Identifier: MIT OR Apache-2.0
 """For the scripts of this folder and of bench/."""
 import shutil
 import subprocess

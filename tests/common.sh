@@ -1,3 +1,4 @@
+# SPDX-License-Identifier: MIT OR Apache-2.0
 # For the scripts of this folder and of bench/. Beforehand top is the repository's folder.
 
 # needs COMMAND..: where one of them isn't here the script can't be tried, and ends with 77

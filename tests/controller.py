@@ -1,3 +1,4 @@
+# SPDX-License-Identifier: MIT OR Apache-2.0
 """The controller in few words: a second reading of its table (docs/CONNECTION.md), beside the proved one, for tests/random-scripts.
 
 Messages are tuples: a name, for RSL the channel's number, and what the message carries; no octets but those of layer 3. A place

@@ -1,3 +1,4 @@
+// SPDX-License-Identifier: MIT OR Apache-2.0
 /* Preloaded before a program: refuses the call of malloc, realloc or their kin whose number, from 1, is REFUSE, and writes
    how many blocks were not given back to the file LIVE, if one is named, as the program ends, and how many calls there were
    to the file CALLS. */

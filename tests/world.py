@@ -1,3 +1,4 @@
+# SPDX-License-Identifier: MIT OR Apache-2.0
 """Mobiles, stations and the switch round the controller of tests/controller.py: a second reading of docs/SCRIPT.md, beside the
 proved one, for tests/random-scripts. An event is its kind and its words, octets as bytes.
 """

@@ -1,3 +1,4 @@
+# SPDX-License-Identifier: MIT OR Apache-2.0
 """Joins bsc to base stations, to a switch, and to mobiles: python3 examples/front COMMAND ..
 
   station --config FILE [--front FILE]   configures base stations and joins each to its cell of bsc

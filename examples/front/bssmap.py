@@ -1,3 +1,4 @@
+# SPDX-License-Identifier: MIT OR Apache-2.0
 """BSSMAP (TS 48.008) as far as the front does it by itself, or looks at it on the way. Not proved."""
 
 # clause 3.2.2.1: message types

@@ -1,3 +1,4 @@
+# SPDX-License-Identifier: MIT OR Apache-2.0
 """The virtual radio of osmo-bts-virtual: GSMTAP frames over UDP multicast.
 
 A GSMTAP frame is a header of 16 octets and one block of a logical channel (23 octets, on the RACH one). All cells share

@@ -1,3 +1,4 @@
+# SPDX-License-Identifier: MIT OR Apache-2.0
 """IPA frames over TCP, and the identification of one side to the other (CCM). Not proved.
 
 A frame is the body's length in two octets, a stream, and the body. CCM messages go over a stream of their own.

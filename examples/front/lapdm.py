@@ -1,3 +1,4 @@
+# SPDX-License-Identifier: MIT OR Apache-2.0
 """LAPDm, the data link layer of the signalling channels, on the mobile's side (TS 44.006). Not proved.
 
 A DataLink is one SAPI on one channel. It sets the link up by SABM (with the initial message in it, so that UA settles

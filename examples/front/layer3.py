@@ -1,3 +1,4 @@
+# SPDX-License-Identifier: MIT OR Apache-2.0
 """Layer 3 of the radio interface: names of messages, and what a mobile reads of them. Not proved.
 
 TS 24.007 clause 11.2.3 (discriminator, type, N(SD)), TS 44.018 (radio resource), TS 24.008 (mobility management and

@@ -1,4 +1,5 @@
 #!/usr/bin/env python3
+# SPDX-License-Identifier: MIT OR Apache-2.0
 """A mobile on the virtual radio of osmo-bts-virtual, driven by commands. Not proved.
 
     python3 examples/front mobile --imsi 001010000000001 [--arfcn 20] [--imei DIGITS] [--revision 1|2] [--name NAME]

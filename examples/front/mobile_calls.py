@@ -1,3 +1,4 @@
+# SPDX-License-Identifier: MIT OR Apache-2.0
 """Call control of a mobile (TS 24.008 clause 5): one speech call, without speech. Not proved.
 
 A call to the mobile is answered at once. The assignment of a traffic channel in between is radio resource management's.

@@ -1,3 +1,4 @@
+# SPDX-License-Identifier: MIT OR Apache-2.0
 """What a mobile knows of the cells that it hears (TS 44.018 clauses 9.1.32 to 9.1.40). Not proved."""
 from __future__ import annotations
 

@@ -1,3 +1,4 @@
+# SPDX-License-Identifier: MIT OR Apache-2.0
 """A change of a mobile's channel, by handover or assignment (TS 44.018 clauses 3.4.3 and 3.4.4). Not proved."""
 from __future__ import annotations
 

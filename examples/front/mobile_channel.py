@@ -1,3 +1,4 @@
+# SPDX-License-Identifier: MIT OR Apache-2.0
 """A mobile's dedicated channel: its data links, and its frames on the virtual radio. Not proved.
 
 SAPI 0 goes on the SDCCH or the FACCH. SAPI 3 goes there on an SDCCH, and on the SACCH of a TCH/F (TS 44.006 clause 6).

@@ -1,3 +1,4 @@
+# SPDX-License-Identifier: MIT OR Apache-2.0
 """The commands that drive a mobile; what they are called and do stands in mobile.py. Not proved."""
 from __future__ import annotations
 

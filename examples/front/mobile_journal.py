@@ -1,3 +1,4 @@
+# SPDX-License-Identifier: MIT OR Apache-2.0
 """What a mobile tells: each layer 3 message both ways with its name, and what happens to its channel. Not proved."""
 from __future__ import annotations
 

@@ -1,3 +1,4 @@
+# SPDX-License-Identifier: MIT OR Apache-2.0
 """The messages that a mobile sends: mobility management and radio resource (TS 24.008, TS 44.018). Not proved."""
 from __future__ import annotations
 

@@ -1,3 +1,4 @@
+# SPDX-License-Identifier: MIT OR Apache-2.0
 """Mobility management of a mobile (TS 24.008 clause 4), and the numbers of its messages (TS 24.007 clause 11.2.3.2).
 
 Not proved. Authentication is left out: an AUTHENTICATION REQUEST isn't answered.

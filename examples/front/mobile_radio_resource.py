@@ -1,3 +1,4 @@
+# SPDX-License-Identifier: MIT OR Apache-2.0
 """Radio resource management of a mobile (TS 44.018): channel request, handover, assignment, release. Not proved.
 
 This virtual radio knows no access burst on a dedicated channel, so a handover is the SABM on the new channel alone, as

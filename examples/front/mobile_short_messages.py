@@ -1,3 +1,4 @@
+# SPDX-License-Identifier: MIT OR Apache-2.0
 """Short messages of a mobile (TS 24.011, TS 23.040): it acknowledges those that come, and sends one. Not proved."""
 from __future__ import annotations
 

@@ -1,3 +1,4 @@
+# SPDX-License-Identifier: MIT OR Apache-2.0
 """What examples/network plays, and what it looks at. Not proved."""
 import re
 import time

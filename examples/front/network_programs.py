@@ -1,3 +1,4 @@
+# SPDX-License-Identifier: MIT OR Apache-2.0
 """The programs of examples/network, started each when what it needs is there. Not proved."""
 import os
 import sys

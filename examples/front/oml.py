@@ -1,3 +1,4 @@
+# SPDX-License-Identifier: MIT OR Apache-2.0
 """Configures a base station by OML (TS 12.21, with the messages that ip.access added). Not proved.
 
 Object by object its attributes are set, it is unlocked, and its operation is started (OPSTART), in the order in which osmo-bsc

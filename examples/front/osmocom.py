@@ -1,3 +1,4 @@
+# SPDX-License-Identifier: MIT OR Apache-2.0
 """Settings of the programs of Osmocom for examples/network: all on one loopback. Not proved."""
 
 # the terminals (VTY) of osmo-msc and osmo-hlr

@@ -1,3 +1,4 @@
+# SPDX-License-Identifier: MIT OR Apache-2.0
 """A controller without an order of messages, to compare bsc with: what comes is passed on at once. Not proved.
 
     python3 plain_relay.py --config FILE

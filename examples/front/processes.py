@@ -1,3 +1,4 @@
+# SPDX-License-Identifier: MIT OR Apache-2.0
 """Starts programs with their output in files, waits for what they say, and ends each by its process id. Not proved."""
 import os
 import signal

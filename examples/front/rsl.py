@@ -1,3 +1,4 @@
+# SPDX-License-Identifier: MIT OR Apache-2.0
 """RSL (TS 48.058): what the front makes of it by itself, and what it looks at on the way. Not proved.
 
 Everything else is passed on as it is.

@@ -1,3 +1,4 @@
+# SPDX-License-Identifier: MIT OR Apache-2.0
 """Tells on standard error what happens to the links, a line each, and counts what is dropped. Not proved."""
 import asyncio
 import signal

@@ -1,3 +1,4 @@
+# SPDX-License-Identifier: MIT OR Apache-2.0
 """SCCP as the front needs it (Q.713): connections' messages on their way, and connectionless ones (UDT). Not proved."""
 from dataclasses import dataclass
 

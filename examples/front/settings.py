@@ -1,3 +1,4 @@
+# SPDX-License-Identifier: MIT OR Apache-2.0
 """Settings: those of bsc for all that they have, and those of the front for the rest, each with a default. Not proved."""
 import argparse
 import ipaddress

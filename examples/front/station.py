@@ -1,3 +1,4 @@
+# SPDX-License-Identifier: MIT OR Apache-2.0
 """front station: configures base stations, and joins each to its cell of bsc. Not proved.
 
 A base station opens its OML link first. The front configures it there and tells it where RSL is. On the RSL link it gives the

@@ -1,3 +1,4 @@
+# SPDX-License-Identifier: MIT OR Apache-2.0
 """front switch: joins bsc to a switch by SCCP over IPA (SCCPlite). Not proved.
 
 Both connect to the front. It asks the switch who it is, and resets it and is reset by it; from then on it passes on the

@@ -1,3 +1,4 @@
+# SPDX-License-Identifier: MIT OR Apache-2.0
 """SYSTEM INFORMATION of a cell (TS 44.018 clauses 9.1.31 to 9.1.40), made from its settings. Not proved.
 
 Types 1 to 4 go over the BCCH, 5 and 6 over the SACCH of each dedicated channel.

@@ -1,3 +1,4 @@
+// SPDX-License-Identifier: MIT OR Apache-2.0
 /* For osmo-msc on a kernel that has no SCTP: LD_PRELOAD=without_sctp.so osmo-msc ..
  *
  * Its SGs listener wants an SCTP socket and it doesn't start without one. Here each SCTP socket is one of TCP, and it listens

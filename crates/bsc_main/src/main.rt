@@ -1,3 +1,4 @@
+// SPDX-License-Identifier: MIT OR Apache-2.0
 //! The program `bsc`: a relay of the signalling between the stations and the switch of a GSM
 //! network.
 #![tactic(auto)]

@@ -1,3 +1,4 @@
+-- SPDX-License-Identifier: MIT OR Apache-2.0
 -- How many messages of a world were counted so far, and how a connection and a mobile carry it on.
 use Rattle.std.proofs.Common.{◌≡◌, ℕ, zero, suc, ◌+◌, ◌-◌, ◌*◌, ◌<◌, ◌≤◌, List, [], length, Option, Some, None, refl, sym, ap, ◌∙◌, arith, add_assoc, unwrap_or}
 use Rattle.std.specs.Prelude.{◌^◌, Bool, true, false, if◌then◌else◌}

@@ -1,3 +1,4 @@
+-- SPDX-License-Identifier: MIT OR Apache-2.0
 -- What `replay` prints of literal scripts, in each of its worlds, and that it prints nothing else.
 use Rattle.std.proofs.Common.{◌≡◌, ℕ, zero, suc, true, false, true≢false, List, [], ◌∷◌, ◌++◌, ◌+◌, ◌-◌, ◌<◌, Some, None, refl, sym, ap, append-nil, arith, ◌∙◌, inl, inr}
 use Rattle.std.specs.Prelude.{codes, decimal, ◌^◌, ◌==◌, is_some, unwrap_or, IsSome}

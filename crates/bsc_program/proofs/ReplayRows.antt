@@ -1,3 +1,4 @@
+-- SPDX-License-Identifier: MIT OR Apache-2.0
 -- What options ask for, and the lines of breaks, against literal words, settings and worlds.
 use Rattle.std.proofs.Common.{◌≡◌, ℕ, List, [], ◌∷◌, ◌++◌, ◌+◌, ◌-◌, ◌<◌, suc, map, false, Option, Some, None, Ok, Err, refl, ap, arith, ◌∙◌}
 use Rattle.std.specs.Prelude.{codes, decimal, ◌^◌, ◌==◌, if◌then◌else◌}

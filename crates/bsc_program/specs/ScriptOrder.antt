@@ -1,3 +1,4 @@
+-- SPDX-License-Identifier: MIT OR Apache-2.0
 -- The order of messages in the world that a script's events make.
 use Rattle.std.specs.Prelude.{ℕ, List, length}
 use Rattle.settings.specs.Parameters.{AreAllowed, Parameters}

@@ -1,3 +1,4 @@
+// SPDX-License-Identifier: MIT OR Apache-2.0
 //! What the program `bsc` does, over any reader and writers: a script is replayed, and the frames
 //! of a link are named.
 #![tactic(auto)]

@@ -1,3 +1,4 @@
+-- SPDX-License-Identifier: MIT OR Apache-2.0
 -- Definitions against literal octets: what is read of them, and what is written.
 use Rattle.std.proofs.Common.{◌≡◌, ℕ, Bool, List, filter, length, map, [], ◌∷◌, ◌++◌, true, false, replicate, Some, None, Ok, Err, refl}
 use Rattle.std.specs.List.{range_with_len}

@@ -1,3 +1,4 @@
+-- SPDX-License-Identifier: MIT OR Apache-2.0
 -- Whole texts of the A interface, read and written back: those of an access, and of a handover.
 use Rattle.std.proofs.Common.{◌≡◌, List, ℕ, Some, Ok, refl}
 use Rattle.octets.proofs.Hex.{hex}

@@ -1,3 +1,4 @@
+-- SPDX-License-Identifier: MIT OR Apache-2.0
 -- Which fault octets have that are no text of a message of BSSAP, by its elements (TS 48.006 clause
 -- 9.3, TS 48.008 clause 3.2).
 use Rattle.std.specs.Prelude.{◌≡◌, ◌≢◌, ℕ, ◌<◌, Bool, not, ◌==◌, nat_lt, List}

@@ -1,3 +1,4 @@
+-- SPDX-License-Identifier: MIT OR Apache-2.0
 -- The types of the messages of BSSMAP (TS 48.008 clause 3.2.2.1).
 use Rattle.std.specs.Prelude.{ℕ, ◌==◌, Option}
 use Rattle.std.specs.List.{find}

@@ -1,3 +1,4 @@
+-- SPDX-License-Identifier: MIT OR Apache-2.0
 pub mod Bssap
 pub mod BssapFaults
 pub mod BssapReading

@@ -1,3 +1,4 @@
+-- SPDX-License-Identifier: MIT OR Apache-2.0
 -- Local references: three octets, the high one first (Q.713 clause 3.2).
 use Rattle.std.specs.Prelude.{ℕ, ◌+◌, ◌*◌, ◌/◌, ◌%◌, ◌^◌, ◌<◌, List, []}
 use Rattle.std.specs.Prelude.{◌∷◌, ◌++◌, Result, Ok}

@@ -1,3 +1,4 @@
+// SPDX-License-Identifier: MIT OR Apache-2.0
 ghost use Rattle.std.specs.Prelude.{◌≡◌, ◌⊎◌, ◌++◌, ℕ, List, length, take, IfOk};
 ghost use Rattle.std.specs.Prelude.{OnErr, OnOk, None};
 ghost use Rattle.std.specs.Prelude.{Ok, Err};

@@ -1,3 +1,4 @@
+// SPDX-License-Identifier: MIT OR Apache-2.0
 ghost use Rattle.std.specs.Prelude.{◌≡◌, ◌≤◌, ◌<◌, ◌-◌, ◌^◌, ◌∷◌, []};
 ghost use Rattle.std.specs.Prelude.{◌++◌, length, min};
 ghost use Rattle.std.specs.Prelude.{option_map, IfOk, OnOk};

@@ -1,3 +1,4 @@
+// SPDX-License-Identifier: MIT OR Apache-2.0
 use octets::element::{Entry, Format};
 
 /// Identifiers of the elements of BSSMAP (TS 48.008 clause 3.2.2.1).

@@ -1,3 +1,4 @@
+// SPDX-License-Identifier: MIT OR Apache-2.0
 //! Messages of the A interface: SCCP of class 2 (Q.713), BSSAP (TS 48.006) and BSSMAP (TS 48.008),
 //! read and written.
 #![tactic(auto)]

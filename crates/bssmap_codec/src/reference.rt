@@ -1,3 +1,4 @@
+// SPDX-License-Identifier: MIT OR Apache-2.0
 ghost use Rattle.std.specs.Prelude.{◌≡◌, ◌<◌, ◌^◌, ◌++◌, IfOk, OnOk};
 ghost use Rattle.octets.specs.Answer.{result_map};
 ghost use Rattle.bssmap_codec.specs.Reference.{reference_at, reference_text};

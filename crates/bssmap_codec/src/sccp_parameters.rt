@@ -1,3 +1,4 @@
+// SPDX-License-Identifier: MIT OR Apache-2.0
 /// The protocol class of connections whose data come in order, without flow control (Q.713 clause
 /// 3.6).
 pub const PROTOCOL_CLASS: u8 = 0x02;

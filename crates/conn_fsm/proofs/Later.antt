@@ -1,3 +1,4 @@
+-- SPDX-License-Identifier: MIT OR Apache-2.0
 -- A plan is done after time has passed: the row that was planned doesn't read the timers.
 use Rattle.std.proofs.Common.{◌≡◌, ℕ, List, Option, Some, None, refl, sym, subst, ap}
 use Rattle.conn_messages.specs.declared.out.Out.{Out}

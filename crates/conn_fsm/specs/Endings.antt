@@ -1,3 +1,4 @@
+-- SPDX-License-Identifier: MIT OR Apache-2.0
 -- What an expiry or a broken link is to make of a connection.
 use Rattle.std.specs.Prelude.{Option, Result, IfOk}
 use Rattle.conn_rules.specs.Connection.{Connection}

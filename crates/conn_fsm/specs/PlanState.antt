@@ -1,3 +1,4 @@
+-- SPDX-License-Identifier: MIT OR Apache-2.0
 -- A plan for an expiry or a broken link.
 use Rattle.std.specs.Prelude.{List, Option}
 use Rattle.conn_messages.specs.declared.out.Out.{Out}

@@ -1,3 +1,4 @@
+// SPDX-License-Identifier: MIT OR Apache-2.0
 ghost use Rattle.std.specs.Prelude.{OnOk};
 ghost use Rattle.conn_rules.specs.declared.state.State.TheVariants.{Live, WaitActivation};
 ghost use Rattle.conn_rules.specs.Table.{assign_immediately, command_to, on_activation_ack};

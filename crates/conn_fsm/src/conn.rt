@@ -1,3 +1,4 @@
+// SPDX-License-Identifier: MIT OR Apache-2.0
 ghost use Rattle.std.specs.Prelude.{◌≡◌, ◌<◌, ◌^◌, None, IfOk};
 ghost use Rattle.conn_rules.specs.Connection.{new_connection};
 ghost use Rattle.conn_rules.specs.Validity.{IsCarried, IsValid};

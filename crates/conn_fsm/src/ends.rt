@@ -1,3 +1,4 @@
+// SPDX-License-Identifier: MIT OR Apache-2.0
 ghost use Rattle.std.specs.Prelude.{◌≡◌, ◌++◌, OnOk};
 ghost use Rattle.conn_rules.specs.Steps.{dropping, ending, end_outs, failing, target_release};
 ghost use Rattle.conn_fsm.specs.Doing.{Does, UnchangedOnErr};

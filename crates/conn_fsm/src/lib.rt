@@ -1,3 +1,4 @@
+// SPDX-License-Identifier: MIT OR Apache-2.0
 //! The connection: a mobile's way through the base station controller, from its access to the
 //! clear. Each step is a row of the table in `conn_rules`.
 #![tactic(auto)]

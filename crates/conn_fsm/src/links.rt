@@ -1,3 +1,4 @@
+// SPDX-License-Identifier: MIT OR Apache-2.0
 ghost use Rattle.std.specs.Prelude.{◌≡◌, [], ◌∷◌, ◌++◌, Some, OnOk};
 ghost use Rattle.conn_rules.specs.declared.state.ShortMessageLink.TheVariants.{Asked};
 ghost use Rattle.conn_rules.specs.Validity.{IsValid};

@@ -1,3 +1,4 @@
+// SPDX-License-Identifier: MIT OR Apache-2.0
 ghost use Rattle.std.specs.Prelude.{◌≡◌, ℕ, ◌<◌, ◌≤◌, None, length, OnOk};
 ghost use Rattle.conn_rules.specs.declared.limits.TheConstants.{DRAIN_LIMIT};
 ghost use Rattle.conn_rules.specs.Validity.{IsValid};

@@ -1,3 +1,4 @@
+// SPDX-License-Identifier: MIT OR Apache-2.0
 use crate::machine::Machine;
 use conn_messages::Outputs;
 use conn_rules::{Input, State};

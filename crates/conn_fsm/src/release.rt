@@ -1,3 +1,4 @@
+// SPDX-License-Identifier: MIT OR Apache-2.0
 ghost use Rattle.std.specs.Prelude.{◌≡◌, ◌<◌, ◌≤◌, ◌+◌, ◌&&◌, ◌++◌};
 ghost use Rattle.std.specs.Prelude.{length, OnOk, drop as dropped};
 ghost use Rattle.conn_rules.specs.declared.state.State.TheVariants.{Live};

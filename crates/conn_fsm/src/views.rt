@@ -1,3 +1,4 @@
+// SPDX-License-Identifier: MIT OR Apache-2.0
 ghost use Rattle.std.specs.Prelude.{◌≡◌, ◌≤◌, ◌++◌, length, IfOk, OnOk};
 ghost use Rattle.conn_rules.specs.Validity.{IsValid};
 ghost use Rattle.hold_queue.specs.ChainState.{messages_in};

@@ -1,3 +1,4 @@
+-- SPDX-License-Identifier: MIT OR Apache-2.0
 -- What can be written fits a frame.
 use Rattle.std.proofs.Common.{◌≡◌, ℕ, ◌+◌, ◌*◌, ◌≤◌, ◌<◌, get_or, ◌||◌, Bool, true, false, cond, List, [], ◌∷◌, length, length-append, Option, Some, None, option_map, refl, arith}
 use Rattle.std.proofs.lemmas.Bool.{ltb-false}

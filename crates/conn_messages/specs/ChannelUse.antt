@@ -1,3 +1,4 @@
+-- SPDX-License-Identifier: MIT OR Apache-2.0
 -- What a message makes of a channel of the station that it goes to.
 use Rattle.conn_messages.specs.declared.uses.ChannelUse.{ChannelUse}
 use Rattle.conn_messages.specs.declared.uses.ChannelUse.TheVariants.{Activated, Released, Unchanged}

@@ -1,3 +1,4 @@
+-- SPDX-License-Identifier: MIT OR Apache-2.0
 -- The frames that carry the messages of a connection.
 use Rattle.std.specs.Prelude.{◌≡◌, ℕ, ◌≤◌, List, length, map, Some, None, Ok}
 use Rattle.octets.specs.declared.limits.TheConstants.{LENGTH_LIMIT}

@@ -1,3 +1,4 @@
+-- SPDX-License-Identifier: MIT OR Apache-2.0
 -- Frames that go out, as a list, and the room for more.
 use Rattle.std.specs.Prelude.{ℕ, List}
 use Rattle.conn_messages.specs.declared.out.Out.{Out}

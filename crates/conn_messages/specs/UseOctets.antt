@@ -1,3 +1,4 @@
+-- SPDX-License-Identifier: MIT OR Apache-2.0
 -- How the octets of a frame tell what its message makes of a channel.
 use Rattle.std.specs.Prelude.{ℕ, ◌==◌, ◌&&◌, if◌then◌else◌, List, slice_index_or}
 use Rattle.std.specs.Prelude.{Result, Ok, Err}

@@ -1,3 +1,4 @@
+// SPDX-License-Identifier: MIT OR Apache-2.0
 //! The causes that the controller writes.
 
 /// BSSMAP, radio interface message failure (TS 48.008 clause 3.2.2.5, as those below).

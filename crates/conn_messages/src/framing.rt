@@ -1,3 +1,4 @@
+// SPDX-License-Identifier: MIT OR Apache-2.0
 ghost use Rattle.std.specs.Prelude.{◌≡◌, ◌<◌, ◌^◌, None, IfOk};
 ghost use Rattle.bssmap_codec.specs.BssapText.{bssap_text};
 ghost use Rattle.bssmap_codec.specs.SccpText.{sccp_write_fault};

@@ -1,3 +1,4 @@
+// SPDX-License-Identifier: MIT OR Apache-2.0
 ghost use Rattle.std.specs.Prelude.{ℕ, ◌<◌, ◌^◌};
 ghost use Rattle.conn_messages.specs.declared.message.Message.{Message as MessageValue};
 ghost use Rattle.conn_messages.specs.Out.{IsLawfulMessage, IsReadOf, IsWritable, out_of};

@@ -1,3 +1,4 @@
+// SPDX-License-Identifier: MIT OR Apache-2.0
 //! The messages that a connection of the base station controller puts: their values, their
 //! builders, and the frames that carry them.
 #![tactic(auto)]

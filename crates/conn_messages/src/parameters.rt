@@ -1,3 +1,4 @@
+// SPDX-License-Identifier: MIT OR Apache-2.0
 /// Values of the channel mode (TS 48.058 clause 9.3.6): no discontinuous transmission; signalling
 /// or speech; kind and rate of the channel; no resource for signalling, or full or half rate speech
 /// of version 1.

@@ -1,3 +1,4 @@
+// SPDX-License-Identifier: MIT OR Apache-2.0
 //! The messages to a base station (TS 48.058 clause 8), and those to the mobile that they carry (TS
 //! 44.018 clause 9.1).
 //!

@@ -1,3 +1,4 @@
+// SPDX-License-Identifier: MIT OR Apache-2.0
 //! The messages to the switch on a connection (TS 48.006 clause 9.3, TS 48.008 clause 3.2.1). The
 //! switch's reference names the connection.
 //!

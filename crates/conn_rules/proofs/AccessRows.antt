@@ -1,3 +1,4 @@
+-- SPDX-License-Identifier: MIT OR Apache-2.0
 -- The rows before the switch confirms a connection, and those of a closed one.
 use Rattle.conn_rules.proofs.Prelude.{ℕ, List, [], ◌∷◌, ◌++◌, replicate, Some, None, refl, Zero, Three, hex, Connection}
 use Rattle.conn_rules.proofs.Prelude.{Active, Live, Input, State, WaitActivation, WaitEstablish, WaitConfirm, Closed, Removed, Due}

@@ -1,3 +1,4 @@
+-- SPDX-License-Identifier: MIT OR Apache-2.0
 -- The rows of Active, on an SDCCH and on a TCH, with the link of SAPI 3 down, asked for and up.
 use Rattle.conn_rules.proofs.Prelude.{ℕ, false, List, [], ◌∷◌, ◌++◌, replicate, Some, None, refl, Zero, Three, hex, Connection}
 use Rattle.conn_rules.proofs.Prelude.{Input, Assignment, Handover, Active, Preparing, Live, Closed, Removed, WasAsked, Complete}

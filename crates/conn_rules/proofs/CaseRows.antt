@@ -1,3 +1,4 @@
+-- SPDX-License-Identifier: MIT OR Apache-2.0
 -- What the tables of rows are made of: a connection before an event, what it puts, and the connection
 -- after the event, each of literals. The octets are those of the standards, and no definition makes them.
 use Rattle.conn_rules.proofs.Prelude.{◌≡◌, ℕ, Bool, true, false, List, [], ◌∷◌, ◌++◌, map, Option, Some, None, Channel}

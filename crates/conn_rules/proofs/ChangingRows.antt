@@ -1,3 +1,4 @@
+-- SPDX-License-Identifier: MIT OR Apache-2.0
 -- The rows of Changing: alone, and while old channels drain.
 use Rattle.conn_rules.proofs.CaseRows.{in_state, NoneFit, complete, failure, links_on, changes_on, activations_on, all_on, answers}
 use Rattle.conn_rules.proofs.CaseRows.{AreRows, case, offered, live, with_texts, in_stage, ended, target, drains, is_done, held, held_up}

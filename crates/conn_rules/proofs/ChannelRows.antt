@@ -1,3 +1,4 @@
+-- SPDX-License-Identifier: MIT OR Apache-2.0
 -- Which channels a row knows, and which serves after it.
 use Rattle.conn_rules.proofs.Prelude.{◌≡◌, [], None, refl, arith, Assignment, Handover}
 use Rattle.conn_rules.specs.declared.input.Input.TheVariants as inputs

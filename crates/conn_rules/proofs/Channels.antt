@@ -1,3 +1,4 @@
+-- SPDX-License-Identifier: MIT OR Apache-2.0
 -- A row keeps the number of its connection; the channel that serves after it is the serving one or
 -- the target, and the target after it is the target or the offer.
 use Rattle.conn_rules.proofs.Prelude.{◌≡◌, ℕ, zero, suc, ◌&&◌, Bool, true, false, if◌then◌else◌, List, [], ◌∷◌, ◌++◌, Option, Some, None}

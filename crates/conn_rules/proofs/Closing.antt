@@ -1,3 +1,4 @@
+-- SPDX-License-Identifier: MIT OR Apache-2.0
 -- The end of a connection is final, by what every row does.
 use Rattle.conn_rules.proofs.Prelude.{Option, Channel, Input, Connection, OfRow, IsOpen, IsFinal}
 use Rattle.conn_rules.specs.Steps.{Row}

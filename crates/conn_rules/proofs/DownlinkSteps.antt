@@ -1,3 +1,4 @@
+-- SPDX-License-Identifier: MIT OR Apache-2.0
 -- What the steps do to the messages of the switch.
 use Rattle.conn_rules.proofs.Prelude.{◌≡◌, ℕ, Bool, true, false, not, ◌&&◌, List, [], ◌∷◌, ◌++◌, map, filter, refl, sym, ◌∙◌, ap, subst}
 use Rattle.conn_rules.proofs.Prelude.{Option, Some, None, append-nil, eqb, AllByRecursion, ABNORMAL_RELEASE, EQUIPMENT_FAILURE, Change}

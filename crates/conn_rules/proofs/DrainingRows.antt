@@ -1,3 +1,4 @@
+-- SPDX-License-Identifier: MIT OR Apache-2.0
 -- The rows of Draining, with one, two and three old channels, done ones among them.
 use Rattle.conn_rules.proofs.CaseRows.{in_state, NoneFit, links_on, changes_on, activations_on, all_on, answers, AreRows, case, offered}
 use Rattle.conn_rules.proofs.CaseRows.{live, with_texts, in_stage, ended, target, drains, is_done, held_up, tenure, empty, call, text}

@@ -1,3 +1,4 @@
+-- SPDX-License-Identifier: MIT OR Apache-2.0
 -- The rows of Preparing: alone, and while old channels drain.
 use Rattle.conn_rules.proofs.CaseRows.{in_state, NoneFit, links_on, dtap_on, changes_on, activations_on, all_on, answers, AreRows, case}
 use Rattle.conn_rules.proofs.CaseRows.{offered, live, with_texts, in_stage, ended, target, drains, is_done, held_up, tenure, empty, call}

@@ -1,3 +1,4 @@
+-- SPDX-License-Identifier: MIT OR Apache-2.0
 -- On which channels messages are put, at literal values.
 use Rattle.conn_rules.proofs.Prelude.{ℕ, [], ◌∷◌, sym, true≢false, refl, Assignment, Channel, change_activation, channel_release, handing, hex}
 use Rattle.conn_rules.proofs.Prelude.{rf_channel_release, clear_complete, Zero, establish_request}

@@ -1,3 +1,4 @@
+-- SPDX-License-Identifier: MIT OR Apache-2.0
 -- Every row puts its messages on channels that are in use then.
 use Rattle.conn_rules.proofs.Prelude.{◌≡◌, ℕ, zero, suc, ◌==◌, ◌&&◌, ◌||◌, nat_le, not, Bool, true, false, if◌then◌else◌, List, [], ◌∷◌}
 use Rattle.conn_rules.proofs.Prelude.{◌++◌, length, map, filter, Option, Some, None, refl, sym, subst, ap, ◌∙◌, inl, inr, true≢false}

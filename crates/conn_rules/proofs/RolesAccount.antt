@@ -1,3 +1,4 @@
+-- SPDX-License-Identifier: MIT OR Apache-2.0
 -- The account of a connection's channels follows from what rows do to their roles.
 use Rattle.conn_rules.proofs.Prelude.{◌≡◌, inl, inr, ℕ, zero, suc, Bool, true, false, not, ◌&&◌, eqb, List, [], ◌∷◌, ◌++◌, filter, refl}
 use Rattle.conn_rules.proofs.Prelude.{sym, ◌∙◌, ap, subst, Option, Some, None, true≢false, Contains, if◌then◌else◌, arith, Contains-push}

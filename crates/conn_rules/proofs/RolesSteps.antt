@@ -1,3 +1,4 @@
+-- SPDX-License-Identifier: MIT OR Apache-2.0
 -- Where a change ends, and where old channels leave: what becomes of the roles.
 use Rattle.conn_rules.proofs.Prelude.{◌≡◌, ℕ, List, [], ◌∷◌, ◌++◌, map, refl, sym, ◌∙◌, ap, subst, Option, Some, None, append-nil}
 use Rattle.conn_rules.proofs.Prelude.{if◌then◌else◌, Contains-append_left, AllByRecursion, Change, Assignment, Handover, Channel, Message}

@@ -1,3 +1,4 @@
+-- SPDX-License-Identifier: MIT OR Apache-2.0
 -- What holds of each message that the table's lists have, and of each state that its rows enter,
 -- holds of every row.
 use Rattle.conn_rules.proofs.Prelude.{ℕ, zero, suc, ◌≡◌, refl, ◌≤◌, ◌==◌, ◌&&◌, nat_le, Bool, true, false, not, if◌then◌else◌, List, []}

@@ -1,3 +1,4 @@
+-- SPDX-License-Identifier: MIT OR Apache-2.0
 -- What is kept by the parts of a connection: its holds, its tenures, its list of old channels.
 use Rattle.conn_rules.proofs.Prelude.{◌≡◌, ℕ, zero, suc, ◌+◌, ◌≤◌, false, List, [], ◌∷◌, ◌++◌, length, refl, arith, eqb, AllByRecursion}
 use Rattle.conn_rules.proofs.Prelude.{IsLayer3, Sapi, Zero, Three, Tenure, empty_tenure, chain_count, put_in, HoldState, count, messages}

@@ -1,3 +1,4 @@
+-- SPDX-License-Identifier: MIT OR Apache-2.0
 -- The steps that rows are put together of keep what holds of every connection.
 use Rattle.conn_rules.proofs.Prelude.{cond_both, ◌≡◌, ℕ, suc, ◌+◌, ◌≤◌, Bool, true, false, ◌&&◌, List, [], ◌∷◌, ◌++◌, length, refl, sym}
 use Rattle.conn_rules.proofs.Prelude.{◌∙◌, subst, arith, eqb, Option, Some, None, true≢false, IsLayer3, EQUIPMENT_FAILURE, Change}

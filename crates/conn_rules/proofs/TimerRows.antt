@@ -1,3 +1,4 @@
+-- SPDX-License-Identifier: MIT OR Apache-2.0
 -- Timers and the waiting request against literal rows.
 use Rattle.conn_rules.proofs.Prelude.{◌≡◌, ℕ, true, false, List, [], ◌∷◌, Some, None, refl, Assignment, Zero, hex, Connection}
 use Rattle.conn_rules.specs.declared.input.Input.TheVariants as inputs

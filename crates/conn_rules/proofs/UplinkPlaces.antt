@@ -1,3 +1,4 @@
+-- SPDX-License-Identifier: MIT OR Apache-2.0
 -- What may still come on the channels of a connection, where a message comes first on one of them.
 use Rattle.conn_rules.proofs.Prelude.{◌≡◌, ℕ, zero, suc, ◌==◌, ◌&&◌, Bool, true, false, not, if◌then◌else◌, List, [], ◌∷◌, ◌++◌, Option}
 use Rattle.conn_rules.proofs.Prelude.{Some, None, refl, sym, ap, ◌∙◌, subst, inl, inr, cases_Bool, cond-true, cond-false, AllByRecursion}

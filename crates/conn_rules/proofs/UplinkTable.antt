@@ -1,3 +1,4 @@
+-- SPDX-License-Identifier: MIT OR Apache-2.0
 -- The whole table: what a row relays, then what is still to be relayed, is what was still to be
 -- relayed.
 use Rattle.conn_rules.proofs.Prelude.{◌≡◌, Option, refl, sym, subst, Channel, Sapi, Zero, Three, Input, Connection, IsValid, AreApart}

@@ -1,3 +1,4 @@
+-- SPDX-License-Identifier: MIT OR Apache-2.0
 -- The connections with which the tables of rows begin are such as there can be.
 use Rattle.conn_rules.proofs.Prelude.{◌≡◌, ℕ, false, true, [], ◌∷◌, refl, arith, IsLayer3, IsHeldTenure, IsValid}
 use Rattle.conn_rules.proofs.Prelude.{AllByRecursion, true≢false, sym}

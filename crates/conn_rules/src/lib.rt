@@ -1,3 +1,4 @@
+// SPDX-License-Identifier: MIT OR Apache-2.0
 //! The table of a connection: its states and inputs, and what each input makes of it. The table
 //! stands in `specs`.
 #![tactic(auto)]

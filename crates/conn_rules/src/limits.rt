@@ -1,3 +1,4 @@
+// SPDX-License-Identifier: MIT OR Apache-2.0
 /// The messages that a connection holds downlink, over both SAPIs.
 pub const DOWN_LIMIT: usize = 32;
 

@@ -1,3 +1,4 @@
+-- SPDX-License-Identifier: MIT OR Apache-2.0
 -- Entries under an index: look-ups, and what a write of one slot makes of the list.
 use Rattle.std.proofs.Common.{◌≡◌, ◌≢◌, ℕ, zero, suc, ◌==◌, ◌||◌, Bool, true, false, if◌then◌else◌, List, [], ◌∷◌, ◌++◌, length, map, find, slice_get, Option, Some, None, option_map, refl, sym, subst, ap, ◌∙◌, inl, inr, arith, append_assoc, eqb-true}
 use Rattle.std.specs.Option.{option_to_list, option_and_then}

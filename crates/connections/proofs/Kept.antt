@@ -1,3 +1,4 @@
+-- SPDX-License-Identifier: MIT OR Apache-2.0
 -- What holds of a connection in a controller is kept by rows.
 use Rattle.std.proofs.Common.{◌≡◌, ℕ, ◌==◌, ◌&&◌, ◌++◌, Bool, true, false, if◌then◌else◌, List, length, Option, Some, None, refl, sym, subst, ap, ◌∙◌, arith, append-nil, eqb-true}
 use Rattle.std.proofs.lemmas.List.{length-map}

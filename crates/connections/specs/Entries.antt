@@ -1,3 +1,4 @@
+-- SPDX-License-Identifier: MIT OR Apache-2.0
 -- The connections of a controller, and what holds of them.
 use Rattle.std.specs.Prelude.{◌≡◌, ℕ, ◌+◌, ◌≤◌, ◌<◌, Bool, true, false, List}
 use Rattle.std.specs.Prelude.{[], ◌∷◌, find, length, slice_get, Option, Some, None}

@@ -1,3 +1,4 @@
+// SPDX-License-Identifier: MIT OR Apache-2.0
 ghost use Rattle.std.specs.Prelude.{◌≡◌, IfOk};
 ghost use Rattle.settings.specs.Parameters.{handover_settings_of};
 ghost use Rattle.connections.specs.Entries.{AreHandovers, IsStation};

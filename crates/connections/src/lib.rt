@@ -1,3 +1,4 @@
+// SPDX-License-Identifier: MIT OR Apache-2.0
 //! The connections of a controller: in a slab, by rising number, each with the averages of its
 //! serving channel.
 #![tactic(auto)]

@@ -1,3 +1,4 @@
+// SPDX-License-Identifier: MIT OR Apache-2.0
 ghost use Rattle.std.specs.Prelude.{◌≡◌, ◌∷◌, [], ◌++◌, IfOk, OnOk, OnErr, None};
 ghost use Rattle.std.specs.Prelude.{false, length, map, slice_get};
 ghost use Rattle.std.specs.Option.{ForSome, option_copied};

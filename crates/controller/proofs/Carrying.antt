@@ -1,3 +1,4 @@
+-- SPDX-License-Identifier: MIT OR Apache-2.0
 -- Planned steps, one after the other: what is left is ready, has room, and makes the same.
 use Rattle.controller.proofs.Prelude.{◌≡◌, ◌≢◌, ℕ, ◌+◌, ◌≤◌, Bool, List, ◌∷◌, ◌++◌, find, map, refl, sym, subst, ap, ◌∙◌, arith, eq-eqb}
 use Rattle.controller.proofs.Prelude.{Out, AreRising, Controller, Turn, turn, each, has_number, aged, all_aged}

@@ -1,3 +1,4 @@
+-- SPDX-License-Identifier: MIT OR Apache-2.0
 -- What comes to all connections, step by step: each step is that of the connection as it is then,
 -- since the others left it.
 use Rattle.controller.proofs.Prelude.{◌≡◌, ◌≢◌, ℕ, cond, List, [], ◌∷◌, ◌++◌, find, map, Option, Some, None, refl, sym, subst, ap, ◌∙◌}

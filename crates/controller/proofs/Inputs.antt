@@ -1,3 +1,4 @@
+-- SPDX-License-Identifier: MIT OR Apache-2.0
 -- The offer matters to the rows with which, or after which, a change may begin; to no other.
 use Rattle.controller.proofs.Prelude.{◌≡◌, false, Option, None, refl, Channel, Input, Connection}
 use Rattle.conn_rules.specs.declared.input.Input.TheVariants as inputs

@@ -1,3 +1,4 @@
+-- SPDX-License-Identifier: MIT OR Apache-2.0
 -- The laws of a life hold of what is what it is.
 use Rattle.controller.proofs.Prelude.{◌≡◌, ℕ, ◌≤◌, List, sym, subst, ap, ◌∙◌, Out, AllByRecursion, Step, Controller, turn, Parameters}
 use Rattle.std.proofs.Common.{Result, Ok, Err, IfOk}

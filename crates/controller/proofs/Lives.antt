@@ -1,3 +1,4 @@
+-- SPDX-License-Identifier: MIT OR Apache-2.0
 -- A life, step by step: what is left of the steps makes the rest of it.
 use Rattle.controller.proofs.Prelude.{◌≡◌, List, ◌∷◌, ◌++◌, ap, ◌∙◌, Out, Step, Controller, Turn, each}
 use Rattle.std.proofs.lemmas.List.{append_assoc}

@@ -1,3 +1,4 @@
+-- SPDX-License-Identifier: MIT OR Apache-2.0
 -- A step that was planned, of the connection with its number.
 use Rattle.controller.proofs.Prelude.{◌≡◌, ℕ, ◌<◌, List, [], ◌∷◌, ◌++◌, length, map, Option, Some, None, refl, sym, subst, ap, ◌∙◌, inl}
 use Rattle.controller.proofs.Prelude.{inr, arith, AllByRecursion, Out, IsSound, outs_of, Input, Row, IsBelow, Controller, Entry, turn}

@@ -1,3 +1,4 @@
+-- SPDX-License-Identifier: MIT OR Apache-2.0
 -- The steps that are planned, by rising number.
 use Rattle.controller.proofs.Prelude.{◌≡◌, ℕ, ◌+◌, ◌≤◌, List, ◌∷◌, ◌++◌, drop, length, slice_get, Some, None, sym, ap, ◌∙◌, inl, inr, Entry}
 use Rattle.std.proofs.Common.{suc, append_assoc, append-nil, add-one, drop-cons}

@@ -1,3 +1,4 @@
+-- SPDX-License-Identifier: MIT OR Apache-2.0
 -- What a call makes of the controller and of the outputs, and what comes to its connections,
 -- against literal values.
 use Rattle.controller.proofs.Prelude.{◌≡◌, ℕ, Bool, true, false, List, [], ◌∷◌, map, Some, None, refl, sym, ap, arith, Channel, Out}

@@ -1,3 +1,4 @@
+-- SPDX-License-Identifier: MIT OR Apache-2.0
 -- A connection's row, done in the controller.
 use Rattle.controller.proofs.Prelude.{◌≡◌, ℕ, ◌+◌, ◌<◌, rules, Bool, true, List, [], ◌++◌, drop, find, length, Option, Some, None, sym}
 use Rattle.controller.proofs.Prelude.{subst, ap, ◌∙◌, AllByRecursion, Channel, Out, IsSound, outs_of, Input, Row, OfRow, IsBelow}

@@ -1,3 +1,4 @@
+-- SPDX-License-Identifier: MIT OR Apache-2.0
 -- What a call makes of the controller and of the outputs.
 use Rattle.std.specs.Prelude.{◌≡◌, ℕ, Bool, false, List, [], ◌++◌, fold, Option, Some}
 use Rattle.std.specs.Prelude.{None, Result, OnErr}

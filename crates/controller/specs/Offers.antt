@@ -1,3 +1,4 @@
+-- SPDX-License-Identifier: MIT OR Apache-2.0
 -- With which inputs, or after which, a change may begin; to which cell.
 use Rattle.std.specs.Prelude.{◌≤◌, Bool, true, false}
 use Rattle.conn_messages.specs.declared.channel.Place.{Place}

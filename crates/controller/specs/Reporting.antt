@@ -1,3 +1,4 @@
+-- SPDX-License-Identifier: MIT OR Apache-2.0
 -- A report of a connection, by its number.
 use Rattle.std.specs.Prelude.{ℕ, Bool, false, [], Option, Some, None}
 use Rattle.conn_messages.specs.declared.channel.Place.{Place}

@@ -1,3 +1,4 @@
+// SPDX-License-Identifier: MIT OR Apache-2.0
 ghost use Rattle.std.specs.Prelude.{◌≡◌, ◌≢◌, ◌<◌, ◌≤◌, ◌^◌, []};
 ghost use Rattle.std.specs.Prelude.{◌∷◌, length, IfOk, OnOk};
 ghost use Rattle.conn_messages.specs.Out.{IsLawfulMessage, outs_of};

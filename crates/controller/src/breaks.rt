@@ -1,3 +1,4 @@
+// SPDX-License-Identifier: MIT OR Apache-2.0
 ghost use Rattle.std.specs.Prelude.{◌≡◌, ◌≤◌, OnOk};
 ghost use Rattle.controller_model.specs.Controller.{with_down};
 ghost use Rattle.controller_model.specs.Life as words;

@@ -1,3 +1,4 @@
+// SPDX-License-Identifier: MIT OR Apache-2.0
 ghost use Rattle.std.specs.Prelude.{◌≡◌, OnOk, None};
 ghost use Rattle.std.specs.Option.{is_some};
 ghost use Rattle.conn_rules.specs.declared.input.Input.TheVariants as inputs;

@@ -1,3 +1,4 @@
+// SPDX-License-Identifier: MIT OR Apache-2.0
 ghost use Rattle.std.specs.Prelude.{◌≡◌, ◌+◌, [], IfOk, length, replicate, true};
 ghost use Rattle.controller_model.specs.Controller.{free_channels, is_up, new_controller, ignoring};
 

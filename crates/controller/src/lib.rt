@@ -1,3 +1,4 @@
+// SPDX-License-Identifier: MIT OR Apache-2.0
 //! The controller of base stations: connections on the channels of its cells, between stations and
 //! switch. It takes items of its links and the passing of time, and gives frames. Its contracts say
 //! that it is the controller of `controller_model`.

@@ -1,3 +1,4 @@
+// SPDX-License-Identifier: MIT OR Apache-2.0
 ghost use Rattle.std.specs.List.{AllByRecursion};
 ghost use Rattle.controller_model.specs.LifeLaws.Sending.{IsOctetStep};
 ghost use Rattle.octets.specs.Element.{AreOctets};

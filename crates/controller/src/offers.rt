@@ -1,3 +1,4 @@
+// SPDX-License-Identifier: MIT OR Apache-2.0
 ghost use Rattle.std.specs.Prelude.{◌≡◌, ◌≤◌, Some};
 ghost use Rattle.conn_rules.specs.Table.{row_of};
 ghost use Rattle.connections.specs.Entries.{IsOffer};

@@ -1,3 +1,4 @@
+// SPDX-License-Identifier: MIT OR Apache-2.0
 ghost use Rattle.std.specs.Prelude.{◌≡◌, ◌≤◌, ◌&&◌, IsSome, OnOk, option_map, true};
 ghost use Rattle.conn_rules.specs.Connection.{is_at as at_channel};
 ghost use Rattle.controller_model.specs.Controller.{channel_state, entry_of};

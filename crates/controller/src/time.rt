@@ -1,3 +1,4 @@
+// SPDX-License-Identifier: MIT OR Apache-2.0
 ghost use Rattle.std.specs.Prelude.{◌≡◌, OnOk};
 ghost use Rattle.conn_rules.specs.Timers.{after_pass};
 ghost use Rattle.controller_model.specs.Life as words;

@@ -1,3 +1,4 @@
+// SPDX-License-Identifier: MIT OR Apache-2.0
 ghost use Rattle.std.specs.Prelude.{◌≡◌, IfOk, filter};
 ghost use Rattle.conn_rules.specs.Streams.{is_dtap as dtap};
 ghost use Rattle.controller_model.specs.Views as words;

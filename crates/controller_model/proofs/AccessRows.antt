@@ -1,3 +1,4 @@
+-- SPDX-License-Identifier: MIT OR Apache-2.0
 -- Access and establishment, octet by octet.
 use Rattle.controller_model.proofs.Prelude.{◌≡◌, [], ◌∷◌, map, replicate, Some, None, refl, Active, Live, hex, Tick, Releasing, Controller}
 use Rattle.controller_model.proofs.Prelude.{new_controller, channel_state, place_at, life}

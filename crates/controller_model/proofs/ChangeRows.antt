@@ -1,3 +1,4 @@
+-- SPDX-License-Identifier: MIT OR Apache-2.0
 -- Changes of the channel, octet by octet.
 use Rattle.controller_model.proofs.Prelude.{◌≡◌, false, [], ◌∷◌, map, replicate, Some, option_map, length, refl, target_in, Active, hex}
 use Rattle.controller_model.proofs.Prelude.{Draining, Live, Parameters, Tick, Controller, entry_of, new_controller}

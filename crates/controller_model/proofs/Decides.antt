@@ -1,3 +1,4 @@
+-- SPDX-License-Identifier: MIT OR Apache-2.0
 -- The decision over reports is the one that the handover decision's relation has.
 use Rattle.controller_model.proofs.Prelude.{◌≡◌, ◌≢◌, ℕ, ◌+◌, ◌<◌, ◌≤◌, ◌&&◌, ◌==◌, nat_le, not, Bool, true, false, cond, List, [], ◌∷◌}
 use Rattle.controller_model.proofs.Prelude.{length, find, filter, Some, None, refl, sym, ap, ◌∙◌, inl, inr, arith, cases_Bool, leb-true}

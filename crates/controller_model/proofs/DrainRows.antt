@@ -1,3 +1,4 @@
+-- SPDX-License-Identifier: MIT OR Apache-2.0
 -- Changes while old channels drain, octet by octet.
 use Rattle.controller_model.proofs.Prelude.{◌≡◌, [], ◌∷◌, ◌++◌, replicate, Some, refl, Active, Live, hex, Tick, Controller}
 use Rattle.controller_model.proofs.Lives.{put, from_switch, from_station, down, played, after, state_of}

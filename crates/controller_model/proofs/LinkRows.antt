@@ -1,3 +1,4 @@
+-- SPDX-License-Identifier: MIT OR Apache-2.0
 -- Links, what is answered on them, and what is ignored.
 use Rattle.controller_model.proofs.Prelude.{◌≡◌, [], ◌∷◌, Some, refl, Asked, Closed, hex, Tick, new_controller, links_of}
 use Rattle.controller_model.proofs.Lives.{put, from_switch, from_station, on_stream, down, played, after, usual_settings, state_of}

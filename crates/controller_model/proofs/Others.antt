@@ -1,3 +1,4 @@
+-- SPDX-License-Identifier: MIT OR Apache-2.0
 -- What concerns one connection leaves all others.
 use Rattle.controller_model.proofs.Prelude.{◌≡◌, ◌≢◌, ℕ, Bool, true, false, cond, if◌then◌else◌, List, [], ◌∷◌, ◌++◌, find, map, Option}
 use Rattle.controller_model.proofs.Prelude.{Some, None, option_map, refl, sym, subst, ap, ◌∙◌, inl, inr, cases_Bool, Channel, Place, Input}

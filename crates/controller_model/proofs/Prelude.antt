@@ -1,3 +1,4 @@
+-- SPDX-License-Identifier: MIT OR Apache-2.0
 -- What the proofs of this crate name of its specs and of the crates below it.
 pub use Rattle.bssmap_codec.specs.BssapReading.{bssap_reading, layer3_at, message_at}
 pub use Rattle.bssmap_codec.specs.BssapText.{bssap_text, bssmap_size, bssmap_text, content_fault}

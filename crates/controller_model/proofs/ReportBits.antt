@@ -1,3 +1,4 @@
+-- SPDX-License-Identifier: MIT OR Apache-2.0
 -- A report in 16 octets is read field by field.
 use Rattle.controller_model.proofs.Prelude.{◌≡◌, ℕ, zero, ◌+◌, ◌<◌, List, [], ◌∷◌, length, refl, sym, ap, ◌∙◌, subst, arith, Report, ◌*◌}
 use Rattle.controller_model.proofs.Prelude.{◌/◌, ◌%◌, ◌^◌, take, bits, report_in}

@@ -1,3 +1,4 @@
+-- SPDX-License-Identifier: MIT OR Apache-2.0
 -- Reports, and what is decided over them.
 use Rattle.controller_model.proofs.Prelude.{◌≡◌, ℕ, true, List, [], ◌∷◌, ◌++◌, Some, None, refl, Report, Stay, Move, Settings, hex}
 use Rattle.controller_model.proofs.Prelude.{new_controller, rxqual, decision_over, report_reading, settings_of, handover_settings_of}

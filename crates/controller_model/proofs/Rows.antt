@@ -1,3 +1,4 @@
+-- SPDX-License-Identifier: MIT OR Apache-2.0
 -- Channels of cells, and their identifiers.
 use Rattle.controller_model.proofs.Prelude.{◌≡◌, ℕ, true, false, List, [], ◌∷◌, ◌++◌, map, Some, None, option_map, codes, refl, hex}
 use Rattle.controller_model.proofs.Prelude.{CellParameters, Sdcch, Tch, Free, InUse, Releasing, Controller, new_controller, cell_identifier}

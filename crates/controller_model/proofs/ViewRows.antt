@@ -1,3 +1,4 @@
+-- SPDX-License-Identifier: MIT OR Apache-2.0
 -- What is seen of outputs and of the state.
 use Rattle.controller_model.proofs.Prelude.{◌≡◌, ℕ, List, [], ◌∷◌, refl, Out, Zero, Three, hex, life, forwarded, held, held_up}
 use Rattle.controller_model.specs.Views.{handed}

@@ -1,3 +1,4 @@
+-- SPDX-License-Identifier: MIT OR Apache-2.0
 pub use Rattle.ho_decision.specs.declared.decision.Decision
 mod Prelude
 pub mod Channels

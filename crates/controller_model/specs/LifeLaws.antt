@@ -1,3 +1,4 @@
+-- SPDX-License-Identifier: MIT OR Apache-2.0
 pub mod Acts
 pub mod Downlink
 pub mod End

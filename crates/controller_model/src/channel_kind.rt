@@ -1,3 +1,4 @@
+// SPDX-License-Identifier: MIT OR Apache-2.0
 /// The kinds of dedicated channels (TS 48.058 clause 9.3.1).
 #[derive(Clone, Copy)]
 pub enum ChannelKind {

@@ -1,3 +1,4 @@
+// SPDX-License-Identifier: MIT OR Apache-2.0
 /// What is made of a channel.
 #[derive(Clone, Copy)]
 pub enum ChannelState {

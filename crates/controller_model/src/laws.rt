@@ -1,3 +1,4 @@
+// SPDX-License-Identifier: MIT OR Apache-2.0
 ghost use Rattle.std.specs.Prelude.{◌≡◌, ◌≢◌, ℕ, List, Option, Some, option_map};
 ghost use Rattle.std.specs.Prelude.{take};
 ghost use Rattle.conn_messages.specs.declared.channel.Channel.{Channel};

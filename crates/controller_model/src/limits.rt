@@ -1,3 +1,4 @@
+// SPDX-License-Identifier: MIT OR Apache-2.0
 /// The greatest number of a connection, which is its reference of three octets (Q.713 clause 3.2).
 pub const MAX_CONNECTION_NUMBER: u32 = 16_777_215;
 

@@ -1,3 +1,4 @@
+// SPDX-License-Identifier: MIT OR Apache-2.0
 use ruled_relay::Item;
 
 /// What the controller takes.

@@ -1,3 +1,4 @@
+// SPDX-License-Identifier: MIT OR Apache-2.0
 use conn_messages::Place;
 use conn_rules::Input;
 use dtap_codec::Report;

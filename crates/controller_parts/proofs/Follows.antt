@@ -1,3 +1,4 @@
+-- SPDX-License-Identifier: MIT OR Apache-2.0
 -- Frames make of the channels what their messages make of them.
 use Rattle.std.proofs.Common.{◌≡◌, ℕ, ◌+◌, if◌then◌else◌, List, [], ◌∷◌, fold, count_by, refl, ap, ◌∙◌}
 use Rattle.std.specs.List.{AllByRecursion}

@@ -1,3 +1,4 @@
+-- SPDX-License-Identifier: MIT OR Apache-2.0
 -- Rows: what literal frames are read as, and what they make of channels.
 use Rattle.std.proofs.Common.{Bool, true, false, [], Some, None, refl, sym, replicate, arith, true≢false, ◌≡◌, ℕ, List, ◌∷◌, map}
 use Rattle.octets.proofs.Hex.{hex}

@@ -1,3 +1,4 @@
+-- SPDX-License-Identifier: MIT OR Apache-2.0
 -- What frames make of the channels, by their octets.
 use Rattle.std.specs.Prelude.{ℕ, List, fold, count_by}
 use Rattle.conn_messages.specs.declared.out.Out.{Out}

@@ -1,3 +1,4 @@
+-- SPDX-License-Identifier: MIT OR Apache-2.0
 -- What one output adds to the lists of what was forwarded and handed.
 use Rattle.std.specs.Prelude.{ℕ, if◌then◌else◌, List, []}
 use Rattle.bssmap_codec.specs.SccpReading.{sccp_reading}

@@ -1,3 +1,4 @@
+-- SPDX-License-Identifier: MIT OR Apache-2.0
 -- What holds of each word that a frame is read as.
 use Rattle.std.specs.Prelude.{◌≡◌, ◌≢◌, ℕ, true}
 use Rattle.conn_messages.specs.declared.parameters.TheConstants.{SWITCH_LINK}

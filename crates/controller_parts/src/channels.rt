@@ -1,3 +1,4 @@
+// SPDX-License-Identifier: MIT OR Apache-2.0
 ghost use Rattle.std.specs.Prelude.{◌≡◌, IfOk, replicate, set, slice_index_or};
 ghost use Rattle.controller_model.specs.declared.channel_state.ChannelState.TheVariants.{Free as FreeState};
 ghost use Rattle.controller_model.specs.Controller.{free_channels, state_in, with_state};

@@ -1,3 +1,4 @@
+// SPDX-License-Identifier: MIT OR Apache-2.0
 ghost use Rattle.std.specs.Prelude.{◌≡◌, IfOk};
 ghost use Rattle.controller_model.specs.Reading.{management_of_link, word_of};
 ghost use Rattle.controller_parts.specs.Words.{IsFromSource, IsCarriedWord};

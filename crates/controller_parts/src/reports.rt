@@ -1,3 +1,4 @@
+// SPDX-License-Identifier: MIT OR Apache-2.0
 ghost use Rattle.std.specs.Prelude.{◌≡◌, length, IfOk, Ok};
 ghost use Rattle.conn_rules.specs.declared.input.Input.TheVariants as inputs;
 ghost use Rattle.controller_model.specs.declared.word.Word.TheVariants.{OnChannel};

@@ -1,3 +1,4 @@
+// SPDX-License-Identifier: MIT OR Apache-2.0
 ghost use Rattle.std.specs.Prelude.{◌≡◌, ◌≢◌, IfOk};
 ghost use Rattle.conn_messages.specs.declared.parameters.TheConstants.{SWITCH_LINK};
 ghost use Rattle.controller_model.specs.Controller.{place_at as channel_at};

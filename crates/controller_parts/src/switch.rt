@@ -1,3 +1,4 @@
+// SPDX-License-Identifier: MIT OR Apache-2.0
 ghost use Rattle.std.specs.Prelude.{◌≡◌, IfOk, Ok};
 ghost use Rattle.bssmap_codec.specs.BssapReading.{bssap_reading};
 ghost use Rattle.bssmap_codec.specs.SccpReading.{sccp_reading};

@@ -1,3 +1,4 @@
+// SPDX-License-Identifier: MIT OR Apache-2.0
 ghost use Rattle.std.specs.Prelude.{◌≡◌, ◌++◌, IfOk, OnOk, Ok};
 ghost use Rattle.std.specs.Option.{option_to_list};
 ghost use Rattle.bssmap_codec.specs.declared.bssap.Bssap.TheVariants.{Management};

@@ -1,3 +1,4 @@
+// SPDX-License-Identifier: MIT OR Apache-2.0
 use bssmap_codec::{Bssap, InterfaceFault, Sccp, read_bssap, read_sccp, write_bssap, write_sccp};
 use std::alloc::Global;
 use std::test::Fail;

@@ -1,3 +1,4 @@
+// SPDX-License-Identifier: MIT OR Apache-2.0
 use dtap_codec::{Modulus, RrFault, RrMessage, with_number, without_number};
 use std::alloc::Global;
 use std::test::Fail;

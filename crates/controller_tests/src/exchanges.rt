@@ -1,3 +1,4 @@
+// SPDX-License-Identifier: MIT OR Apache-2.0
 use controller::{Controller, Item, Outputs, Settings, Step, What};
 use ipa_framing::{Frame, RSL_STREAM, SCCP_STREAM};
 use octets::Octets;

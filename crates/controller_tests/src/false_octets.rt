@@ -1,3 +1,4 @@
+// SPDX-License-Identifier: MIT OR Apache-2.0
 use bssmap_codec::{InterfaceFault, read_bssap, read_sccp};
 use dtap_codec::{RrFault, RrMessage};
 use rsl_codec::{Rsl, RslFault};

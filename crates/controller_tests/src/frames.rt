@@ -1,3 +1,4 @@
+// SPDX-License-Identifier: MIT OR Apache-2.0
 use conn_fsm::Outputs;
 use ipa_framing::{Frame, RSL_STREAM, SCCP_STREAM};
 use octets::Octets;

@@ -1,3 +1,4 @@
+// SPDX-License-Identifier: MIT OR Apache-2.0
 use ipa_framing::{Frame, FrameFault, Framer, write_frame};
 use octets::Octets;
 use std::alloc::Global;

@@ -1,3 +1,4 @@
+// SPDX-License-Identifier: MIT OR Apache-2.0
 use crate::exchanges::Event::Comes;
 use crate::exchanges::{Exchange, lives_ignoring};
 use crate::parts::{ACCESS, COMMANDED};

@@ -1,3 +1,4 @@
+// SPDX-License-Identifier: MIT OR Apache-2.0
 use crate::exchanges::lives_ignoring;
 use crate::parts::LIFE;
 use std::test::Fail;

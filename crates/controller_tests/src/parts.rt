@@ -1,3 +1,4 @@
+// SPDX-License-Identifier: MIT OR Apache-2.0
 use crate::exchanges::Event::{Breaks, Comes, Passes};
 use crate::exchanges::Exchange;
 

@@ -1,3 +1,4 @@
+// SPDX-License-Identifier: MIT OR Apache-2.0
 use crate::frames::{Line, frame};
 use conn_fsm::{Input, Out, Outputs};
 use controller_model::Word;

@@ -1,3 +1,4 @@
+// SPDX-License-Identifier: MIT OR Apache-2.0
 use crate::exchanges::{Exchange, are, lines_of, opened, step_of, two_cells};
 use crate::parts::{ACCESS, COMMANDED, EXPIRES_AND_BREAKS, LIFE};
 use controller::{Controller, Item, Outputs, Step};

@@ -1,3 +1,4 @@
+// SPDX-License-Identifier: MIT OR Apache-2.0
 use rsl_codec::{Rsl, RslFault};
 use std::alloc::Global;
 use std::test::Fail;

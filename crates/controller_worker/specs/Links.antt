@@ -1,3 +1,4 @@
+-- SPDX-License-Identifier: MIT OR Apache-2.0
 -- One link: the lines that were put for it, and the steps that its items became.
 use Rattle.std.specs.Prelude.{◌≡◌, nat_le, Bool, true, false, List, ◌∷◌, ◌++◌, map}
 use Rattle.controller_worker.specs.declared.limits.TheConstants.{MAX_REFUSALS}

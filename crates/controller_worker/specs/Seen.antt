@@ -1,3 +1,4 @@
+-- SPDX-License-Identifier: MIT OR Apache-2.0
 -- The call worker as contracts see it.
 use Rattle.std.specs.Prelude.{ℕ}
 use Rattle.controller_worker.specs.declared.worker.CallWorker.{CallWorker}

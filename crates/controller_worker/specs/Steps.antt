@@ -1,3 +1,4 @@
+-- SPDX-License-Identifier: MIT OR Apache-2.0
 -- Of a list of steps: what each source gave, how much time passed, and what goes to each link.
 use Rattle.std.specs.Prelude.{ℕ, ◌+◌, ◌==◌, List, [], ◌∷◌, map}
 use Rattle.std.specs.List.{filter}

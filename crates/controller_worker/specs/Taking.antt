@@ -1,3 +1,4 @@
+-- SPDX-License-Identifier: MIT OR Apache-2.0
 -- What a desk has taken in a run of it.
 use Rattle.std.specs.Prelude.{◌≡◌, List, ◌++◌}
 use mathlib.Core.Option.{some}

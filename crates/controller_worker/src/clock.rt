@@ -1,3 +1,4 @@
+// SPDX-License-Identifier: MIT OR Apache-2.0
 /// Tells how much time passes.
 pub trait Clock {
     ghost use Rattle.std.specs.Prelude.{◌≡◌, ℕ, ◌+◌};

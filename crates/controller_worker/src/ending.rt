@@ -1,3 +1,4 @@
+// SPDX-License-Identifier: MIT OR Apache-2.0
 //! The mark behind the last frame, put into each outbox.
 ghost use Rattle.std.specs.Prelude.{◌≡◌, length, OnOk, vec_len};
 ghost use Rattle.controller_worker.specs.Advancing.{Ends, Finishes, GoesOrStops, PutsEnd, IsValid};

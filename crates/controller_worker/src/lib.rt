@@ -1,3 +1,4 @@
+// SPDX-License-Identifier: MIT OR Apache-2.0
 //! The call worker of the running relay: it takes what the links gave, one item at a time, and the
 //! passing of time, does the controller's steps, and puts their outputs into the outboxes.
 #![tactic(auto)]

@@ -1,3 +1,4 @@
+// SPDX-License-Identifier: MIT OR Apache-2.0
 /// An outbox that refused a frame so often in a row is given up.
 pub const MAX_REFUSALS: u32 = 1_000;
 

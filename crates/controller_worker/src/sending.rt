@@ -1,3 +1,4 @@
+// SPDX-License-Identifier: MIT OR Apache-2.0
 //! The outputs of a step, into the outboxes of their links.
 ghost use Rattle.std.specs.Prelude.{◌≡◌, [], ◌∷◌, false};
 ghost use Rattle.controller_worker.specs.Advancing.{Sends, SendsAll, not_ended};

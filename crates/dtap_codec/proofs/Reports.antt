@@ -1,3 +1,4 @@
+-- SPDX-License-Identifier: MIT OR Apache-2.0
 -- A number is that of one report at most.
 use Rattle.std.proofs.Common.{◌≡◌, ℕ, ◌<◌, Bool, true, false, not, eqb, List, [], ◌∷◌, length, suc, zero, refl, sym, ap, ◌∙◌, arith}
 use Rattle.dtap_codec.specs.declared.report.Neighbour.{Neighbour}

@@ -1,3 +1,4 @@
+-- SPDX-License-Identifier: MIT OR Apache-2.0
 -- Layer 3 messages as lists of octets (TS 24.007 clause 11.2.3).
 use Rattle.std.specs.Prelude.{ℕ, ◌%◌, Bool, false, ◌||◌, ◌==◌, Option, Some, None}
 use Rattle.std.specs.Prelude.{List, [], ◌∷◌}

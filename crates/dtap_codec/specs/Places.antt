@@ -1,3 +1,4 @@
+-- SPDX-License-Identifier: MIT OR Apache-2.0
 -- Places: the messages of the flow that a mobile sent are at places 0, 1, 2 and so on of its sent
 -- list, and the one at place k carries the number k modulo m (TS 24.007 clause 11.2.3.2.3). Here
 -- sent is that list, numbers cleared.

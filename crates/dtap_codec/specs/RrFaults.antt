@@ -1,3 +1,4 @@
+-- SPDX-License-Identifier: MIT OR Apache-2.0
 -- Which fault octets have that are no text of a message of radio resource management.
 use Rattle.std.specs.Prelude.{ℕ, List, ◌++◌}
 use Rattle.octets.specs.Element.{AreOctets}

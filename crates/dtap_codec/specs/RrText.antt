@@ -1,3 +1,4 @@
+-- SPDX-License-Identifier: MIT OR Apache-2.0
 -- The text in which a message of radio resource management is written (TS 44.018 clause 9.1).
 use Rattle.std.specs.Prelude.{ℕ, ◌==◌, if◌then◌else◌, List, [], ◌∷◌, ◌++◌}
 use Rattle.dtap_codec.specs.declared.message.TheConstants.{RADIO_RESOURCE}

@@ -1,3 +1,4 @@
+// SPDX-License-Identifier: MIT OR Apache-2.0
 ghost use Rattle.std.specs.Prelude.{◌≡◌, ◌+◌, ◌*◌, ◌^◌, ◌<◌, ◌≤◌, []};
 ghost use Rattle.std.specs.Prelude.{◌∷◌};
 ghost use Rattle.std.specs.Int.{from_be_bytes, w128};

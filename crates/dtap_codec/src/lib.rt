@@ -1,3 +1,4 @@
+// SPDX-License-Identifier: MIT OR Apache-2.0
 //! Layer 3 messages on the air and to the switch: protocol discriminator, the flow of MM, CC and
 //! SS, and its send sequence number N(SD) (TS 24.007 clause 11.2.3).
 #![tactic(auto)]

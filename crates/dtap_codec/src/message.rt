@@ -1,3 +1,4 @@
+// SPDX-License-Identifier: MIT OR Apache-2.0
 ghost use Rattle.std.specs.Prelude.{◌≡◌};
 ghost use Rattle.dtap_codec.specs.Message.{discriminator, is_flow_message};
 

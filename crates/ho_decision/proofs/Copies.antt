@@ -1,3 +1,4 @@
+-- SPDX-License-Identifier: MIT OR Apache-2.0
 -- A ring keeps what it has room for.
 use Rattle.std.proofs.Common.{◌≡◌, ℕ, ◌≤◌, ◌-◌, ◌+◌, List, [], ◌++◌, length, drop, ap, subst, ◌∙◌, rules}
 use Rattle.std.proofs.lemmas.List.{length-append}

@@ -1,3 +1,4 @@
+-- SPDX-License-Identifier: MIT OR Apache-2.0
 -- The levels that the code measures are those of the cells.
 use Rattle.std.proofs.Common.{◌≡◌, ℕ, ◌+◌, ◌/◌, ◌<◌, ◌≤◌, ◌==◌, ◌&&◌, Bool, true, false, Option, Some, None, option_map, unwrap_or, cond, find, position, List, [], ◌∷◌, length, sum_by, arith, sym, ap, ◌∙◌, subst, refl, zero, suc}
 use Rattle.std.specs.List.{slice_get, position_from}

@@ -1,3 +1,4 @@
+-- SPDX-License-Identifier: MIT OR Apache-2.0
 -- Averages over reports, the oldest first.
 use Rattle.std.specs.Prelude.{ℕ, ◌-◌, ◌/◌, ◌==◌, Bool, false, ◌&&◌, Option, Some}
 use Rattle.std.specs.Prelude.{None, option_map}

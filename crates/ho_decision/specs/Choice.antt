@@ -1,3 +1,4 @@
+-- SPDX-License-Identifier: MIT OR Apache-2.0
 -- The choice that the code makes cell by cell.
 use Rattle.std.specs.Prelude.{ℕ, ◌+◌, nat_le, if◌then◌else◌}
 use Rattle.ho_decision.specs.declared.decision.Decision.TheVariants.{Move}

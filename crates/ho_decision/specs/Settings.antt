@@ -1,3 +1,4 @@
+-- SPDX-License-Identifier: MIT OR Apache-2.0
 -- The settings of the handover decision, with the cell that serves.
 use Rattle.std.specs.Prelude.{ℕ, ◌-◌, ◌≤◌, ◌==◌, nat_lt, List, [], length}
 use Rattle.std.specs.Prelude.{fold, remove, insert, count_by, if◌then◌else◌}

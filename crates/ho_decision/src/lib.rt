@@ -1,3 +1,4 @@
+// SPDX-License-Identifier: MIT OR Apache-2.0
 //! When a connection is handed over, and to which cell: averages of measurement reports, and the
 //! decision over them.
 #![tactic(auto)]

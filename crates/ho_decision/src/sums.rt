@@ -1,3 +1,4 @@
+// SPDX-License-Identifier: MIT OR Apache-2.0
 ghost use Rattle.std.specs.Prelude.{◌≡◌, [], ◌∷◌, ◌++◌, length, map, IfOk, List};
 ghost use Rattle.dtap_codec.specs.declared.report.Report.{Report};
 ghost use Rattle.std.specs.List.{All};

@@ -1,3 +1,4 @@
+-- SPDX-License-Identifier: MIT OR Apache-2.0
 -- A hold is one tenure with a limit.
 use Rattle.std.proofs.Common.{◌≡◌, ℕ, List, refl}
 use Rattle.dtap_codec.specs.declared.sapi.Sapi.{Sapi}

@@ -1,3 +1,4 @@
+-- SPDX-License-Identifier: MIT OR Apache-2.0
 -- Definitions against literal messages.
 use Rattle.std.proofs.Common.{◌≡◌, ℕ, Vec, List, [], ◌∷◌, ◌++◌, drop, replicate, slice_get, Some, None, refl, arith}
 use Rattle.std.specs.declared.alloc.Global.{Global}

@@ -1,3 +1,4 @@
+-- SPDX-License-Identifier: MIT OR Apache-2.0
 -- What a connection holds while its channel changes: one list of messages for each SAPI, with one
 -- limit over both.
 use Rattle.std.specs.Prelude.{ℕ, ◌+◌, List, [], length}

@@ -1,3 +1,4 @@
+// SPDX-License-Identifier: MIT OR Apache-2.0
 ghost use Rattle.std.specs.Prelude.{◌≡◌, ◌<◌, ◌≤◌, ◌↔◌, ◌∷◌, []};
 ghost use Rattle.std.specs.Prelude.{◌++◌, length, IsTrue, IfOk, OnOk};
 ghost use Rattle.std.specs.Prelude.{OnErr, IfErr, Some, option_map, slice_get, drop as dropped};

@@ -1,3 +1,4 @@
+// SPDX-License-Identifier: MIT OR Apache-2.0
 use thiserror::Error;
 
 /// Why a message wasn't put into a hold or a chain. Either way the message comes back.

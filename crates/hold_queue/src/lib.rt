@@ -1,3 +1,4 @@
+// SPDX-License-Identifier: MIT OR Apache-2.0
 //! The holds of a connection: the messages that wait while its channel changes, in order, for each
 //! SAPI; and, where it changes more than once, for each channel that it had.
 #![tactic(auto)]

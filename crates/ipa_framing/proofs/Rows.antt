@@ -1,3 +1,4 @@
+-- SPDX-License-Identifier: MIT OR Apache-2.0
 -- Definitions against literal octets: frames of each stream, and those at the limit of a body, 2048
 -- octets.
 use Rattle.std.proofs.Common.{◌≡◌, ℕ, List, [], ◌∷◌, ◌++◌, ◌≤◌, replicate, true, false, Some, None, Ok, Err, inl, inr, refl, sym, ap, arith}

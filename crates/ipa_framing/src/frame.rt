@@ -1,3 +1,4 @@
+// SPDX-License-Identifier: MIT OR Apache-2.0
 ghost use Rattle.std.specs.Prelude.{◌≡◌, ◌++◌, OnErr, OnOk};
 ghost use Rattle.octets.specs.Refusal.{RefusesBy};
 ghost use Rattle.ipa_framing.specs.Frame.{frame_text, write_fault};

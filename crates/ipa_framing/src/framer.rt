@@ -1,3 +1,4 @@
+// SPDX-License-Identifier: MIT OR Apache-2.0
 ghost use Rattle.std.specs.Prelude.{◌≡◌, ◌++◌, ℕ, List, length, option_map, true};
 ghost use Rattle.octets.specs.Answer.{result_map};
 ghost use Rattle.octets.specs.Element.{AreOctets};

@@ -1,3 +1,4 @@
+// SPDX-License-Identifier: MIT OR Apache-2.0
 //! IPA framing of station and switch links: frames of a stream link, however its octets were cut.
 //!
 //! A frame is the length of its body in two octets, the high one first, an octet that names the

@@ -1,3 +1,4 @@
+// SPDX-License-Identifier: MIT OR Apache-2.0
 /// The stream of the radio signalling link, RSL, of a base station.
 pub const RSL_STREAM: u8 = 0x00;
 

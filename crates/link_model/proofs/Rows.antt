@@ -1,3 +1,4 @@
+-- SPDX-License-Identifier: MIT OR Apache-2.0
 -- Definitions against literal values: an acknowledged link, and the end of base station 1.
 use Rattle.std.proofs.Common.{◌≡◌, true, false, List, [], ◌∷◌, map, Some, None, Ok, Err, refl}
 use Rattle.octets.proofs.Hex.{hex}

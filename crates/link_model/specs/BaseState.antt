@@ -1,3 +1,4 @@
+-- SPDX-License-Identifier: MIT OR Apache-2.0
 -- What a base station end keeps: its number, the channels that are active, and the messages that it
 -- made and that weren't given out yet.
 use Rattle.std.specs.Prelude.{ℕ, List}

@@ -1,3 +1,4 @@
+-- SPDX-License-Identifier: MIT OR Apache-2.0
 -- The messages that a base station end makes (TS 48.058).
 use Rattle.std.specs.Prelude.{ℕ, Option, Some, List}
 use Rattle.dtap_codec.specs.declared.sapi.Sapi.{Sapi}

@@ -1,3 +1,4 @@
+-- SPDX-License-Identifier: MIT OR Apache-2.0
 -- What a link is once the message that it lends comes back.
 use Rattle.std.specs.Prelude.{◌≡◌}
 use Rattle.std.specs.Borrow.{MutBor, Fml}

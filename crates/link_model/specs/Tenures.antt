@@ -1,3 +1,4 @@
+-- SPDX-License-Identifier: MIT OR Apache-2.0
 -- What a base station end keeps of an honest station: its messages of one channel, in tenures.
 use Rattle.std.specs.Prelude.{◌≡◌, ℕ, Bool, true, false, ◌==◌, List, [], ◌∷◌}
 use Rattle.link_model.specs.Message.{activation_ack}

@@ -1,3 +1,4 @@
+// SPDX-License-Identifier: MIT OR Apache-2.0
 ghost use Rattle.std.specs.Prelude.{◌≡◌, ◌≤◌, true, None, [], OnOk, OnErr, option_map};
 ghost use Rattle.std.specs.Prelude.{filter, not};
 ghost use Rattle.std.specs.Prelude.{◌==◌};

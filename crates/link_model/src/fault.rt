@@ -1,3 +1,4 @@
+// SPDX-License-Identifier: MIT OR Apache-2.0
 ghost use Rattle.std.specs.Prelude.{◌≡◌};
 ghost use Rattle.link_model.specs.declared.fault.LinkFault.TheVariants.{Memory as OutOfMemory};
 

@@ -1,3 +1,4 @@
+// SPDX-License-Identifier: MIT OR Apache-2.0
 //! The radio side of the model: the acknowledged link between a mobile and its station (TS 44.006),
 //! and the station's end towards its controller (TS 48.058).
 #![tactic(auto)]

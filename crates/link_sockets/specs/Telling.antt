@@ -1,3 +1,4 @@
+-- SPDX-License-Identifier: MIT OR Apache-2.0
 -- What a stopwatch tells at a reading of its clock.
 use Rattle.std.specs.Prelude.{◌≡◌, ℕ, ◌+◌, ◌-◌, ◌*◌, ◌/◌, min, IsSomeAnd}
 use Rattle.std.specs.Prelude.{Option, Some, None}

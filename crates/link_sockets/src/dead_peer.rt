@@ -1,3 +1,4 @@
+// SPDX-License-Identifier: MIT OR Apache-2.0
 // How a link notices a peer that is gone without a word, as where a cable was pulled.
 
 use libc::net::{

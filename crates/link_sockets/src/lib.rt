@@ -1,3 +1,4 @@
+// SPDX-License-Identifier: MIT OR Apache-2.0
 //! The program's relay over TCP: its links, the clock that ticks for it, and its run; and `bsc
 //! run`, the relay between the links that a file of settings names.
 #![tactic(auto)]

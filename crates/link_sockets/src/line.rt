@@ -1,3 +1,4 @@
+// SPDX-License-Identifier: MIT OR Apache-2.0
 use log::{Level, Log, log};
 use std::fmt::Display;
 

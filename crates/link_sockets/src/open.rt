@@ -1,3 +1,4 @@
+// SPDX-License-Identifier: MIT OR Apache-2.0
 ghost use Rattle.std.specs.Prelude.{◌≡◌, ◌+◌, length, map, vec_len, IfOk};
 ghost use Rattle.link_sockets.specs.Naming.{AreNamed, place_of};
 ghost use Rattle.link_sockets.specs.declared.name.LinkName.TheVariants.{Switch};

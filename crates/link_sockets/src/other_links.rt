@@ -1,3 +1,4 @@
+// SPDX-License-Identifier: MIT OR Apache-2.0
 // What the links of one relay know of each other: how many of them have not ended, and whether the
 // switch's has.
 

@@ -1,3 +1,4 @@
+// SPDX-License-Identifier: MIT OR Apache-2.0
 use crate::fault::RunFault;
 use crate::line::log_line;
 use crate::open::{OpenedLinks, SocketLink, open_links};

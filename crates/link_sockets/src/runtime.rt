@@ -1,3 +1,4 @@
+// SPDX-License-Identifier: MIT OR Apache-2.0
 use log::kv::Source;
 use log::span::Spans;
 use log::{Log, Metadata, Record};

@@ -1,3 +1,4 @@
+-- SPDX-License-Identifier: MIT OR Apache-2.0
 -- The frames that were found in octets are the first of the frames that the octets are.
 use Rattle.std.proofs.Common.{◌≡◌, ◌⊎◌, ℕ, List, [], ◌∷◌, ◌++◌, Option, Some, Result, Ok, inl, inr, refl, sym, ap, ◌∙◌, append_assoc}
 use Rattle.ipa_framing.specs.declared.frame.Frame.{Frame}

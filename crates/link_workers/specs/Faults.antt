@@ -1,3 +1,4 @@
+-- SPDX-License-Identifier: MIT OR Apache-2.0
 -- What the faults of the layers below are for a link.
 use Rattle.bssmap_codec.specs.declared.fault.InterfaceFault.{InterfaceFault}
 use Rattle.bssmap_codec.specs.declared.fault.InterfaceFault.TheVariants as interface

@@ -1,3 +1,4 @@
+// SPDX-License-Identifier: MIT OR Apache-2.0
 use bssmap_codec::InterfaceFault;
 use ipa_framing::FrameFault as FramingFault;
 use octets::Memory;

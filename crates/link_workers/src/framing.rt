@@ -1,3 +1,4 @@
+// SPDX-License-Identifier: MIT OR Apache-2.0
 ghost use Rattle.std.specs.Prelude.{◌≡◌, ◌+◌, ◌<◌, ◌≤◌, false, length, IfErr};
 ghost use Rattle.std.specs.Prelude.{OnOk};
 ghost use Rattle.link_workers.specs.declared.link_reads.TheConstants.{MOST_READS};

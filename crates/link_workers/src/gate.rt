@@ -1,3 +1,4 @@
+// SPDX-License-Identifier: MIT OR Apache-2.0
 /// What decides whether a reader may put what it has read. Where all is to be put, it lets each
 /// item through.
 pub trait Gate {

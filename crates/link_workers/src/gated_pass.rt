@@ -1,3 +1,4 @@
+// SPDX-License-Identifier: MIT OR Apache-2.0
 ghost use Rattle.std.specs.Prelude.{◌≡◌, ◌+◌, ◌∷◌, [], MatchResult};
 ghost use Rattle.link_workers.specs.declared.fault.IoFault.TheVariants.{GateShut};
 ghost use Rattle.link_workers.specs.Reading.{PutsGated, having_put};

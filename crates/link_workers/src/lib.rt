@@ -1,3 +1,4 @@
+// SPDX-License-Identifier: MIT OR Apache-2.0
 //! The workers at a link's device: what a reader puts into the inbox, and what a writer writes of
 //! its outbox. And the switch that tests use, at its end of a link.
 #![tactic(auto)]

@@ -1,3 +1,4 @@
+// SPDX-License-Identifier: MIT OR Apache-2.0
 ghost use Rattle.std.specs.Prelude.{◌≡◌, Option, Some};
 ghost use Rattle.link_workers.specs.declared.fault.IoFault.{IoFault as Fault};
 

@@ -1,3 +1,4 @@
+// SPDX-License-Identifier: MIT OR Apache-2.0
 use std::sync::Wait;
 use std::thread::{self, Parker};
 use std::time::Duration;

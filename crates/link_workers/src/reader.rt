@@ -1,3 +1,4 @@
+// SPDX-License-Identifier: MIT OR Apache-2.0
 ghost use Rattle.std.specs.Prelude.{◌≡◌, ◌≢◌, ◌⊎◌, ◌++◌, ℕ, IfErr, IfSome};
 ghost use Rattle.std.specs.Prelude.{List, Some};
 ghost use Rattle.ipa_framing.specs.declared.frame.Frame.{Frame as FrameValue};

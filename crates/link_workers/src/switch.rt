@@ -1,3 +1,4 @@
+// SPDX-License-Identifier: MIT OR Apache-2.0
 ghost use Rattle.std.specs.Prelude.{◌≡◌, ◌++◌, IfErr, IfOk, OnOk};
 ghost use Rattle.ipa_framing.specs.Frame.{frame_text};
 ghost use Rattle.link_workers.specs.Switching.{AnswersFrame, AnswersWhole, IsAnswerFault};

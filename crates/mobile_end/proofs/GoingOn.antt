@@ -1,3 +1,4 @@
+-- SPDX-License-Identifier: MIT OR Apache-2.0
 -- A mobile's link goes on, whatever happens to it.
 use Rattle.std.proofs.Common.{◌≡◌, ℕ, ◌%◌, true, false, Some, List, [], ◌∷◌, ◌++◌, length, sym, ap, ◌∙◌, subst, append_assoc, filter, option_to_list}
 use Rattle.std.proofs.lemmas.Bool.{cond-true, cond-false}

@@ -1,3 +1,4 @@
+-- SPDX-License-Identifier: MIT OR Apache-2.0
 -- The link of SAPI 3 has no message of the flow.
 use Rattle.std.proofs.Common.{◌≡◌, ℕ, false, Option, Some, None, List, [], ◌∷◌, ◌++◌, refl, filter, option_to_list, if◌then◌else◌}
 use Rattle.std.specs.List.{AllByRecursion}

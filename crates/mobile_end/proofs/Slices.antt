@@ -1,3 +1,4 @@
+-- SPDX-License-Identifier: MIT OR Apache-2.0
 -- Slices of the sent list.
 use Rattle.std.proofs.Common.{◌≡◌, ℕ, ◌+◌, ◌-◌, ◌≤◌, List, ◌++◌, length, take, drop, refl, sym, ap, ◌∙◌, subst, arith, append_assoc, filter, length-append, length-take, length-drop, slice_range}
 use Rattle.std.proofs.lemmas.List.{take-append-drop, take_at, drop_at}

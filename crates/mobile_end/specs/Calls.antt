@@ -1,3 +1,4 @@
+-- SPDX-License-Identifier: MIT OR Apache-2.0
 -- A life of a mobile: any list of calls, in any order.
 use Rattle.std.specs.Prelude.{ℕ, Bool, false, ◌&&◌, not, Option, Some, None, Result, Ok}
 use Rattle.std.specs.Prelude.{Err, List, [], ◌∷◌, ◌++◌, option_to_list}

@@ -1,3 +1,4 @@
+-- SPDX-License-Identifier: MIT OR Apache-2.0
 -- Messages of radio resource management, RR (TS 44.018), which belong to one channel.
 use Rattle.std.specs.Prelude.{ℕ, ◌%◌, Bool, false, not, ◌==◌, List, [], ◌∷◌, filter}
 use Rattle.dtap_codec.specs.declared.message.TheConstants.{RADIO_RESOURCE}

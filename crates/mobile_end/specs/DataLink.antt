@@ -1,3 +1,4 @@
+-- SPDX-License-Identifier: MIT OR Apache-2.0
 -- What the calls of a data link do.
 use Rattle.std.specs.Prelude.{ℕ, Option, List, [], ◌∷◌, ◌++◌, option_to_list}
 use Rattle.link_model.specs.AirLink.{message_in, offered_message, after_reach, after_ack}

@@ -1,3 +1,4 @@
+-- SPDX-License-Identifier: MIT OR Apache-2.0
 -- What the calls of a mobile do. Messages of the flow are numbered when the upper layers send them:
 -- the one at place k of the sent list carries k modulo m (TS 24.007 clause 11.2.3.2.3). At a change
 -- of channel the message that wasn't acknowledged is sent again, with its number, behind the

@@ -1,3 +1,4 @@
+-- SPDX-License-Identifier: MIT OR Apache-2.0
 -- What a mobile keeps, in plain lists.
 use Rattle.std.specs.Prelude.{ℕ, List}
 use Rattle.mobile_end.specs.declared.mobile_end.Place.{Place}

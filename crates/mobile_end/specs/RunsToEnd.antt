@@ -1,3 +1,4 @@
+-- SPDX-License-Identifier: MIT OR Apache-2.0
 -- A mobile's link goes on where a list of messages ended.
 use Rattle.std.specs.Prelude.{ℕ, List, ◌++◌, filter, length}
 use Rattle.dtap_codec.specs.Message.{is_flow_message}

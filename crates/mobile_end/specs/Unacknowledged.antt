@@ -1,3 +1,4 @@
+-- SPDX-License-Identifier: MIT OR Apache-2.0
 -- Which message a mobile sends again: the one that wasn't acknowledged (TS 44.006 clause 5.4.3).
 use Rattle.std.specs.Prelude.{ℕ, ◌+◌, ◌≤◌, List, [], ◌∷◌, ◌++◌}
 use Rattle.std.specs.Prelude.{option_to_list, if◌then◌else◌}

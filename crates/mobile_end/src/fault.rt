@@ -1,3 +1,4 @@
+// SPDX-License-Identifier: MIT OR Apache-2.0
 ghost use Rattle.mobile_end.specs.declared.fault.MobileFault.TheVariants.{Memory as OutOfMemory};
 ghost use Rattle.std.specs.Prelude.{◌≡◌};
 

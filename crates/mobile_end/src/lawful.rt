@@ -1,3 +1,4 @@
+// SPDX-License-Identifier: MIT OR Apache-2.0
 ghost use Rattle.std.specs.Prelude.{◌≡◌};
 ghost use Rattle.mobile_end.specs.Lawful.{has_clear_number, is_initial, is_sendable};
 

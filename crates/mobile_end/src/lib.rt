@@ -1,3 +1,4 @@
+// SPDX-License-Identifier: MIT OR Apache-2.0
 //! The mobile end of the radio link: what the upper layers send, numbered by N(SD), one message in
 //! the air per SAPI, and what is sent again after a change of channel.
 #![tactic(auto)]

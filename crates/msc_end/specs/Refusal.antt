@@ -1,3 +1,4 @@
+-- SPDX-License-Identifier: MIT OR Apache-2.0
 -- When the switch end sends nothing.
 use Rattle.std.specs.Prelude.{Option, Some, None}
 use Rattle.msc_end.specs.declared.connection.Connection.{Connection}

@@ -1,3 +1,4 @@
+// SPDX-License-Identifier: MIT OR Apache-2.0
 ghost use Rattle.std.specs.Prelude.{◌≡◌, OnOk, OnErr, IfOk};
 ghost use Rattle.msc_end.specs.Switch.{connection_after, live_connection_after};
 ghost use Rattle.msc_end.specs.Switch.{live_reply_of, reply_of};

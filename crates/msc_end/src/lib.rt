@@ -1,3 +1,4 @@
+// SPDX-License-Identifier: MIT OR Apache-2.0
 //! The switch end: what tests use as the mobile switching centre. It accepts of each connection
 //! what the duplicate detection of TS 24.007 lets through.
 #![tactic(auto)]

@@ -1,3 +1,4 @@
+// SPDX-License-Identifier: MIT OR Apache-2.0
 /// How many connections the switch end gives out.
 pub const CONNECTION_LIMIT: usize = 0x7f_ffff;
 

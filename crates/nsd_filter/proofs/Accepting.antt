@@ -1,3 +1,4 @@
+-- SPDX-License-Identifier: MIT OR Apache-2.0
 -- What is accepted of messages whose places rise.
 use Rattle.std.proofs.Common.{◌≡◌, ℕ, ◌+◌, ◌-◌, ◌%◌, ◌<◌, ◌≤◌, false, Option, Some, None, List, [], ◌∷◌, ◌++◌, take, refl, sym, ap, ◌∙◌, arith, append_assoc, nat_eq, option_map, eq-eqb, inl, inr}
 use Rattle.std.proofs.Math.Nat.{mod-lt, add-mod_right, mod-add-mod, mod_self, mod-eq_of_lt, eq-or-lt_of_le}

@@ -1,3 +1,4 @@
+-- SPDX-License-Identifier: MIT OR Apache-2.0
 -- What the network's end of a connection keeps, message by message.
 use Rattle.std.proofs.Common.{◌≡◌, ℕ, ◌/◌, ◌%◌, Bool, true, false, Option, Some, None, List, [], ◌∷◌, ◌++◌, refl, sym, ap, ◌∙◌, subst, not, filter, option_map, inl, inr}
 use Rattle.std.proofs.lemmas.Bool.{cases_Bool, cond-true}

@@ -1,3 +1,4 @@
+-- SPDX-License-Identifier: MIT OR Apache-2.0
 -- What a filter keeps, and which counts of accepted messages it stands for.
 use Rattle.std.specs.Prelude.{◌≡◌, ℕ, ◌%◌, Option, option_map}
 

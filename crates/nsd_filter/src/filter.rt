@@ -1,3 +1,4 @@
+// SPDX-License-Identifier: MIT OR Apache-2.0
 ghost use Rattle.std.specs.Prelude.{◌≡◌, ℕ, ◌<◌, ◌↔◌, Option, Some, None, IsTrue};
 ghost use Rattle.dtap_codec.specs.Number.{count_of};
 ghost use Rattle.nsd_filter.specs.Filter.{IsStateOf};

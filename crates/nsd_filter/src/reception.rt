@@ -1,3 +1,4 @@
+// SPDX-License-Identifier: MIT OR Apache-2.0
 ghost use Rattle.std.specs.Prelude.{◌≡◌, [], ◌∷◌, ◌++◌, ◌<◌, OnOk, OnErr, Some};
 ghost use Rattle.std.specs.Prelude.{None, vec_len};
 ghost use Rattle.std.specs.Prelude.{vec_capacity};

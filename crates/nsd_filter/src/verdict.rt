@@ -1,3 +1,4 @@
+// SPDX-License-Identifier: MIT OR Apache-2.0
 /// What the number of a message says of it.
 #[derive(Clone, Copy)]
 pub enum Verdict {

@@ -1,3 +1,4 @@
+-- SPDX-License-Identifier: MIT OR Apache-2.0
 -- Octets as text, as the standards write them in examples: two hexadecimal digits an octet, and
 -- spaces between octets.
 use Prim.Native.String.{String}

@@ -1,3 +1,4 @@
+-- SPDX-License-Identifier: MIT OR Apache-2.0
 -- Small lemmas on lists.
 use Rattle.std.proofs.Common.{◌≡◌, ℕ, ◌<◌, Some, List, ◌∷◌, ◌++◌, length, ap, ◌∙◌, arith, slice_get, length-append}
 use Rattle.std.proofs.Math.Seq.{get_or-append_seam}

@@ -1,3 +1,4 @@
+-- SPDX-License-Identifier: MIT OR Apache-2.0
 -- The fields of a message: the elements that it has, in the order in which they are written.
 use Rattle.std.specs.Prelude.{◌≡◌, ℕ, Bool, true, not, ◌&&◌, List, [], ◌∷◌}
 use Rattle.std.specs.Prelude.{◌++◌, length, Option}

@@ -1,3 +1,4 @@
+-- SPDX-License-Identifier: MIT OR Apache-2.0
 -- Words on lists.
 use Rattle.std.specs.Prelude.{◌≡◌, List, ◌++◌}
 

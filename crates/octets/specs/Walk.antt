@@ -1,3 +1,4 @@
+-- SPDX-License-Identifier: MIT OR Apache-2.0
 -- The elements of octets as a function: the walk from the front, an element a step.
 use Rattle.std.specs.Prelude.{ℕ, zero, suc, ◌+◌, ◌*◌, Bool, true, false, ◌==◌, List}
 use Rattle.std.specs.Prelude.{[], ◌∷◌}

@@ -1,3 +1,4 @@
+// SPDX-License-Identifier: MIT OR Apache-2.0
 ghost use Rattle.std.specs.Prelude.{◌≡◌, ◌++◌, ◌<◌, length, OnErr, OnOk};
 ghost use Rattle.octets.specs.Answer.{result_map};
 ghost use Rattle.octets.specs.Front.{octet_at, split_at, counted_at, counted_text};

@@ -1,3 +1,4 @@
+// SPDX-License-Identifier: MIT OR Apache-2.0
 /// The octets that a layer 3 message has at most, as many as the segments of one message carry in
 /// layer 2 (TS 44.006).
 pub const MESSAGE_LIMIT: usize = 251;

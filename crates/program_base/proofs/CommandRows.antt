@@ -1,3 +1,4 @@
+-- SPDX-License-Identifier: MIT OR Apache-2.0
 -- Definitions against literal values. Words of the command line are tried on the built program, by
 -- tests/statuses: the model that `clap` brings with it doesn't compute.
 use Rattle.std.specs.Prelude.{◌≡◌, None, Some, [], codes}

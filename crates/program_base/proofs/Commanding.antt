@@ -1,3 +1,4 @@
+-- SPDX-License-Identifier: MIT OR Apache-2.0
 -- What a setting, an argument or a subcommand makes of a command, as `clap` sees it.
 use Rattle.std.proofs.Common.{◌≡◌, ℕ, List, Some, true, false, ap, ◌∙◌}
 use Rattle.std.specs.Borrow.{Bor}

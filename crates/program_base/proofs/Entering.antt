@@ -1,3 +1,4 @@
+-- SPDX-License-Identifier: MIT OR Apache-2.0
 -- Words that `clap` takes enter one of the three subcommands: `help`, which it adds, is refused.
 use Rattle.std.proofs.Common.{◌≡◌, ◌≢◌, ◌⊎◌, ◌||◌, ◌&&◌, Bool, true, false, Option, Some, None, List, [], ◌∷◌, refl, sym, ◌∙◌, subst, codes, inl, inr, ⊎_elim, true≢false, not}
 use Rattle.std.specs.Prelude.{if◌then◌else◌, find, is_some, option_map, IfSome, IsSomeAnd, ⊤}

@@ -1,3 +1,4 @@
+-- SPDX-License-Identifier: MIT OR Apache-2.0
 -- Which words are octets in hexadecimal digits.
 use Rattle.std.proofs.Common.{◌≡◌, ℕ, ◌%◌, true, false, None, Result, Ok, Err, List, length, refl, sym, ap, ◌∙◌, inl, inr, is_some, nat_eq}
 use Rattle.std.specs.List.{list_all}

@@ -1,3 +1,4 @@
+-- SPDX-License-Identifier: MIT OR Apache-2.0
 -- What `clap` says of a command is said of any command with the same rules.
 use Rattle.std.proofs.Common.{◌≡◌, ◌≢◌, ℕ, true, Option, Some, None, List, [], ◌∷◌, refl, sym, ap, ◌∙◌, subst, option_map, unwrap_or, inl, inr}
 use Rattle.std.specs.Cmp.{first_so}

@@ -1,3 +1,4 @@
+-- SPDX-License-Identifier: MIT OR Apache-2.0
 -- The command line of the program, as `clap` sees it.
 use Rattle.std.specs.Prelude.{◌≡◌, ◌≢◌, ℕ, true, Option, Some, None, option_map}
 use Rattle.std.specs.Prelude.{unwrap_or, List}

@@ -1,3 +1,4 @@
+-- SPDX-License-Identifier: MIT OR Apache-2.0
 -- Script lines: the text of an event is its words, parted by one space.
 use Rattle.std.specs.Prelude.{◌≡◌, ℕ, Bool, false, Some, codes, List, [], ◌∷◌}
 use Rattle.std.specs.List.{AllByRecursion, join_with_byte, All}

@@ -1,3 +1,4 @@
+-- SPDX-License-Identifier: MIT OR Apache-2.0
 -- Reading a script line word by word, as a function of its words. The grammar of lines stands in
 -- Script.
 use Rattle.std.specs.Prelude.{◌≡◌, ℕ, find, Option, Some, None, IsSome, Result, Ok, Err}

@@ -1,3 +1,4 @@
+-- SPDX-License-Identifier: MIT OR Apache-2.0
 -- Why a stream isn't decoded to its end.
 use Rattle.std.specs.IoError.{error_kind}
 use Rattle.ipa_framing.specs.declared.fault.FrameFault.{FrameFault}

@@ -1,3 +1,4 @@
+-- SPDX-License-Identifier: MIT OR Apache-2.0
 -- Why words ask for no task, and the status that the program ends with then.
 use Rattle.std.specs.Prelude.{ℕ}
 use Rattle.program_base.specs.declared.no_task.NoTask.{NoTask}

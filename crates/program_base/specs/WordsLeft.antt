@@ -1,3 +1,4 @@
+-- SPDX-License-Identifier: MIT OR Apache-2.0
 -- The words of a line, which one space parts.
 use Rattle.std.specs.Prelude.{ℕ, ◌==◌, Bool, Option, Some, None, List, []}
 use Rattle.std.specs.List.{slice_split}

@@ -1,3 +1,4 @@
+// SPDX-License-Identifier: MIT OR Apache-2.0
 use crate::no_task::NoTask;
 use crate::parsing::found_task;
 use crate::words::{Task, TaskFault};

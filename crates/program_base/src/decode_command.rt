@@ -1,3 +1,4 @@
+// SPDX-License-Identifier: MIT OR Apache-2.0
 //! `bsc decode`: names the frames of a link.
 ghost use Rattle.std.specs.Prelude.{◌≡◌, ◌⊎◌, ℕ, List, [], Err, IfErr, IfSome, OnOk};
 ghost use Rattle.std.specs.Prelude.{codes};

@@ -1,3 +1,4 @@
+// SPDX-License-Identifier: MIT OR Apache-2.0
 //! What the commands of the program share: how they read settings and an input to its end and write
 //! an output, and why they end with a status above 0. With it the words of the command line, and
 //! the task that `clap` finds in them; and `bsc decode`: the frames of a link are named; and the

@@ -1,3 +1,4 @@
+// SPDX-License-Identifier: MIT OR Apache-2.0
 //! The names of what frames carry, as `bsc decode` prints them.
 ghost use Rattle.std.specs.Prelude.{◌≡◌, IfOk};
 ghost use Rattle.program_base.specs.Names.{ccm_name as ccm_name_of, name_of};

@@ -1,3 +1,4 @@
+// SPDX-License-Identifier: MIT OR Apache-2.0
 ghost use Rattle.program_base.specs.Output.{Puts};
 
 use std::io::{self, ErrorKind, Write};

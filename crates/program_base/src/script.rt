@@ -1,3 +1,4 @@
+// SPDX-License-Identifier: MIT OR Apache-2.0
 ghost use Rattle.std.specs.Prelude.{◌≡◌, ◌⊎◌, IfOk};
 ghost use Rattle.program_base.specs.Words.{Reads, mobile_in, station_in, source_in, any_number_in};
 ghost use Rattle.program_base.specs.ScriptReading.{GivesEvent, kind_in, action_in, last_at};

@@ -1,3 +1,4 @@
+// SPDX-License-Identifier: MIT OR Apache-2.0
 ghost use Rattle.std.specs.Prelude.{◌≡◌, ◌≢◌, Err};
 ghost use Rattle.program_base.specs.SettingsText.{settings_of};
 ghost use Rattle.program_base.specs.declared.failure.Failure.TheVariants.{Memory as OutOfMemory};

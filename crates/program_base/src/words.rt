@@ -1,3 +1,4 @@
+// SPDX-License-Identifier: MIT OR Apache-2.0
 ghost use Rattle.std.specs.Prelude.{◌≡◌};
 ghost use Rattle.program_base.specs.WordStatus.{status_of_words};
 ghost use Rattle.program_base.specs.declared.words.TaskFault.TheVariants.{Memory as OutOfMemory};

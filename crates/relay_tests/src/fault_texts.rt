@@ -1,3 +1,4 @@
+// SPDX-License-Identifier: MIT OR Apache-2.0
 use bsc_program::{Failure, ProgramFault};
 use hold_queue::HoldFault;
 use link_model::LinkFault;

@@ -1,3 +1,4 @@
+// SPDX-License-Identifier: MIT OR Apache-2.0
 //! The calls of the models, of the world and of the program that can run out of memory, each with
 //! ample memory, and what no contract says of them: printed text, and devices that fail.
 #![tactic(auto)]

@@ -1,3 +1,4 @@
+// SPDX-License-Identifier: MIT OR Apache-2.0
 use dtap_codec::{Modulus, Sapi};
 use mobile_end::MobileEnd;
 use std::alloc::Global;

@@ -1,3 +1,4 @@
+// SPDX-License-Identifier: MIT OR Apache-2.0
 use bsc_program::{decode, replay};
 use std::alloc::Global;
 use std::io::{self, ErrorKind, Read, Write};

@@ -1,3 +1,4 @@
+// SPDX-License-Identifier: MIT OR Apache-2.0
 use crate::program::{Command, Row, all_answer};
 
 /// Two cells.

@@ -1,3 +1,4 @@
+// SPDX-License-Identifier: MIT OR Apache-2.0
 use bssmap_codec::{InterfaceFault, Sccp, read_sccp, write_sccp};
 use dtap_codec::{Modulus, Sapi};
 use msc_end::MscEnd;

@@ -1,3 +1,4 @@
+// SPDX-License-Identifier: MIT OR Apache-2.0
 use program_base::{Task, TaskFault, task};
 use std::alloc::Global;
 use std::test::Fail;

@@ -1,3 +1,4 @@
+-- SPDX-License-Identifier: MIT OR Apache-2.0
 -- What texts are read as that break off, and that have FF in place of one octet.
 use Rattle.std.proofs.Common.{◌≡◌, ℕ, List, [], ◌∷◌, length, map, set, take, Ok, Err, refl}
 use Rattle.std.specs.List.{range_with_len}

@@ -1,3 +1,4 @@
+-- SPDX-License-Identifier: MIT OR Apache-2.0
 -- A body of three elements in written order.
 use Rattle.std.proofs.Common.{◌≡◌, ℕ, ◌+◌, ◌*◌, ◌/◌, ◌%◌, ◌<◌, ◌≤◌, ◌-◌, false, List, [], ◌∷◌, length, get_or, take, drop, ap, refl, sym, ◌∙◌, append-nil, arith}
 use Rattle.std.proofs.lemmas.List.{take_all}

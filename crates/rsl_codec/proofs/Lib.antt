@@ -1,3 +1,4 @@
+-- SPDX-License-Identifier: MIT OR Apache-2.0
 mod Causes
 pub mod Steps
 pub mod InOrder

@@ -1,3 +1,4 @@
+-- SPDX-License-Identifier: MIT OR Apache-2.0
 -- Each message: what is read has its fields, and elements that have them are read.
 use Rattle.std.proofs.Common.{◌≡◌, ℕ, true, List, Option, Some, None, Ok, refl, ap, subst, ◌∙◌}
 use Rattle.octets.specs.Element.{Element}

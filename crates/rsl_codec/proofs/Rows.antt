@@ -1,3 +1,4 @@
+-- SPDX-License-Identifier: MIT OR Apache-2.0
 -- Definitions against literal octets (TS 48.058 clauses 8 and 9).
 use Rattle.std.proofs.Common.{◌≡◌, ℕ, Bool, List, [], ◌∷◌, ◌++◌, filter, length, map, replicate, true, false, Some, None, Ok, Err, refl}
 use Rattle.std.specs.List.{range_with_len}

@@ -1,3 +1,4 @@
+-- SPDX-License-Identifier: MIT OR Apache-2.0
 -- The elements of each message, in written order (TS 48.058 clause 8).
 use Rattle.std.specs.Prelude.{ℕ, ◌/◌, ◌%◌, List, [], ◌∷◌, Some, option_map}
 use Rattle.octets.specs.Field.{Field, field}

@@ -1,3 +1,4 @@
+-- SPDX-License-Identifier: MIT OR Apache-2.0
 -- Link identifiers (TS 48.058 clause 9.3.2).
 use Rattle.std.specs.Prelude.{ℕ, nat_le, if◌then◌else◌}
 use Rattle.rsl_codec.specs.declared.channel_number.TheConstants.{FIRST_SDCCH}

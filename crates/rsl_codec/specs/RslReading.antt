@@ -1,3 +1,4 @@
+-- SPDX-License-Identifier: MIT OR Apache-2.0
 -- Reading a message as a function of its octets, with the fault that stands first.
 use Rattle.std.specs.Prelude.{ℕ, ◌+◌, ◌*◌, Bool, List, [], ◌∷◌, length, Option}
 use Rattle.std.specs.Prelude.{Some, None}

@@ -1,3 +1,4 @@
+-- SPDX-License-Identifier: MIT OR Apache-2.0
 -- The types of the messages (TS 48.058 clauses 9.1 and 9.2).
 use Rattle.std.specs.Prelude.{ℕ, ◌/◌, Bool, true, false, ◌==◌, ◌&&◌, nat_lt}
 use Rattle.std.specs.Prelude.{if◌then◌else◌, Option}

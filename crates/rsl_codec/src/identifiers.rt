@@ -1,3 +1,4 @@
+// SPDX-License-Identifier: MIT OR Apache-2.0
 use octets::element::{Entry, Format};
 
 // The element identifiers (TS 48.058 clause 9.3).

@@ -1,3 +1,4 @@
+// SPDX-License-Identifier: MIT OR Apache-2.0
 //! RSL, the layer 3 messages between a base station and its controller (TS 48.058): a type for each
 //! message, read from and written to octets.
 #![tactic(auto)]

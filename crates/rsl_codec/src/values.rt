@@ -1,3 +1,4 @@
+// SPDX-License-Identifier: MIT OR Apache-2.0
 use octets::Octets;
 
 /// Why a channel is activated (TS 48.058 clause 9.3.3). It holds every octet.

@@ -1,3 +1,4 @@
+-- SPDX-License-Identifier: MIT OR Apache-2.0
 -- What an end of a queue shows, and what its calls do.
 use Rattle.std.specs.Prelude.{◌≡◌, ℕ, true, List, [], ◌++◌, length}
 use Rattle.atomic_table.specs.Seated.{TableId}

@@ -1,3 +1,4 @@
+-- SPDX-License-Identifier: MIT OR Apache-2.0
 -- What an inbox still holds when its ends have come together, and how it is given.
 use Rattle.std.specs.Prelude.{ℕ, ◌+◌, List, [], ◌∷◌, ◌++◌, drop, length, map}
 use Rattle.ruled_relay.specs.declared.item.Item.{Item}

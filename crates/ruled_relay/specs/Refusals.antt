@@ -1,3 +1,4 @@
+-- SPDX-License-Identifier: MIT OR Apache-2.0
 -- What an outbox refuses over all that is put or comes back.
 use Rattle.std.specs.Prelude.{◌≡◌, ℕ, ◌+◌, List, [], ◌∷◌, Ok, Err, max}
 use Rattle.ruled_relay.specs.declared.outbox.Line.{Line}

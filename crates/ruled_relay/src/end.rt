@@ -1,3 +1,4 @@
+// SPDX-License-Identifier: MIT OR Apache-2.0
 ghost use Rattle.std.specs.Prelude.{◌≡◌, ◌<◌, true, IfOk, MatchOption, MatchResult};
 ghost use Rattle.ruled_relay.specs.Ends.{AreNew, IsDrained, Joins, Puts, Takes, WasFull};
 

@@ -1,3 +1,4 @@
+// SPDX-License-Identifier: MIT OR Apache-2.0
 ghost use Rattle.std.specs.Prelude.{◌≡◌, ◌<◌, length, List, IfOk, MatchOption, map};
 ghost use Rattle.std.specs.Prelude.{vec_len};
 ghost use Rattle.ruled_relay.specs.Row.{Row};

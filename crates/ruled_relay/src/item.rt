@@ -1,3 +1,4 @@
+// SPDX-License-Identifier: MIT OR Apache-2.0
 //! What the links of the relay give the controller.
 #![tactic(auto)]
 

@@ -1,3 +1,4 @@
+// SPDX-License-Identifier: MIT OR Apache-2.0
 //! The queues between the threads of the running relay: an inbox, which has a queue for each link
 //! that is read, and an outbox for each link that is written.
 //!

@@ -1,3 +1,4 @@
+// SPDX-License-Identifier: MIT OR Apache-2.0
 ghost use Rattle.std.specs.Prelude.{◌≡◌, ℕ, ◌<◌, ◌++◌, List, IfOk, MatchOption};
 ghost use Rattle.std.specs.Prelude.{IfNone, min};
 ghost use Rattle.ruled_relay.specs.Outbox.{AreNewOutbox, PutsLine, PutterView};

@@ -1,3 +1,4 @@
+// SPDX-License-Identifier: MIT OR Apache-2.0
 use controller_worker::Clock;
 use link_workers::{Gate, IoFault, LinkReader};
 use std::alloc::Global;

@@ -1,3 +1,4 @@
+// SPDX-License-Identifier: MIT OR Apache-2.0
 use crate::devices::{Got, Held, Sink, Source, Still};
 use controller::Controller;
 use link_workers::IoFault;

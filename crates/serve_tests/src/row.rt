@@ -1,3 +1,4 @@
+// SPDX-License-Identifier: MIT OR Apache-2.0
 use crate::relay::{Ended, IDLE, Play, serve};
 use crate::texts::{answers, first, requests};
 use link_workers::IoFault;

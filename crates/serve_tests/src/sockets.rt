@@ -1,3 +1,4 @@
+// SPDX-License-Identifier: MIT OR Apache-2.0
 use crate::texts::{answers, first, requests};
 use link_sockets::run_links;
 use settings::Settings;

@@ -1,3 +1,4 @@
+// SPDX-License-Identifier: MIT OR Apache-2.0
 //! The octets of a mobile's access, on the channel 41 of its cell, with the header of each frame.
 use std::alloc::{AllocError, Global};
 

@@ -1,3 +1,4 @@
+-- SPDX-License-Identifier: MIT OR Apache-2.0
 -- What may be answered beside a first fault, and beside none.
 use Rattle.std.proofs.Common.{◌≡◌, ℕ, List, ◌++◌, Some, None, Ok, Err, codes, refl}
 use Rattle.std.specs.Borrow.{Bor}

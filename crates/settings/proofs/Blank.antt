@@ -1,3 +1,4 @@
+-- SPDX-License-Identifier: MIT OR Apache-2.0
 -- A blank text has the first fault of a table without keys, and no other answer.
 use Rattle.std.proofs.Common.{◌≡◌, ℕ, List, Some, Result, Ok, Err, refl, sym, ◌∙◌, subst}
 use Rattle.toml.specs.Data.{Members, no_members}

@@ -1,3 +1,4 @@
+-- SPDX-License-Identifier: MIT OR Apache-2.0
 -- Tables against their first fault: each fault, and of two faults that are neighbours in the order
 -- the first.
 use Rattle.std.proofs.Common.{◌≡◌, ℕ, pos, true, List, [], ◌∷◌, Option, Some, None, codes, zero, suc, refl}

@@ -1,3 +1,4 @@
+-- SPDX-License-Identifier: MIT OR Apache-2.0
 -- Items beside the values that they stand for, and lists whose elements pass tests.
 use Rattle.std.proofs.Common.{◌≡◌, ℕ, ◌==◌, ◌&&◌, ◌/◌, ◌%◌, List, [], ◌∷◌, Option, Some, None, length, refl, arith}
 use Rattle.std.specs.Option.{option_or}

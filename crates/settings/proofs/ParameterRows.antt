@@ -1,3 +1,4 @@
+-- SPDX-License-Identifier: MIT OR Apache-2.0
 -- The ranges of settings against literal values, on both sides of each limit.
 use Rattle.std.proofs.Common.{◌≡◌, ℕ, true, false, nat_eq, List, [], ◌∷◌, replicate, codes, refl, arith}
 use Rattle.octets.proofs.Hex.{hex}

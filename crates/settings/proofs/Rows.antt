@@ -1,3 +1,4 @@
+-- SPDX-License-Identifier: MIT OR Apache-2.0
 -- The table of keys against literal values: limits, defaults, texts.
 use Rattle.std.proofs.Common.{◌≡◌, ℕ, ℤ, pos, negsuc, true, false, List, [], ◌∷◌, map, Option, Some, None, codes, zero, suc, refl}
 use Rattle.octets.proofs.Hex.{hex}

@@ -1,3 +1,4 @@
+-- SPDX-License-Identifier: MIT OR Apache-2.0
 -- What holds in the loops over channels and cells, when the first so many values are copied.
 use Rattle.std.proofs.Common.{◌≡◌, ℕ, true, List, [], ◌∷◌, Option, Some, None, ◌++◌, ◌+◌, add-one, drop, length, zero, suc, refl}
 use Rattle.std.specs.Prelude.{All}

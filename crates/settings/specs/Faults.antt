@@ -1,3 +1,4 @@
+-- SPDX-License-Identifier: MIT OR Apache-2.0
 -- The first fault of a table, by the rules of its keys.
 use Rattle.std.specs.Prelude.{ℕ, ◌+◌, ◌==◌, nat_le, ℤ, pos, int_le, Bool}
 use Rattle.std.specs.Prelude.{true, false, not, ◌&&◌, if◌then◌else◌, List, []}

@@ -1,3 +1,4 @@
+-- SPDX-License-Identifier: MIT OR Apache-2.0
 -- What is found in a table, which still has its texts and its lists, as the settings that it gives.
 use Rattle.std.specs.Prelude.{◌≡◌, ◌≤◌, Some, None, true, length}
 use Rattle.toml.specs.View.{view, items_view}

@@ -1,3 +1,4 @@
+-- SPDX-License-Identifier: MIT OR Apache-2.0
 -- What is found at a key, in a value or in a table: what is seen in it, or its first fault.
 use Rattle.std.specs.Prelude.{List, Option, Some, Result}
 use Rattle.toml.specs.Data.{Data, Members}

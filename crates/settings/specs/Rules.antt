@@ -1,3 +1,4 @@
+-- SPDX-License-Identifier: MIT OR Apache-2.0
 -- The table of keys: what each holds, and its default. A key without a default is required.
 use Rattle.std.specs.Prelude.{ℕ, pos, false, List, [], ◌∷◌, Option, Some, None}
 use Rattle.toml.specs.Data.{Data, integer, boolean}

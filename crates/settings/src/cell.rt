@@ -1,3 +1,4 @@
+// SPDX-License-Identifier: MIT OR Apache-2.0
 ghost use Rattle.std.specs.Prelude.{◌≡◌, ◌≤◌, IfOk};
 ghost use Rattle.settings.specs.Found.{cell_found, IsCellFound};
 ghost use Rattle.settings.specs.Parameters.{AreChannels, IsCell, air_of};

@@ -1,3 +1,4 @@
+// SPDX-License-Identifier: MIT OR Apache-2.0
 // The cells of the settings: an array of tables.
 ghost use Rattle.std.specs.Prelude.{◌≡◌, ◌≤◌, Some, None, All, IfOk, length};
 ghost use Rattle.toml.specs.Data.{array};

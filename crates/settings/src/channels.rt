@@ -1,3 +1,4 @@
+// SPDX-License-Identifier: MIT OR Apache-2.0
 // The channels of a cell: a list of the numbers of TCHs and SDCCHs.
 ghost use Rattle.std.specs.Prelude.{◌≡◌, ◌≤◌, Some, true, All, IfOk, IfSome, is_some};
 ghost use Rattle.std.specs.Prelude.{length};

@@ -1,3 +1,4 @@
+// SPDX-License-Identifier: MIT OR Apache-2.0
 use crate::{Key, Text};
 use octets::Memory;
 use std::alloc::AllocFailed;

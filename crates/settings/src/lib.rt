@@ -1,3 +1,4 @@
+// SPDX-License-Identifier: MIT OR Apache-2.0
 //! The settings of the controller, read from a text in TOML: the network, the switch, timers,
 //! handover and cells.
 #![tactic(auto)]

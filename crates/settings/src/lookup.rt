@@ -1,3 +1,4 @@
+// SPDX-License-Identifier: MIT OR Apache-2.0
 // What a table holds at a key, by the kind of the key: its value, or its first fault.
 ghost use Rattle.std.specs.Prelude.{◌≡◌, ◌≤◌, Some, IfOk, option_map};
 ghost use Rattle.std.specs.List.{list_all};

@@ -1,3 +1,4 @@
+// SPDX-License-Identifier: MIT OR Apache-2.0
 ghost use Rattle.std.specs.Prelude.{◌≡◌, ◌≢◌, ◌≤◌, ◌-◌, true, Some, map};
 ghost use Rattle.std.specs.Prelude.{length, IfOk, slice_get};
 ghost use Rattle.toml.specs.Errors.{IsBlank};

@@ -1,3 +1,4 @@
+// SPDX-License-Identifier: MIT OR Apache-2.0
 // What is seen in a cell of a table, whatever its faults: where there is nothing it is empty or 0.
 ghost use Rattle.std.specs.Prelude.{◌≡◌, Some, option_map};
 ghost use Rattle.toml.specs.View.{view, items_view};

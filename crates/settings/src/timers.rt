@@ -1,3 +1,4 @@
+// SPDX-License-Identifier: MIT OR Apache-2.0
 /// The times of a connection's timers, in milliseconds.
 #[derive(Clone, Copy)]
 pub(crate) struct Timers {

@@ -1,3 +1,4 @@
+// SPDX-License-Identifier: MIT OR Apache-2.0
 // Keys that aren't known.
 ghost use Rattle.std.specs.Prelude.{◌≡◌, not, find, option_map, string_bytes};
 ghost use Rattle.std.specs.Option.{option_copied};

@@ -1,3 +1,4 @@
+-- SPDX-License-Identifier: MIT OR Apache-2.0
 -- What the threads of the relay are given.
 use Rattle.std.specs.Prelude.{◌≡◌, ℕ, List, [], length, map, vec_len}
 use Rattle.controller_worker.specs.Call.{AreNew, AreUnmarked}

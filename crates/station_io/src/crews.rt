@@ -1,3 +1,4 @@
+// SPDX-License-Identifier: MIT OR Apache-2.0
 //! The threads of the relay: all are started, or none begins.
 ghost use Rattle.std.specs.Prelude.{◌≡◌, [], ◌++◌, IfOk, IfSome, None, OnOk};
 ghost use Rattle.station_io.specs.Done.{AreRead, AreWritten, IsCalled};

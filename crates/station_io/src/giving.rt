@@ -1,3 +1,4 @@
+// SPDX-License-Identifier: MIT OR Apache-2.0
 //! What is given back of the links once all threads have ended.
 ghost use Rattle.std.specs.Prelude.{◌≡◌, [], map, vec_len, vec_capacity, IfOk};
 ghost use Rattle.ruled_relay.specs.Inbox.{AreJoined, queues_of};

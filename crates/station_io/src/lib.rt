@@ -1,3 +1,4 @@
+// SPDX-License-Identifier: MIT OR Apache-2.0
 //! The running relay: the controller among its links, with a thread for each reader, each writer
 //! and the call worker. All are started before the first begins, and each gives back what it
 //! promised.

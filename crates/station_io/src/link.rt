@@ -1,3 +1,4 @@
+// SPDX-License-Identifier: MIT OR Apache-2.0
 /// A link of the controller.
 #[derive(Drop)]
 pub struct Link<I, O, G> {

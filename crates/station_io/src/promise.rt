@@ -1,3 +1,4 @@
+// SPDX-License-Identifier: MIT OR Apache-2.0
 use crate::worker::Worker;
 use std::snapshot::Snapshot;
 use std::thread::Promise;

@@ -1,3 +1,4 @@
+// SPDX-License-Identifier: MIT OR Apache-2.0
 ghost use Rattle.std.specs.Prelude.{◌≡◌, map, IfOk, IfErr};
 ghost use Rattle.link_workers.specs.declared.fault.IoFault.TheVariants as faults;
 ghost use Rattle.station_io.specs.Done.{HasEnded};

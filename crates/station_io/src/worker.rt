@@ -1,3 +1,4 @@
+// SPDX-License-Identifier: MIT OR Apache-2.0
 use std::sync::Wait;
 
 /// What one thread does, from its beginning to its end.

@@ -1,3 +1,4 @@
+// SPDX-License-Identifier: MIT OR Apache-2.0
 use ruled_relay::{Desk, Inbox, Line, Outbox, Putter, Taker};
 use std::process::Abort;
 use std::sync::Wait;

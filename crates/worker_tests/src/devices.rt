@@ -1,3 +1,4 @@
+// SPDX-License-Identifier: MIT OR Apache-2.0
 use link_workers::{Gate, IoFault, LinkReader};
 use octets::Memory;
 use std::alloc::Global;

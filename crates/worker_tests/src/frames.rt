@@ -1,3 +1,4 @@
+// SPDX-License-Identifier: MIT OR Apache-2.0
 use ipa_framing::Frame;
 use octets::{Memory, Octets};
 use std::alloc::Global;

@@ -1,3 +1,4 @@
+// SPDX-License-Identifier: MIT OR Apache-2.0
 //! The queues of the running relay, the workers of links and the call worker, with ample memory and
 //! over devices that fail, and what no contract says of them: that a taker gets what is there, that
 //! threads at both ends of a queue get on, that a device that works gives no fault, and how long

@@ -1,3 +1,4 @@
+// SPDX-License-Identifier: MIT OR Apache-2.0
 use link_workers::Pauses;
 use std::test::Fail;
 use std::time::Instant;

@@ -1,3 +1,4 @@
+// SPDX-License-Identifier: MIT OR Apache-2.0
 ghost use Rattle.std.specs.Prelude.{◌<◌};
 
 use crate::devices::{Call, Counts, PING, Shut, Source, ended, is_fault};

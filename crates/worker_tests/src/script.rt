@@ -1,3 +1,4 @@
+// SPDX-License-Identifier: MIT OR Apache-2.0
 use controller_worker::Clock;
 use std::alloc::Global;
 use std::process::Abort;

@@ -1,3 +1,4 @@
+// SPDX-License-Identifier: MIT OR Apache-2.0
 use crate::devices::{Call, Sink, Source, ended};
 use dtap_codec::Modulus;
 use link_workers::switch_worker;

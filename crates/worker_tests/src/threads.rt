@@ -1,3 +1,4 @@
+// SPDX-License-Identifier: MIT OR Apache-2.0
 use crate::frames::{frame, is_frame};
 use ruled_relay::{
     Desk, Full, Inbox, Item, Line, Outbox, PutFault, Putter, SourcePass, Taker, What,

@@ -1,3 +1,4 @@
+// SPDX-License-Identifier: MIT OR Apache-2.0
 use crate::devices::{Flushed, PING, Sink, ended, is_fault};
 use ipa_framing::{CCM_STREAM, Frame};
 use link_workers::{HasWritten, IoFault, serve_writer};

@@ -1,3 +1,4 @@
+-- SPDX-License-Identifier: MIT OR Apache-2.0
 -- Events with the break of a link among them.
 use Rattle.std.proofs.Common.{◌≡◌, ℕ, min, List, ◌∷◌, Result, Ok, Err, OnOk, length, take, drop, sym, ap, ◌∙◌}
 use Rattle.std.proofs.lemmas.List.{take_min, drop_min}

@@ -1,3 +1,4 @@
+-- SPDX-License-Identifier: MIT OR Apache-2.0
 -- The order of messages in every world with a controller.
 use Rattle.std.proofs.Common.{ℕ, ◌≤◌, List, refl, sym, subst}
 use Rattle.controller_model.specs.LifeLaws.Downlink.{DownlinkIsConserved}

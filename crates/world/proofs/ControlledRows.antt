@@ -1,3 +1,4 @@
+-- SPDX-License-Identifier: MIT OR Apache-2.0
 -- The world with a controller against literal events: what is seen of it, its queues, its events
 -- with a break.
 use Rattle.std.proofs.Common.{◌≡◌, ℕ, ◌∷◌, Bool, true, false, List, [], ◌++◌, length, map, Option, Some, None, refl}

@@ -1,3 +1,4 @@
+-- SPDX-License-Identifier: MIT OR Apache-2.0
 -- The fixed world over any list of events.
 use Rattle.std.proofs.Common.{◌≡◌, ℕ, Bool, true, false, Option, Some, None, List, [], ◌∷◌, ◌++◌, refl, sym, ap, ◌∙◌, append_assoc, unwrap_or, option_to_list, option_map, cond, nat_eq, map}
 use Rattle.std.proofs.lemmas.List.{map-append}

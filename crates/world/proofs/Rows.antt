@@ -1,3 +1,4 @@
+-- SPDX-License-Identifier: MIT OR Apache-2.0
 -- Definitions against literal events, of the fixed world.
 use Rattle.std.proofs.Common.{◌≡◌, List, [], ◌∷◌, ◌++◌, replicate, true, Option, Some, None, option_map, refl}
 use Rattle.octets.proofs.Hex.{hex}

@@ -1,3 +1,4 @@
+-- SPDX-License-Identifier: MIT OR Apache-2.0
 -- The switch of a world with a controller has what was taken out of its outbox: what it does of its
 -- own takes nothing.
 use Rattle.std.proofs.Common.{◌≡◌, ℕ, ◌+◌, ◌-◌, ◌==◌, ◌&&◌, not, nat_le, nat_eq, Bool, true, false, if◌then◌else◌, List, [], ◌∷◌, ◌++◌, length, fold, map, get_or, set, Option, Some, None, refl, sym, ap, ◌∙◌, subst, unwrap_or, is_some, option_map}

@@ -1,3 +1,4 @@
+-- SPDX-License-Identifier: MIT OR Apache-2.0
 -- The fixed world in plain lists.
 use Rattle.std.specs.Prelude.{ℕ, List}
 use Rattle.mobile_end.specs.MobileState.{MobileState}

@@ -1,3 +1,4 @@
+-- SPDX-License-Identifier: MIT OR Apache-2.0
 -- The switch's messages on their way to the mobiles, over every list of events.
 use Rattle.std.specs.Prelude.{ℕ, ◌≤◌, List}
 use Rattle.std.specs.List.{AllByRecursion}

@@ -1,3 +1,4 @@
+-- SPDX-License-Identifier: MIT OR Apache-2.0
 -- The order of messages, end to end: for every list of events, what the switch accepts of the flow
 -- of a connection is the beginning of what its mobile sent, once and in order; what the switch
 -- sends is handed to the serving channel at most once, in order, never while the mobile changes its

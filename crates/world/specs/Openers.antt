@@ -1,3 +1,4 @@
+-- SPDX-License-Identifier: MIT OR Apache-2.0
 -- Whose connection it is: the mobile with whose initial message it was asked for.
 use Rattle.std.specs.Prelude.{ℕ, ◌==◌, Option, Some, None, List, if◌then◌else◌}
 use Rattle.world_laws.specs.Order.Order.{opener_of}

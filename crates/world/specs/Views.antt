@@ -1,3 +1,4 @@
+-- SPDX-License-Identifier: MIT OR Apache-2.0
 -- What is seen of a world, by the number of a mobile or of a connection of the switch; None where
 -- there is none.
 use Rattle.std.specs.Prelude.{ℕ, ◌==◌, Option, Some, None, List, [], if◌then◌else◌}

@@ -1,3 +1,4 @@
+-- SPDX-License-Identifier: MIT OR Apache-2.0
 -- A world: its actors, the number of events that none could take, and whether memory ran out.
 use Rattle.std.specs.Prelude.{ℕ, Bool}
 use Rattle.world.specs.declared.world.Scene.{Scene}

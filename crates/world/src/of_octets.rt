@@ -1,3 +1,4 @@
+// SPDX-License-Identifier: MIT OR Apache-2.0
 //! That the events of the code are of octets.
 
 ghost use Rattle.octets.specs.Element.{AreOctets};

@@ -1,3 +1,4 @@
+// SPDX-License-Identifier: MIT OR Apache-2.0
 ghost use Rattle.std.specs.Prelude.{IsSome, ◌≡◌, ◌++◌, ◌∷◌, List, [], false, true};
 ghost use Rattle.std.specs.Prelude.{IfOk, OnOk, OnErr, is_some, option_map};
 ghost use Rattle.dtap_codec.specs.Number.{count_of};

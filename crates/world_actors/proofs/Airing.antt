@@ -1,3 +1,4 @@
+-- SPDX-License-Identifier: MIT OR Apache-2.0
 -- What goes between a mobile and the station of its channel.
 use Rattle.world_actors.proofs.Prelude.{◌≡◌, ℕ, ◌-◌, ◌&&◌, Bool, true, false, if◌then◌else◌, List, [], ◌∷◌, ◌++◌, set, Option, Some, None}
 use Rattle.world_actors.proofs.Prelude.{Result, Ok, Err, OnErr, IsSome, refl, sym, ap, ◌∙◌, subst, option_and_then, option_map, set-get_or}

@@ -1,3 +1,4 @@
+-- SPDX-License-Identifier: MIT OR Apache-2.0
 -- A frame of a mobile comes to the station of its channel.
 use Rattle.world_actors.proofs.Prelude.{◌≡◌, ℕ, ◌-◌, Bool, true, false, if◌then◌else◌, List, Option, Some, None, Result, Ok, Err, OnErr}
 use Rattle.world_actors.proofs.Prelude.{IsSome, refl, sym, ap, ◌∙◌, subst, option_and_then, option_map, find_at, Place, Sapi, Memory}

@@ -1,3 +1,4 @@
+-- SPDX-License-Identifier: MIT OR Apache-2.0
 -- How mobiles come.
 use Rattle.world_actors.proofs.Prelude.{◌≡◌, ℕ, ◌&&◌, Bool, true, false, if◌then◌else◌, List, [], ◌∷◌, ◌++◌, Option, Some, None, Result, Ok}
 use Rattle.world_actors.proofs.Prelude.{Err, OnOk, OnErr, IsSome, refl, sym, ap, ◌∙◌, subst, find_at, Memory, Rsl, MobilesState, at_station}

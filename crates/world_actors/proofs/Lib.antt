@@ -1,3 +1,4 @@
+-- SPDX-License-Identifier: MIT OR Apache-2.0
 mod Prelude
 mod Airing
 mod Bringing

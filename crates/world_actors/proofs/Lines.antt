@@ -1,3 +1,4 @@
+-- SPDX-License-Identifier: MIT OR Apache-2.0
 -- A station takes a line of its outbox.
 use Rattle.world_actors.proofs.Prelude.{◌≡◌, ℕ, ◌-◌, Bool, true, false, if◌then◌else◌, List, [], ◌∷◌, ◌++◌, set, Option, Some, None, Result}
 use Rattle.world_actors.proofs.Prelude.{Ok, Err, OnOk, OnErr, IsSome, refl, sym, ap, ◌∙◌, set-get_or, find_at, Place, place_at, Memory, Rsl}

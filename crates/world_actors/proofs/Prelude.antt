@@ -1,3 +1,4 @@
+-- SPDX-License-Identifier: MIT OR Apache-2.0
 -- What the proofs of this crate name of the crates below it.
 pub use Rattle.conn_messages.specs.declared.channel.Place.{Place}
 pub use Rattle.controller_model.specs.Controller.{place_at}

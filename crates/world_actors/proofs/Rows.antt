@@ -1,3 +1,4 @@
+-- SPDX-License-Identifier: MIT OR Apache-2.0
 -- Where mobiles act, and what stations can take, in worlds of literal events. Mobile 1 is on
 -- channel 41 of station 1, in its first tenure.
 use Rattle.world_actors.proofs.Prelude.{◌≡◌, ℕ, true, false, [], ◌∷◌, Some, None, refl, place_at, On, Moving, Gone}

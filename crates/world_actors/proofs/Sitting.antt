@@ -1,3 +1,4 @@
+-- SPDX-License-Identifier: MIT OR Apache-2.0
 -- The mobile of a number, and the channel that it is on.
 use Rattle.world_actors.proofs.Prelude.{◌≡◌, ℕ, Bool, true, false, if◌then◌else◌, List, [], ◌∷◌, set, Option, Some, None, refl, sym, ap}
 use Rattle.world_actors.proofs.Prelude.{◌∙◌, subst, option_and_then, option_map, find_at, at_mobile, mobile_in, Seat, Asking, On, Moving}

@@ -1,3 +1,4 @@
+-- SPDX-License-Identifier: MIT OR Apache-2.0
 -- What happens to a mobile happens to the one of its number.
 use Rattle.world_actors.proofs.Prelude.{◌≡◌, ℕ, Bool, true, false, ◌&&◌, if◌then◌else◌, List, [], ◌∷◌, set, Option, Some, None, Result, Ok}
 use Rattle.world_actors.proofs.Prelude.{Err, OnErr, IsSome, refl, sym, ap, ◌∙◌, subst, option_and_then, option_map, find_at, Sapi, Memory}

@@ -1,3 +1,4 @@
+-- SPDX-License-Identifier: MIT OR Apache-2.0
 -- What an item of the inbox makes of the world, once it was taken.
 use Rattle.controller_model.specs.Life.{take}
 use Rattle.ruled_relay.specs.declared.item.Item.{Item}

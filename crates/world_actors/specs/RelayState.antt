@@ -1,3 +1,4 @@
+-- SPDX-License-Identifier: MIT OR Apache-2.0
 -- The controller of a world with its queues, in plain lists.
 use Rattle.std.specs.Prelude.{List}
 use Rattle.controller_model.specs.Controller.{Controller}

@@ -1,3 +1,4 @@
+-- SPDX-License-Identifier: MIT OR Apache-2.0
 -- Whether a station can take a line of its outbox.
 use Rattle.std.specs.Prelude.{ℕ, ◌==◌, not, Bool, false, Option, Some, None}
 use Rattle.controller_model.specs.Controller.{place_at}

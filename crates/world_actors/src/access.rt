@@ -1,3 +1,4 @@
+// SPDX-License-Identifier: MIT OR Apache-2.0
 ghost use Rattle.std.specs.Prelude.{◌≡◌, ◌&&◌, IfOk, IsSome, OnErr, OnOk};
 ghost use Rattle.world_model.specs.Mobiles.{after_connecting, channel_required, with_message_made};
 ghost use Rattle.world_model.specs.Takes.{Takes};

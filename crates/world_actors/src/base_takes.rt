@@ -1,3 +1,4 @@
+// SPDX-License-Identifier: MIT OR Apache-2.0
 ghost use Rattle.std.specs.Prelude.{◌≡◌, ◌≢◌, ◌&&◌, if◌then◌else◌, false};
 ghost use Rattle.std.specs.Prelude.{IfOk, IsSome, Ok, OnErr, OnOk, Some};
 ghost use Rattle.controller_model.specs.Controller.{place_at};

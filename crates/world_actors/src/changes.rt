@@ -1,3 +1,4 @@
+// SPDX-License-Identifier: MIT OR Apache-2.0
 ghost use Rattle.std.specs.Prelude.{◌≡◌, IfOk, IsSome, OnErr};
 ghost use Rattle.world_model.specs.Mobiles.{after_arriving, after_move, after_return};
 ghost use Rattle.world_model.specs.Mobiles.{after_touch, is_to_handover};

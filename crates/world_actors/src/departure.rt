@@ -1,3 +1,4 @@
+// SPDX-License-Identifier: MIT OR Apache-2.0
 use world_model::{Command, Tenure};
 
 /// A mobile's way to another channel.

@@ -1,3 +1,4 @@
+// SPDX-License-Identifier: MIT OR Apache-2.0
 ghost use Rattle.std.specs.Prelude.{◌≡◌, IfOk, Ok, Some};
 ghost use Rattle.dtap_codec.specs.RrReading.{rr_reading};
 ghost use Rattle.rsl_codec.specs.declared.rsl.Rsl.TheVariants.{DataRequest};

@@ -1,3 +1,4 @@
+// SPDX-License-Identifier: MIT OR Apache-2.0
 ghost use Rattle.std.specs.Prelude.{◌≡◌, IfOk, IsSome, OnErr, OnOk};
 ghost use Rattle.world_model.specs.Relay.{acknowledged_tenure, after_handle, target_in};
 ghost use Rattle.world_model.specs.Stations.{rsl_in as message_in};

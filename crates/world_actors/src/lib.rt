@@ -1,3 +1,4 @@
+// SPDX-License-Identifier: MIT OR Apache-2.0
 //! The world with a controller: its mobiles, its base stations and the switch, and the controller
 //! with its queues, the inbox and an outbox for each link. Its contracts say that it is the world
 //! of `world_model`.

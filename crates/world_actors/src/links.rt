@@ -1,3 +1,4 @@
+// SPDX-License-Identifier: MIT OR Apache-2.0
 ghost use Rattle.std.specs.Prelude.{◌≡◌, IfOk, OnOk, option_map, replicate};
 ghost use Rattle.world_model.specs.Lists.{first_in};
 ghost use Rattle.world_model.specs.World.{new_link};

@@ -1,3 +1,4 @@
+// SPDX-License-Identifier: MIT OR Apache-2.0
 ghost use Rattle.std.specs.Prelude.{◌≡◌, IfOk, if◌then◌else◌};
 ghost use Rattle.dtap_codec.specs.Number.{count_of};
 ghost use Rattle.world_model.specs.World.{is_reached, is_station_up, is_up, modulus_in};

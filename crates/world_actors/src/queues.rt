@@ -1,3 +1,4 @@
+// SPDX-License-Identifier: MIT OR Apache-2.0
 ghost use Rattle.std.specs.Prelude.{◌≡◌, IfOk, IsSome, OnErr, OnOk, Some};
 ghost use Rattle.link_model.specs.Base.{first_message};
 ghost use Rattle.world_model.specs.Relay.{after_base_push, after_break, after_tick};

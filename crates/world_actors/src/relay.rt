@@ -1,3 +1,4 @@
+// SPDX-License-Identifier: MIT OR Apache-2.0
 ghost use Rattle.std.specs.Prelude.{◌≡◌, ◌+◌, [], IfOk, OnOk, None, length, option_map};
 ghost use Rattle.std.specs.Prelude.{replicate};
 ghost use Rattle.bssmap_codec.specs.SccpText.{sccp_write_fault};

@@ -1,3 +1,4 @@
+// SPDX-License-Identifier: MIT OR Apache-2.0
 ghost use Rattle.std.specs.Prelude.{◌≡◌, IfOk, IsSome, OnErr};
 ghost use Rattle.world_model.specs.Life.{event_after};
 ghost use Rattle.world_model.specs.Relay.{after_tick};

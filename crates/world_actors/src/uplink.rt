@@ -1,3 +1,4 @@
+// SPDX-License-Identifier: MIT OR Apache-2.0
 ghost use Rattle.std.specs.Prelude.{◌≡◌, IfOk, IsSome, OnErr};
 ghost use Rattle.world_model.specs.Mobiles.{after_air_up};
 ghost use Rattle.world_model.specs.Takes.{Takes};

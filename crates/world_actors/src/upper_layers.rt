@@ -1,3 +1,4 @@
+// SPDX-License-Identifier: MIT OR Apache-2.0
 ghost use Rattle.std.specs.Prelude.{◌≡◌, IfOk, IsSome, OnErr, true};
 ghost use Rattle.conn_messages.specs.declared.parameters.TheConstants.{SWITCH_LINK};
 ghost use Rattle.world_model.specs.Mobiles.{after_upper};

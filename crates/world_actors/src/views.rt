@@ -1,3 +1,4 @@
+// SPDX-License-Identifier: MIT OR Apache-2.0
 ghost use Rattle.std.specs.Prelude.{◌≡◌, option_map};
 ghost use Rattle.world_model.specs.Views.{accepted, received, sent, taken, unnumbered};
 ghost use Rattle.world_model.specs.World.{mobile_of};

@@ -1,3 +1,4 @@
+-- SPDX-License-Identifier: MIT OR Apache-2.0
 -- Rows: what stations, mobiles and the switch of a world make of literal calls.
 use Rattle.std.proofs.Common.{◌≡◌, ℕ, true, false, List, [], ◌∷◌, ◌++◌, map, replicate, Some, None, refl, Option, ◌<◌, ◌≤◌, Bool, arith}
 use Rattle.std.proofs.Common.{zero, suc, slice_index}

@@ -1,3 +1,4 @@
+-- SPDX-License-Identifier: MIT OR Apache-2.0
 -- CHANNEL ACTIVATION among messages, and by its parts.
 use Rattle.std.specs.Prelude.{ℕ, ◌&&◌, Bool, true, false, if◌then◌else◌, List, Option}
 use Rattle.std.specs.Prelude.{Some, None}

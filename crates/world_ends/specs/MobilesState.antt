@@ -1,3 +1,4 @@
+-- SPDX-License-Identifier: MIT OR Apache-2.0
 -- The mobiles of a world, in plain lists.
 use Rattle.std.specs.Prelude.{ℕ, List}
 use Rattle.world_model.specs.World.{Mobile}

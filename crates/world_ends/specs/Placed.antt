@@ -1,3 +1,4 @@
+-- SPDX-License-Identifier: MIT OR Apache-2.0
 -- What holds of every mobile.
 use Rattle.std.specs.Prelude.{◌≡◌}
 use Rattle.mobile_end.specs.declared.mobile_end.Place.{Place}

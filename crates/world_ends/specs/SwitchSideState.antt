@@ -1,3 +1,4 @@
+-- SPDX-License-Identifier: MIT OR Apache-2.0
 -- The switch of a world, in plain lists: its end, and what it made.
 use Rattle.std.specs.Prelude.{List}
 use Rattle.bssmap_codec.specs.declared.sccp.Sccp.{Sccp}

@@ -1,3 +1,4 @@
+// SPDX-License-Identifier: MIT OR Apache-2.0
 ghost use Rattle.std.specs.Prelude.{◌≡◌, None, true, OnOk, IfOk, IfSome, replicate};
 ghost use Rattle.controller_model.specs.declared.limits.TheConstants.{CHANNEL_NUMBERS};
 ghost use Rattle.link_model.specs.Base.{after_establish, is_active, is_told, first_message};

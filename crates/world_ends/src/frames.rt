@@ -1,3 +1,4 @@
+// SPDX-License-Identifier: MIT OR Apache-2.0
 ghost use Rattle.std.specs.Prelude.{◌≡◌, length, Some, true, OnOk, IfOk};
 ghost use Rattle.dtap_codec.specs.declared.rr.RrMessage.TheVariants.{MeasurementReport};
 ghost use Rattle.dtap_codec.specs.RrText.{rr_text};

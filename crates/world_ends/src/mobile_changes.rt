@@ -1,3 +1,4 @@
+// SPDX-License-Identifier: MIT OR Apache-2.0
 ghost use Rattle.std.specs.Prelude.{◌≡◌, IfOk, OnOk, None, Ok, true};
 ghost use Rattle.dtap_codec.specs.RrText.{rr_text};
 ghost use Rattle.world_model.specs.declared.seat.Seat.TheVariants.{On};

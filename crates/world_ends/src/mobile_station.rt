@@ -1,3 +1,4 @@
+// SPDX-License-Identifier: MIT OR Apache-2.0
 ghost use Rattle.std.specs.Prelude.{◌≡◌, IsSome, IfOk, OnOk, OnErr, true, unwrap_or};
 ghost use Rattle.dtap_codec.specs.Number.{count_of};
 ghost use Rattle.mobile_end.specs.Lawful.{is_initial};

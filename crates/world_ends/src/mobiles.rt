@@ -1,3 +1,4 @@
+// SPDX-License-Identifier: MIT OR Apache-2.0
 ghost use Rattle.std.specs.Prelude.{◌≡◌, ◌∷◌, [], ◌++◌, IsSome, IfSome, IfOk};
 ghost use Rattle.std.specs.Prelude.{OnOk, OnErr, true, unwrap_or, option_map};
 ghost use Rattle.std.specs.List.{find, position};

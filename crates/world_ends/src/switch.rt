@@ -1,3 +1,4 @@
+// SPDX-License-Identifier: MIT OR Apache-2.0
 ghost use Rattle.std.specs.Prelude.{◌≡◌, ◌≢◌, ◌≤◌, ◌++◌, ◌∷◌, []};
 ghost use Rattle.std.specs.Prelude.{false, length};
 ghost use Rattle.std.specs.Prelude.{IsSome, IfOk, IfSome, OnOk, OnErr, option_map};

@@ -1,3 +1,4 @@
+// SPDX-License-Identifier: MIT OR Apache-2.0
 ghost use Rattle.std.specs.Prelude.{◌≡◌, ◌≢◌, OnOk};
 ghost use Rattle.world_model.specs.declared.limits.TheConstants.{MAX_TENURE};
 ghost use Rattle.world_model.specs.Lists.{first_in};

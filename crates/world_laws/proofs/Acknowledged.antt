@@ -1,3 +1,4 @@
+-- SPDX-License-Identifier: MIT OR Apache-2.0
 -- What the acknowledgements of a channel tell of what is on its way up from it.
 use Rattle.world_laws.proofs.Prelude.{◌≡◌, ◌≢◌, ℕ, ◌==◌, nat_eq, Bool, true, false, if◌then◌else◌, List, [], ◌∷◌, ◌++◌, map, Option, Some}
 use Rattle.world_laws.proofs.Prelude.{None, option_to_list, refl, sym, ap, ◌∙◌, subst, append_assoc, inl, inr, arith, ◌≤◌, flat_map}

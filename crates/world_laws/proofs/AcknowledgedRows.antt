@@ -1,3 +1,4 @@
+-- SPDX-License-Identifier: MIT OR Apache-2.0
 -- Definitions of acknowledgements on their way up, at literal values.
 use Rattle.world_laws.proofs.Prelude.{◌≡◌, ℕ, true, false, List, [], ◌∷◌, map, refl, place_at, usual_settings, Zero}
 use Rattle.world_laws.proofs.Prelude.{activation_ack, data_indication, Rsl, RfChannelRelease, RfChannelReleaseAck, station_item}

@@ -1,3 +1,4 @@
+-- SPDX-License-Identifier: MIT OR Apache-2.0
 -- The station of a channel takes a frame from the air: it joins the end of the line.
 use Rattle.world_laws.proofs.Prelude.{◌≡◌, ◌≢◌, ℕ, ◌+◌, ◌==◌, ◌&&◌, not, Bool, true, false, if◌then◌else◌, cond, List, [], ◌∷◌, ◌++◌}
 use Rattle.world_laws.proofs.Prelude.{length, Option, Some, None, refl, sym, ap, ◌∙◌, subst, inl, AllByRecursion, append-nil, Channel}

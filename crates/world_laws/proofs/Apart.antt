@@ -1,3 +1,4 @@
+-- SPDX-License-Identifier: MIT OR Apache-2.0
 -- Where a place is among the channels of a connection.
 use Rattle.world_laws.proofs.Prelude.{◌≡◌, ℕ, ◌&&◌, nat_eq, Bool, true, false, List, [], ◌∷◌, ◌++◌, Option, Some, None, unwrap_or, refl}
 use Rattle.world_laws.proofs.Prelude.{sym, ap, ◌∙◌, subst, inl, inr, AllByRecursion, cases_Bool, eqb-true, eqb-false, ne_eqb, eq-eqb}

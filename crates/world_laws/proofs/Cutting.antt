@@ -1,3 +1,4 @@
+-- SPDX-License-Identifier: MIT OR Apache-2.0
 -- A line that is cut where a link broke.
 use Rattle.world_laws.proofs.Prelude.{◌≡◌, ℕ, ◌≤◌, Bool, true, false, ◌||◌, ◌&&◌, not, if◌then◌else◌, List, [], ◌∷◌, ◌++◌, length, refl}
 use Rattle.world_laws.proofs.Prelude.{sym, ap, ◌∙◌, subst, append_assoc, length-append, arith, append-nil, State, DataLinkState}

@@ -1,3 +1,4 @@
+-- SPDX-License-Identifier: MIT OR Apache-2.0
 -- A connection that ends while a message of it waits for the switch.
 use Rattle.world_laws.proofs.Prelude.{◌≡◌, [], ◌∷◌, map, refl, Zero, Three, Carries, next, Upper, AirUp, AirAck, BasePush}
 use Rattle.world_laws.proofs.Prelude.{BaseDown, Handle, SwitchTakes, put, World, opened, after_all, flow, HasEnded, PutsNoMore, taken_of}

@@ -1,3 +1,4 @@
+-- SPDX-License-Identifier: MIT OR Apache-2.0
 -- A connection that closed or went stays in order, whatever happens.
 use Rattle.world_laws.proofs.Prelude.{◌≡◌, ℕ, List, [], ◌∷◌, ◌++◌, map, refl, sym, ap, ◌∙◌, subst, append_assoc, AllByRecursion, append-nil}
 use Rattle.world_laws.proofs.Prelude.{map-append, Out, SWITCH_LINK, Connection, Forwarded, Rise, Parameters, Event, OutboxEntry}

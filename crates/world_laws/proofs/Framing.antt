@@ -1,3 +1,4 @@
+-- SPDX-License-Identifier: MIT OR Apache-2.0
 -- The line-up stays where what it is seen by stays.
 use Rattle.world_laws.proofs.Prelude.{◌≡◌, ℕ, ◌+◌, ◌&&◌, not, Bool, true, false, if◌then◌else◌, List, [], ◌∷◌, ◌++◌, length, Some, refl, ap}
 use Rattle.world_laws.proofs.Prelude.{◌∙◌, AllByRecursion, Channel, Place, Drain, Changing, State, Live, Connection, undone}

@@ -1,3 +1,4 @@
+-- SPDX-License-Identifier: MIT OR Apache-2.0
 -- A frame keeps the line-up of the connection that it says an input to.
 use Rattle.world_laws.proofs.Prelude.{◌≡◌, ◌≢◌, ℕ, not, false, List, [], ◌∷◌, Option, Some, option_map, ap, ◌∙◌, AllByRecursion}
 use Rattle.world_laws.proofs.Prelude.{option_and_then, IsLayer3, Channel, SWITCH_LINK, AllByRecursion-filter, Input, Preparing, Changing}

@@ -1,3 +1,4 @@
+-- SPDX-License-Identifier: MIT OR Apache-2.0
 -- What the switch accepts of a connection that is lined up is in order.
 use Rattle.world_laws.proofs.Prelude.{◌≡◌, ℕ, List, [], ◌∷◌, ◌++◌, ap, ◌∙◌, subst, append_assoc, Connection, Rise, Actors, LineUp, flow}
 use Rattle.world_laws.proofs.Prelude.{parts_of, line, coming, taken_of, line_up}

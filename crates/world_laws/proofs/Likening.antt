@@ -1,3 +1,4 @@
+-- SPDX-License-Identifier: MIT OR Apache-2.0
 -- Tenures that are the same on the line.
 use Rattle.world_laws.proofs.Prelude.{◌≡◌, ℕ, Bool, ◌||◌, if◌then◌else◌, List, [], ◌∷◌, ◌++◌, length, refl, sym, ap, ◌∙◌, subst, arith}
 use Rattle.world_laws.proofs.Prelude.{append-nil, State, DataLinkState, Alive, Follows, FirstRelays, Condition, some_lost, flow}

@@ -1,3 +1,4 @@
+-- SPDX-License-Identifier: MIT OR Apache-2.0
 -- A connection is lined up from the row on that puts CR with its initial message.
 use Rattle.world_laws.proofs.Prelude.{◌≡◌, ℕ, ◌+◌, Bool, true, false, not, List, [], ◌∷◌, ◌++◌, refl, sym, ap, ◌∙◌, subst, arith}
 use Rattle.world_laws.proofs.Prelude.{append-nil, WaitConfirm, place_of, to_be_taken, DataLinkState, false≢true, Alive, sound, remains}

@@ -1,3 +1,4 @@
+-- SPDX-License-Identifier: MIT OR Apache-2.0
 -- Whom an IMMEDIATE ASSIGNMENT on a channel names: the mobile of the connection that uses it.
 use Rattle.world_laws.proofs.Prelude.{◌≡◌, ℕ, ◌==◌, ◌≤◌, Bool, if◌then◌else◌, List, [], ◌∷◌, slice_index_or, Option, Some, None, Ok, refl}
 use Rattle.world_laws.proofs.Prelude.{sym, ap, ◌∙◌, subst, inl, inr, cases_Bool, eqb-true, AllByRecursion, Channel, Place, Message, Station}

@@ -1,3 +1,4 @@
+-- SPDX-License-Identifier: MIT OR Apache-2.0
 -- The controller serves each channel, by the laws of its life.
 use Rattle.world_laws.proofs.Prelude.{◌≡◌, ◌⊎◌, inl, inr, ℕ, zero, suc, ◌==◌, ◌≤◌, nat_eq, Bool, true, false, cond, if◌then◌else◌, List, []}
 use Rattle.world_laws.proofs.Prelude.{◌∷◌, option_map, set, slice_index_or, Contains, Option, Some, None, Ok, refl, sym, ap, ◌∙◌}

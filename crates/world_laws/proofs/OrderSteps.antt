@@ -1,3 +1,4 @@
+-- SPDX-License-Identifier: MIT OR Apache-2.0
 -- What breaks of links and timers do to one channel: nothing is activated, and nobody assigned.
 use Rattle.world_laws.proofs.Prelude.{◌≡◌, ◌≢◌, ℕ, ◌==◌, ◌≤◌, Bool, true, false, if◌then◌else◌, List, [], ◌∷◌, ◌++◌, set, slice_index_or}
 use Rattle.world_laws.proofs.Prelude.{Option, Some, None, refl, sym, ap, subst, AllByRecursion, Channel, Place, Out, SWITCH_LINK}

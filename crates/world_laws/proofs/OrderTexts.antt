@@ -1,3 +1,4 @@
+-- SPDX-License-Identifier: MIT OR Apache-2.0
 -- Activations, releases and assignments, and the texts that carry them.
 use Rattle.world_laws.proofs.Prelude.{◌≡◌, ◌≢◌, ℕ, ◌==◌, ◌&&◌, ◌≤◌, Bool, true, false, if◌then◌else◌, List, drop, slice_index_or, Some}
 use Rattle.world_laws.proofs.Prelude.{None, Ok, refl, sym, ap, ◌∙◌, subst, inl, inr, arith, true≢false, cases_Bool, eqb-true, eq-eqb}

@@ -1,3 +1,4 @@
+-- SPDX-License-Identifier: MIT OR Apache-2.0
 -- What the controller does for others leaves a connection lined up.
 use Rattle.world_laws.proofs.Prelude.{◌≡◌, ℕ, ◌==◌, ◌&&◌, not, nat_eq, Bool, true, false, if◌then◌else◌, List, [], ◌∷◌, ◌++◌, fold, map}
 use Rattle.world_laws.proofs.Prelude.{find, Option, Some, None, refl, sym, ap, ◌∙◌, subst, append_assoc, inl, inr, AllByRecursion, flat_map}

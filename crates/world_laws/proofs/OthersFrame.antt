@@ -1,3 +1,4 @@
+-- SPDX-License-Identifier: MIT OR Apache-2.0
 -- What the controller puts by a frame is its connection's alone.
 use Rattle.world_laws.proofs.Prelude.{◌≡◌, ◌≢◌, ℕ, ◌==◌, ◌&&◌, Bool, List, [], ◌∷◌, map, Option, Some, Ok, refl, sym, ap, ◌∙◌, subst, inl}
 use Rattle.world_laws.proofs.Prelude.{inr, AllByRecursion, flat_map, result_ok, cases_Bool, cond-false, eqb-true, ne_eqb, Channel, Message}

@@ -1,3 +1,4 @@
+-- SPDX-License-Identifier: MIT OR Apache-2.0
 -- The COMMAND that a row puts leads its mobile to the target.
 use Rattle.world_laws.proofs.Prelude.{◌≡◌, ℕ, ◌==◌, Bool, true, if◌then◌else◌, [], ◌∷◌, Option, Some, None, refl, ap, ◌∙◌, result_ok}
 use Rattle.world_laws.proofs.Prelude.{Change, Assignment, Handover, Channel, IsReadOf, rr_text, Rsl, Tenure, change_command, command}

@@ -1,3 +1,4 @@
+-- SPDX-License-Identifier: MIT OR Apache-2.0
 -- What a frame brings is what it says to its connection.
 use Rattle.world_laws.proofs.Prelude.{◌≡◌, ℕ, ◌==◌, ◌&&◌, not, nat_eq, Bool, true, false, if◌then◌else◌, List, [], ◌∷◌, Option, Some, None}
 use Rattle.world_laws.proofs.Prelude.{Ok, refl, ap, ◌∙◌, Place, Input, is_dtap, Word, Nothing, OnChannel, OnConnection, Reports}

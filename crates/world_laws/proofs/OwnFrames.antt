@@ -1,3 +1,4 @@
+-- SPDX-License-Identifier: MIT OR Apache-2.0
 -- The controller handles a frame for the connection that it says an input to.
 use Rattle.world_laws.proofs.Prelude.{◌≡◌, ℕ, ◌==◌, ◌&&◌, not, Bool, true, false, if◌then◌else◌, List, [], ◌∷◌, Option, Some, None, Ok, Err}
 use Rattle.world_laws.proofs.Prelude.{refl, sym, ap, ◌∙◌, result_ok, eqb-true, Bssap, Management, Transfer, Bssmap, InterfaceFault, Sccp}

@@ -1,3 +1,4 @@
+-- SPDX-License-Identifier: MIT OR Apache-2.0
 -- What an RF CHANNEL RELEASE ACK leaves of the old channels.
 use Rattle.world_laws.proofs.Prelude.{◌≡◌, ℕ, suc, ◌&&◌, ◌||◌, not, nat_eq, Bool, true, false, if◌then◌else◌, cond, List, [], ◌∷◌, ◌++◌}
 use Rattle.world_laws.proofs.Prelude.{Option, Some, None, option_map, unwrap_or, refl, sym, ap, ◌∙◌, subst, inl, inr, AllByRecursion}

@@ -1,3 +1,4 @@
+-- SPDX-License-Identifier: MIT OR Apache-2.0
 -- A row of the table keeps its connection's line-up: the steps put together.
 use Rattle.world_laws.proofs.Prelude.{◌≡◌, ℕ, Bool, true, ◌&&◌, not, List, Option, Some, sym, ap, ◌∙◌, subst, Channel, Place, Input}
 use Rattle.world_laws.proofs.Prelude.{Connection, IsValid, Row, KeepsUplink, OfRow, relayed, Zero, to_be_taken, IsValid-row, row_keeps}

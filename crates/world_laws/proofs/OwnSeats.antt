@@ -1,3 +1,4 @@
+-- SPDX-License-Identifier: MIT OR Apache-2.0
 -- Where the mobile of a connection is seen after a row, and which commands are on their way to it.
 use Rattle.world_laws.proofs.Prelude.{◌≡◌, ℕ, ◌+◌, ◌≤◌, Bool, true, false, if◌then◌else◌, List, [], ◌++◌, length, Option, Some, None, refl}
 use Rattle.world_laws.proofs.Prelude.{sym, ap, ◌∙◌, subst, arith, AllByRecursion, append-nil, Channel, Place, Target, Connection, is_at}

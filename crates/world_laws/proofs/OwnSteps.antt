@@ -1,3 +1,4 @@
+-- SPDX-License-Identifier: MIT OR Apache-2.0
 -- How a change of channel stands after a row, by what the row does to the roles of channels.
 use Rattle.world_laws.proofs.Prelude.{◌≡◌, ℕ, Bool, true, false, ◌&&◌, ◌||◌, not, if◌then◌else◌, List, [], ◌∷◌, length, Option, Some, None}
 use Rattle.world_laws.proofs.Prelude.{refl, sym, ap, ◌∙◌, subst, arith, Place, Drain, State}

@@ -1,3 +1,4 @@
+-- SPDX-License-Identifier: MIT OR Apache-2.0
 -- In every run what stations take agrees with the ownership that the run gives.
 use Rattle.world_laws.proofs.Prelude.{◌≡◌, ◌≢◌, ◌⊎◌, inl, inr, ℕ, ◌+◌, ◌==◌, ◌≤◌, ◌<◌, nat_eq, Bool, true, false, cond, if◌then◌else◌, List}
 use Rattle.world_laws.proofs.Prelude.{[], ◌∷◌, ◌++◌, length, option_to_list, Option, Some, None, refl, sym, ap, ◌∙◌, subst, arith}

@@ -1,3 +1,4 @@
+-- SPDX-License-Identifier: MIT OR Apache-2.0
 -- What is on its way up from a channel, as stations make messages and the inbox gets them.
 use Rattle.world_laws.proofs.Prelude.{◌≡◌, ◌≢◌, ℕ, ◌==◌, nat_eq, Bool, true, false, cond, if◌then◌else◌, List, [], ◌∷◌, ◌++◌, Some, Ok}
 use Rattle.world_laws.proofs.Prelude.{refl, subst, sym, ap, ◌∙◌, append_assoc, inl, inr, ◌⊎◌, flat_map, result_ok, cases_Bool, eqb-true}

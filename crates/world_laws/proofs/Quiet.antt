@@ -1,3 +1,4 @@
+-- SPDX-License-Identifier: MIT OR Apache-2.0
 -- Changes of a world that a connection doesn't see.
 use Rattle.world_laws.proofs.Prelude.{◌≡◌, ◌≢◌, ℕ, true, false, List, [], ◌∷◌, ◌++◌, Some, refl, ap, ◌∙◌, subst, AllByRecursion, flat_map}
 use Rattle.world_laws.proofs.Prelude.{Channel, Place, SWITCH_LINK, Target, Connection, is_at, undone, used_channels, place_of, BaseState}

@@ -1,3 +1,4 @@
+-- SPDX-License-Identifier: MIT OR Apache-2.0
 -- Stations refuse no activation, whatever happened.
 use Rattle.world_laws.proofs.Prelude.{List, Parameters, Event, NoneRefuse}
 use Rattle.world_laws.proofs.SapiThree.{refuses_came, refuses_waits}

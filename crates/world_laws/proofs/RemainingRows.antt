@@ -1,3 +1,4 @@
+-- SPDX-License-Identifier: MIT OR Apache-2.0
 -- Rows: what is due of a channel.
 use Rattle.world_laws.proofs.Prelude.{◌≡◌, true, false, [], ◌∷◌, refl, Free, InUse, Releasing, place_at, activation_ack}
 use Rattle.world_laws.proofs.Prelude.{RfChannelReleaseAck, is_in_use}

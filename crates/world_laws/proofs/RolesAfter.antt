@@ -1,3 +1,4 @@
+-- SPDX-License-Identifier: MIT OR Apache-2.0
 -- The channels of a connection after a row, by the step that the row does to their roles.
 use Rattle.world_laws.proofs.Prelude.{◌≡◌, ℕ, suc, Bool, true, false, ◌&&◌, ◌||◌, not, if◌then◌else◌, cond, List, [], ◌∷◌, Option, Some}
 use Rattle.world_laws.proofs.Prelude.{None, option_map, refl, sym, ap, ◌∙◌, subst, inl, inr, AllByRecursion, cases_Bool, Channel}

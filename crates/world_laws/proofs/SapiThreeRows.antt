@@ -1,3 +1,4 @@
+-- SPDX-License-Identifier: MIT OR Apache-2.0
 -- Rows: what comes on SAPI 3.
 use Rattle.world_laws.proofs.Prelude.{[], ◌∷◌, Some, refl, Nothing, OnChannel, OnConnection, place_at, Zero, Three, BringsBesideFlow}
 use Rattle.world_laws.proofs.Prelude.{IsBesideFlow, SaysBesideFlow}

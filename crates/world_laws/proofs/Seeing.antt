@@ -1,3 +1,4 @@
+-- SPDX-License-Identifier: MIT OR Apache-2.0
 -- A connection stays lined up where an event changes nothing that it is seen by.
 use Rattle.world_laws.proofs.Prelude.{◌≡◌, ℕ, Option, Some, None, refl, sym, ap, ◌∙◌, subst, AllByRecursion, Channel, Place, Target}
 use Rattle.world_laws.proofs.Prelude.{Connection, used_channels, place_of, AirMessage, Command, Seat, Tenure, Actors, Mobile, is_station_up}

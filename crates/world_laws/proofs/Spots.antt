@@ -1,3 +1,4 @@
+-- SPDX-License-Identifier: MIT OR Apache-2.0
 -- The channels of stations, when one of them changes.
 use Rattle.world_laws.proofs.Prelude.{◌≡◌, ◌≢◌, ℕ, suc, zero, ◌-◌, ◌&&◌, nat_eq, Bool, true, false, List, [], ◌∷◌, get_or, set, refl, sym}
 use Rattle.world_laws.proofs.Prelude.{ap, ◌∙◌, inl, inr, arith, cases_Bool, eqb-false, eq-eqb, Channel, Place, is_at, place_of, BaseState}

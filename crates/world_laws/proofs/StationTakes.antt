@@ -1,3 +1,4 @@
+-- SPDX-License-Identifier: MIT OR Apache-2.0
 -- What a station takes of its outbox keeps connections lined up.
 use Rattle.world_laws.proofs.Prelude.{◌≡◌, ◌≢◌, ℕ, ◌-◌, ◌==◌, ◌&&◌, not, nat_eq, Bool, true, false, if◌then◌else◌, cond, List, [], ◌∷◌}
 use Rattle.world_laws.proofs.Prelude.{◌++◌, map, find, get_or, set, Option, Some, None, refl, sym, ap, ◌∙◌, subst, append_assoc}

@@ -1,3 +1,4 @@
+-- SPDX-License-Identifier: MIT OR Apache-2.0
 -- Definitions of steps, at literal values.
 use Rattle.world_laws.proofs.Prelude.{◌≡◌, ℕ, ◌==◌, Bool, true, false, if◌then◌else◌, List, [], ◌∷◌, map, Some, None, refl, arith}
 use Rattle.world_laws.proofs.Prelude.{Assignment, Channel, Place, Drain, Active, Changing, Draining, State, Live, WaitActivation}

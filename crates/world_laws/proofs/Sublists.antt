@@ -1,3 +1,4 @@
+-- SPDX-License-Identifier: MIT OR Apache-2.0
 -- Lists of which some members went.
 use Rattle.world_laws.proofs.Prelude.{◌≡◌, ℕ, ◌≤◌, zero, suc, List, [], ◌∷◌, ◌++◌, length, get_or, set, refl, arith, AllByRecursion}
 use Rattle.world_laws.proofs.Prelude.{flat_map}

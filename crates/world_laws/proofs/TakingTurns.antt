@@ -1,3 +1,4 @@
+-- SPDX-License-Identifier: MIT OR Apache-2.0
 -- The orders of a row take turns.
 use Rattle.world_laws.proofs.Prelude.{◌≡◌, ◌≢◌, ℕ, ◌==◌, ◌&&◌, not, Bool, true, false, if◌then◌else◌, List, [], ◌∷◌, ◌++◌, filter, fold}
 use Rattle.world_laws.proofs.Prelude.{unwrap_or, Option, Some, None, refl, sym, ap, ◌∙◌, subst, inl, inr, AllByRecursion, result_ok}

@@ -1,3 +1,4 @@
+-- SPDX-License-Identifier: MIT OR Apache-2.0
 -- The orders of a step take turns.
 use Rattle.world_laws.proofs.Prelude.{◌≡◌, ◌≢◌, ℕ, ◌≤◌, ◌<◌, ◌^◌, ◌==◌, ◌&&◌, nat_le, Bool, true, false, if◌then◌else◌, List, [], ◌∷◌}
 use Rattle.world_laws.proofs.Prelude.{Option, Some, None, option_map, refl, sym, ap, ◌∙◌, subst, inl, inr, arith, AllByRecursion}

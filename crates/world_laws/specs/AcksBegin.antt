@@ -1,3 +1,4 @@
+-- SPDX-License-Identifier: MIT OR Apache-2.0
 -- The acknowledgements of a channel that came and are on their way, whether the link of its station
 -- is up or not.
 use Rattle.std.specs.Prelude.{◌≤◌, false, List, ◌++◌, length}

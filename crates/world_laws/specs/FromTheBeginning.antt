@@ -1,3 +1,4 @@
+-- SPDX-License-Identifier: MIT OR Apache-2.0
 -- What holds of a world whatever happened, from its beginning on.
 use Rattle.std.specs.Prelude.{◌≡◌, ℕ, List, Some}
 use Rattle.world_laws.specs.Prelude.{Place, Connection, IsValid, connection_of, Parameters, Event}

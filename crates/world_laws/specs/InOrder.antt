@@ -1,3 +1,4 @@
+-- SPDX-License-Identifier: MIT OR Apache-2.0
 -- What the switch accepts of a connection that is lined up.
 use Rattle.std.specs.Prelude.{ℕ, ◌≤◌}
 use Rattle.world_laws.specs.Prelude.{Connection, Actors}

@@ -1,3 +1,4 @@
+-- SPDX-License-Identifier: MIT OR Apache-2.0
 -- A frame that says an input to a connection.
 use Rattle.std.specs.Prelude.{◌≡◌, ℕ, true, if◌then◌else◌, List, Option, Some}
 use Rattle.world_laws.specs.Prelude.{Channel, Place, Input, State, WaitConfirm, Live, Connection}

@@ -1,3 +1,4 @@
+-- SPDX-License-Identifier: MIT OR Apache-2.0
 -- Each tenure is one mobile's: that for which its channel was activated.
 use Rattle.std.specs.Prelude.{List}
 use Rattle.world_laws.specs.Prelude.{AreAllowed, Parameters, Event, new_actors}

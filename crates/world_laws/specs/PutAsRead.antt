@@ -1,3 +1,4 @@
+-- SPDX-License-Identifier: MIT OR Apache-2.0
 -- What a row by a frame puts is read as it was put.
 use Rattle.std.specs.Prelude.{◌≡◌, ℕ, List, ◌∷◌, Option}
 use Rattle.world_laws.specs.Prelude.{Channel, Input, Connection, Row, RelayItem, AreAllowed}

@@ -1,3 +1,4 @@
+-- SPDX-License-Identifier: MIT OR Apache-2.0
 -- Stations refuse no activation.
 use Rattle.std.specs.Prelude.{List}
 use Rattle.std.specs.List.{AllByRecursion}

@@ -1,3 +1,4 @@
+-- SPDX-License-Identifier: MIT OR Apache-2.0
 -- A law of runs holds of all settings and of all that happened.
 use Rattle.std.specs.Prelude.{ℕ, List}
 use Rattle.world_laws.specs.Prelude.{Parameters, Event, Actors, actors_after_all, new_actors}

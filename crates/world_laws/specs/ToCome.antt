@@ -1,3 +1,4 @@
+-- SPDX-License-Identifier: MIT OR Apache-2.0
 -- What may still come of a connection's messages, by what is on its way up from its channels.
 use Rattle.std.specs.Prelude.{◌≡◌, ℕ, ◌&&◌, not, Bool, true, false, List, [], ◌∷◌}
 use Rattle.std.specs.Prelude.{◌++◌, Option}

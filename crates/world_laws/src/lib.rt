@@ -1,3 +1,4 @@
+// SPDX-License-Identifier: MIT OR Apache-2.0
 //! Laws of the world with a controller, and of the line-up of one connection in it: where the
 //! messages stand that a mobile sent, from the radio link over its channels and the controller to
 //! the switch, in the order of their places. Whatever happens, the switch accepts them once and in

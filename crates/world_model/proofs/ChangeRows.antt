@@ -1,3 +1,4 @@
+-- SPDX-License-Identifier: MIT OR Apache-2.0
 -- Changes of the channel, and the break of a station while its channel drains.
 use Rattle.world_model.proofs.Prelude.{◌≡◌, [], ◌∷◌, Some, refl, Zero, Upper, AirUp, AirAck, AirDown, Move, Touch, Arrive, Return}
 use Rattle.world_model.proofs.Prelude.{BaseTakes, BasePush, Handle, SwitchTakes, SwitchDoes, BaseDown, Report, Assign, Dtap, World}

@@ -1,3 +1,4 @@
+-- SPDX-License-Identifier: MIT OR Apache-2.0
 -- A clear during a handover, and requests that wait for its end.
 use Rattle.world_model.proofs.Prelude.{◌≡◌, true, [], ◌∷◌, Some, refl, Zero, Active, Draining, Live, state_of, Upper, Connect, AirUp}
 use Rattle.world_model.proofs.Prelude.{AirAck, AirDown, Move, Arrive, BaseTakes, BasePush, Handle, SwitchTakes, SwitchDoes, Report, Assign}

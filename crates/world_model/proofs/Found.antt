@@ -1,3 +1,4 @@
+-- SPDX-License-Identifier: MIT OR Apache-2.0
 -- Mobiles found by their numbers.
 use Rattle.world_model.proofs.Prelude.{◌≡◌, ◌≢◌, ℕ, Bool, true, false, if◌then◌else◌, cond, List, [], ◌∷◌, ◌++◌, find, unwrap_or, Option, Some, None}
 use Rattle.world_model.proofs.Prelude.{refl, sym, ap, ◌∙◌, inl, inr, cases_Bool, eqb-true, ne_eqb, eq-eqb, Mobile, has_number, put_back}

@@ -1,3 +1,4 @@
+-- SPDX-License-Identifier: MIT OR Apache-2.0
 -- Histories of queues, stations and the controller.
 use Rattle.world_model.proofs.Prelude.{◌≡◌, ℕ, true, false, List, [], ◌∷◌, length, map, None, refl, Assignment, place_at, usual_settings}
 use Rattle.world_model.proofs.Prelude.{Zero, activation_ack, RfChannelReleaseAck, rsl_text, Item, What, Connect, AirUp, AirAck, BaseTakes}

@@ -1,3 +1,4 @@
+-- SPDX-License-Identifier: MIT OR Apache-2.0
 -- The inbox gives what was put there, in order.
 use Rattle.world_model.proofs.Prelude.{◌≡◌, ℕ, ◌==◌, Bool, true, false, if◌then◌else◌, List, [], ◌∷◌, ◌++◌, fold, map, unwrap_or, Option}
 use Rattle.world_model.proofs.Prelude.{Some, None, option_to_list, refl, sym, ap, ◌∙◌, append_assoc, append-nil, filter-append, Sccp, Out}

@@ -1,3 +1,4 @@
+-- SPDX-License-Identifier: MIT OR Apache-2.0
 -- Messages to a station that are read are on a lawful channel.
 use Rattle.world_model.proofs.Prelude.{◌≡◌, ℕ, true, List, [], ◌∷◌, Option, Some, None, Result, Ok, Err, refl, subst, result_ok, is_channel}
 use Rattle.world_model.proofs.Prelude.{Activation, Rsl, needed_value, channel_at, elements_of, breaks_off, rsl_reading_by}

@@ -1,3 +1,4 @@
+-- SPDX-License-Identifier: MIT OR Apache-2.0
 pub use Rattle.conn_rules.proofs.DownlinkMessages
 pub use Rattle.nsd_filter.proofs.Accepting
 mod Prelude

@@ -1,3 +1,4 @@
+-- SPDX-License-Identifier: MIT OR Apache-2.0
 -- What holds of each message of a mobile's links goes on holding, where it holds of a message that
 -- comes.
 use Rattle.world_model.proofs.Prelude.{ℕ, not, Bool, true, false, if◌then◌else◌, List, [], ◌∷◌, length, Option, Some, None}

@@ -1,3 +1,4 @@
+-- SPDX-License-Identifier: MIT OR Apache-2.0
 -- The controller of a world is the one after the steps that it took.
 use Rattle.world_model.proofs.Prelude.{◌≡◌, List, [], ◌∷◌, ◌++◌, map, unwrap_or, Option, None, Some, append_assoc, refl, sym, ap, ◌∙◌}
 use Rattle.world_model.proofs.Prelude.{Out, SWITCH_LINK, Controller, Turn, take, tick, Item, Parameters, Step, each, new_controller, turn}

@@ -1,3 +1,4 @@
+-- SPDX-License-Identifier: MIT OR Apache-2.0
 -- Events of mobiles: when they are taken, and what they make.
 use Rattle.world_model.proofs.Prelude.{◌≡◌, true, false, [], ◌∷◌, map, replicate, Some, None, option_map, refl, place_at, usual_settings}
 use Rattle.world_model.proofs.Prelude.{Zero, Three, Upper, Connect, AirUp, AirAck, AirDown, AirDownLost, Move, Touch, Arrive, Return}

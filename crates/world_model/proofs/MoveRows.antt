@@ -1,3 +1,4 @@
+-- SPDX-License-Identifier: MIT OR Apache-2.0
 -- Events of a mobile that changes its channel.
 use Rattle.world_model.proofs.Prelude.{◌≡◌, true, false, [], ◌∷◌, map, Some, None, refl, Assignment, place_at, usual_settings, Zero, Upper}
 use Rattle.world_model.proofs.Prelude.{Connect, AirUp, AirAck, AirDown, AirDownLost, Move, Touch, Arrive, Return, BaseTakes, BasePush}

@@ -1,3 +1,4 @@
+-- SPDX-License-Identifier: MIT OR Apache-2.0
 -- The outbox of a link gives what was put there, in order, until the link breaks.
 use Rattle.world_model.proofs.Prelude.{◌≡◌, ◌≢◌, ℕ, suc, zero, ◌==◌, ◌&&◌, not, nat_eq, Bool, true, false, cond, if◌then◌else◌, List, []}
 use Rattle.world_model.proofs.Prelude.{◌∷◌, ◌++◌, ◌+◌, fold, map, unwrap_or, is_some, get_or, set, length, replicate, Option, Some, None}

@@ -1,3 +1,4 @@
+-- SPDX-License-Identifier: MIT OR Apache-2.0
 -- Channels still agree with an ownership after each event in which the controller does nothing.
 use Rattle.world_model.proofs.Prelude.{◌≡◌, ◌≢◌, ℕ, ◌-◌, ◌<◌, Bool, true, false, if◌then◌else◌, is_some, List, [], ◌++◌, length, refl, sym}
 use Rattle.world_model.proofs.Prelude.{ap, ◌∙◌, append_assoc, ne_eqb, append-nil, flat_map, Place, SWITCH_LINK, Item, Rsl, Event, BaseTakes}

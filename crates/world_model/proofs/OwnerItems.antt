@@ -1,3 +1,4 @@
+-- SPDX-License-Identifier: MIT OR Apache-2.0
 -- What stands in the inbox is the end of a link, or the text of a message that a station made,
 -- which is no CHANNEL ACTIVATION NACK.
 use Rattle.world_model.proofs.Prelude.{◌≡◌, ◌≢◌, nat_eq, Bool, true, false, if◌then◌else◌, List, [], ◌∷◌, ◌++◌, map, option_to_list, None}

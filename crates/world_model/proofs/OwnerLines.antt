@@ -1,3 +1,4 @@
+-- SPDX-License-Identifier: MIT OR Apache-2.0
 -- What waits for a station, in parts; and at the beginning, where every channel agrees with any
 -- ownership.
 use Rattle.world_model.proofs.Prelude.{◌≡◌, ℕ, zero, suc, ◌+◌, ◌-◌, ◌==◌, ◌&&◌, not, ◌≤◌, Bool, true, false, if◌then◌else◌, List, [], ◌∷◌}

@@ -1,3 +1,4 @@
+-- SPDX-License-Identifier: MIT OR Apache-2.0
 -- Channels agree with the ownership that a run gives, as long as the controller serves them.
 use Rattle.world_model.proofs.Prelude.{◌≡◌, ◌≢◌, inl, inr, ℕ, zero, suc, ◌+◌, ◌-◌, ◌≤◌, ◌<◌, ◌==◌, ◌&&◌, not, nat_lt, Bool, true, false}
 use Rattle.world_model.proofs.Prelude.{cond, if◌then◌else◌, unwrap_or, List, [], ◌∷◌, ◌++◌, length, replicate, option_to_list}

@@ -1,3 +1,4 @@
+-- SPDX-License-Identifier: MIT OR Apache-2.0
 -- A channel still agrees with an ownership after a turn of the controller that serves it.
 use Rattle.world_model.proofs.Prelude.{◌≡◌, ◌⊎◌, inl, inr, ℕ, ◌+◌, Bool, true, false, List, [], ◌∷◌, ◌++◌, Option, Some, refl, sym, ap, ◌∙◌}
 use Rattle.world_model.proofs.Prelude.{subst, append_assoc, append-nil, Place, Controller, Turn, channel_state, ChannelState, Free, InUse}

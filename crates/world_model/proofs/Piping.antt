@@ -1,3 +1,4 @@
+-- SPDX-License-Identifier: MIT OR Apache-2.0
 -- The pipe of one channel, over all events.
 use Rattle.world_model.proofs.Prelude.{◌≡◌, ◌≢◌, ℕ, zero, suc, ◌+◌, ◌-◌, ◌<◌, ◌≤◌, ◌==◌, nat_eq, Bool, true, false, if◌then◌else◌, List, []}
 use Rattle.world_model.proofs.Prelude.{◌∷◌, ◌++◌, length, unwrap_or, is_some, get_or, Option, Some, None, refl, sym, ap, ◌∙◌, subst}

@@ -1,3 +1,4 @@
+-- SPDX-License-Identifier: MIT OR Apache-2.0
 -- The queues of the relay, breaks of links, and the switch.
 use Rattle.world_model.proofs.Prelude.{◌≡◌, true, false, [], ◌∷◌, map, replicate, Some, None, refl, place_at, usual_settings, Zero, Three}
 use Rattle.world_model.proofs.Prelude.{Parameters, eager_settings, Upper, Connect, AirUp, AirAck, AirDown, Move, Touch, Arrive, BaseTakes}

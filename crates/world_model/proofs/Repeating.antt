@@ -1,3 +1,4 @@
+-- SPDX-License-Identifier: MIT OR Apache-2.0
 -- The one-repeat rule of each mobile of a run.
 use Rattle.world_model.proofs.Prelude.{◌≡◌, ℕ, ◌==◌, ◌&&◌, is_some, Bool, true, false, if◌then◌else◌, List, [], ◌∷◌, ◌++◌, Option, Some}
 use Rattle.world_model.proofs.Prelude.{None, refl, sym, ap, ◌∙◌, subst, eqb-true, append-nil, Zero, Three, Call, after_call, after_calls}

@@ -1,3 +1,4 @@
+-- SPDX-License-Identifier: MIT OR Apache-2.0
 -- A mobile opens a connection.
 use Rattle.world_model.proofs.Prelude.{◌≡◌, ℕ, true, [], ◌∷◌, map, Some, None, refl, usual_settings, Zero, Active, Live, eager_settings}
 use Rattle.world_model.proofs.Prelude.{state_of, Upper, Connect, AirUp, AirAck, BaseTakes, BasePush, Handle, SwitchTakes, World, new_world}

@@ -1,3 +1,4 @@
+-- SPDX-License-Identifier: MIT OR Apache-2.0
 -- The messages of a mobile's links have 1 to 251 octets.
 use Rattle.world_model.proofs.Prelude.{◌≡◌, ℕ, ◌<◌, ◌≤◌, ◌==◌, ◌&&◌, ◌||◌, Bool, true, false, if◌then◌else◌, List, [], ◌∷◌, length, Some}
 use Rattle.world_model.proofs.Prelude.{None, refl, sym, ap, ◌∙◌, arith, is_none, Sapi, Stage, New, Connected, lent_message, link_of}

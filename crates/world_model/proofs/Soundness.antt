@@ -1,3 +1,4 @@
+-- SPDX-License-Identifier: MIT OR Apache-2.0
 -- The messages that stations make can be written, and are read as they were made.
 use Rattle.world_model.proofs.Prelude.{◌≡◌, ℕ, suc, ◌<◌, ◌≤◌, ◌||◌, not, nat_lt, nat_eq, Bool, true, false, cond, List, [], ◌∷◌, length}
 use Rattle.world_model.proofs.Prelude.{get_or, set, Some, None, Ok, refl, sym, ap, ◌∙◌, subst, inl, inr, arith, AllByRecursion, cases_Bool}

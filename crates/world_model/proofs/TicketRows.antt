@@ -1,3 +1,4 @@
+-- SPDX-License-Identifier: MIT OR Apache-2.0
 -- Who sends in which tenure, and what stations take of it, at literal events.
 use Rattle.world_model.proofs.Prelude.{◌≡◌, ℕ, ◌==◌, if◌then◌else◌, true, List, [], ◌∷◌, ◌++◌, Some, None, refl, arith, Assignment}
 use Rattle.world_model.proofs.Prelude.{place_at, usual_settings, Zero, Event, Connect, AirUp, BaseTakes, BasePush, Handle, BaseDown, Asking}

@@ -1,3 +1,4 @@
+-- SPDX-License-Identifier: MIT OR Apache-2.0
 -- One mobile per tenure, where stations take what names the tenure's mobile.
 use Rattle.world_model.proofs.Prelude.{◌≡◌, ◌≢◌, ◌⊎◌, ◌<◌, is_some, length, ℕ, zero, suc, ◌+◌, ◌-◌, ◌==◌, ◌&&◌, nat_eq, Bool, true, false}
 use Rattle.world_model.proofs.Prelude.{if◌then◌else◌, List, [], ◌∷◌, ◌++◌, get_or, replicate, set, slice_index_or, unwrap_or}

@@ -1,3 +1,4 @@
+-- SPDX-License-Identifier: MIT OR Apache-2.0
 -- How rows of the world are told: events one after the other, and what is seen then.
 use Rattle.world_model.proofs.Prelude.{ℕ, Bool, List, map, fold, Option, option_map, rsl_text, Event, Seat, World, mobile_of, base_of}
 use Rattle.world_model.proofs.Prelude.{outbox_of}

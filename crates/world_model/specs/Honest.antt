@@ -1,3 +1,4 @@
+-- SPDX-License-Identifier: MIT OR Apache-2.0
 -- Stations are honest: what a station makes of a channel stands in its tenures.
 use Rattle.std.specs.Prelude.{◌≢◌, ℕ, ◌==◌, Bool, false, if◌then◌else◌, List, []}
 use Rattle.std.specs.Prelude.{◌∷◌, ◌++◌}

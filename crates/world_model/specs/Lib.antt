@@ -1,3 +1,4 @@
+-- SPDX-License-Identifier: MIT OR Apache-2.0
 pub use Rattle.conn_messages.specs.declared.parameters.TheConstants as LinkNumbers
 pub use Rattle.conn_rules.specs.Streams
 pub use Rattle.ipa_framing.specs.declared.frame.Frame

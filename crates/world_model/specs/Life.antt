@@ -1,3 +1,4 @@
+-- SPDX-License-Identifier: MIT OR Apache-2.0
 -- The world over any list of events.
 use Rattle.std.specs.Prelude.{◌+◌, min, if◌then◌else◌, is_some, unwrap_or, List, fold}
 use Rattle.std.specs.Prelude.{Option}

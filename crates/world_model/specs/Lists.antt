@@ -1,3 +1,4 @@
+-- SPDX-License-Identifier: MIT OR Apache-2.0
 -- Words on lists: the first of a list, and what stands behind it.
 use Rattle.std.specs.Prelude.{List, [], ◌∷◌, Option, Some, None}
 

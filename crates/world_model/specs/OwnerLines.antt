@@ -1,3 +1,4 @@
+-- SPDX-License-Identifier: MIT OR Apache-2.0
 -- Whose each tenure is, while it is on its way: what waits for a station agrees with an ownership
 -- of tenures, and what comes of a channel fits its state at the controller.
 use Rattle.std.specs.Prelude.{◌<◌, ◌≤◌, length, ◌≡◌, ℕ, ◌+◌, ◌==◌}

@@ -1,3 +1,4 @@
+-- SPDX-License-Identifier: MIT OR Apache-2.0
 -- Whose each tenure is: the mobile for which its channel was activated.
 use Rattle.std.specs.Prelude.{ℕ, ◌&&◌, nat_lt, nat_le, Bool, if◌then◌else◌, unwrap_or}
 use Rattle.std.specs.Prelude.{List, []}

@@ -1,3 +1,4 @@
+-- SPDX-License-Identifier: MIT OR Apache-2.0
 -- What the controller reads of a station is what the station made.
 use Rattle.std.specs.Prelude.{◌≡◌, ◌≢◌, List, Ok}
 use Rattle.std.specs.List.{AllByRecursion}

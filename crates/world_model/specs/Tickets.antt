@@ -1,3 +1,4 @@
+-- SPDX-License-Identifier: MIT OR Apache-2.0
 -- One mobile per tenure: what stations take, and where mobiles are, where a tenure of a channel is
 -- one mobile's.
 use Rattle.std.specs.Prelude.{◌≡◌, ℕ, true, if◌then◌else◌, is_some, List, []}

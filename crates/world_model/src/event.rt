@@ -1,3 +1,4 @@
+// SPDX-License-Identifier: MIT OR Apache-2.0
 use dtap_codec::Sapi;
 use octets::Octets;
 

@@ -1,3 +1,4 @@
+// SPDX-License-Identifier: MIT OR Apache-2.0
 //! The world with a controller: mobiles, base stations, the controller with its queues, and the
 //! switch, event by event. The definitions stand in `specs`.
 #![tactic(auto)]

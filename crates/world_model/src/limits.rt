@@ -1,3 +1,4 @@
+// SPDX-License-Identifier: MIT OR Apache-2.0
 /// The last number of a tenure: its channel is activated no more.
 pub const MAX_TENURE: u64 = u64::MAX;
 

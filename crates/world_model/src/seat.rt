@@ -1,3 +1,4 @@
+// SPDX-License-Identifier: MIT OR Apache-2.0
 use conn_messages::{Change, Place};
 
 /// A tenure of a channel: from one activation of it to the release that follows.

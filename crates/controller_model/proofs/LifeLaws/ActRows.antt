@@ -1,3 +1,4 @@
+-- SPDX-License-Identifier: MIT OR Apache-2.0
 -- What a step does to one connection, at literal values.
 use Rattle.controller_model.proofs.Prelude.{◌≡◌, true, false, [], ◌∷◌, Some, None, refl, sym, arith, true≢false, Message, access_activation, hex}
 use Rattle.controller_model.proofs.Prelude.{handing, rf_channel_release, Input, Complete, Active, Closed, Live, Removed, WaitActivation}

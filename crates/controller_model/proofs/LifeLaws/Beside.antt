@@ -1,3 +1,4 @@
+-- SPDX-License-Identifier: MIT OR Apache-2.0
 -- What stands beside the connections: settings, links, and that numbers go on.
 use Rattle.controller_model.proofs.Prelude.{◌≡◌, ◌≢◌, ℕ, ◌==◌, ◌≤◌, Bool, true, false, if◌then◌else◌, List, [], ◌∷◌, set, Option, Some}
 use Rattle.controller_model.proofs.Prelude.{None, refl, sym, ◌∙◌, arith, get_or-set_other, Channel, Place, SWITCH_LINK, Input, Row, Report}

@@ -1,3 +1,4 @@
+-- SPDX-License-Identifier: MIT OR Apache-2.0
 -- The switch's messages of a connection over a whole life, and in the octets of its frames.
 use Rattle.controller_model.proofs.Prelude.{ℕ, ◌≤◌, List, ◌∙◌, Parameters, sym, DownlinkIsConserved, nothing_switched, Moment, all_messages}
 use Rattle.controller_model.proofs.Prelude.{Step, new_controller, life}

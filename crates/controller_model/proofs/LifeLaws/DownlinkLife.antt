@@ -1,3 +1,4 @@
+-- SPDX-License-Identifier: MIT OR Apache-2.0
 -- The switch's messages of a connection over a whole life.
 use Rattle.controller_model.proofs.Prelude.{◌≡◌, ℕ, ◌≤◌, ◌<◌, List, [], ◌∷◌, ◌++◌, find, fold, Option, Some, None, option_map, refl, sym}
 use Rattle.controller_model.proofs.Prelude.{subst, ap, ◌∙◌, inl, inr, cases_Bool, cond-true, cond-false, eqb-true, AllByRecursion, Out}

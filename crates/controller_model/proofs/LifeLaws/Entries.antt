@@ -1,3 +1,4 @@
+-- SPDX-License-Identifier: MIT OR Apache-2.0
 -- Entries by number, where one is put back or one more stands behind them.
 use Rattle.controller_model.proofs.Prelude.{◌≡◌, ◌≢◌, ◌⊎◌, ℕ, ◌<◌, false, cond, List, [], ◌∷◌, ◌++◌, find, Option, Some, None, refl, sym}
 use Rattle.controller_model.proofs.Prelude.{subst, ap, ◌∙◌, inl, inr, arith, cases_Bool, cond-true, cond-false, eqb-true, eq-eqb, ne_eqb}

@@ -1,3 +1,4 @@
+-- SPDX-License-Identifier: MIT OR Apache-2.0
 -- What was relayed follows the tenures, row by row.
 use Rattle.controller_model.proofs.Prelude.{◌≡◌, ℕ, ◌==◌, ◌&&◌, Bool, true, false, not, if◌then◌else◌, List, [], ◌∷◌, ◌++◌, Option, Some}
 use Rattle.controller_model.proofs.Prelude.{None, refl, sym, subst, ap, ◌∙◌, append_assoc, append-nil, cond-true, eq-eqb, flat_map-append}

@@ -1,3 +1,4 @@
+-- SPDX-License-Identifier: MIT OR Apache-2.0
 -- Where no row goes, no tenure changes.
 use Rattle.controller_model.proofs.Prelude.{◌≡◌, ◌≢◌, ℕ, Bool, true, false, List, [], ◌∷◌, ◌++◌, map, Some, refl, sym, subst, ap, ◌∙◌}
 use Rattle.controller_model.proofs.Prelude.{inl, inr, true≢false, cases_Bool, AllByRecursion, Channel, Place, Message, AreAway, same_place}

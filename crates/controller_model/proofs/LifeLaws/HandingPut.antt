@@ -1,3 +1,4 @@
+-- SPDX-License-Identifier: MIT OR Apache-2.0
 -- Which row puts CLEAR COMPLETE.
 use Rattle.controller_model.proofs.Prelude.{◌≡◌, ◌||◌, Bool, true, false, List, [], ◌∷◌, Option, Some, None, refl, sym, ap, subst, ◌∙◌}
 use Rattle.controller_model.proofs.Prelude.{true≢false, AllByRecursion, list_any, Management, Channel, Message, Data, Input, Complete}

@@ -1,3 +1,4 @@
+-- SPDX-License-Identifier: MIT OR Apache-2.0
 -- Where messages are handed, at literal values.
 use Rattle.controller_model.proofs.Prelude.{◌≡◌, true, false, List, [], ◌∷◌, ◌++◌, None, refl, Management, CompleteLayer3Information, hex}
 use Rattle.controller_model.proofs.Prelude.{Change, Assignment, Handover, Channel, Message, Request, channel_release, handing}

@@ -1,3 +1,4 @@
+-- SPDX-License-Identifier: MIT OR Apache-2.0
 -- What came, as the step says it, is the input of the row that it brings.
 use Rattle.controller_model.proofs.Prelude.{◌≡◌, ◌⊎◌, ℕ, ◌==◌, ◌&&◌, ◌||◌, Bool, true, false, if◌then◌else◌, List, Option, Some, None, refl}
 use Rattle.controller_model.proofs.Prelude.{sym, subst, ap, ◌∙◌, inl, inr, cases_Bool, cond-true, cond-false, list_any, Place, Message}

@@ -1,3 +1,4 @@
+-- SPDX-License-Identifier: MIT OR Apache-2.0
 -- A frame leaves the releasing channels of all connections that it doesn't concern.
 use Rattle.controller_model.proofs.Prelude.{◌≡◌, ◌≢◌, ℕ, Bool, true, false, if◌then◌else◌, List, [], ◌∷◌, fold, Option, Some, None, refl}
 use Rattle.controller_model.proofs.Prelude.{sym, subst, ap, ◌∙◌, inl, inr, AllByRecursion, Change, Assignment, Handover, Channel, Place}

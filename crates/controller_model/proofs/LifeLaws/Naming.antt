@@ -1,3 +1,4 @@
+-- SPDX-License-Identifier: MIT OR Apache-2.0
 -- A row keeps the request of its connection, and an IMMEDIATE ASSIGNMENT names it.
 use Rattle.controller_model.proofs.Prelude.{◌≡◌, Option, ap, ◌∙◌, AllByRecursion, Channel, immediate_assign_command, Input, Connection}
 use Rattle.controller_model.proofs.Prelude.{Row, OfRow, RequestReference, row_of, Enters, Puts, free, free_brings, free_parts, row_puts}

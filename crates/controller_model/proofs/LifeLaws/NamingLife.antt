@@ -1,3 +1,4 @@
+-- SPDX-License-Identifier: MIT OR Apache-2.0
 -- What each step puts names the mobile that asked; so in every life.
 use Rattle.controller_model.proofs.Prelude.{◌≡◌, ℕ, ◌≤◌, List, [], Option, Some, None, refl, sym, subst, Channel, Message, SWITCH_LINK}
 use Rattle.controller_model.proofs.Prelude.{State, Removed, Connection, Row, OfRow, Parameters, row_of, Acts, Brought, IsAged, brought_in}

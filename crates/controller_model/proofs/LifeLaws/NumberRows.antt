@@ -1,3 +1,4 @@
+-- SPDX-License-Identifier: MIT OR Apache-2.0
 -- The numbers of connections, at literal values.
 use Rattle.controller_model.proofs.Prelude.{ℕ, ◌<◌, ◌≤◌, List, [], ◌∷◌, map, arith, AreRising, IsNumbered, Controller, Entry}
 use Rattle.controller_model.proofs.LifeLaws.OwnRows.{busy, entry, own}

@@ -1,3 +1,4 @@
+-- SPDX-License-Identifier: MIT OR Apache-2.0
 -- What literal octets say computes under one name.
 use Rattle.octets.specs.Front.{octet_at, counted_at}
 use Rattle.octets.specs.Walk.{walk}

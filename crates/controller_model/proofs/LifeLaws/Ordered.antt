@@ -1,3 +1,4 @@
+-- SPDX-License-Identifier: MIT OR Apache-2.0
 -- What was handed to the mobile of a connection is some of what the switch sent, in its order.
 use Rattle.controller_model.proofs.Prelude.{◌≡◌, ◌⊎◌, ℕ, ◌≤◌, ◌<◌, Bool, if◌then◌else◌, List, [], ◌∷◌, ◌++◌, filter, fold, Option, Some}
 use Rattle.controller_model.proofs.Prelude.{None, refl, sym, subst, ap, ◌∙◌, inl, inr, arith, append-nil, cases_Bool, cond-true, cond-false}

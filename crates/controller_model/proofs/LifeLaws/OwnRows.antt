@@ -1,3 +1,4 @@
+-- SPDX-License-Identifier: MIT OR Apache-2.0
 -- What a step leaves of other connections, where it puts the messages of one, and whom they name,
 -- at literal values.
 use Rattle.controller_model.proofs.Prelude.{◌≡◌, ℕ, true, false, List, [], ◌∷◌, map, replicate, set, Option, Some, None, refl, sym, ap, hex}

@@ -1,3 +1,4 @@
+-- SPDX-License-Identifier: MIT OR Apache-2.0
 -- Whose the channels are, at literal values.
 use Rattle.controller_model.proofs.Prelude.{◌≡◌, ℕ, ◌<◌, ◌≤◌, Bool, true, false, List, [], ◌∷◌, map, set, Some, None, refl, sym, ap, arith}
 use Rattle.controller_model.proofs.Prelude.{true≢false, Handover, Asked, Drain, Changing, Closed, Live, Removed, Connection, Roles}

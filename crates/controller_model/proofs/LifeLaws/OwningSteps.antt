@@ -1,3 +1,4 @@
+-- SPDX-License-Identifier: MIT OR Apache-2.0
 -- Whose channels are after each step.
 use Rattle.controller_model.proofs.Prelude.{◌≡◌, ◌≢◌, ℕ, zero, suc, ◌+◌, ◌-◌, ◌<◌, ◌&&◌, Bool, true, false, if◌then◌else◌, List, [], ◌∷◌}
 use Rattle.controller_model.proofs.Prelude.{length, find, fold, set, slice_get, slice_index_or, Option, Some, None, option_map, refl, sym}

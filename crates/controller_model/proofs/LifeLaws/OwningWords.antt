@@ -1,3 +1,4 @@
+-- SPDX-License-Identifier: MIT OR Apache-2.0
 -- Whose channels are after a frame.
 use Rattle.controller_model.proofs.Prelude.{◌≡◌, ◌≢◌, ℕ, Bool, true, false, if◌then◌else◌, List, [], Option, Some, None, option_map, refl}
 use Rattle.controller_model.proofs.Prelude.{sym, subst, ap, ◌∙◌, true≢false, cond-true, cond-false, and_parts, Channel, Place, Input}

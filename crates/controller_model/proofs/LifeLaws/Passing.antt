@@ -1,3 +1,4 @@
+-- SPDX-License-Identifier: MIT OR Apache-2.0
 -- What a frame puts for its connection passes the channels by that another one uses.
 use Rattle.controller_model.proofs.Prelude.{◌≡◌, ◌≢◌, ℕ, ◌==◌, ◌≤◌, ◌&&◌, ◌||◌, not, Bool, true, false, if◌then◌else◌, List, [], ◌∷◌}
 use Rattle.controller_model.proofs.Prelude.{Option, Some, None, Result, Ok, refl, sym, subst, ap, ◌∙◌, inl, inr, true≢false, cases_Bool}

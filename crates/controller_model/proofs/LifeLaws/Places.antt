@@ -1,3 +1,4 @@
+-- SPDX-License-Identifier: MIT OR Apache-2.0
 -- The states of channels, where one is set.
 use Rattle.controller_model.proofs.Prelude.{◌≡◌, ◌≢◌, ◌⊎◌, ℕ, zero, suc, ◌==◌, ◌<◌, ◌&&◌, Bool, false, List, [], ◌∷◌, length, fold, set}
 use Rattle.controller_model.proofs.Prelude.{slice_index_or, refl, sym, subst, ap, ◌∙◌, inl, inr, arith, true≢false, cases_Bool, cond-true}

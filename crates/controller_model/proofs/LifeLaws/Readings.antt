@@ -1,3 +1,4 @@
+-- SPDX-License-Identifier: MIT OR Apache-2.0
 -- The layer 3 messages that frames bring have 1 to 251 octets.
 use Rattle.controller_model.proofs.Prelude.{◌≡◌, ℕ, ◌==◌, Bool, true, false, if◌then◌else◌, List, [], ◌∷◌, Option, Some, None, Result, Ok}
 use Rattle.controller_model.proofs.Prelude.{Err, refl, subst, Bssap, Management, Transfer, Bssmap, InterfaceFault, Sccp, IsLayer3, Place}

@@ -1,3 +1,4 @@
+-- SPDX-License-Identifier: MIT OR Apache-2.0
 -- The definitions at literal values.
 use Rattle.controller_model.proofs.Prelude.{inl, inr, ◌≡◌, ℕ, true, false, List, [], ◌∷◌, set, codes, refl, Management, hex}
 use Rattle.controller_model.proofs.Prelude.{CompleteLayer3Information, Channel, Message, Request, Data, channel_release, handing, Zero}

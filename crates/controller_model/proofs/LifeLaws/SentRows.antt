@@ -1,3 +1,4 @@
+-- SPDX-License-Identifier: MIT OR Apache-2.0
 -- What a step sends, and to which links, at literal values.
 use Rattle.controller_model.proofs.Prelude.{◌≡◌, ℕ, ◌<◌, zero, suc, true, false, List, [], ◌∷◌, length, Result, Ok, refl, sym, ap, inl, inr, hex}
 use Rattle.controller_model.proofs.Prelude.{arith, true≢false, InterfaceFault, Sccp, Message, Station, ReleaseComplete, Out}

@@ -1,3 +1,4 @@
+-- SPDX-License-Identifier: MIT OR Apache-2.0
 -- Nothing is handed while a channel changes, and nothing after the end.
 use Rattle.controller_model.proofs.Prelude.{◌≡◌, Bool, ℕ, ◌≤◌, ◌<◌, List, [], ◌∷◌, Option, Some, None, refl, sym, subst, ap, ◌∙◌, arith}
 use Rattle.controller_model.proofs.Prelude.{AllByRecursion, Message, SWITCH_LINK, Input, State, Closed, Removed, Complete, Connection, Row}

@@ -1,3 +1,4 @@
+-- SPDX-License-Identifier: MIT OR Apache-2.0
 -- Silence over a whole life.
 use Rattle.controller_model.proofs.Prelude.{ℕ, ◌≤◌, List, [], ◌∷◌, AllByRecursion, SWITCH_LINK, Sapi, AreAllowed, Parameters, brought_in}
 use Rattle.controller_model.proofs.Prelude.{connection_of, IsOctetStep, AllAreRead, AllKeepSilence, SilenceIsKept, Step, Controller}

@@ -1,3 +1,4 @@
+-- SPDX-License-Identifier: MIT OR Apache-2.0
 -- What each step puts can be written, and is read as it was put; so in every life.
 use Rattle.controller_model.proofs.Prelude.{◌≡◌, ◌≢◌, ℕ, ◌-◌, ◌==◌, ◌≤◌, ◌<◌, ◌&&◌, ◌||◌, nat_le, Bool, true, false, if◌then◌else◌, List}
 use Rattle.controller_model.proofs.Prelude.{[], ◌∷◌, slice_get, Option, Some, None, option_map, Result, Ok, refl, sym, subst, ap, ◌∙◌, inl}

@@ -1,3 +1,4 @@
+-- SPDX-License-Identifier: MIT OR Apache-2.0
 -- What every row puts can be written, and is read as it was put.
 use Rattle.controller_model.proofs.Prelude.{Option, Some, AllByRecursion, IsLayer3, option_to_list, Channel, IsSound, Input}
 use Rattle.controller_model.proofs.Prelude.{WasAsked, State, Live, Closed, Connection, IsCarried, Row, OfRow, target_in, IsReference}

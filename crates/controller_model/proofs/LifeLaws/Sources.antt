@@ -1,3 +1,4 @@
+-- SPDX-License-Identifier: MIT OR Apache-2.0
 -- What a frame says is of the link that it came on.
 use Rattle.controller_model.proofs.Prelude.{◌≡◌, ℕ, ◌==◌, ◌&&◌, Bool, true, false, not, if◌then◌else◌, List, [], ◌∷◌, Option, Some, None}
 use Rattle.controller_model.proofs.Prelude.{Result, Ok, Err, refl, eqb-true, and_parts, Bssap, Management, Transfer, Bssmap, InterfaceFault}

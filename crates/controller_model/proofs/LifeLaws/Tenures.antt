@@ -1,3 +1,4 @@
+-- SPDX-License-Identifier: MIT OR Apache-2.0
 -- The tenures of a connection, with what may still come on their channels.
 use Rattle.controller_model.proofs.Prelude.{◌≡◌, ℕ, ◌==◌, ◌&&◌, Bool, true, false, not, if◌then◌else◌, List, [], ◌∷◌, ◌++◌, map, refl, sym}
 use Rattle.controller_model.proofs.Prelude.{ap, ◌∙◌, inl, inr, append_assoc, append-nil, true≢false, cases_Bool, cond-true, cond-false}

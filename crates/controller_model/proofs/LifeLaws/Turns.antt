@@ -1,3 +1,4 @@
+-- SPDX-License-Identifier: MIT OR Apache-2.0
 -- What a step does to a connection: a frame, a break of a link, and time that passes.
 use Rattle.controller_model.proofs.Prelude.{◌≡◌, ◌≢◌, ℕ, ◌+◌, ◌==◌, ◌≤◌, ◌<◌, Bool, true, false, if◌then◌else◌, List, [], ◌∷◌, ◌++◌, find}
 use Rattle.controller_model.proofs.Prelude.{fold, map, Option, Some, None, option_map, refl, sym, subst, ap, ◌∙◌, arith, append-nil}

@@ -1,3 +1,4 @@
+-- SPDX-License-Identifier: MIT OR Apache-2.0
 -- The mobile's messages of a connection over a whole life.
 use Rattle.controller_model.proofs.Prelude.{◌≡◌, ℕ, ◌+◌, ◌≤◌, ◌<◌, List, [], ◌∷◌, ◌++◌, length, fold, Bool, true, false, if◌then◌else◌}
 use Rattle.controller_model.proofs.Prelude.{Option, Some, None, option_map, refl, sym, subst, ap, ◌∙◌, arith, append_assoc, append-nil}

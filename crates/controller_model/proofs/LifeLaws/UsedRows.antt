@@ -1,3 +1,4 @@
+-- SPDX-License-Identifier: MIT OR Apache-2.0
 -- The channels that a connection uses, at literal values.
 use Rattle.controller_model.proofs.Prelude.{◌≡◌, ℕ, false, [], ◌∷◌, Some, None, refl, Assignment, Handover, Channel, Due, Asked, Complete}
 use Rattle.controller_model.proofs.Prelude.{Active, Preparing, Changing, Draining, State, WaitActivation, WaitEstablish, WaitConfirm, Live}

@@ -1,3 +1,4 @@
+-- SPDX-License-Identifier: MIT OR Apache-2.0
 -- The messages of a row go to links that are up.
 use Rattle.controller_model.proofs.Prelude.{◌≡◌, ◌≢◌, ℕ, ◌==◌, Bool, true, false, not, if◌then◌else◌, List, [], ◌∷◌, filter, set, Option}
 use Rattle.controller_model.proofs.Prelude.{Some, None, refl, sym, subst, ◌∙◌, inl, inr, true≢false, cases_Bool, cond-true, cond-false}

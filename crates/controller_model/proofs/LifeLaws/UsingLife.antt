@@ -1,3 +1,4 @@
+-- SPDX-License-Identifier: MIT OR Apache-2.0
 -- Which channels are in use after each step, and where what it puts goes; so in every life.
 use Rattle.controller_model.proofs.Prelude.{◌≡◌, ◌≢◌, ◌⊎◌, ℕ, zero, suc, ◌+◌, ◌==◌, ◌≤◌, ◌<◌, ◌&&◌, Bool, true, false, not, if◌then◌else◌}
 use Rattle.controller_model.proofs.Prelude.{List, [], ◌∷◌, length, replicate, set, slice_index_or, Contains, Option, Some, None, option_map}

@@ -1,3 +1,4 @@
+-- SPDX-License-Identifier: MIT OR Apache-2.0
 -- Which channels are in use after a row of the table.
 use Rattle.controller_model.proofs.Prelude.{◌≡◌, ◌≢◌, ◌⊎◌, ℕ, zero, suc, ◌==◌, ◌<◌, ◌≤◌, ◌&&◌, Bool, true, false, if◌then◌else◌, List, []}
 use Rattle.controller_model.proofs.Prelude.{◌∷◌, ◌++◌, fold, filter, map, Contains, Option, Some, None, option_map, refl, sym, subst, ap}

@@ -1,3 +1,4 @@
+-- SPDX-License-Identifier: MIT OR Apache-2.0
 -- Which channels are in use after a frame, and where what it puts goes.
 use Rattle.controller_model.proofs.Prelude.{◌≡◌, ◌≢◌, ℕ, ◌+◌, ◌-◌, ◌≤◌, ◌<◌, Bool, true, false, if◌then◌else◌, List, [], ◌∷◌, find}
 use Rattle.controller_model.proofs.Prelude.{slice_get, Contains, Option, Some, None, option_map, refl, sym, subst, ap, ◌∙◌, inl, inr, arith}

@@ -1,3 +1,4 @@
+-- SPDX-License-Identifier: MIT OR Apache-2.0
 -- What rows put: in CR the initial message alone, and in DT1 no initial message.
 use Rattle.controller_model.proofs.Prelude.{◌≡◌, ℕ, refl, nat_le, Bool, true, false, if◌then◌else◌, List, Option, AllByRecursion}
 use Rattle.controller_model.proofs.Prelude.{Management, Transfer, CompleteLayer3Information, is_dlci, Channel, Message, Data, Request}

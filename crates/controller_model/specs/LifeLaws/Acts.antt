@@ -1,3 +1,4 @@
+-- SPDX-License-Identifier: MIT OR Apache-2.0
 -- What a step does to one connection.
 use Rattle.std.specs.Prelude.{◌≡◌, Bool, true, fold, ℕ, ◌==◌, if◌then◌else◌, List}
 use Rattle.std.specs.Prelude.{[], ◌∷◌, Option}

@@ -1,3 +1,4 @@
+-- SPDX-License-Identifier: MIT OR Apache-2.0
 -- What a frame leaves of a connection that it doesn't concern.
 use Rattle.std.specs.Prelude.{◌≡◌, ◌≢◌, ◌↔◌, ℕ, [], Some}
 use Rattle.controller_model.specs.Prelude.{Place}

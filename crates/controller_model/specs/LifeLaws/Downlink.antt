@@ -1,3 +1,4 @@
+-- SPDX-License-Identifier: MIT OR Apache-2.0
 -- The switch's messages of a connection: those that came, were rejected, were handed.
 use Rattle.std.specs.Prelude.{◌≡◌, ◌⊎◌, ℕ, ◌==◌, ◌&&◌, ◌||◌, Bool, true}
 use Rattle.std.specs.Prelude.{false, if◌then◌else◌, List}

@@ -1,3 +1,4 @@
+-- SPDX-License-Identifier: MIT OR Apache-2.0
 -- Where messages are handed, told by what came and what was put: nothing while the mobile changes
 -- its channel, else on the channel that serves, and after CLEAR COMPLETE only RLC is put.
 use Rattle.std.specs.Prelude.{◌≡◌, ℕ, ◌==◌, ◌&&◌, ◌||◌, not, Bool, true, false}

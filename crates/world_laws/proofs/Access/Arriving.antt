@@ -1,3 +1,4 @@
+-- SPDX-License-Identifier: MIT OR Apache-2.0
 -- A connection that is coming stays so at each event in which the controller takes no part.
 use Rattle.world_laws.proofs.Prelude.{◌≡◌, ◌≢◌, ℕ, ◌==◌, ◌&&◌, nat_eq, not, Bool, true, false, if◌then◌else◌, List, [], ◌∷◌, ◌++◌, map}
 use Rattle.world_laws.proofs.Prelude.{Some, None, unwrap_or, refl, sym, ap, ◌∙◌, subst, inl, inr, flat_map, cases_Bool, eqb-true}

@@ -1,3 +1,4 @@
+-- SPDX-License-Identifier: MIT OR Apache-2.0
 -- A mobile that asked comes onto the serving channel: from then on it is lined up with its
 -- connection.
 use Rattle.world_laws.proofs.Prelude.{◌≡◌, ◌≢◌, ℕ, ◌&&◌, nat_eq, Bool, true, false, List, [], ◌∷◌, ◌++◌, None, refl, sym, ap, ◌∙◌, subst}

@@ -1,3 +1,4 @@
+-- SPDX-License-Identifier: MIT OR Apache-2.0
 -- What a mobile's link still gives, event by event: no more messages of radio resource management.
 use Rattle.world_laws.proofs.Prelude.{◌≡◌, ℕ, ◌+◌, ◌≤◌, ◌%◌, Bool, true, false, if◌then◌else◌, List, [], ◌∷◌, ◌++◌, length, option_to_list}
 use Rattle.world_laws.proofs.Prelude.{Option, Some, sym, ap, ◌∙◌, subst, arith, inl, inr, is_none, cases_Bool, cond-false, Sapi, Zero}

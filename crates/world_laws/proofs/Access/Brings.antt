@@ -1,3 +1,4 @@
+-- SPDX-License-Identifier: MIT OR Apache-2.0
 -- A frame that says an ESTABLISH INDICATION with an initial message brings that message.
 use Rattle.world_laws.proofs.Prelude.{◌≡◌, ℕ, ◌==◌, Bool, true, false, if◌then◌else◌, List, [], ◌∷◌, Option, Some, None, Ok, Err, refl}
 use Rattle.world_laws.proofs.Prelude.{sym, ◌∙◌, result_ok, Bssap, Management, Bssmap, InterfaceFault, Sccp, bssap_reading}

@@ -1,3 +1,4 @@
+-- SPDX-License-Identifier: MIT OR Apache-2.0
 -- What becomes of a connection that is coming when the controller takes a step.
 use Rattle.world_laws.proofs.Prelude.{◌≡◌, ◌≢◌, ℕ, ◌+◌, ◌≤◌, ◌&&◌, nat_eq, not, Bool, true, List, [], ◌∷◌, ◌++◌, find, length, Option, Some}
 use Rattle.world_laws.proofs.Prelude.{None, refl, sym, ap, ◌∙◌, subst, append_assoc, arith, AllByRecursion, flat_map, eq-eqb}

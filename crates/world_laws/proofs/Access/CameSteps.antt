@@ -1,3 +1,4 @@
+-- SPDX-License-Identifier: MIT OR Apache-2.0
 -- What each step of the controller makes of a connection that is coming.
 use Rattle.world_laws.proofs.Prelude.{◌≡◌, ◌≢◌, ℕ, ◌+◌, ◌≤◌, ◌==◌, Bool, true, false, if◌then◌else◌, cond, List, [], ◌∷◌, ◌++◌, length, map}
 use Rattle.world_laws.proofs.Prelude.{option_to_list, Ok, Option, Some, None, refl, sym, ap, ◌∙◌, subst, arith, AllByRecursion, flat_map}

@@ -1,3 +1,4 @@
+-- SPDX-License-Identifier: MIT OR Apache-2.0
 -- Of a connection that lives no initial message comes again.
 use Rattle.world_laws.proofs.Prelude.{◌≡◌, ◌≢◌, ℕ, ◌≤◌, nat_eq, Bool, true, false, List, [], ◌∷◌, find, Option, Some, None, refl, sym, ap}
 use Rattle.world_laws.proofs.Prelude.{◌∙◌, subst, inl, inr, AllByRecursion, flat_map, eqb-true, eqb-false, Channel, Place, Message}

@@ -1,3 +1,4 @@
+-- SPDX-License-Identifier: MIT OR Apache-2.0
 -- The row that puts CR keeps a connection lined up: the initial message moves from its channel to
 -- what waits for the switch, and none of radio resource management is behind it.
 use Rattle.world_laws.proofs.Prelude.{◌≡◌, ℕ, ◌+◌, Bool, true, false, List, [], ◌∷◌, ◌++◌, refl, sym, ap, ◌∙◌, append_assoc, arith}

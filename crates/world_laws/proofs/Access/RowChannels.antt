@@ -1,3 +1,4 @@
+-- SPDX-License-Identifier: MIT OR Apache-2.0
 -- The channels that a connection uses after a row: those that it used, and one that it awaits.
 use Rattle.world_laws.proofs.Prelude.{◌≡◌, ℕ, zero, suc, Bool, true, false, if◌then◌else◌, List, [], ◌∷◌, ◌++◌, Option, Some, None, refl}
 use Rattle.world_laws.proofs.Prelude.{sym, ap, subst, AllByRecursion, Channel, Input, Drain, Preparing, Changing, State}

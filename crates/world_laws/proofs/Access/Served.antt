@@ -1,3 +1,4 @@
+-- SPDX-License-Identifier: MIT OR Apache-2.0
 -- The mobile on a tenure is the one whose tenure it is.
 use Rattle.world_laws.proofs.Prelude.{◌≡◌, ℕ, ◌==◌, ◌&&◌, Bool, true, false, cond, List, [], ◌∷◌, find, option_map, Some, None, refl, sym}
 use Rattle.world_laws.proofs.Prelude.{ap, ◌∙◌, AllByRecursion, eqb-true, eq-eqb, Seat, On, Tenure, mobile_on, AllSitBy, Actors, Mobile}

@@ -1,3 +1,4 @@
+-- SPDX-License-Identifier: MIT OR Apache-2.0
 -- What the first item of the inbox brings of a channel, by what it says.
 use Rattle.world_laws.proofs.Prelude.{◌≡◌, ◌≢◌, ℕ, ◌==◌, not, nat_eq, Bool, true, false, if◌then◌else◌, cond, List, [], ◌∷◌, Option, Some}
 use Rattle.world_laws.proofs.Prelude.{None, refl, sym, ap, ◌∙◌, subst, eqb-true, eq-eqb, Place, SWITCH_LINK, is_dtap, OnChannel, place_at}

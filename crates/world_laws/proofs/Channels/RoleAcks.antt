@@ -1,3 +1,4 @@
+-- SPDX-License-Identifier: MIT OR Apache-2.0
 -- The acknowledgements on their way agree with the roles of the channels.
 use Rattle.world_laws.proofs.Prelude.{◌≡◌, ◌≢◌, ℕ, ◌≤◌, ◌==◌, Bool, true, false, if◌then◌else◌, List, [], ◌∷◌, ◌++◌, length, refl, sym, ap}
 use Rattle.world_laws.proofs.Prelude.{◌∙◌, subst, append_assoc, arith, AllByRecursion, flat_map, Channel, Place, SWITCH_LINK}

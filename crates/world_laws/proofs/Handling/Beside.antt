@@ -1,3 +1,4 @@
+-- SPDX-License-Identifier: MIT OR Apache-2.0
 -- A frame that doesn't concern a connection, or that the controller ignores, leaves it lined up.
 use Rattle.world_laws.proofs.Prelude.{◌≡◌, ℕ, zero, suc, ◌==◌, Bool, true, false, if◌then◌else◌, List, [], Option, Some, None, option_map}
 use Rattle.world_laws.proofs.Prelude.{refl, sym, ap, ◌∙◌, subst, arith, true≢false, AllByRecursion, option_and_then, eqb-true, Channel}

@@ -1,3 +1,4 @@
+-- SPDX-License-Identifier: MIT OR Apache-2.0
 -- A connection that lives fares on when the controller takes a step.
 use Rattle.world_laws.proofs.Prelude.{◌≡◌, ℕ, ◌==◌, Bool, true, false, if◌then◌else◌, List, [], ◌∷◌, Option, Some, None, refl, sym, ap, ◌∙◌}
 use Rattle.world_laws.proofs.Prelude.{subst, inl, inr, arith, true≢false, AllByRecursion, cases_Bool, eq-eqb, eqb-true, Place, SWITCH_LINK}

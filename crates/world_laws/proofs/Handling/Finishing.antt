@@ -1,3 +1,4 @@
+-- SPDX-License-Identifier: MIT OR Apache-2.0
 -- A step of the controller by which nothing of a connection goes to the switch: the connection is
 -- of the same line after it, or it ended.
 use Rattle.world_laws.proofs.Prelude.{◌≡◌, ℕ, ◌≤◌, true, unwrap_or, List, [], ◌∷◌, find, Option, Some, None, refl, sym, ap, ◌∙◌, subst}

@@ -1,3 +1,4 @@
+-- SPDX-License-Identifier: MIT OR Apache-2.0
 -- What is known of the controller of a world, before it takes a step and after it.
 use Rattle.world_laws.proofs.Prelude.{◌≡◌, ◌≢◌, ℕ, ◌≤◌, true, List, [], ◌∷◌, ◌++◌, Option, Some, None, option_map, refl, sym, ap, ◌∙◌}
 use Rattle.world_laws.proofs.Prelude.{subst, AllByRecursion, Channel, SWITCH_LINK, AllByRecursion-append, target_in_role, Connection}

@@ -1,3 +1,4 @@
+-- SPDX-License-Identifier: MIT OR Apache-2.0
 -- An input that no row fits brings nothing of the flow on the channels of its connection.
 use Rattle.world_laws.proofs.Prelude.{◌≡◌, ℕ, zero, suc, Bool, true, false, if◌then◌else◌, List, [], ◌∷◌, ◌++◌, length, Option, Some, None}
 use Rattle.world_laws.proofs.Prelude.{refl, sym, ap, ◌∙◌, subst, AllByRecursion, Channel, Place, AllByRecursion-append, Input, Drain}

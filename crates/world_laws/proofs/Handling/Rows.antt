@@ -1,3 +1,4 @@
+-- SPDX-License-Identifier: MIT OR Apache-2.0
 -- Definitions of this crate, at literal values.
 use Rattle.world_laws.proofs.Prelude.{◌≡◌, ℕ, true, false, [], ◌∷◌, map, refl, Connection, Parameters, BaseDown, BasePush, BaseTakes}
 use Rattle.world_laws.proofs.Prelude.{Handle, SwitchTakes, Tick, new_actors, IsOpenOrEnded, is_of_controller}

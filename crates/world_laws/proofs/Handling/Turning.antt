@@ -1,3 +1,4 @@
+-- SPDX-License-Identifier: MIT OR Apache-2.0
 -- What the controller does by a word that is for a connection: the row that fits, or nothing.
 use Rattle.world_laws.proofs.Prelude.{◌≡◌, ℕ, true, false, Bool, if◌then◌else◌, List, [], Option, Some, None, option_map, refl, sym, ap}
 use Rattle.world_laws.proofs.Prelude.{◌∙◌, subst, option_and_then, Channel, Place, Out, outs_of, Input, Connection, Row, OfRow, kept}

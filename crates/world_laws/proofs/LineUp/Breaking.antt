@@ -1,3 +1,4 @@
+-- SPDX-License-Identifier: MIT OR Apache-2.0
 -- What holds while a connection lives is kept by breaks of stations' links.
 use Rattle.world_laws.proofs.Prelude.{◌≡◌, ℕ, Bool, false, List, [], ◌∷◌, ◌++◌, refl, sym, ap, ◌∙◌, subst, append_assoc, DataLinkState}
 use Rattle.world_laws.proofs.Prelude.{LineUp, flow, parts_of, with_items, Alive, Condition, Follows, lost_old, lost_serving, lost_target}

@@ -1,3 +1,4 @@
+-- SPDX-License-Identifier: MIT OR Apache-2.0
 -- Why the line is intact, or isn't, step by step.
 use Rattle.world_laws.proofs.Prelude.{◌≡◌, Bool, true, false, ◌||◌, ◌⊎◌, inl, inr, refl, on_serving, on_target, moving, after_complete}
 use Rattle.world_laws.proofs.Prelude.{IsHereOrGone, Condition, remains, left, sound, left_the_cell, lost_old, lost_serving, lost_target}

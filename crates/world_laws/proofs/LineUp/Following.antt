@@ -1,3 +1,4 @@
+-- SPDX-License-Identifier: MIT OR Apache-2.0
 -- Where a line ends, and what follows it.
 use Rattle.world_laws.proofs.Prelude.{◌≡◌, ℕ, Bool, true, false, Some, List, [], ◌∷◌, ◌++◌, refl, sym, subst, Rise, lent_message}
 use Rattle.world_laws.proofs.Prelude.{after_lending, to_be_taken, DataLinkState, Rise-front, Rise-grow, RunsToEnd-lent, flow, Follows, rises}

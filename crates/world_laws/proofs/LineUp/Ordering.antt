@@ -1,3 +1,4 @@
+-- SPDX-License-Identifier: MIT OR Apache-2.0
 -- What the switch accepts of a line whose places rise.
 use Rattle.world_laws.proofs.Prelude.{◌≡◌, ℕ, ◌+◌, ◌≤◌, List, [], ◌∷◌, ◌++◌, refl, sym, ap, ◌∙◌, subst, append_assoc, arith, append-nil}
 use Rattle.world_laws.proofs.Prelude.{Rise, to_be_taken, DataLinkState, Rise-cut, Rise-front, Rise-grow, Rise-of_flow}

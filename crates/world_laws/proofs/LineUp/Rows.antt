@@ -1,3 +1,4 @@
+-- SPDX-License-Identifier: MIT OR Apache-2.0
 -- Definitions against literal line-ups.
 use Rattle.world_laws.proofs.Prelude.{◌≡◌, ℕ, ◌+◌, ◌≤◌, true, false, Some, List, [], ◌∷◌, refl, arith, Carries, next, Empty, Given, Reached}
 use Rattle.world_laws.proofs.Prelude.{DataLinkState, again, accepted_list, progress, LineUp, fresh, messages_in, part_of, parts_of, line}

@@ -1,3 +1,4 @@
+-- SPDX-License-Identifier: MIT OR Apache-2.0
 -- How a change of channel stands, step by step.
 use Rattle.world_laws.proofs.Prelude.{◌≡◌, ℕ, ◌+◌, ◌≤◌, Bool, true, false, arith, on_serving, on_target, moving, gone, after_complete}
 use Rattle.world_laws.proofs.Prelude.{IsHereOrGone, remains, left}

@@ -1,3 +1,4 @@
+-- SPDX-License-Identifier: MIT OR Apache-2.0
 -- What the laws' definitions say, at literal events.
 use Rattle.world_laws.proofs.Prelude.{◌≡◌, ℕ, true, List, [], ◌∷◌, option_map, Some, refl, sym, ap, ◌∙◌, arith, connection_of}
 use Rattle.world_laws.proofs.Prelude.{to_be_taken, BasePush, Connect, Handle, actors_after_all, connected, Mobile, mobile_of, controls_of}

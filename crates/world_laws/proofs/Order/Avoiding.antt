@@ -1,3 +1,4 @@
+-- SPDX-License-Identifier: MIT OR Apache-2.0
 -- What a step puts for one connection passes the channels by that another one uses before and after
 -- it.
 use Rattle.world_laws.proofs.Prelude.{◌≡◌, ◌≢◌, ℕ, ◌≤◌, Bool, List, ◌∷◌, Option, Some, None, sym, AllByRecursion, Place, Message, outs_of}

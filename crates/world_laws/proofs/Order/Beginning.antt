@@ -1,3 +1,4 @@
+-- SPDX-License-Identifier: MIT OR Apache-2.0
 -- A connection that begins: the mobile that asked for it is as it connected, and nothing is on its
 -- way on its channel.
 use Rattle.world_laws.proofs.Prelude.{◌≡◌, ◌≢◌, ℕ, ◌+◌, ◌-◌, ◌≤◌, ◌<◌, leb, Bool, true, false, if◌then◌else◌, List, [], ◌∷◌}

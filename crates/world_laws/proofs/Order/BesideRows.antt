@@ -1,3 +1,4 @@
+-- SPDX-License-Identifier: MIT OR Apache-2.0
 -- Definitions against literal values: which entries activate channel 8 or send on it, what waits,
 -- and what is quiet.
 use Rattle.world_laws.proofs.Prelude.{◌≡◌, ℕ, true, false, [], ◌∷◌, Some, None, refl, sym, ap, ◌∙◌, Place, Activation, DataMessage, Rsl}

@@ -1,3 +1,4 @@
+-- SPDX-License-Identifier: MIT OR Apache-2.0
 -- A row that asks the switch to clear does so with a cause of one octet.
 use Rattle.world_laws.proofs.Prelude.{ℕ, Option, Some, ◌<◌, refl, arith, AllByRecursion, Channel, Message, Data, Input, State, Connection, Row}
 use Rattle.world_laws.proofs.Prelude.{OfRow, row_of, HasFairCause}

@@ -1,3 +1,4 @@
+-- SPDX-License-Identifier: MIT OR Apache-2.0
 -- The controller of a run: where it stays as it is, and the numbers of its connections.
 use Rattle.world_laws.proofs.Prelude.{◌≡◌, ℕ, ◌≤◌, ◌<◌, leb, inl, inr, List, [], ◌∷◌, ◌++◌, option_map, Some, None, refl, sym, ap, ◌∙◌}
 use Rattle.world_laws.proofs.Prelude.{subst, arith, append_assoc, AllByRecursion, cases_Bool, leb-false, leb-true, append-nil, none-some}

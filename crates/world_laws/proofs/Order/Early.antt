@@ -1,3 +1,4 @@
+-- SPDX-License-Identifier: MIT OR Apache-2.0
 -- What a step makes of a connection that is early after it: it was early before, or begins. It puts
 -- no DATA REQUEST.
 use Rattle.world_laws.proofs.Prelude.{◌≡◌, ℕ, Bool, List, [], ◌∷◌, Option, Some, None, refl, sym, ap, ◌∙◌, subst, AllByRecursion, Channel}

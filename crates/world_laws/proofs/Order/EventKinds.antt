@@ -1,3 +1,4 @@
+-- SPDX-License-Identifier: MIT OR Apache-2.0
 -- Events by who takes part: the controller, the switch that takes, a station that takes, a link
 -- that breaks, or none of these.
 use Rattle.world_laws.proofs.Prelude.{◌≡◌, ◌⊎◌, inl, ℕ, Bool, true, false, if◌then◌else◌, [], refl, sym, ap, subst, SWITCH_LINK}

@@ -1,3 +1,4 @@
+-- SPDX-License-Identifier: MIT OR Apache-2.0
 -- Each number of a run stands.
 use Rattle.world_laws.proofs.Prelude.{◌≡◌, ℕ, ◌≤◌, List, [], ◌∷◌, ◌++◌, get_or, length, replicate, Option, refl, sym, ap, subst}
 use Rattle.world_laws.proofs.Prelude.{append_assoc, option_or, append-nil, SWITCH_LINK, AreAllowed, Parameters, Event}

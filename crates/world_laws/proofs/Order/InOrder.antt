@@ -1,3 +1,4 @@
+-- SPDX-License-Identifier: MIT OR Apache-2.0
 -- What the switch accepts of each connection of a run is a prefix of what its mobile sent, with no
 -- gap.
 use Rattle.world_laws.proofs.Prelude.{◌≡◌, ℕ, ◌≤◌, Bool, true, false, if◌then◌else◌, find, drop, List, option_map, Option, Some, None, refl}

@@ -1,3 +1,4 @@
+-- SPDX-License-Identifier: MIT OR Apache-2.0
 -- Each number of a run stands, and the places of its messages rise.
 use Rattle.world_laws.proofs.Prelude.{◌≡◌, ◌⊎◌, ℕ, ◌≤◌, Bool, true, false, if◌then◌else◌, length, List, [], ◌∷◌, ◌++◌, Option, Some, inl}
 use Rattle.world_laws.proofs.Prelude.{inr, refl, sym, ap, ◌∙◌, subst, append_assoc, append-nil, none-some, same_Some, SWITCH_LINK, State}

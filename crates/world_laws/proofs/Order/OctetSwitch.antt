@@ -1,3 +1,4 @@
+-- SPDX-License-Identifier: MIT OR Apache-2.0
 -- What the switch makes is of octets, where what it reads of the controller is fair.
 use Rattle.world_laws.proofs.Prelude.{◌≡◌, ℕ, zero, suc, ◌+◌, ◌-◌, ◌<◌, ◌≤◌, nat_le, Bool, true, false, if◌then◌else◌, List, [], ◌∷◌}
 use Rattle.world_laws.proofs.Prelude.{◌++◌, length, option_to_list, set, unwrap_or, inl, inr, Option, Some, None, refl, sym, subst, arith}

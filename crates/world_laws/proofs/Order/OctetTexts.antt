@@ -1,3 +1,4 @@
+-- SPDX-License-Identifier: MIT OR Apache-2.0
 -- The texts of what stations make are of octets.
 use Rattle.world_laws.proofs.Prelude.{◌≡◌, ℕ, zero, suc, ◌%◌, ◌<◌, ◌≤◌, ◌==◌, ◌&&◌, ◌||◌, nat_le, Bool, true, false, if◌then◌else◌, List}
 use Rattle.world_laws.proofs.Prelude.{[], ◌∷◌, ◌++◌, length, Option, Some, None, refl, sym, subst, arith, AllByRecursion, eqb-true}

@@ -1,3 +1,4 @@
+-- SPDX-License-Identifier: MIT OR Apache-2.0
 -- Whose connection it is, event by event.
 use Rattle.world_laws.proofs.Prelude.{◌≡◌, ℕ, Bool, false, if◌then◌else◌, List, [], ◌∷◌, ◌++◌, option_map, Option, Some, None, refl, sym}
 use Rattle.world_laws.proofs.Prelude.{ap, ◌∙◌, option_and_then, option_or, none-some, same_Some, State, WaitConfirm, Connection}

@@ -1,3 +1,4 @@
+-- SPDX-License-Identifier: MIT OR Apache-2.0
 -- A channel on which no DATA REQUEST was put since its activation has nothing in its air.
 use Rattle.world_laws.proofs.Prelude.{◌≡◌, ◌≢◌, ◌⊎◌, inl, inr, ℕ, ◌==◌, ◌&&◌, not, Bool, true, false, if◌then◌else◌, List, [], ◌∷◌, ◌++◌}
 use Rattle.world_laws.proofs.Prelude.{Option, Some, refl, sym, ap, ◌∙◌, subst, eqb-true, AllByRecursion, Place, SWITCH_LINK}

@@ -1,3 +1,4 @@
+-- SPDX-License-Identifier: MIT OR Apache-2.0
 -- Rows: which states asked the switch, which events are of octets, what is fair, and what may still
 -- come of a line-up.
 use Rattle.world_laws.proofs.Prelude.{◌≡◌, ◌<◌, true, false, [], ◌∷◌, map, Some, None, refl, arith, ConnectionRequest, Due, WaitActivation}

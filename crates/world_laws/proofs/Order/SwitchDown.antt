@@ -1,3 +1,4 @@
+-- SPDX-License-Identifier: MIT OR Apache-2.0
 -- Which events change the switch, and a run whose switch's link is down: nothing more comes to the
 -- switch.
 use Rattle.world_laws.proofs.Prelude.{◌≡◌, ℕ, ◌&&◌, Bool, true, false, if◌then◌else◌, List, [], ◌∷◌, ◌++◌, ◌+◌, length, unwrap_or, Option}

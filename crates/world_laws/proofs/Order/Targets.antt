@@ -1,3 +1,4 @@
+-- SPDX-License-Identifier: MIT OR Apache-2.0
 -- The target of a connection in a run is fresh: where its number stands tells.
 use Rattle.world_laws.proofs.Prelude.{◌≡◌, ℕ, true, List, Option, Some, sym, ap, ◌∙◌, subst, none-some, same_Some, SWITCH_LINK, Live}
 use Rattle.world_laws.proofs.Prelude.{Connection, IsThere, connection_of, AreAllowed, Parameters, Event, Actors, is_up}

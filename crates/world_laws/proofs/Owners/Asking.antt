@@ -1,3 +1,4 @@
+-- SPDX-License-Identifier: MIT OR Apache-2.0
 -- A connection begins by the CHANNEL REQUIRED of its mobile, which stood first in the inbox.
 use Rattle.world_laws.proofs.Prelude.{◌≡◌, ◌≢◌, ℕ, ◌+◌, ◌==◌, ◌≤◌, Bool, true, false, if◌then◌else◌, List, [], ◌∷◌, ◌++◌, find, option_map}
 use Rattle.world_laws.proofs.Prelude.{option_to_list, Option, Some, None, refl, sym, ap, ◌∙◌, subst, inl, inr, cases_Bool, cond-true}

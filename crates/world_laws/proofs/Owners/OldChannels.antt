@@ -1,3 +1,4 @@
+-- SPDX-License-Identifier: MIT OR Apache-2.0
 -- Where an old channel of a connection comes from: it was one before a step, and the step doesn't
 -- bring its RF CHANNEL RELEASE ACK; or it served.
 use Rattle.world_laws.proofs.Prelude.{◌≡◌, ◌≢◌, ◌⊎◌, ℕ, ◌==◌, ◌≤◌, Bool, true, cond, if◌then◌else◌, List, [], ◌∷◌, option_to_list, Contains}

@@ -1,3 +1,4 @@
+-- SPDX-License-Identifier: MIT OR Apache-2.0
 -- What the laws' definitions say, at literal events.
 use Rattle.world_laws.proofs.Prelude.{◌≡◌, true, false, List, [], ◌∷◌, ◌++◌, option_map, map, Some, None, refl, Connection}
 use Rattle.world_laws.proofs.Prelude.{new_connection, connection_of, activation_ack, Rsl, Event, Connect, BaseDown}

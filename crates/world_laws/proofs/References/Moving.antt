@@ -1,3 +1,4 @@
+-- SPDX-License-Identifier: MIT OR Apache-2.0
 -- The controller of a world after one event more.
 use Rattle.world_laws.proofs.Prelude.{◌≡◌, List, [], ◌∷◌, ◌++◌, refl, sym, ap, ◌∙◌, Step, Controller, each, new_controller, step}
 use Rattle.world_laws.proofs.Prelude.{Parameters, Event, actors_after, all_steps, step_at, Actors, new_actors, FollowsTable-new}

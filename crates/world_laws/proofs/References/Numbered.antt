@@ -1,3 +1,4 @@
+-- SPDX-License-Identifier: MIT OR Apache-2.0
 -- Each frame that a step puts is of a connection, whose number is 1 or more, or it is PONG.
 use Rattle.world_laws.proofs.Prelude.{◌≡◌, ◌⊎◌, ℕ, ◌≤◌, Bool, true, false, if◌then◌else◌, List, [], ◌∷◌, find, map, Option, Some, None}
 use Rattle.world_laws.proofs.Prelude.{refl, sym, subst, inl, inr, AllByRecursion, Channel, Place, Message, Out, outs_of, access_activation}

@@ -1,3 +1,4 @@
+-- SPDX-License-Identifier: MIT OR Apache-2.0
 -- A connection that isn't open any more puts no more for the switch.
 use Rattle.world_laws.proofs.Prelude.{◌≡◌, ℕ, ◌≤◌, ◌<◌, ◌==◌, Bool, true, false, if◌then◌else◌, List, [], ◌∷◌, ◌++◌, map, Option}
 use Rattle.world_laws.proofs.Prelude.{None, refl, sym, ap, ◌∙◌, subst, arith, AllByRecursion, Out, SWITCH_LINK, AllByRecursion-filter}

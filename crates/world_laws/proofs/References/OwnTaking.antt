@@ -1,3 +1,4 @@
+-- SPDX-License-Identifier: MIT OR Apache-2.0
 -- The switch takes an entry of a connection: its own entry, by what the switch reads.
 use Rattle.world_laws.proofs.Prelude.{◌≡◌, ℕ, ◌+◌, ◌-◌, ◌<◌, ◌^◌, nat_le, Bool, true, false, if◌then◌else◌, List, [], ◌∷◌, ◌++◌, length}
 use Rattle.world_laws.proofs.Prelude.{find, option_to_list, Option, Some, None, refl, sym, ap, ◌∙◌, subst, arith, inl, inr, true≢false}

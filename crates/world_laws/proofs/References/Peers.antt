@@ -1,3 +1,4 @@
+-- SPDX-License-Identifier: MIT OR Apache-2.0
 -- Each connection of the switch has a peer of its own.
 use Rattle.world_laws.proofs.Prelude.{◌≡◌, ◌≢◌, ℕ, zero, suc, ◌-◌, ◌≤◌, nat_eq, Bool, true, false, cond, if◌then◌else◌, List, [], ◌∷◌, ◌++◌}
 use Rattle.world_laws.proofs.Prelude.{map, find, Option, Some, None, refl, sym, ap, ◌∙◌, subst, slice_get, slice_set, AllByRecursion}

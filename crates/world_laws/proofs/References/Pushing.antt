@@ -1,3 +1,4 @@
+-- SPDX-License-Identifier: MIT OR Apache-2.0
 -- CC on its way: what is read of what the switch made, and of what stations gave.
 use Rattle.world_laws.proofs.Prelude.{◌≡◌, ◌≢◌, ℕ, List, [], ◌++◌, Ok, refl, sym, ap, ◌∙◌, subst, Bssap, Management, Bssmap, InterfaceFault}
 use Rattle.world_laws.proofs.Prelude.{Sccp, ConnectionConfirm, ConnectionRefused, ConnectionRequest, DataForm1, Released, bssap_reading}

@@ -1,3 +1,4 @@
+-- SPDX-License-Identifier: MIT OR Apache-2.0
 -- What the names of connections say, at literal values.
 use Rattle.world_laws.proofs.Prelude.{◌≡◌, ℕ, true, false, [], ◌∷◌, refl, ap, arith, ConnectionConfirm, connection_of, OnConnection}
 use Rattle.world_laws.proofs.Prelude.{usual_settings, Zero, Clearing, Open, Upper, Connect, AirUp, BaseTakes, BasePush, BaseDown, Handle}

@@ -1,3 +1,4 @@
+-- SPDX-License-Identifier: MIT OR Apache-2.0
 -- What the switch reads in the frame of a message that a connection puts, where the frame is read
 -- as a message of which it is the text.
 use Rattle.world_laws.proofs.Prelude.{◌≡◌, ℕ, List, [], ◌∷◌, ◌++◌, drop, slice_index_or, Some, Ok, refl, sym, ap, ◌∙◌, subst, result_ok}

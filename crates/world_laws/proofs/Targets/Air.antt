@@ -1,3 +1,4 @@
+-- SPDX-License-Identifier: MIT OR Apache-2.0
 -- Nothing stands in the air of a channel that isn't active.
 use Rattle.world_laws.proofs.Prelude.{◌≡◌, ◌≢◌, inl, inr, ℕ, zero, suc, ◌+◌, ◌-◌, ◌==◌, ◌&&◌, ◌||◌, not, nat_eq, Bool, true, false, cond}
 use Rattle.world_laws.proofs.Prelude.{List, [], ◌∷◌, ◌++◌, filter, get_or, replicate, refl, sym, ap, ◌∙◌, subst, cases_Bool, eqb-false}

@@ -1,3 +1,4 @@
+-- SPDX-License-Identifier: MIT OR Apache-2.0
 -- A target that begins was free: after the turn nothing is on its way there.
 use Rattle.world_laws.proofs.Prelude.{◌≡◌, ◌⊎◌, inl, inr, ℕ, Bool, true, false, List, [], ◌∷◌, ◌++◌, map, Some, refl, sym, ap}
 use Rattle.world_laws.proofs.Prelude.{◌∙◌, subst, append_assoc, flat_map-append, append-nil, flat_map, list_any, AllByRecursion, Change}

@@ -1,3 +1,4 @@
+-- SPDX-License-Identifier: MIT OR Apache-2.0
 -- Links and stations at each event: a link breaks at a break alone, and where it is down its
 -- station's channels stay as they are.
 use Rattle.world_laws.proofs.Prelude.{◌≡◌, ◌≢◌, ℕ, Bool, true, false, List, [], ◌∷◌, ◌++◌, unwrap_or, Option, Some, refl, sym, ap, ◌∙◌}

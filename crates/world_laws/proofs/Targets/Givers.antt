@@ -1,3 +1,4 @@
+-- SPDX-License-Identifier: MIT OR Apache-2.0
 -- What the connection's mobile gives first on the target, at each event in which the controller
 -- does nothing.
 use Rattle.world_laws.proofs.Prelude.{◌≡◌, ◌≢◌, ℕ, ◌%◌, nat_eq, Bool, true, false, if◌then◌else◌, find, List, [], ◌∷◌, ◌++◌, length}

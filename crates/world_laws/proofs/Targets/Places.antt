@@ -1,3 +1,4 @@
+-- SPDX-License-Identifier: MIT OR Apache-2.0
 -- One station of a world changes, or one channel.
 use Rattle.world_laws.proofs.Prelude.{◌≡◌, ◌≢◌, ◌⊎◌, inl, inr, ℕ, suc, zero, ◌-◌, ◌==◌, ◌&&◌, nat_eq, Bool, true, false, List, [], ◌∷◌}
 use Rattle.world_laws.proofs.Prelude.{get_or, set, refl, sym, ap, ◌∙◌, cases_Bool, eqb-false, eqb-true, eq-eqb, Place, BaseState}

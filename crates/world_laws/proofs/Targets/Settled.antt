@@ -1,3 +1,4 @@
+-- SPDX-License-Identifier: MIT OR Apache-2.0
 -- Channels stay settled at each event.
 use Rattle.world_laws.proofs.Prelude.{◌≡◌, ◌≢◌, ◌⊎◌, inl, inr, ℕ, ◌-◌, ◌<◌, ◌||◌, Bool, true, false, List, [], ◌∷◌, ◌++◌, length, refl, sym}
 use Rattle.world_laws.proofs.Prelude.{ap, ◌∙◌, subst, flat_map-append, append-nil, flat_map, list_any, Place, ChannelState, Free, InUse}

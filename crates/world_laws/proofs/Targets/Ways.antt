@@ -1,3 +1,4 @@
+-- SPDX-License-Identifier: MIT OR Apache-2.0
 -- What is on its way up from a channel, and its acknowledgements.
 use Rattle.world_laws.proofs.Prelude.{◌≡◌, ◌≢◌, ℕ, ◌-◌, ◌==◌, ◌||◌, Bool, true, false, if◌then◌else◌, List, [], ◌∷◌, ◌++◌, refl, sym, ap}
 use Rattle.world_laws.proofs.Prelude.{◌∙◌, subst, append_assoc, eq-eqb, flat_map-append, append-nil, flat_map, list_any, Place, Tenures}

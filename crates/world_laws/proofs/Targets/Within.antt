@@ -1,3 +1,4 @@
+-- SPDX-License-Identifier: MIT OR Apache-2.0
 -- Commands that wait for a station, in the tenures of their channel.
 use Rattle.world_laws.proofs.Prelude.{◌≡◌, ℕ, ◌==◌, ◌&&◌, ◌||◌, not, Bool, true, false, if◌then◌else◌, List, [], ◌∷◌, ◌++◌, Option, Some}
 use Rattle.world_laws.proofs.Prelude.{refl, sym, ap, ◌∙◌, subst, flat_map, AllByRecursion, activation_ack, Rsl, ChannelActivation}

@@ -1,3 +1,4 @@
+-- SPDX-License-Identifier: MIT OR Apache-2.0
 -- What becomes of a connection that is coming, event by event.
 use Rattle.std.specs.Prelude.{◌≡◌, ◌⊎◌, ℕ, Bool, true, false, List, [], find, None}
 use Rattle.std.specs.Prelude.{Result, Ok}

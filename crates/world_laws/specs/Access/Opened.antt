@@ -1,3 +1,4 @@
+-- SPDX-License-Identifier: MIT OR Apache-2.0
 -- A mobile sends its initial message once.
 use Rattle.std.specs.Prelude.{◌≡◌, ℕ, List}
 use Rattle.world_laws.specs.Prelude.{Connection, Parameters, Event, actors_after, modulus_in}

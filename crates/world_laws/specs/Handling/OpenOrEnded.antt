@@ -1,3 +1,4 @@
+-- SPDX-License-Identifier: MIT OR Apache-2.0
 -- How a connection that lives fares when the controller takes a step.
 use Rattle.std.specs.Prelude.{◌≡◌, ℕ, Bool, true, false, List, [], ◌∷◌, ◌++◌}
 use Rattle.world_laws.specs.Prelude.{SWITCH_LINK, Connection, IsThere, connection_of, AreAllowed}

@@ -1,3 +1,4 @@
+-- SPDX-License-Identifier: MIT OR Apache-2.0
 -- What the break of a station's link changes: of what is on its way up a part is dropped, and
 -- nothing comes behind it. The link of a target that the mobile didn't come to may break without a
 -- step.

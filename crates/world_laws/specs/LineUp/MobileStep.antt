@@ -1,3 +1,4 @@
+-- SPDX-License-Identifier: MIT OR Apache-2.0
 -- What a mobile's doings change of its connection's line-up.
 use Rattle.std.specs.Prelude.{◌≡◌, ℕ, ◌%◌, true, false, Some, List, [], ◌∷◌}
 use Rattle.std.specs.Prelude.{◌++◌, length}

@@ -1,3 +1,4 @@
+-- SPDX-License-Identifier: MIT OR Apache-2.0
 -- All that can happen to a connection that lives, one thing after the other.
 use Rattle.std.specs.Prelude.{ℕ}
 use Rattle.world_laws.specs.LineUp.Places.{LineUp}

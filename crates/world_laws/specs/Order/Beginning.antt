@@ -1,3 +1,4 @@
+-- SPDX-License-Identifier: MIT OR Apache-2.0
 -- A connection begins coming.
 use Rattle.std.specs.Prelude.{◌≡◌, ℕ, ◌≤◌, List, [], ◌∷◌, ◌++◌, Some}
 use Rattle.world_laws.specs.Prelude.{WaitActivation, Connection, place_of, AreAllowed, Parameters, Event, actors_after}

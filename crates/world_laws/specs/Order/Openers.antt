@@ -1,3 +1,4 @@
+-- SPDX-License-Identifier: MIT OR Apache-2.0
 -- Whose connection it is: the mobile on whose channel the controller first had it asked for at the
 -- switch.
 use Rattle.std.specs.Prelude.{ℕ, Bool, true, false, Option, None, option_map, List, [], ◌∷◌}

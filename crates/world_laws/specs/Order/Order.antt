@@ -1,3 +1,4 @@
+-- SPDX-License-Identifier: MIT OR Apache-2.0
 -- The order of a run, end to end, and what it rests on.
 use Rattle.std.specs.Prelude.{◌≡◌, ℕ, ◌≤◌, false, Option, Some, IsSome, List, []}
 use Rattle.std.specs.Prelude.{◌∷◌, ◌++◌}

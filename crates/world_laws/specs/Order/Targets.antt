@@ -1,3 +1,4 @@
+-- SPDX-License-Identifier: MIT OR Apache-2.0
 -- In each run: no layer 3 message of SAPI 0 comes of the channel to which a connection changes
 -- before its mobile is commanded there, and then COMPLETE comes first. That is the second thing
 -- that an honest station keeps, beside the laws of stations alone.

@@ -1,3 +1,4 @@
+-- SPDX-License-Identifier: MIT OR Apache-2.0
 -- Each mobile asks for a channel once, and one connection at most is the answer to it.
 use Rattle.std.specs.Prelude.{◌≡◌, ◌≢◌, ℕ, ◌+◌, ◌≤◌, ◌==◌, Bool, false}
 use Rattle.std.specs.Prelude.{if◌then◌else◌, List, []}

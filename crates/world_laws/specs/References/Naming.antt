@@ -1,3 +1,4 @@
+-- SPDX-License-Identifier: MIT OR Apache-2.0
 -- What a connection puts for the switch, by how far it is: before CR, before CC, with the reference
 -- that CC told, after CLEAR COMPLETE.
 use Rattle.std.specs.Prelude.{◌≡◌, ℕ, List, [], ◌∷◌, ◌++◌, Option, Some, None}

@@ -1,3 +1,4 @@
+-- SPDX-License-Identifier: MIT OR Apache-2.0
 -- A connection that isn't open any more puts no more for the switch.
 use Rattle.std.specs.Prelude.{ℕ, ◌≤◌, ◌<◌, List}
 use Rattle.std.specs.List.{AllByRecursion}

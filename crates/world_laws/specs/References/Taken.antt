@@ -1,3 +1,4 @@
+-- SPDX-License-Identifier: MIT OR Apache-2.0
 -- The switch takes each entry as it was put, or refuses its connection, and never hears of that.
 use Rattle.std.specs.Prelude.{◌≡◌, ◌⊎◌, ℕ, ◌≤◌, true, List, [], find, Some}
 use Rattle.std.specs.Prelude.{None}

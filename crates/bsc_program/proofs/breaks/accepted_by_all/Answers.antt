@@ -1,3 +1,4 @@
+-- SPDX-License-Identifier: MIT OR Apache-2.0
 use Rattle.std.proofs.Common.{◌+◌, length, rules, sym}
 use Rattle.world.specs.Views.{accepted_list}
 use Rattle.bsc_program.proofs.Counting.{below_all, below_end, below_more, below_none}

@@ -1,3 +1,4 @@
+-- SPDX-License-Identifier: MIT OR Apache-2.0
 use Rattle.world.specs.Views.{accepted_list}
 use Rattle.bsc_program.proofs.Counting.{CountsBelow}
 use Rattle.bsc_program.proofs.breaks.accepted_by_all.Given as goal

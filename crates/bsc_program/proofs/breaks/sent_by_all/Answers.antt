@@ -1,3 +1,4 @@
+-- SPDX-License-Identifier: MIT OR Apache-2.0
 use Rattle.std.proofs.Common.{◌+◌, rules}
 use Rattle.world.specs.Views.{sent_list}
 use Rattle.bsc_program.proofs.Counting.{up_to_all, up_to_more, up_to_none}

@@ -1,3 +1,4 @@
+-- SPDX-License-Identifier: MIT OR Apache-2.0
 use Rattle.world.specs.Views.{sent_list}
 use Rattle.bsc_program.proofs.Counting.{CountsUpTo}
 use Rattle.bsc_program.proofs.breaks.sent_by_all.Given as goal

@@ -1,3 +1,4 @@
+-- SPDX-License-Identifier: MIT OR Apache-2.0
 use Rattle.bsc_program.proofs.Breaking.{WritesBreaks}
 use Rattle.bsc_program.proofs.breaks.write_breaks.Given as goal
 

@@ -1,3 +1,4 @@
+-- SPDX-License-Identifier: MIT OR Apache-2.0
 use Rattle.std.proofs.Common.{option_map, sym, ◌∙◌}
 use Rattle.bsc_program.specs.Asked.{asked}
 use Rattle.bsc_program.proofs.Replaying.{asked_status, settings_status, two_status}

@@ -1,3 +1,4 @@
+-- SPDX-License-Identifier: MIT OR Apache-2.0
 use Rattle.std.proofs.Common.{ap, option_map, sym, ◌∙◌}
 use Rattle.bsc_program.specs.Asked.{breaking, controlled}
 use Rattle.program_base.proofs.Ends.{said_of}

@@ -1,3 +1,4 @@
+-- SPDX-License-Identifier: MIT OR Apache-2.0
 use Rattle.std.proofs.lemmas.Result.{on_ok_weaker}
 use Rattle.bsc_program.proofs.Replaying.{report_as}
 use Rattle.bsc_program.proofs.replay_command.report_events.Goals as goal

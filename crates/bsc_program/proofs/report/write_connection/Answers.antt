@@ -1,3 +1,4 @@
+-- SPDX-License-Identifier: MIT OR Apache-2.0
 use Rattle.std.proofs.Common.{sym}
 use Rattle.bsc_program.proofs.Reporting.{connection_is}
 use Rattle.bsc_program.proofs.report.write_connection.Goals as goal

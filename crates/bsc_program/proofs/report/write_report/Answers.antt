@@ -1,3 +1,4 @@
+-- SPDX-License-Identifier: MIT OR Apache-2.0
 use Rattle.std.proofs.Common.{arith, rules, sym, subst, ◌+◌, true, false}
 use Rattle.std.specs.Io.KnownBytes.{Appends}
 use Rattle.bsc_program.specs.Report.{WritesIfSome, connection_text, mobile_text, not_taken_line}

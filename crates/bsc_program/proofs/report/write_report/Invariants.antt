@@ -1,3 +1,4 @@
+-- SPDX-License-Identifier: MIT OR Apache-2.0
 use Rattle.bsc_program.proofs.Reporting.{WritesConnections, WritesMobiles}
 use Rattle.bsc_program.proofs.report.write_report.Given as goal
 

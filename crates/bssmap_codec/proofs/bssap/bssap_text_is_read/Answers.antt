@@ -1,3 +1,4 @@
+-- SPDX-License-Identifier: MIT OR Apache-2.0
 use Rattle.bssmap_codec.proofs.Bssaps.{bssap_again}
 use Rattle.bssmap_codec.proofs.BssapTexts.{bssap_written, size_is}
 use Rattle.bssmap_codec.proofs.bssap.bssap_text_is_read.Goals as goal

@@ -1,3 +1,4 @@
+-- SPDX-License-Identifier: MIT OR Apache-2.0
 use Rattle.std.proofs.Common.{sym}
 use Rattle.bssmap_codec.proofs.Options.{option_shorter, data_kept, data_here, data_on}
 use Rattle.bssmap_codec.proofs.pointers.data.Goals as goal

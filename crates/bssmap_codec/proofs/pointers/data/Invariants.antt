@@ -1,3 +1,4 @@
+-- SPDX-License-Identifier: MIT OR Apache-2.0
 use Rattle.std.proofs.Common.{◌≡◌, length}
 use Rattle.bssmap_codec.specs.SccpReading.{data_in}
 use Rattle.bssmap_codec.proofs.pointers.data.Given as goal

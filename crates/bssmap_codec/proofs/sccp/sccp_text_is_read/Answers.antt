@@ -1,3 +1,4 @@
+-- SPDX-License-Identifier: MIT OR Apache-2.0
 use Rattle.bssmap_codec.proofs.Sccps.{sccp_again}
 use Rattle.bssmap_codec.proofs.SccpTexts.{sccp_written}
 use Rattle.bssmap_codec.proofs.sccp.sccp_text_is_read.Goals as goal

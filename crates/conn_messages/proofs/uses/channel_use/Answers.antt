@@ -1,3 +1,4 @@
+-- SPDX-License-Identifier: MIT OR Apache-2.0
 use Rattle.std.proofs.Common.{◌∙◌, ap}
 use Rattle.conn_messages.specs.UseOctets as words
 use Rattle.conn_messages.proofs.UseReadings.{is_use_by}

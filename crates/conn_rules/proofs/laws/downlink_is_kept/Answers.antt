@@ -1,3 +1,4 @@
+-- SPDX-License-Identifier: MIT OR Apache-2.0
 use Rattle.conn_rules.proofs.Downlink.{KeepsDownlink-row}
 use Rattle.conn_rules.proofs.laws.downlink_is_kept.Goals as goal
 

@@ -1,3 +1,4 @@
+-- SPDX-License-Identifier: MIT OR Apache-2.0
 use Rattle.conn_rules.proofs.StandingSteps.{IsValid-new}
 use Rattle.conn_rules.proofs.StandingTable.{IsValid-row}
 use Rattle.conn_rules.proofs.laws.invariant_is_kept.Goals as goal

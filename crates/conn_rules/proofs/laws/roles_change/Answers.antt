@@ -1,3 +1,4 @@
+-- SPDX-License-Identifier: MIT OR Apache-2.0
 use Rattle.conn_rules.specs.Table.{row_of}
 use Rattle.conn_rules.proofs.RolesAccount.{keeps_account_row}
 use Rattle.conn_rules.proofs.RolesApart.{stays_apart_row}

@@ -1,3 +1,4 @@
+-- SPDX-License-Identifier: MIT OR Apache-2.0
 use Rattle.conn_rules.proofs.UplinkTable.{row_keeps}
 use Rattle.conn_rules.proofs.uplink_law.uplink_is_kept.Goals as goal
 

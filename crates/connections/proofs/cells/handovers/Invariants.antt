@@ -1,3 +1,4 @@
+-- SPDX-License-Identifier: MIT OR Apache-2.0
 use Rattle.std.proofs.Common.{◌≡◌, length}
 use Rattle.connections.specs.Entries.{AreOfFirst}
 use Rattle.connections.proofs.cells.handovers.Given as goal

@@ -1,3 +1,4 @@
+-- SPDX-License-Identifier: MIT OR Apache-2.0
 use Rattle.controller.proofs.Prelude.{ℕ, ◌≤◌, ◌<◌, List, subst, arith, AllByRecursion, Step, Controller}
 use Rattle.conn_messages.specs.declared.parameters.TheConstants.{SWITCH_LINK}
 use Rattle.controller.proofs.LifeLaws.{channels_of, downlink_of, handing_of, if_so, next_of, sent_of, silence_of, uplink_of, used_of}

@@ -1,3 +1,4 @@
+-- SPDX-License-Identifier: MIT OR Apache-2.0
 use Rattle.controller.proofs.Prelude.{◌≡◌, ◌+◌, drop}
 use Rattle.std.proofs.Common.{sum_by}
 use Rattle.controller.specs.Many.{frames_of}

@@ -1,3 +1,4 @@
+-- SPDX-License-Identifier: MIT OR Apache-2.0
 use Rattle.std.proofs.Common.{arith}
 use Rattle.controller_model.specs.LifeLaws.Sending.{IsOctetStep}
 use Rattle.controller.proofs.InOctets.{none_left, one_more}

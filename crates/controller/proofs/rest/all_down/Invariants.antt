@@ -1,3 +1,4 @@
+-- SPDX-License-Identifier: MIT OR Apache-2.0
 use Rattle.controller.proofs.Prelude.{◌≡◌, drop}
 use Rattle.controller.specs.Rest.{all_down}
 use Rattle.controller.proofs.rest.all_down.Given as goal

@@ -1,3 +1,4 @@
+-- SPDX-License-Identifier: MIT OR Apache-2.0
 use Rattle.controller.proofs.Prelude.{rules}
 use Rattle.std.proofs.lemmas.Fn.{filter_same}
 use Rattle.controller.proofs.views.dtap_of.Goals as goal

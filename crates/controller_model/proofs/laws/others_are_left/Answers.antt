@@ -1,3 +1,4 @@
+-- SPDX-License-Identifier: MIT OR Apache-2.0
 use Rattle.controller_model.proofs.Others.{word_leaves, told_leaves, all_age, timed_leaves}
 use Rattle.controller_model.proofs.laws.others_are_left.Goals as goal
 

@@ -1,3 +1,4 @@
+-- SPDX-License-Identifier: MIT OR Apache-2.0
 use Rattle.controller_model.proofs.LifeLaws.NamingLife.{life_names}
 use Rattle.controller_model.proofs.life_laws.assignments_name_their_mobile.Goals as goal
 

@@ -1,3 +1,4 @@
+-- SPDX-License-Identifier: MIT OR Apache-2.0
 use Rattle.controller_model.proofs.LifeLaws.HandingLife.{life_hands}
 use Rattle.controller_model.proofs.life_laws.messages_are_handed_in_place.Goals as goal
 

@@ -1,3 +1,4 @@
+-- SPDX-License-Identifier: MIT OR Apache-2.0
 use Rattle.controller_model.proofs.LifeLaws.Placed.{life_placed}
 use Rattle.controller_model.proofs.life_laws.messages_keep_to_channels.Goals as goal
 

@@ -1,3 +1,4 @@
+-- SPDX-License-Identifier: MIT OR Apache-2.0
 use Rattle.controller_model.proofs.LifeLaws.Concerning.{frame_leaves}
 use Rattle.controller_model.proofs.life_laws.others_are_left_alone.Goals as goal
 

@@ -1,3 +1,4 @@
+-- SPDX-License-Identifier: MIT OR Apache-2.0
 use Rattle.controller_model.proofs.LifeLaws.Lives.{life_fits}
 use Rattle.controller_model.proofs.LifeLaws.Silence.{stays_silent}
 use Rattle.controller_model.proofs.LifeLaws.SilenceLife.{life_is_silent}

@@ -1,3 +1,4 @@
+-- SPDX-License-Identifier: MIT OR Apache-2.0
 use Rattle.controller_model.proofs.LifeLaws.Lives.{life_acts}
 use Rattle.controller_model.proofs.life_laws.steps_are_rows.Goals as goal
 

@@ -1,3 +1,4 @@
+-- SPDX-License-Identifier: MIT OR Apache-2.0
 use Rattle.controller_model.proofs.LifeLaws.UplinkLife.{life_conserves_up}
 use Rattle.controller_model.proofs.life_laws.uplink_is_conserved.Goals as goal
 

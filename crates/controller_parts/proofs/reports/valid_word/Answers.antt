@@ -1,3 +1,4 @@
+-- SPDX-License-Identifier: MIT OR Apache-2.0
 use Rattle.std.proofs.Common.{arith}
 use Rattle.controller_parts.proofs.Valid.{valid_is, invalid_is}
 use Rattle.controller_parts.proofs.reports.valid_word.Goals as goal

@@ -1,3 +1,4 @@
+-- SPDX-License-Identifier: MIT OR Apache-2.0
 use Rattle.controller_parts.proofs.Words.{station_carried, station_comes}
 use Rattle.controller_parts.proofs.station.station_word.Goals as goal
 

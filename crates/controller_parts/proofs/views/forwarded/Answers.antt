@@ -1,3 +1,4 @@
+-- SPDX-License-Identifier: MIT OR Apache-2.0
 use Rattle.std.proofs.Common.{ap, ◌∙◌}
 use Rattle.controller_model.specs.Views as views
 use Rattle.controller_parts.specs.Views.{forwarded_of}

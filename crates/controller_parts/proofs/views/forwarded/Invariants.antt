@@ -1,3 +1,4 @@
+-- SPDX-License-Identifier: MIT OR Apache-2.0
 use Rattle.std.proofs.Common.{◌≡◌, ◌++◌, drop}
 use Rattle.controller_model.specs.Views as views
 use Rattle.controller_parts.proofs.views.forwarded.Given as goal

@@ -1,3 +1,4 @@
+-- SPDX-License-Identifier: MIT OR Apache-2.0
 use Rattle.std.proofs.Common.{◌≡◌, ℕ, vec_len, Option, None, Some, refl, sym, subst, arith}
 use Rattle.link_workers.specs.declared.fault.IoFault.{IoFault}
 use Rattle.link_workers.specs.declared.fault.IoFault.TheVariants as faults

@@ -1,3 +1,4 @@
+-- SPDX-License-Identifier: MIT OR Apache-2.0
 use Rattle.controller_worker.proofs.Outboxes.{accepted}
 use Rattle.controller_worker.proofs.sending.send.Goals as goal
 

@@ -1,3 +1,4 @@
+-- SPDX-License-Identifier: MIT OR Apache-2.0
 -- The six entries, one behind the other; then no bit is left.
 use Rattle.std.proofs.Common.{◌≡◌, arith}
 use Rattle.dtap_codec.proofs.Fields.{Begin-append, Begin-end}

@@ -1,3 +1,4 @@
+-- SPDX-License-Identifier: MIT OR Apache-2.0
 -- The three fields, one behind the other.
 use Rattle.dtap_codec.proofs.Fields.{Begin-append}
 use Rattle.dtap_codec.proofs.report.take_neighbour.Goals as goal

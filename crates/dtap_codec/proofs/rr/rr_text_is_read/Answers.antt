@@ -1,3 +1,4 @@
+-- SPDX-License-Identifier: MIT OR Apache-2.0
 use Rattle.dtap_codec.proofs.RrGrammar.{rr_again, rr_text_ok}
 use Rattle.dtap_codec.proofs.rr.rr_text_is_read.Goals as goal
 

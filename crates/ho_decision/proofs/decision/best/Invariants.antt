@@ -1,3 +1,4 @@
+-- SPDX-License-Identifier: MIT OR Apache-2.0
 use Rattle.ho_decision.proofs.Choice.{Wants}
 use Rattle.ho_decision.proofs.decision.best.Given as goal
 

@@ -1,3 +1,4 @@
+-- SPDX-License-Identifier: MIT OR Apache-2.0
 use Rattle.ho_decision.proofs.Arfcns.{other_arfcns_strictly_increase, other_arfcns-members}
 use Rattle.ho_decision.proofs.law.arfcns_are_rising.Goals as goal
 

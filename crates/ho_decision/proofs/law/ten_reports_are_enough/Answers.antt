@@ -1,3 +1,4 @@
+-- SPDX-License-Identifier: MIT OR Apache-2.0
 use Rattle.ho_decision.specs.declared.settings.TheConstants.{MAX_WINDOW}
 use Rattle.ho_decision.proofs.Ten.{serving_average-last, quality-last, neighbour_average-last, decides_last, decides_of_last, last-push}
 use Rattle.ho_decision.proofs.law.ten_reports_are_enough.Goals as goal

@@ -1,3 +1,4 @@
+-- SPDX-License-Identifier: MIT OR Apache-2.0
 use Rattle.std.proofs.Common.{◌≡◌, fold, take}
 use Rattle.ho_decision.specs.Settings.{with_cell}
 use Rattle.ho_decision.proofs.settings.add_frequencies.Given as goal

@@ -1,3 +1,4 @@
+-- SPDX-License-Identifier: MIT OR Apache-2.0
 -- Each turn adds the report to one sum.
 use Rattle.std.proofs.Common.{◌≢◌, ◌<◌, List, [], ◌∷◌, ◌++◌, length, arith, ◌∙◌, length-set, get_or-set_other}
 use Rattle.std.proofs.Math.Seq.{map-set_same}

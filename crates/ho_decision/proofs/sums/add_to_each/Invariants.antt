@@ -1,3 +1,4 @@
+-- SPDX-License-Identifier: MIT OR Apache-2.0
 use Rattle.std.proofs.Common.{◌≡◌, [], ◌∷◌, ◌++◌, length, map}
 use Rattle.std.specs.List.{AllWithin}
 use Rattle.ho_decision.specs.Sums.{IsSum}

@@ -1,3 +1,4 @@
+-- SPDX-License-Identifier: MIT OR Apache-2.0
 -- Each turn begins the sum of a cell anew.
 use Rattle.std.proofs.Common.{◌<◌, List, [], length, map, arith, ap, ◌∙◌}
 use Rattle.std.proofs.lemmas.List.{take_more_set}

@@ -1,3 +1,4 @@
+-- SPDX-License-Identifier: MIT OR Apache-2.0
 use Rattle.ipa_framing.specs.Framer.{new_framer}
 use Rattle.ipa_framing.proofs.Stream.{run_fails, run_splits, splits_only, splits_some}
 use Rattle.ipa_framing.proofs.framer.stream_is_its_frames.Goals as goal

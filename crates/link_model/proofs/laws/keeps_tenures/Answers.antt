@@ -1,3 +1,4 @@
+-- SPDX-License-Identifier: MIT OR Apache-2.0
 use Rattle.link_model.proofs.Tenures.{tenures_calls, Tenures-given}
 use Rattle.link_model.proofs.laws.keeps_tenures.Goals as goal
 

@@ -1,3 +1,4 @@
+-- SPDX-License-Identifier: MIT OR Apache-2.0
 use Rattle.std.proofs.Common.{◌≡◌, ◌+◌, map, vec_len}
 use Rattle.std.specs.Vec.Iter.{into_iter_len}
 use Rattle.link_sockets.proofs.open.links_of.Given as goal

@@ -1,3 +1,4 @@
+-- SPDX-License-Identifier: MIT OR Apache-2.0
 use Rattle.std.proofs.Common.{◌≡◌}
 use Rattle.link_workers.proofs.gated_pass.put_once_there_is_room.Given as goal
 

@@ -1,3 +1,4 @@
+-- SPDX-License-Identifier: MIT OR Apache-2.0
 use Rattle.link_workers.proofs.Found.{found_all, found_first}
 use Rattle.link_workers.proofs.reader.frames_put_are_the_first.Goals as goal
 

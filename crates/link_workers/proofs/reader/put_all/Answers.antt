@@ -1,3 +1,4 @@
+-- SPDX-License-Identifier: MIT OR Apache-2.0
 use Rattle.std.proofs.Common.{◌≡◌, rules, Ok, false, true, ap, refl, sym, subst, ◌∙◌, ◌≤◌, arith}
 use Rattle.ipa_framing.specs.Frame.{IsPartial}
 use Rattle.ipa_framing.specs.Framer.{FramerState}

@@ -1,3 +1,4 @@
+-- SPDX-License-Identifier: MIT OR Apache-2.0
 use Rattle.std.proofs.Common.{subst, sym}
 use Rattle.link_workers.specs.Reading.{PutsDown, Serves}
 use Rattle.link_workers.proofs.Reading.{is_told, serves}

@@ -1,3 +1,4 @@
+-- SPDX-License-Identifier: MIT OR Apache-2.0
 use Rattle.std.proofs.Common.{◌≡◌, ◌≤◌, ◌-◌, false}
 use Rattle.ipa_framing.specs.Frame.{IsPartial}
 use Rattle.link_workers.specs.declared.link_reads.TheConstants.{MOST_READS}

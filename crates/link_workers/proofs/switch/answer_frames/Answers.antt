@@ -1,3 +1,4 @@
+-- SPDX-License-Identifier: MIT OR Apache-2.0
 use Rattle.std.proofs.Common.{Ok, subst, ◌∙◌, ◌++◌, ◌∷◌, []}
 use Rattle.ipa_framing.specs.Framer.{Takes}
 use Rattle.link_workers.specs.Switching.{AnswersWhole}

@@ -1,3 +1,4 @@
+-- SPDX-License-Identifier: MIT OR Apache-2.0
 use Rattle.std.proofs.Common.{◌≡◌, take}
 use Rattle.link_workers.specs.Switching.{replies_text}
 use Rattle.link_workers.proofs.switch.text_of.Given as goal

@@ -1,3 +1,4 @@
+-- SPDX-License-Identifier: MIT OR Apache-2.0
 use Rattle.std.proofs.Common.{subst}
 use Rattle.ruled_relay.specs.Outbox.{TakesLine}
 use Rattle.link_workers.specs.Faults.{fault_of_frame}

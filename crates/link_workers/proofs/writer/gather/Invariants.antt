@@ -1,3 +1,4 @@
+-- SPDX-License-Identifier: MIT OR Apache-2.0
 use Rattle.std.specs.Io.KnownBytes.{Keeps}
 use Rattle.link_workers.proofs.Gathering.{GathersSome}
 use Rattle.link_workers.proofs.writer.gather.Given as goal

@@ -1,3 +1,4 @@
+-- SPDX-License-Identifier: MIT OR Apache-2.0
 use Rattle.std.proofs.Common.{Some, None}
 use Rattle.link_workers.specs.declared.fault.IoFault.TheVariants.{WriteFailed}
 use Rattle.link_workers.proofs.Gathering.{delivers_all, delivers_as, delivers_dropped, delivers_ended, delivers_unflushed, is_false, is_true}

@@ -1,3 +1,4 @@
+-- SPDX-License-Identifier: MIT OR Apache-2.0
 use Rattle.link_workers.proofs.Gathering.{WritesSome}
 use Rattle.link_workers.proofs.writer.write_lines.Given as goal
 

@@ -1,3 +1,4 @@
+-- SPDX-License-Identifier: MIT OR Apache-2.0
 use Rattle.std.proofs.Common.{Ok, ◌∙◌, ap, refl, subst, sym}
 use Rattle.link_workers.specs.Writing.{WritesOnce}
 use Rattle.link_workers.proofs.Gathering.{PutsSome, all_of, puts_kept, puts_more}

@@ -1,3 +1,4 @@
+-- SPDX-License-Identifier: MIT OR Apache-2.0
 use Rattle.link_workers.proofs.Gathering.{PutsSome}
 use Rattle.link_workers.proofs.writing.write_octets.Given as goal
 

@@ -1,3 +1,4 @@
+-- SPDX-License-Identifier: MIT OR Apache-2.0
 use Rattle.std.proofs.Common.{[]}
 use Rattle.mobile_end.specs.Mobile.{new_mobile}
 use Rattle.mobile_end.proofs.Lives.{OneRepeat-calls, IsGoing-new}

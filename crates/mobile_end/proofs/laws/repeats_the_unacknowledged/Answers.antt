@@ -1,3 +1,4 @@
+-- SPDX-License-Identifier: MIT OR Apache-2.0
 use Rattle.mobile_end.proofs.Acknowledging.{repeats_calls, IsHeard-new}
 use Rattle.mobile_end.specs.Mobile.{new_mobile}
 use Rattle.std.proofs.Common.{[]}

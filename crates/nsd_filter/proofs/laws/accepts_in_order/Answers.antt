@@ -1,3 +1,4 @@
+-- SPDX-License-Identifier: MIT OR Apache-2.0
 use Rattle.nsd_filter.proofs.Accepting.{accepted_list_from-rise, progress_from-rise}
 use Rattle.nsd_filter.proofs.laws.accepts_in_order.Goals as goal
 

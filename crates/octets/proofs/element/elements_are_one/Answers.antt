@@ -1,3 +1,4 @@
+-- SPDX-License-Identifier: MIT OR Apache-2.0
 use Rattle.octets.proofs.Fields.{found_sized}
 use Rattle.octets.proofs.Grammar.{walk_found, walk_only}
 use Rattle.octets.proofs.element.elements_are_one.Goals as goal

@@ -1,3 +1,4 @@
+-- SPDX-License-Identifier: MIT OR Apache-2.0
 use Rattle.std.proofs.Common.{◌∙◌, sym}
 use Rattle.octets.specs.Element.{element}
 use Rattle.octets.proofs.Walks.{first_front, first_here, first_behind}

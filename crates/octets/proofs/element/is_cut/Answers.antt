@@ -1,3 +1,4 @@
+-- SPDX-License-Identifier: MIT OR Apache-2.0
 use Rattle.octets.proofs.Walks.{cut_front}
 use Rattle.octets.proofs.element.is_cut.Goals as goal
 

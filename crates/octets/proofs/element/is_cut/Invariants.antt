@@ -1,3 +1,4 @@
+-- SPDX-License-Identifier: MIT OR Apache-2.0
 use Rattle.std.proofs.Common.{◌≡◌, length}
 use Rattle.octets.specs.Walk.{walk}
 use Rattle.octets.proofs.element.is_cut.Given as goal

@@ -1,3 +1,4 @@
+-- SPDX-License-Identifier: MIT OR Apache-2.0
 use Rattle.octets.proofs.Fields.{elements_of, fields_are, fields_carried}
 use Rattle.octets.proofs.element.written_fields_are_carried.Goals as goal
 

@@ -1,3 +1,4 @@
+-- SPDX-License-Identifier: MIT OR Apache-2.0
 use Rattle.program_base.proofs.Decoding.{refused_only}
 use Rattle.program_base.proofs.decode_command.decode.Goals as goal
 

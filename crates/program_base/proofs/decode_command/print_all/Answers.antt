@@ -1,3 +1,4 @@
+-- SPDX-License-Identifier: MIT OR Apache-2.0
 use Rattle.std.proofs.Common.{codes}
 use Rattle.program_base.specs.NamingLaws.{begins_all}
 use Rattle.program_base.proofs.Decoding.{begins_before, begins_flushed, begins_last}

@@ -1,3 +1,4 @@
+-- SPDX-License-Identifier: MIT OR Apache-2.0
 use Rattle.std.proofs.Common.{◌≡◌, length}
 use Rattle.program_base.specs.Decoded.{PrintsFrames}
 use Rattle.program_base.proofs.decode_command.print_frames.Given as goal

@@ -1,3 +1,4 @@
+-- SPDX-License-Identifier: MIT OR Apache-2.0
 use Rattle.std.proofs.Common.{◌≡◌, [], rules, sym}
 use Rattle.program_base.specs.Decoded.{Begins, Decodes, RefusesWith}
 use Rattle.program_base.proofs.Decoding.{begins_among, begins_rest, decodes_all, names_stop, reads_keep, refused_among, stops_first, stops_unread}

@@ -1,3 +1,4 @@
+-- SPDX-License-Identifier: MIT OR Apache-2.0
 use Rattle.std.proofs.Common.{◌≡◌, ℕ, ◌%◌, true, false, List, length, nat_eq, sym, ◌∙◌, rules}
 use Rattle.hex.specs.Hex.{is_hex_digit}
 use Rattle.std.specs.List.{list_all}

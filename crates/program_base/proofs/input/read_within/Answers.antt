@@ -1,3 +1,4 @@
+-- SPDX-License-Identifier: MIT OR Apache-2.0
 use Rattle.std.proofs.Common.{rules, subst, sym}
 use Rattle.program_base.proofs.Feeding.{TakesSome, refuses_more, takes_kept, takes_more}
 use Rattle.program_base.proofs.input.read_within.Goals.{in-Ok+in_default, in-Err}

@@ -1,3 +1,4 @@
+-- SPDX-License-Identifier: MIT OR Apache-2.0
 use Rattle.std.proofs.Common.{◌∙◌, ap, refl, subst, sym}
 use Rattle.program_base.proofs.Putting.{PutsSome, puts_kept, puts_more}
 use Rattle.program_base.proofs.Lists.{all_of}

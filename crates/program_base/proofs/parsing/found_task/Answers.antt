@@ -1,3 +1,4 @@
+-- SPDX-License-Identifier: MIT OR Apache-2.0
 use Rattle.std.proofs.Common.{ℕ, List, [], Option, Some, unwrap_or, refl, sym, ap, ◌∙◌, subst, codes}
 use Rattle.std.specs.Prelude.{IsSomeAnd}
 use Rattle.clap.specs.Words.{found_of, rows_of}

@@ -1,3 +1,4 @@
+-- SPDX-License-Identifier: MIT OR Apache-2.0
 use Rattle.std.proofs.Common.{◌≡◌, true, refl}
 use Rattle.clap.specs.Words.{app_of, is_simple_and_free}
 use Rattle.program_base.specs.CommandLine.{bsc, texts}

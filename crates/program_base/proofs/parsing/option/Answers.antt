@@ -1,3 +1,4 @@
+-- SPDX-License-Identifier: MIT OR Apache-2.0
 use Rattle.std.proofs.Common.{ap, ◌∙◌}
 use Rattle.clap.specs.Words.{rule_of}
 use Rattle.clap.specs.declared.builder.arg.Arg.{Arg}

@@ -1,3 +1,4 @@
+-- SPDX-License-Identifier: MIT OR Apache-2.0
 use Rattle.std.proofs.Common.{◌≡◌, ◌⊎◌, ℕ, Result, Ok, Err, Option, Some, None, IsSome, IfOk, List, refl, subst, inl, inr}
 use Rattle.std.specs.List.{slice_split}
 use Rattle.world_model.specs.declared.event.Event.{Event}

@@ -1,3 +1,4 @@
+-- SPDX-License-Identifier: MIT OR Apache-2.0
 use Rattle.std.proofs.Common.{◌≡◌, ◌+◌, ◌*◌, length, get_or, take, drop, ◌-◌, arith}
 use Rattle.rsl_codec.proofs.InOrder.{in_body}
 use Rattle.rsl_codec.proofs.fields.data_values.Goals as goal

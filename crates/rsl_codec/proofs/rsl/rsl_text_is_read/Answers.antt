@@ -1,3 +1,4 @@
+-- SPDX-License-Identifier: MIT OR Apache-2.0
 use Rattle.rsl_codec.proofs.Messages.{text_is_read, rsl_text_is_text}
 use Rattle.rsl_codec.proofs.rsl.rsl_text_is_read.Goals as goal
 

@@ -1,3 +1,4 @@
+-- SPDX-License-Identifier: MIT OR Apache-2.0
 use Rattle.std.proofs.Common.{rules}
 use Rattle.ruled_relay.proofs.Moves.{begins, forks}
 use Rattle.ruled_relay.proofs.end.ends.Goals as goal

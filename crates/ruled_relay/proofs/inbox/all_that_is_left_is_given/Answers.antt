@@ -1,3 +1,4 @@
+-- SPDX-License-Identifier: MIT OR Apache-2.0
 use Rattle.ruled_relay.proofs.Given.{gives_all}
 use Rattle.ruled_relay.proofs.inbox.all_that_is_left_is_given.Goals as goal
 

@@ -1,3 +1,4 @@
+-- SPDX-License-Identifier: MIT OR Apache-2.0
 use Rattle.std.proofs.Common.{◌≡◌, true, refl, arith}
 use Rattle.atomic_table.proofs.Lists.{at_index}
 use Rattle.ruled_relay.proofs.Places.{has_here}

@@ -1,3 +1,4 @@
+-- SPDX-License-Identifier: MIT OR Apache-2.0
 use Rattle.std.proofs.Common.{◌≡◌}
 use Rattle.ruled_relay.specs.Row.{EachAmong}
 use Rattle.ruled_relay.specs.Ends.{IsDrained}

@@ -1,3 +1,4 @@
+-- SPDX-License-Identifier: MIT OR Apache-2.0
 use Rattle.settings.proofs.Turns.{EachCell}
 use Rattle.settings.proofs.cells.copy_cells.Given as goal
 

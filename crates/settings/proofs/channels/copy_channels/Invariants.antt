@@ -1,3 +1,4 @@
+-- SPDX-License-Identifier: MIT OR Apache-2.0
 use Rattle.settings.proofs.Turns.{EachChannel}
 use Rattle.settings.proofs.channels.copy_channels.Given as goal
 

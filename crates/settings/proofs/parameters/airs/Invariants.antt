@@ -1,3 +1,4 @@
+-- SPDX-License-Identifier: MIT OR Apache-2.0
 use Rattle.std.proofs.Common.{◌≡◌, take, map}
 use Rattle.settings.specs.Parameters.{air_of}
 use Rattle.settings.proofs.parameters.airs.Given as goal

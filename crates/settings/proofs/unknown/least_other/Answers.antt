@@ -1,3 +1,4 @@
+-- SPDX-License-Identifier: MIT OR Apache-2.0
 use Rattle.std.proofs.Common.{option_map, string_bytes, ap, ◌∙◌}
 use Rattle.settings.proofs.Least.{least_first}
 use Rattle.settings.proofs.unknown.least_other.Goals as goal

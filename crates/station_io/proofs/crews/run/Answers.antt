@@ -1,3 +1,4 @@
+-- SPDX-License-Identifier: MIT OR Apache-2.0
 use Rattle.std.proofs.Common.{◌≡◌, List, ◌++◌, ◌∙◌, ap, subst}
 use Rattle.station_io.specs.declared.work.Reading.{Reading}
 use Rattle.station_io.specs.declared.work.Writing.{Writing}

@@ -1,3 +1,4 @@
+-- SPDX-License-Identifier: MIT OR Apache-2.0
 use Rattle.std.proofs.Common.{arith, rules}
 use Rattle.station_io.proofs.NewQueues.{new_queues}
 use Rattle.station_io.proofs.queues.inbox.Goals as goal

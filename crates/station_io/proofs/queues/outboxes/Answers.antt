@@ -1,3 +1,4 @@
+-- SPDX-License-Identifier: MIT OR Apache-2.0
 use Rattle.station_io.proofs.NewQueues.{more_outboxes}
 use Rattle.station_io.proofs.queues.outboxes.Goals as goal
 

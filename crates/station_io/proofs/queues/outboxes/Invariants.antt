@@ -1,3 +1,4 @@
+-- SPDX-License-Identifier: MIT OR Apache-2.0
 use Rattle.station_io.specs.Work.{AreNewOutboxes}
 use Rattle.station_io.proofs.queues.outboxes.Given as goal
 

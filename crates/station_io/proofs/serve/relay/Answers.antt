@@ -1,3 +1,4 @@
+-- SPDX-License-Identifier: MIT OR Apache-2.0
 use Rattle.std.proofs.Common.{◌∙◌}
 use Rattle.station_io.proofs.Relaying.{has_ended}
 use Rattle.station_io.proofs.serve.relay.Goals as goal

@@ -1,3 +1,4 @@
+-- SPDX-License-Identifier: MIT OR Apache-2.0
 use Rattle.std.proofs.Common.{◌≡◌, List, Option, ◌∙◌, map, arith, sym, subst}
 use Rattle.link_workers.specs.declared.fault.IoFault.{IoFault}
 use Rattle.station_io.specs.declared.link.Link.{Link}

@@ -1,3 +1,4 @@
+-- SPDX-License-Identifier: MIT OR Apache-2.0
 use Rattle.std.proofs.Common.{ap, sym, ◌∙◌}
 use Rattle.ruled_relay.specs.Outbox.{PutterView}
 use Rattle.worker_tests.proofs.outbox.an_outbox_of_one_line.Goals as goal

@@ -1,3 +1,4 @@
+-- SPDX-License-Identifier: MIT OR Apache-2.0
 use Rattle.world.proofs.Order.{IsInOrder-reached}
 use Rattle.world.proofs.laws.keeps_order.Goals as goal
 

@@ -1,3 +1,4 @@
+-- SPDX-License-Identifier: MIT OR Apache-2.0
 use Rattle.std.proofs.Common.{arith}
 use Rattle.world_laws.specs.Order.OctetEvents.{IsOctetEvent}
 use Rattle.world.proofs.Made.{none_left, one_more}

@@ -1,3 +1,4 @@
+-- SPDX-License-Identifier: MIT OR Apache-2.0
 use Rattle.std.proofs.Common.{sym, ◌∙◌, ap, Option}
 use Rattle.std.specs.Result.{result_ok}
 use Rattle.rsl_codec.specs.declared.rsl_type.RslType.{RslType}

@@ -1,3 +1,4 @@
+-- SPDX-License-Identifier: MIT OR Apache-2.0
 use Rattle.std.proofs.Common.{sym, ◌∙◌}
 use Rattle.world_ends.proofs.Activating.{by_body}
 use Rattle.world_ends.proofs.activations.activated_channel.Goals as goal

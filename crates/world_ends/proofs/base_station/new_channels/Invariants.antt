@@ -1,3 +1,4 @@
+-- SPDX-License-Identifier: MIT OR Apache-2.0
 use Rattle.std.proofs.Common.{◌≡◌, replicate}
 use Rattle.world_model.specs.World.{new_spot}
 use Rattle.world_ends.proofs.base_station.new_channels.Given as goal

@@ -1,3 +1,4 @@
+-- SPDX-License-Identifier: MIT OR Apache-2.0
 use Rattle.std.proofs.Common.{arith}
 use Rattle.world_ends.proofs.SwitchWritten.{read_short}
 use Rattle.world_ends.proofs.switch_frame.read_message.Goals as goal

@@ -1,3 +1,4 @@
+-- SPDX-License-Identifier: MIT OR Apache-2.0
 use Rattle.world_laws.proofs.Access.Opened.{opened_stay_opened_new}
 use Rattle.world_laws.proofs.access_laws.opened_connections_stay_opened.Goals as goal
 

@@ -1,3 +1,4 @@
+-- SPDX-License-Identifier: MIT OR Apache-2.0
 use Rattle.world_laws.proofs.Acknowledged.{all_acks_tell_new, acks_flow_new}
 use Rattle.world_laws.proofs.laws.acknowledgements_tell.Goals as goal
 

@@ -1,3 +1,4 @@
+-- SPDX-License-Identifier: MIT OR Apache-2.0
 use Rattle.world_laws.proofs.Ending.{ended_are_in_order_new, ended_stay_in_order_new, line_ups_may_end_new}
 use Rattle.world_laws.proofs.laws.ended_connections_stay_in_order.Goals as goal
 

@@ -1,3 +1,4 @@
+-- SPDX-License-Identifier: MIT OR Apache-2.0
 use Rattle.world_laws.proofs.SapiThreeHeld.{flow_comes_on_sapi_zero_new}
 use Rattle.world_laws.proofs.laws.flow_comes_on_sapi_zero.Goals as goal
 

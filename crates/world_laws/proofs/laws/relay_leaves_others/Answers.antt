@@ -1,3 +1,4 @@
+-- SPDX-License-Identifier: MIT OR Apache-2.0
 use Rattle.world_laws.proofs.Others.{relay_leaves_others_new, time_leaves_others_new}
 use Rattle.world_laws.proofs.laws.relay_leaves_others.Goals as goal
 

@@ -1,3 +1,4 @@
+-- SPDX-License-Identifier: MIT OR Apache-2.0
 use Rattle.world_laws.proofs.OwnerRun.{mobiles_sit_on_theirs_new, one_sends_each_new, tenures_are_owned_new}
 use Rattle.world_laws.proofs.laws.tenures_are_mobiles.Goals as goal
 

@@ -1,3 +1,4 @@
+-- SPDX-License-Identifier: MIT OR Apache-2.0
 use Rattle.world_laws.proofs.LineUp.Ordering.{ended_alive, ended_sends, ended_takes, ended_loses, is_in_order_ended}
 use Rattle.world_laws.proofs.line_up_laws.ended_line_up_stays_in_order.Goals as goal
 

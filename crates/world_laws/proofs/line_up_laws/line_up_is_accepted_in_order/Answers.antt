@@ -1,3 +1,4 @@
+-- SPDX-License-Identifier: MIT OR Apache-2.0
 use Rattle.world_laws.proofs.LineUp.Ordering.{is_in_order_alive, alive_steps}
 use Rattle.world_laws.proofs.line_up_laws.line_up_is_accepted_in_order.Goals as goal
 

@@ -1,3 +1,4 @@
+-- SPDX-License-Identifier: MIT OR Apache-2.0
 use Rattle.world_laws.proofs.Order.Begun.{channels_begin_quiet_new}
 use Rattle.world_laws.proofs.Order.Down.{channels_stay_quiet_new, quiet_lets_none_go_new}
 use Rattle.world_laws.proofs.order_laws.channel_of_a_coming_one_is_quiet_down.Goals as goal

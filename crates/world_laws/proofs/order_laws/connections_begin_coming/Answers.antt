@@ -1,3 +1,4 @@
+-- SPDX-License-Identifier: MIT OR Apache-2.0
 use Rattle.world_laws.proofs.Order.Coming.{connections_begin_coming_new}
 use Rattle.world_laws.proofs.order_laws.connections_begin_coming.Goals as goal
 

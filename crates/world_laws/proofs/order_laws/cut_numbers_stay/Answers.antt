@@ -1,3 +1,4 @@
+-- SPDX-License-Identifier: MIT OR Apache-2.0
 use Rattle.world_laws.proofs.Order.Following.{cut_numbers_stay_new}
 use Rattle.world_laws.proofs.order_laws.cut_numbers_stay.Goals as goal
 

@@ -1,3 +1,4 @@
+-- SPDX-License-Identifier: MIT OR Apache-2.0
 use Rattle.world_laws.proofs.Order.LineUps.{all_numbers_stand_new, all_places_rise_new}
 use Rattle.world_laws.proofs.order_laws.line_ups_stand.Goals as goal
 

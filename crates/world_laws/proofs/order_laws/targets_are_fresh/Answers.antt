@@ -1,3 +1,4 @@
+-- SPDX-License-Identifier: MIT OR Apache-2.0
 use Rattle.world_laws.proofs.Order.Targets.{targets_are_fresh}
 use Rattle.world_laws.proofs.order_laws.targets_are_fresh.Goals as goal
 

@@ -1,3 +1,4 @@
+-- SPDX-License-Identifier: MIT OR Apache-2.0
 use Rattle.world_laws.proofs.Owners.OneEach.{connections_answer_mobiles_new, connections_are_one_each_new, none_is_answered_again_new}
 use Rattle.world_laws.proofs.Owners.OneEach.{none_was_answered_new, requests_come_once_new}
 use Rattle.world_laws.proofs.owner_laws.connections_are_one_each.Goals as goal

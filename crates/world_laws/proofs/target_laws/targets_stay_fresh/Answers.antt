@@ -1,3 +1,4 @@
+-- SPDX-License-Identifier: MIT OR Apache-2.0
 use Rattle.world_laws.proofs.Targets.StaysFresh.{fresh_tells_new, targets_stay_fresh_new}
 use Rattle.world_laws.proofs.target_laws.targets_stay_fresh.Goals as goal
 

@@ -1,3 +1,4 @@
+-- SPDX-License-Identifier: MIT OR Apache-2.0
 use Rattle.world_model.proofs.Completing.{complete_comes_first_new}
 use Rattle.world_model.proofs.laws.complete_comes_first.Goals as goal
 

@@ -1,3 +1,4 @@
+-- SPDX-License-Identifier: MIT OR Apache-2.0
 use Rattle.world_model.proofs.Living.{FollowsTable-new, RunsByTable-new}
 use Rattle.world_model.proofs.laws.controller_lives_by_its_table.Goals as goal
 

@@ -1,3 +1,4 @@
+-- SPDX-License-Identifier: MIT OR Apache-2.0
 use Rattle.world_model.proofs.Ticketing.{AllSitBy-new, OneMobileEach-new}
 use Rattle.world_model.proofs.laws.mobiles_keep_to_their_tenures.Goals as goal
 

@@ -1,3 +1,4 @@
+-- SPDX-License-Identifier: MIT OR Apache-2.0
 use Rattle.world_model.proofs.Outboxes.{KeepsQueues-new}
 use Rattle.world_model.proofs.laws.queues_keep_order.Goals as goal
 

@@ -1,3 +1,4 @@
+-- SPDX-License-Identifier: MIT OR Apache-2.0
 use Rattle.std.proofs.Common.{append-nil, rules, subst}
 use Rattle.bsc_program.specs.Script.{RefusesLine}
 use Rattle.program_base.specs.declared.failure.Failure.TheVariants.{BadEvent}

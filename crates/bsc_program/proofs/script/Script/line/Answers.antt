@@ -1,3 +1,4 @@
+-- SPDX-License-Identifier: MIT OR Apache-2.0
 use Rattle.std.proofs.Common.{◌∙◌}
 use Rattle.bsc_program.proofs.Scripts.{no_event}
 use Rattle.bsc_program.proofs.script.Script.line.Goals as goal

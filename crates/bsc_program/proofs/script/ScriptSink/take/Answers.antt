@@ -1,3 +1,4 @@
+-- SPDX-License-Identifier: MIT OR Apache-2.0
 use Rattle.program_base.proofs.Lists.{all_of}
 use Rattle.bsc_program.proofs.Scripts.{no_feed, reads_all, reads_more, reads_none, refuses_at}
 use Rattle.program_base.proofs.Ends.{said_of}

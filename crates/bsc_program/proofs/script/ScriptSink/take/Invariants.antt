@@ -1,3 +1,4 @@
+-- SPDX-License-Identifier: MIT OR Apache-2.0
 use Rattle.std.proofs.Common.{length}
 use Rattle.bsc_program.proofs.Scripts.{ReadsSome}
 use Rattle.bsc_program.proofs.script.ScriptSink.take.Given as goal

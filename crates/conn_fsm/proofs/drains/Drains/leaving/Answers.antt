@@ -1,3 +1,4 @@
+-- SPDX-License-Identifier: MIT OR Apache-2.0
 use Rattle.std.proofs.Common.{rules, ◌≡◌, ◌<◌, length, arith, ◌∙◌}
 use Rattle.conn_fsm.proofs.Leaving.{stops, ends, goes_on_done, goes_on_here}
 use Rattle.conn_fsm.proofs.drains.Drains.leaving.Goals as goal

@@ -1,3 +1,4 @@
+-- SPDX-License-Identifier: MIT OR Apache-2.0
 use Rattle.std.proofs.Common.{◌≡◌, ◌+◌, drop}
 use Rattle.conn_rules.specs.Steps.{done_at}
 use Rattle.conn_fsm.specs.Leaving.{leaving}

@@ -1,3 +1,4 @@
+-- SPDX-License-Identifier: MIT OR Apache-2.0
 use Rattle.std.proofs.Common.{rules}
 use Rattle.conn_rules.specs.Connection.{is_at}
 use Rattle.conn_rules.specs.Table.{assign_immediately}

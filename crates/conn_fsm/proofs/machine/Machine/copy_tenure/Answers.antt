@@ -1,3 +1,4 @@
+-- SPDX-License-Identifier: MIT OR Apache-2.0
 use Rattle.std.proofs.Common.{rules}
 use Rattle.hold_queue.specs.ChainState.{messages_in}
 use Rattle.conn_fsm.proofs.Pushing.{copied_next}

@@ -1,3 +1,4 @@
+-- SPDX-License-Identifier: MIT OR Apache-2.0
 use Rattle.conn_fsm.proofs.Pushing.{joined_more}
 use Rattle.conn_fsm.proofs.machine.Machine.held_up.Goals as goal
 

@@ -1,3 +1,4 @@
+-- SPDX-License-Identifier: MIT OR Apache-2.0
 use Rattle.std.proofs.Common.{◌≡◌, take}
 use Rattle.conn_fsm.specs.Views.{joined}
 use Rattle.conn_fsm.proofs.machine.Machine.held_up.Given as goal

@@ -1,3 +1,4 @@
+-- SPDX-License-Identifier: MIT OR Apache-2.0
 use Rattle.std.proofs.Common.{◌≡◌, ◌+◌, length}
 use Rattle.conn_rules.specs.Validity.{FirstIsEmpty}
 use Rattle.conn_fsm.specs.Leaving.{left}

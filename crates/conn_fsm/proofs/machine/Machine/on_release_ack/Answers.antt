@@ -1,3 +1,4 @@
+-- SPDX-License-Identifier: MIT OR Apache-2.0
 use Rattle.std.proofs.Common.{◌≡◌, ◌∙◌, Some, ap, sym}
 use Rattle.conn_rules.specs.Connection.{Connection, drain_at}
 use Rattle.conn_fsm.proofs.Pushing.{drain_within}

@@ -1,3 +1,4 @@
+-- SPDX-License-Identifier: MIT OR Apache-2.0
 use Rattle.std.proofs.Common.{rules}
 use Rattle.conn_messages.specs.StationMessage.{handing}
 use Rattle.hold_queue.specs.HoldState.{messages}

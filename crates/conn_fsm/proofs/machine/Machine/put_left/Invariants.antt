@@ -1,3 +1,4 @@
+-- SPDX-License-Identifier: MIT OR Apache-2.0
 use Rattle.std.proofs.Common.{◌≡◌, ◌++◌}
 use Rattle.conn_fsm.specs.Leaving.{left_outs}
 use Rattle.conn_fsm.proofs.machine.Machine.put_left.Given as goal

@@ -1,3 +1,4 @@
+-- SPDX-License-Identifier: MIT OR Apache-2.0
 use Rattle.std.proofs.Common.{drop}
 use Rattle.conn_rules.specs.Connection.{first_channel}
 use Rattle.conn_fsm.proofs.Pushing.{tenure_put}

@@ -1,3 +1,4 @@
+-- SPDX-License-Identifier: MIT OR Apache-2.0
 use Rattle.std.proofs.Common.{◌≡◌, ◌++◌, map, take}
 use Rattle.conn_messages.specs.SwitchMessage.{relaying}
 use Rattle.hold_queue.specs.ChainState.{messages_in}

@@ -1,3 +1,4 @@
+-- SPDX-License-Identifier: MIT OR Apache-2.0
 use Rattle.std.proofs.Common.{◌≡◌, rules, subst, sym, get_or}
 use Rattle.conn_messages.specs.Out.{out_of}
 use Rattle.conn_messages.specs.OutputsState.{IsSendable}

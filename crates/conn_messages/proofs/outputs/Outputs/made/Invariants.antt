@@ -1,3 +1,4 @@
+-- SPDX-License-Identifier: MIT OR Apache-2.0
 use Rattle.std.proofs.Common.{◌≡◌, take}
 use Rattle.conn_messages.specs.Out.{outs_of}
 use Rattle.conn_messages.proofs.outputs.Outputs.made.Given as goal

@@ -1,3 +1,4 @@
+-- SPDX-License-Identifier: MIT OR Apache-2.0
 use Rattle.connections.proofs.Rising.{commits_kept, find_kept}
 use Rattle.connections.proofs.connections.Connections.commit.Goals as goal
 

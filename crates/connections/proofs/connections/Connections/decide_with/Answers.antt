@@ -1,3 +1,4 @@
+-- SPDX-License-Identifier: MIT OR Apache-2.0
 use Rattle.std.proofs.Common.{sym}
 use Rattle.connections.proofs.Rising.{find_kept}
 use Rattle.connections.proofs.connections.Connections.decide_with.Goals as goal

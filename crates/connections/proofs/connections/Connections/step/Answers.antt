@@ -1,3 +1,4 @@
+-- SPDX-License-Identifier: MIT OR Apache-2.0
 use Rattle.std.proofs.Common.{sym, subst}
 use Rattle.connections.specs.Entries.{IsOffer, ConnectionsState}
 use Rattle.connections.proofs.Rising.{answer_kept, find_kept}

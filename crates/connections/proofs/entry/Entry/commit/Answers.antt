@@ -1,3 +1,4 @@
+-- SPDX-License-Identifier: MIT OR Apache-2.0
 use Rattle.std.proofs.Common.{sym, subst}
 use Rattle.controller_model.specs.Controller.{Entry}
 use Rattle.connections.specs.Entries.{IsKept}

@@ -1,3 +1,4 @@
+-- SPDX-License-Identifier: MIT OR Apache-2.0
 use Rattle.std.proofs.Common.{◌≤◌, ℕ, List, length, map, sym, subst, ap, ◌∙◌, refl, arith}
 use Rattle.controller_model.specs.Controller.{Entry}
 use Rattle.controller_model.specs.Life.{aged}

@@ -1,3 +1,4 @@
+-- SPDX-License-Identifier: MIT OR Apache-2.0
 use Rattle.std.proofs.Common.{◌≡◌}
 use Rattle.connections.proofs.Settled.{IsAged}
 use Rattle.connections.proofs.table.Table.age.Given as goal

@@ -1,3 +1,4 @@
+-- SPDX-License-Identifier: MIT OR Apache-2.0
 use Rattle.std.proofs.Common.{◌≡◌, List, None, find, sym, subst, ◌∙◌}
 use Rattle.controller_model.specs.Controller.{Entry, has_number}
 use Rattle.connections.specs.Index.{at, listed}

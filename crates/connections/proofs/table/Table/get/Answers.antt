@@ -1,3 +1,4 @@
+-- SPDX-License-Identifier: MIT OR Apache-2.0
 use Rattle.std.proofs.Common.{List, find, sym, ap, ◌∙◌}
 use Rattle.controller_model.specs.Controller.{Entry, has_number}
 use Rattle.connections.proofs.Indexed.{find_found, find_none}

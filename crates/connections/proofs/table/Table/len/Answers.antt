@@ -1,3 +1,4 @@
+-- SPDX-License-Identifier: MIT OR Apache-2.0
 use Rattle.std.proofs.Common.{List, length, sym, ap, ◌∙◌}
 use Rattle.controller_model.specs.Controller.{Entry}
 use Rattle.connections.proofs.Indexed.{length-listed}

@@ -1,3 +1,4 @@
+-- SPDX-License-Identifier: MIT OR Apache-2.0
 use Rattle.std.proofs.Common.{◌≡◌, ◌++◌, [], ◌∷◌, List, None, find, sym, subst, ap, ◌∙◌}
 use Rattle.conn_rules.specs.Connection.{Connection}
 use Rattle.controller_model.specs.Controller.{Entry, has_number}

@@ -1,3 +1,4 @@
+-- SPDX-License-Identifier: MIT OR Apache-2.0
 use Rattle.controller.proofs.Prelude.{◌++◌, map, into_iter_items, each}
 use Rattle.controller.specs.Many.{carried_out, planned_for}
 use Rattle.controller.proofs.Carrying.{left_after}

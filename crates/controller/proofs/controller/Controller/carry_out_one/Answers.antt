@@ -1,3 +1,4 @@
+-- SPDX-License-Identifier: MIT OR Apache-2.0
 use Rattle.controller.proofs.Prelude.{◌≡◌, ◌+◌, ◌<◌, ◌≤◌, length, arith, find, subst, sym, ◌∙◌, Controller, entry_of, has_number}
 use Rattle.controller.proofs.Prelude.{Parameters}
 use Rattle.connections.specs.Steps.{CommitsFor}

@@ -1,3 +1,4 @@
+-- SPDX-License-Identifier: MIT OR Apache-2.0
 use Rattle.controller.proofs.Prelude.{ap, ◌∙◌, IsSound}
 use Rattle.conn_rules.proofs.DownlinkMessages.{AllByRecursion-so}
 use Rattle.conn_messages.specs.Out.{IsLawfulMessage}

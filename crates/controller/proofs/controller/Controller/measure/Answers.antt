@@ -1,3 +1,4 @@
+-- SPDX-License-Identifier: MIT OR Apache-2.0
 use Rattle.controller.proofs.Prelude.{◌≡◌, ◌++◌, find, refl, sym, subst, ap, ◌∙◌, AllByRecursion, ConnectionsState, IsBelow, Controller}
 use Rattle.controller.proofs.Prelude.{Turn, entry_of, has_number}
 use Rattle.connections.specs.Entries.{decision_with}

@@ -1,3 +1,4 @@
+-- SPDX-License-Identifier: MIT OR Apache-2.0
 use Rattle.controller.proofs.Prelude.{map, ap, ◌∙◌, ChannelState}
 use Rattle.controller.proofs.Carrying.{break_done, down_ready, on_station, on_switch}
 use Rattle.controller.proofs.controller.Controller.on_break.Goals as goal

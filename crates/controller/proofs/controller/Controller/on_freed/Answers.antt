@@ -1,3 +1,4 @@
+-- SPDX-License-Identifier: MIT OR Apache-2.0
 use Rattle.controller.proofs.Prelude.{◌≡◌, List, ap, ◌∙◌, ChannelState, Controller}
 use Rattle.controller_model.specs.declared.channel_state.ChannelState.TheVariants.{Free}
 use Rattle.controller_model.specs.Controller.{with_state}

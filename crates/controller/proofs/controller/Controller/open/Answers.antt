@@ -1,3 +1,4 @@
+-- SPDX-License-Identifier: MIT OR Apache-2.0
 use Rattle.controller.proofs.Prelude.{◌≡◌, ℕ, ◌+◌, List, [], ◌∷◌, ◌++◌, subst, ap, ◌∙◌, Channel, Out, outs_of, ConnectionsState}
 use Rattle.controller.proofs.Prelude.{ChannelState, Controller, Parameters}
 use Rattle.conn_messages.specs.StationMessage.{access_activation}

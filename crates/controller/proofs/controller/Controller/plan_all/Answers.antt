@@ -1,3 +1,4 @@
+-- SPDX-License-Identifier: MIT OR Apache-2.0
 use Rattle.controller.proofs.Prelude.{◌≡◌, ◌≤◌, ◌++◌, Some, None, length, slice_get, subst, arith, map, sym, ap, ◌∙◌, AreRising, Controller}
 use Rattle.controller.proofs.Prelude.{Connection}
 use Rattle.controller.specs.Many.{all_due, due_of, planned_for}

@@ -1,3 +1,4 @@
+-- SPDX-License-Identifier: MIT OR Apache-2.0
 use Rattle.controller.proofs.Prelude.{◌≡◌, ◌++◌, map, drop}
 use Rattle.controller.specs.Many.{all_due, planned_for}
 use Rattle.controller.proofs.controller.Controller.plan_all.Given as goal

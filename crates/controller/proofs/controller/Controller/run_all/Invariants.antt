@@ -1,3 +1,4 @@
+-- SPDX-License-Identifier: MIT OR Apache-2.0
 use Rattle.controller.proofs.Prelude.{◌++◌, into_iter_items, each, turn}
 use Rattle.controller_model.specs.Life as words
 use Rattle.controller.proofs.Lives.{Ends}

@@ -1,3 +1,4 @@
+-- SPDX-License-Identifier: MIT OR Apache-2.0
 use Rattle.controller.proofs.Prelude.{◌≡◌, map, ap, subst, sym, ◌∙◌, AllByRecursion, ConnectionsState, IsBelow, all_aged}
 use Rattle.controller.proofs.Carrying.{tick_done, tick_ready}
 use Rattle.controller.proofs.One.{below_aged}

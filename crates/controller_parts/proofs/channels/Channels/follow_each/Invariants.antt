@@ -1,3 +1,4 @@
+-- SPDX-License-Identifier: MIT OR Apache-2.0
 use Rattle.std.proofs.Common.{◌≡◌, drop}
 use Rattle.controller_parts.specs.Following.{channels_by}
 use Rattle.controller_parts.proofs.channels.Channels.follow_each.Given as goal

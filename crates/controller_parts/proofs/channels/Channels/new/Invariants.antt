@@ -1,3 +1,4 @@
+-- SPDX-License-Identifier: MIT OR Apache-2.0
 use Rattle.std.proofs.Common.{◌≡◌, replicate}
 use Rattle.controller_model.specs.Controller.{free_channels}
 use Rattle.controller_parts.proofs.channels.Channels.new.Given as goal

@@ -1,3 +1,4 @@
+-- SPDX-License-Identifier: MIT OR Apache-2.0
 use Rattle.std.proofs.Common.{rules, sym}
 use Rattle.std.proofs.lemmas.List.{set_past}
 use Rattle.controller_parts.proofs.channels.LinkChannels.set.Goals as goal

@@ -1,3 +1,4 @@
+-- SPDX-License-Identifier: MIT OR Apache-2.0
 use Rattle.std.proofs.Common.{◌≡◌, replicate}
 use Rattle.controller_worker.specs.Advancing.{unmarked}
 use Rattle.controller_worker.proofs.mark.Marks.new.Given as goal

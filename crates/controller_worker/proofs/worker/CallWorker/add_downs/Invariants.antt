@@ -1,3 +1,4 @@
+-- SPDX-License-Identifier: MIT OR Apache-2.0
 use Rattle.std.proofs.Common.{◌≡◌, []}
 use Rattle.controller_worker.specs.Advancing.{Advances, IsValid}
 use Rattle.controller_worker.specs.Seen.{seen}

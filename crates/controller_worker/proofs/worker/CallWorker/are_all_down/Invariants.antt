@@ -1,3 +1,4 @@
+-- SPDX-License-Identifier: MIT OR Apache-2.0
 use Rattle.std.proofs.Common.{◌≡◌, ℕ, ◌<◌, true}
 use Rattle.controller_worker.specs.Advancing.{mark_at}
 use Rattle.controller_worker.proofs.worker.CallWorker.are_all_down.Given as goal

@@ -1,3 +1,4 @@
+-- SPDX-License-Identifier: MIT OR Apache-2.0
 use Rattle.std.proofs.Common.{[], refl, arith}
 use Rattle.controller_worker.proofs.Courses.{goes_still, taken_none}
 use Rattle.controller_worker.proofs.worker.CallWorker.ask_clock.Goals as goal

@@ -1,3 +1,4 @@
+-- SPDX-License-Identifier: MIT OR Apache-2.0
 use Rattle.controller_worker.proofs.Marking.{ends_both}
 use Rattle.controller_worker.proofs.worker.CallWorker.end_alone.Goals as goal
 

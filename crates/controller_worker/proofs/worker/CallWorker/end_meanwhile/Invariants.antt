@@ -1,3 +1,4 @@
+-- SPDX-License-Identifier: MIT OR Apache-2.0
 use Rattle.std.proofs.Common.{◌≡◌, [], length}
 use Rattle.controller_worker.specs.Advancing.{Finishes, Advances}
 use Rattle.controller_worker.specs.Seen.{seen}

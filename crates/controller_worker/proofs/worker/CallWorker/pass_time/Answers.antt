@@ -1,3 +1,4 @@
+-- SPDX-License-Identifier: MIT OR Apache-2.0
 use Rattle.std.proofs.Common.{[]}
 use Rattle.controller_worker.specs.Seen.{seen}
 use Rattle.controller_worker.proofs.Courses.{by_err, goes_both, goes_both_part}

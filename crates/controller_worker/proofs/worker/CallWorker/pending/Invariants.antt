@@ -1,3 +1,4 @@
+-- SPDX-License-Identifier: MIT OR Apache-2.0
 use Rattle.controller_worker.specs.Seen.{seen}
 use Rattle.controller_worker.proofs.Turns.{IsSettledTo}
 use Rattle.controller_worker.proofs.worker.CallWorker.pending.Given as goal

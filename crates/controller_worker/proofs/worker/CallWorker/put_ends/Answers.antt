@@ -1,3 +1,4 @@
+-- SPDX-License-Identifier: MIT OR Apache-2.0
 use Rattle.std.proofs.Common.{refl, arith}
 use Rattle.atomic_table.proofs.Lists.{at_index}
 use Rattle.controller_worker.specs.Seen.{seen}

@@ -1,3 +1,4 @@
+-- SPDX-License-Identifier: MIT OR Apache-2.0
 use Rattle.controller_worker.specs.Seen.{seen}
 use Rattle.controller_worker.proofs.Courses.{by_both}
 use Rattle.controller_worker.proofs.worker.CallWorker.relay.Goals as goal

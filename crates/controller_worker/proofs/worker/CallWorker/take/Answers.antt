@@ -1,3 +1,4 @@
+-- SPDX-License-Identifier: MIT OR Apache-2.0
 use Rattle.std.proofs.Common.{[], refl, sym, subst, arith}
 use Rattle.controller_worker.specs.Advancing.{AdvancesPartly}
 use Rattle.controller_worker.specs.Seen.{seen}

@@ -1,3 +1,4 @@
+-- SPDX-License-Identifier: MIT OR Apache-2.0
 use Rattle.std.proofs.Common.{[], ◌<◌, sym, subst}
 use Rattle.controller_worker.specs.declared.limits.TheConstants.{TICK_MS}
 use Rattle.controller_worker.specs.Advancing.{Advances, IsSettled, IsValid}

@@ -1,3 +1,4 @@
+-- SPDX-License-Identifier: MIT OR Apache-2.0
 use Rattle.controller_worker.specs.Seen.{seen}
 use Rattle.controller_worker.proofs.Courses.{goes_none}
 use Rattle.controller_worker.proofs.worker.CallWorker.turn_at_rest.Goals as goal

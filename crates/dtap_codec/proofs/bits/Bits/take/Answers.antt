@@ -1,3 +1,4 @@
+-- SPDX-License-Identifier: MIT OR Apache-2.0
 -- The bits taken are a number below 2 ^ width, since those of the rest are below.
 use Rattle.std.proofs.Common.{◌≡◌, ℕ, ◌+◌, ◌-◌, ◌/◌, ◌%◌, ◌^◌, ◌<◌, ◌≤◌, [], ◌∷◌, arith, sym, subst}
 use Rattle.std.proofs.lemmas.Nat.{shr_below, shr_split, one_shl}

@@ -1,3 +1,4 @@
+-- SPDX-License-Identifier: MIT OR Apache-2.0
 -- The number of the first 16 octets is that of one report at most.
 use Rattle.std.proofs.Common.{Ok, take, ap, rules}
 use Rattle.std.specs.Int.{from_be_bytes, w128}

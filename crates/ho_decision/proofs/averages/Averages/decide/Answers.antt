@@ -1,3 +1,4 @@
+-- SPDX-License-Identifier: MIT OR Apache-2.0
 -- The last ten reports decide as all do.
 use Rattle.std.proofs.Common.{List, sym, subst}
 use Rattle.dtap_codec.specs.declared.report.Report.{Report}

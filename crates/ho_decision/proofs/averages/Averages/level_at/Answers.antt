@@ -1,3 +1,4 @@
+-- SPDX-License-Identifier: MIT OR Apache-2.0
 -- The sum at a cell's place is that of its level.
 use Rattle.std.proofs.Common.{◌≡◌, ◌<◌, List, length, get_or, arith, sym, ap, ◌∙◌}
 use Rattle.std.proofs.lemmas.List.{get_or-map, length-map}

@@ -1,3 +1,4 @@
+-- SPDX-License-Identifier: MIT OR Apache-2.0
 -- The sum loses the value that leaves the window, and gains that of the report.
 use Rattle.std.proofs.Common.{◌≡◌, ◌+◌, ◌-◌, ◌*◌, ◌≤◌, List, [], ◌∷◌, ◌++◌, length, sum_by, refl, arith, ap, ◌∙◌}
 use Rattle.std.proofs.lemmas.List.Elements.{All-push}

@@ -1,3 +1,4 @@
+-- SPDX-License-Identifier: MIT OR Apache-2.0
 -- The sum of octets over their number is an octet.
 use Rattle.std.proofs.Common.{◌≡◌, ◌*◌, ◌/◌, ◌≤◌, List, length, sum_by, arith, ap, ◌∙◌}
 use Rattle.std.proofs.Math.Nat.{div-le_of_le-mul}

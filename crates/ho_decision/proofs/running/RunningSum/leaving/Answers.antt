@@ -1,3 +1,4 @@
+-- SPDX-License-Identifier: MIT OR Apache-2.0
 -- The report at the window's begin leaves, where the window is full.
 use Rattle.std.proofs.Common.{◌≡◌, ℕ, ◌+◌, ◌-◌, Option, Some, None, List, length, cond, ltb, sum_by, arith, sym, ap, ◌∙◌, subst, zero-add}
 use Rattle.std.specs.List.{slice_get}

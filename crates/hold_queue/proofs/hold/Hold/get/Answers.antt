@@ -1,3 +1,4 @@
+-- SPDX-License-Identifier: MIT OR Apache-2.0
 use Rattle.hold_queue.proofs.hold.Hold.get.Goals as goal
 use Rattle.hold_queue.proofs.Holds.{messages_of_tenure}
 

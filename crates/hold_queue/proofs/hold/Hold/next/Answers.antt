@@ -1,3 +1,4 @@
+-- SPDX-License-Identifier: MIT OR Apache-2.0
 use Rattle.std.proofs.Common.{refl}
 use Rattle.hold_queue.proofs.Holds.{messages_of_tenure, with_messages_of_tenure}
 use Rattle.hold_queue.proofs.hold.Hold.next.Goals as goal

@@ -1,3 +1,4 @@
+-- SPDX-License-Identifier: MIT OR Apache-2.0
 use Rattle.std.proofs.Common.{ap, length, sym}
 use Rattle.ipa_framing.proofs.Stream.{splits_behind, splits_end}
 use Rattle.ipa_framing.proofs.framer.Framer.rest.Goals as goal

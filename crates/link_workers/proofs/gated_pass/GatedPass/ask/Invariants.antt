@@ -1,3 +1,4 @@
+-- SPDX-License-Identifier: MIT OR Apache-2.0
 use Rattle.std.proofs.Common.{◌≡◌, ◌+◌}
 use Rattle.link_workers.proofs.gated_pass.GatedPass.ask.Given as goal
 

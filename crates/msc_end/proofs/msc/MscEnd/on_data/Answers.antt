@@ -1,3 +1,4 @@
+-- SPDX-License-Identifier: MIT OR Apache-2.0
 use Rattle.std.proofs.Common.{◌≡◌, ◌-◌, List, [], ◌∷◌, ◌++◌, Some, None, sym, ap, ◌∙◌, arith, append-nil, inl, inr}
 use Rattle.msc_end.specs.Switch.{connection_of, message_in, replies_by}
 use Rattle.msc_end.specs.declared.parameters.TheConstants.{REFERENCE_BASE}

@@ -1,3 +1,4 @@
+-- SPDX-License-Identifier: MIT OR Apache-2.0
 use Rattle.std.proofs.Common.{◌≡◌, ℕ, None, [], ◌∷◌, ◌++◌, sym, ap, subst, rules}
 use Rattle.dtap_codec.specs.Number.{count_of, number_in}
 use Rattle.nsd_filter.specs.Reception.{ReceptionState}

@@ -1,3 +1,4 @@
+-- SPDX-License-Identifier: MIT OR Apache-2.0
 use Rattle.std.proofs.Common.{refl}
 use Rattle.program_base.proofs.Decoding.{stops_flushing}
 use Rattle.program_base.proofs.Ends.{said_of}

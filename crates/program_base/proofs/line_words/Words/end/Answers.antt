@@ -1,3 +1,4 @@
+-- SPDX-License-Identifier: MIT OR Apache-2.0
 use Rattle.std.proofs.Common.{◌≡◌, option_map, sym, ap, ◌∙◌}
 use Rattle.program_base.specs.WordsLeft.{is_space, words_left}
 use Rattle.program_base.proofs.Splitting.{slice_split-some, end_of-some}

@@ -1,3 +1,4 @@
+-- SPDX-License-Identifier: MIT OR Apache-2.0
 use Rattle.std.proofs.Common.{arith}
 use Rattle.octets.proofs.Steps.{found_by, only_by, refused_by}
 use Rattle.rsl_codec.proofs.Causes.{refuses_rsl}

@@ -1,3 +1,4 @@
+-- SPDX-License-Identifier: MIT OR Apache-2.0
 use Rattle.std.proofs.Common.{rules}
 use Rattle.ruled_relay.proofs.Moves.{merges}
 use Rattle.ruled_relay.proofs.end.End.join.Goals as goal

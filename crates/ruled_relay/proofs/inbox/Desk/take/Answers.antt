@@ -1,3 +1,4 @@
+-- SPDX-License-Identifier: MIT OR Apache-2.0
 use Rattle.std.proofs.Common.{Some, ap, ◌∙◌, arith}
 use Rattle.ruled_relay.specs.Inbox.{queues_of}
 use Rattle.ruled_relay.proofs.Turns.{desk_kept, desk_same, desk_took}

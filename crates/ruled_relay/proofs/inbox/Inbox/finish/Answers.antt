@@ -1,3 +1,4 @@
+-- SPDX-License-Identifier: MIT OR Apache-2.0
 use Rattle.std.proofs.Common.{arith, ap, sym, ◌∙◌, subst, length}
 use Rattle.std.specs.Vec.Iter.{into_iter_items}
 use Rattle.ruled_relay.specs.Row.{EachAt, Row}

@@ -1,3 +1,4 @@
+-- SPDX-License-Identifier: MIT OR Apache-2.0
 use Rattle.std.proofs.Common.{ap}
 use Rattle.ruled_relay.proofs.Making.{more_made, pass_at}
 use Rattle.ruled_relay.proofs.inbox.Inbox.new.Goals as goal

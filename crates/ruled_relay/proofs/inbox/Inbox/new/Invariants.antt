@@ -1,3 +1,4 @@
+-- SPDX-License-Identifier: MIT OR Apache-2.0
 use Rattle.std.proofs.Common.{◌≡◌, length, map}
 use Rattle.ruled_relay.specs.Row.{EachAt}
 use Rattle.ruled_relay.specs.Inbox.{AreNewInbox, PassView, queues_of}

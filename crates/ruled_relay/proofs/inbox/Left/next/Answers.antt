@@ -1,3 +1,4 @@
+-- SPDX-License-Identifier: MIT OR Apache-2.0
 use Rattle.std.proofs.Common.{◌≡◌, MatchOption, subst}
 use Rattle.ruled_relay.specs.Row.{Row}
 use Rattle.ruled_relay.specs.Inbox.{GivesItem, IsAllGiven}

@@ -1,3 +1,4 @@
+-- SPDX-License-Identifier: MIT OR Apache-2.0
 use Rattle.settings.proofs.Blank.{blank_answer}
 use Rattle.settings.proofs.parameters.Settings.read.Goals as goal
 

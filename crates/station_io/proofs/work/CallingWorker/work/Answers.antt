@@ -1,3 +1,4 @@
+-- SPDX-License-Identifier: MIT OR Apache-2.0
 use Rattle.controller_worker.specs.Call.{relayed_parts}
 use Rattle.station_io.proofs.Calling.{calls}
 use Rattle.station_io.proofs.work.CallingWorker.work.Goals as goal

@@ -1,3 +1,4 @@
+-- SPDX-License-Identifier: MIT OR Apache-2.0
 use Rattle.std.proofs.Common.{refl}
 use Rattle.dtap_codec.specs.Number.{count_of}
 use Rattle.dtap_codec.proofs.Numbers.{count_of-two}

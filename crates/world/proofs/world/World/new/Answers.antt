@@ -1,3 +1,4 @@
+-- SPDX-License-Identifier: MIT OR Apache-2.0
 use Rattle.std.proofs.Common.{refl, rules}
 use Rattle.settings.specs.Parameters.{AreAllowed}
 use Rattle.world.specs.Headline.Begins.{controlled}

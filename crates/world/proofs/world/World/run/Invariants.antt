@@ -1,3 +1,4 @@
+-- SPDX-License-Identifier: MIT OR Apache-2.0
 use Rattle.std.proofs.Common.{◌≡◌, false, drop}
 use Rattle.world.specs.World.{after_all}
 use Rattle.world.proofs.world.World.run.Given as goal

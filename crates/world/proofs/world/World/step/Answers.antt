@@ -1,3 +1,4 @@
+-- SPDX-License-Identifier: MIT OR Apache-2.0
 use Rattle.world.proofs.Made.{in_order_by_one, made_by_one}
 use Rattle.world.proofs.world.World.step.Goals as goal
 

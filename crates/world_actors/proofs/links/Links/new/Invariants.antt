@@ -1,3 +1,4 @@
+-- SPDX-License-Identifier: MIT OR Apache-2.0
 use Rattle.world_actors.proofs.Prelude.{◌≡◌}
 use Rattle.std.proofs.Common.{replicate}
 use Rattle.world_model.specs.World.{new_link}

@@ -1,3 +1,4 @@
+-- SPDX-License-Identifier: MIT OR Apache-2.0
 use Rattle.world_actors.proofs.Prelude.{◌≡◌, OnOk, subst, Actors}
 use Rattle.world_model.specs.Stations.{activated}
 use Rattle.world_actors.specs.contracts.network.Network.{the_view}

@@ -1,3 +1,4 @@
+-- SPDX-License-Identifier: MIT OR Apache-2.0
 use Rattle.world_actors.proofs.Prelude.{◌≡◌, sym, ◌∙◌, Some, subst, Takes, Actors}
 use Rattle.world_model.specs.Mobiles.{after_air_down_lost, ignored}
 use Rattle.world_actors.specs.contracts.network.Network.{the_view}

@@ -1,3 +1,4 @@
+-- SPDX-License-Identifier: MIT OR Apache-2.0
 use Rattle.world_actors.proofs.Prelude.{◌≡◌, ℕ, List, ap, sym, ◌∙◌, true, false, IsSome, OnErr, Some, refl, subst, Takes, Actors}
 use Rattle.world_actors.proofs.Prelude.{at_station}
 use Rattle.world_model.specs.Mobiles.{after_air_up}

@@ -1,3 +1,4 @@
+-- SPDX-License-Identifier: MIT OR Apache-2.0
 use Rattle.world_actors.proofs.Prelude.{◌≡◌, ◌&&◌, Bool, OnOk, subst, Actors, tenure_at}
 use Rattle.world_model.specs.Stations.{accepts, answered, asked_for_link, mobile_on}
 use Rattle.world_model.specs.World.{is_active_at}

@@ -1,3 +1,4 @@
+-- SPDX-License-Identifier: MIT OR Apache-2.0
 use Rattle.world_actors.proofs.Prelude.{◌≡◌, sym, ◌∙◌, true, Some, subst, Takes, Actors, is_reached}
 use Rattle.world_model.specs.Mobiles.{after_arriving}
 use Rattle.world_actors.specs.contracts.network.Network.{the_view}

@@ -1,3 +1,4 @@
+-- SPDX-License-Identifier: MIT OR Apache-2.0
 use Rattle.world_actors.proofs.Prelude.{◌≡◌, sym, ◌∙◌, true, subst, Actors, mobile_of, tenure_at}
 use Rattle.world_model.specs.Stations.{assigned_to}
 use Rattle.world_actors.specs.contracts.network.Network.{the_view}

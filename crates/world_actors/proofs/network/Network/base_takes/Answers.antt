@@ -1,3 +1,4 @@
+-- SPDX-License-Identifier: MIT OR Apache-2.0
 use Rattle.world_actors.proofs.Prelude.{◌≡◌, sym, ◌∙◌, true, IsSome, OnErr, subst, first_in, Takes, Actors, is_station_up, outbox_of}
 use Rattle.world_model.specs.Stations.{after_base_takes}
 use Rattle.world_actors.specs.contracts.network.Network.{the_view}

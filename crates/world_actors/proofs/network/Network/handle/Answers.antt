@@ -1,3 +1,4 @@
+-- SPDX-License-Identifier: MIT OR Apache-2.0
 use Rattle.world_actors.proofs.Prelude.{sym, ◌∙◌, subst, true, false, Takes, Actors}
 use Rattle.world_model.specs.Relay.{after_handle}
 use Rattle.world_actors.specs.contracts.network.Network.{the_view}

@@ -1,3 +1,4 @@
+-- SPDX-License-Identifier: MIT OR Apache-2.0
 use Rattle.world_actors.proofs.Prelude.{◌≡◌, OnOk, subst, Actors}
 use Rattle.world_model.specs.Relay.{target_in}
 use Rattle.world_actors.specs.Handling.{after_item}

@@ -1,3 +1,4 @@
+-- SPDX-License-Identifier: MIT OR Apache-2.0
 use Rattle.world_actors.proofs.Prelude.{ap, sym, ◌∙◌, find_at, Actors, has_number, mobile_of}
 use Rattle.world_actors.proofs.network.Network.mobile.Goals as goal
 

@@ -1,3 +1,4 @@
+-- SPDX-License-Identifier: MIT OR Apache-2.0
 use Rattle.world_actors.proofs.Prelude.{sym, ◌∙◌, subst, false, Takes, Actors, base_of}
 use Rattle.link_model.specs.Base.{first_message}
 use Rattle.world_model.specs.Relay.{pushed_by_station}

@@ -1,3 +1,4 @@
+-- SPDX-License-Identifier: MIT OR Apache-2.0
 use Rattle.world_actors.proofs.Prelude.{◌≡◌, OnOk, Some, subst, Actors}
 use Rattle.world_model.specs.Relay.{after_tick}
 use Rattle.world_actors.specs.contracts.network.Network.{the_view}

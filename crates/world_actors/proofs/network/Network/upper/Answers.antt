@@ -1,3 +1,4 @@
+-- SPDX-License-Identifier: MIT OR Apache-2.0
 use Rattle.world_actors.proofs.Prelude.{IsSome, OnErr, subst, Takes, Actors}
 use Rattle.std.proofs.Common.{IfOk}
 use Rattle.world_model.specs.Mobiles.{after_upper}

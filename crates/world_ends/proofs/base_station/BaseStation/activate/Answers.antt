@@ -1,3 +1,4 @@
+-- SPDX-License-Identifier: MIT OR Apache-2.0
 use Rattle.std.proofs.Common.{◌∷◌, [], ◌++◌}
 use Rattle.link_model.specs.Base.{after_activate}
 use Rattle.link_model.specs.Message.{activation_ack}

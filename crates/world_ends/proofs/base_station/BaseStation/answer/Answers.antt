@@ -1,3 +1,4 @@
+-- SPDX-License-Identifier: MIT OR Apache-2.0
 use Rattle.world_ends.proofs.Written.{confirm_written, indication_written}
 use Rattle.world_ends.proofs.base_station.BaseStation.answer.Goals as goal
 

@@ -1,3 +1,4 @@
+-- SPDX-License-Identifier: MIT OR Apache-2.0
 use Rattle.link_model.specs.Base.{after_up}
 use Rattle.link_model.specs.Message.{data_indication}
 use Rattle.world_ends.proofs.Written.{done_written, told_written, data_written}

@@ -1,3 +1,4 @@
+-- SPDX-License-Identifier: MIT OR Apache-2.0
 use Rattle.std.proofs.Common.{Some}
 use Rattle.dtap_codec.specs.declared.sapi.Sapi.TheVariants.{Zero}
 use Rattle.link_model.specs.Base.{after_establish}

@@ -1,3 +1,4 @@
+-- SPDX-License-Identifier: MIT OR Apache-2.0
 use Rattle.std.proofs.Common.{None}
 use Rattle.link_model.specs.Base.{after_establish}
 use Rattle.link_model.specs.Message.{establish_indication}

@@ -1,3 +1,4 @@
+-- SPDX-License-Identifier: MIT OR Apache-2.0
 use Rattle.std.proofs.Common.{List, ℕ, None, Some, sym, subst}
 use Rattle.rsl_codec.specs.declared.rsl.Rsl.TheVariants.{MeasurementResult}
 use Rattle.world_ends.specs.Written.{IsWritten}

@@ -1,3 +1,4 @@
+-- SPDX-License-Identifier: MIT OR Apache-2.0
 use Rattle.std.proofs.Common.{◌≡◌, List, ℕ, ap, ◌∙◌}
 use Rattle.mobile_end.specs.Mobile.{after_arrival}
 use Rattle.world_model.specs.Mobiles.{complete}

@@ -1,3 +1,4 @@
+-- SPDX-License-Identifier: MIT OR Apache-2.0
 use Rattle.std.proofs.Common.{◌≡◌, false, is_some, List, ℕ, OnOk, subst}
 use Rattle.mobile_end.specs.Mobile.{after_queue, refusal_of_send}
 use Rattle.world_ends.proofs.Fit.{sent_fit}

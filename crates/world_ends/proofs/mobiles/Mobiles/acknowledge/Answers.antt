@@ -1,3 +1,4 @@
+-- SPDX-License-Identifier: MIT OR Apache-2.0
 use Rattle.std.proofs.Common.{◌≡◌, set, slice_get, Some, subst, sym}
 use Rattle.world_model.specs.Takes.{Takes}
 use Rattle.world_ends.specs.MobilesState.{MobilesState}

@@ -1,3 +1,4 @@
+-- SPDX-License-Identifier: MIT OR Apache-2.0
 use Rattle.std.proofs.Common.{◌≡◌, set, slice_get, Some, IsSome, OnOk, OnErr, unwrap_or, subst, sym}
 use Rattle.std.specs.Option.{option_and_then}
 use Rattle.world_ends.specs.MobilesState.{MobilesState}

@@ -1,3 +1,4 @@
+-- SPDX-License-Identifier: MIT OR Apache-2.0
 use Rattle.std.proofs.Common.{◌≡◌, ◌+◌, ◌++◌, drop}
 use Rattle.world_model.specs.World.{stations_from}
 use Rattle.world_ends.proofs.stations.Stations.new.Given as goal
