@@ -8,3 +8,6 @@ mod Relaying
 mod Rows
 mod Lists
 mod CrewRows
+mod Octets
+mod OctetRows
+mod Keeping
