@@ -9,3 +9,6 @@ mod Relaying
 mod Rows
 mod Lists
 mod CrewRows
+mod Octets
+mod OctetRows
+mod Keeping

@@ -6,3 +6,5 @@ pub mod Links
 pub mod Pairs
 pub mod Work
 pub mod CrewDone
+pub mod Octets
+pub mod Laws

@@ -4,12 +4,14 @@
 //! promised.
 #![tactic(auto)]
 
+pub use laws::octets_in_decide_octets_out;
 pub use link::Link;
 pub use serve::serve_links;
 
 mod crew;
 mod crews;
 mod giving;
+mod laws;
 mod link;
 mod promise;
 mod queues;

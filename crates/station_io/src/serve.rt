@@ -3,6 +3,7 @@ ghost use Rattle.std.specs.Prelude.{◌≡◌, map, IfOk, IfErr};
 ghost use Rattle.link_workers.specs.declared.fault.IoFault.TheVariants as faults;
 ghost use Rattle.station_io.specs.Done.{HasEnded};
 ghost use Rattle.station_io.specs.Links.{Relays, ended_view, link_view};
+ghost use Rattle.station_io.specs.Octets.{PassesOctets};
 
 use crate::crews::{Works, WorksDone, run};
 use crate::giving::{Room, give_back};
@@ -26,7 +27,11 @@ use std::thread::Threads;
 ///
 /// There is one list of steps of the controller. Of each link its items in that list are the frames
 /// that were read, then `Down`, but for a `Down` that was added where the outbox was given up; and
-/// what was written are the octets of the frames that the controller put for it.
+/// what was written are the octets of the frames that the controller put for it. So what a link
+/// without a fault got is a function of the controller, of what came of the links and of the order
+/// in which that was merged with ticks; of a link without a fault all frames of its octets came. Of
+/// a controller that was new the laws of a life hold over these steps, as `controller::run` has
+/// them.
 ///
 /// `Memory`: there was none for a queue or in a step of the controller, or a thread couldn't be
 /// had; in that last case none begins. The links are let go.
@@ -45,6 +50,10 @@ pub fn serve_links<
     limit: u32,
 ) -> Result<Vec<(Link<I, O, G>, Option<IoFault>)>, IoFault>
     ensures links { IfOk result (λ back. Relays controller limit
+        (map (link_view I.remaining O.contents G.refused) links.items)
+        (map (ended_view I.remaining O.contents G.refused) back.items)) }
+    // From octets in to octets out, with the laws of a life where the controller was new.
+    ensures octets { IfOk result (λ back. PassesOctets controller
         (map (link_view I.remaining O.contents G.refused) links.items)
         (map (ended_view I.remaining O.contents G.refused) back.items)) }
     ensures fault { IfErr result (λ fault. fault ≡ faults.Memory) }

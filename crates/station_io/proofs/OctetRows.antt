@@ -1,0 +1,82 @@
+-- The definitions from octets in to octets out, at literal octets: two links of which the second sends PING.
+use Rattle.std.proofs.Common.{◌≡◌, ℕ, zero, suc, List, [], ◌∷◌, Ok, Some, false, refl, arith, inl}
+use Rattle.octets.proofs.Hex.{hex}
+use Rattle.controller_model.specs.declared.step.Step.{Step}
+use Rattle.controller_model.specs.declared.step.Step.TheVariants.{Take, Tick}
+use Rattle.controller_model.specs.Controller.{new_controller}
+use Rattle.controller_model.proofs.Lives.{usual_settings}
+use Rattle.controller_model.proofs.OnLiterals.{on_literals}
+use Rattle.ipa_framing.specs.declared.frame.Frame.{Frame}
+use Rattle.ipa_framing.specs.Framer.{FramerState, feed, next, new_framer}
+use Rattle.ipa_framing.specs.Front.{frame}
+use Rattle.ruled_relay.specs.declared.item.What.TheVariants as whats
+use Rattle.station_io.specs.Octets.{AreFirstOf, Came, Next, TakesWhole, came_in, frames_in, item_of, items_in, merged, octets_put, order_of, time}
+
+abbrev ping : Frame
+ping = frame 0xfe (hex "00")
+
+-- ---- the frames of octets
+
+no_frames : frames_in [] ≡ []
+no_frames = refl
+
+two_frames_and_a_start : frames_in (hex "00 01 fe 00 00 00 00 00 02 fe 01") ≡ ping ∷ frame 0x00 [] ∷ []
+two_frames_and_a_start = refl
+
+frame_before_a_long_one : frames_in (hex "00 01 fe 00 08 01 00") ≡ ping ∷ []
+frame_before_a_long_one = refl
+
+-- ---- a framer that gave all that was whole, of octets in two pieces
+
+abbrev held : List ℕ → FramerState
+held octets = record { octets = octets; failed = false }
+
+in_two_pieces : TakesWhole (feed (hex "00") (Ok tt) ∷ feed (hex "01 fe 00") (Ok tt) ∷ next (Ok (Some ping)) ∷ [])
+in_two_pieces = (
+  new_framer,
+  (held (hex "00"), (refl, refl), (held (hex "00 01 fe 00"), (refl, refl), (new_framer, ((omega arith, refl), refl), refl))),
+  inl tt,
+)
+
+-- ---- merged
+
+abbrev came : Came
+came zero = items_in []
+came (suc link) = items_in (hex "00 01 fe 00")
+
+abbrev pinged : List Next
+pinged = item_of 1 ∷ time 250 ∷ item_of 0 ∷ item_of 1 ∷ []
+
+abbrev of_down : ℕ → Step
+of_down source = Take (record { source = source; what = whats.Down })
+
+abbrev of_ping : Step
+of_ping = Take (record { source = 1; what = whats.Frame ping })
+
+steps_in_order : merged pinged came ≡ of_ping ∷ Tick 250 ∷ of_down 0 ∷ of_down 1 ∷ []
+steps_in_order = refl
+
+-- behind the last item of a link nothing comes of it
+no_item_is_left : merged (item_of 0 ∷ item_of 0 ∷ item_of 1 ∷ []) came ≡ of_down 0 ∷ of_ping ∷ []
+no_item_is_left = refl
+
+order_again : order_of (of_ping ∷ Tick 250 ∷ of_down 0 ∷ of_down 1 ∷ []) ≡ pinged
+order_again = refl
+
+came_again : came_in (of_ping ∷ Tick 250 ∷ of_down 0 ∷ of_down 1 ∷ []) 1 ≡ whats.Frame ping ∷ whats.Down ∷ []
+came_again = refl
+
+-- ---- octets out
+
+pong_is_put : octets_put (new_controller usual_settings) pinged came 1 ≡ hex "00 01 fe 01"
+unfolding on_literals
+pong_is_put = refl
+
+nothing_for_the_switch : octets_put (new_controller usual_settings) pinged came 0 ≡ []
+unfolding on_literals
+nothing_for_the_switch = refl
+
+-- ---- the first of what came
+
+first_of_two : AreFirstOf (hex "00 01 fe 00 00 01 fe 00") (whats.Frame ping ∷ whats.Down ∷ [])
+first_of_two = (ping ∷ [], ping ∷ [], false, refl, refl)
