@@ -1,3 +1,4 @@
+-- SPDX-License-Identifier: MIT OR Apache-2.0
 -- All laws of a life, together.
 use Rattle.std.proofs.Common.{List, arith, sym, subst}
 use Rattle.controller_model.specs.declared.step.Step.{Step}

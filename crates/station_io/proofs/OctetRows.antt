@@ -1,3 +1,4 @@
+-- SPDX-License-Identifier: MIT OR Apache-2.0
 -- The definitions from octets in to octets out, at literal octets: two links of which the second sends PING.
 use Rattle.std.proofs.Common.{◌≡◌, ℕ, zero, suc, List, [], ◌∷◌, Ok, Some, false, refl, arith, inl}
 use Rattle.octets.proofs.Hex.{hex}

@@ -1,6 +1,8 @@
+-- SPDX-License-Identifier: MIT OR Apache-2.0
 -- Octets in, octets out: what the controller puts for each link, by the octets that came of all of
 -- them and the order in which their items and the ticks were merged.
-use Rattle.std.specs.Prelude.{◌≡◌, ◌⊎◌, ℕ, zero, suc, ◌==◌, if◌then◌else◌, Bool, List, [], ◌∷◌}
+use Rattle.std.specs.Prelude.{◌≡◌, ◌⊎◌, ℕ, zero, suc, ◌==◌, if◌then◌else◌}
+use Rattle.std.specs.Prelude.{Bool, List, [], ◌∷◌}
 use Rattle.std.specs.Prelude.{◌++◌, drop, length, Option, Some, None, Result, Ok}
 use Rattle.std.specs.Io.KnownBytes.{Appends, Consumes, IsAtEnd}
 use mathlib.Core.Option.{some}

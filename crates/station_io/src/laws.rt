@@ -1,3 +1,4 @@
+// SPDX-License-Identifier: MIT OR Apache-2.0
 //! Laws: each contract states what holds of the definitions that it names. Their bodies are empty.
 
 ghost use Rattle.std.specs.Prelude.{◌≡◌, ℕ, List};

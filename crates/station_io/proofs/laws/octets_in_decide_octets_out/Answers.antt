@@ -1,3 +1,4 @@
+-- SPDX-License-Identifier: MIT OR Apache-2.0
 use Rattle.station_io.proofs.Octets.{all_are_written, cuts_are_alike, merged_again, octets_are_put}
 use Rattle.station_io.proofs.laws.octets_in_decide_octets_out.Goals as goal
 
