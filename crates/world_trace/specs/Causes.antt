@@ -1,5 +1,6 @@
 -- Why an actor can't take an event: the first of the event's own conditions that isn't met.
-use Rattle.std.specs.Prelude.{ℕ, if◌then◌else◌, List, [], ◌∷◌, Option, Some, None, option_map}
+use Rattle.std.specs.Prelude.{ℕ, if◌then◌else◌, List, [], ◌∷◌, Option, Some, None}
+use Rattle.std.specs.Prelude.{option_map}
 use Rattle.conn_messages.specs.declared.parameters.TheConstants.{SWITCH_LINK}
 use Rattle.msc_end.specs.Switch.{connection_of}
 use Rattle.msc_end.specs.declared.connection.Connection.{Connection}

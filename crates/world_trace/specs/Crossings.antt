@@ -1,6 +1,7 @@
 -- The frames that cross the links of the controller at an event, by what its queues are given and
 -- what is taken from them.
-use Rattle.std.specs.Prelude.{ℕ, zero, suc, ◌==◌, if◌then◌else◌, List, [], ◌∷◌, ◌++◌, length, map}
+use Rattle.std.specs.Prelude.{ℕ, zero, suc, ◌==◌, if◌then◌else◌, List, [], ◌∷◌}
+use Rattle.std.specs.Prelude.{◌++◌, length, map}
 use Rattle.std.specs.List.{flat_map}
 use Rattle.conn_messages.specs.declared.parameters.TheConstants.{SWITCH_LINK}
 use Rattle.ruled_relay.specs.declared.item.Item.{Item}

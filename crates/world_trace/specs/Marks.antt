@@ -1,5 +1,6 @@
 -- How long the controller's queues are, and what came behind that.
-use Rattle.std.specs.Prelude.{◌≡◌, ℕ, zero, suc, ◌<◌, List, [], ◌++◌, length, map, drop}
+use Rattle.std.specs.Prelude.{◌≡◌, ℕ, zero, suc, ◌<◌, List, [], ◌++◌, length, map}
+use Rattle.std.specs.Prelude.{drop}
 use Rattle.std.specs.Prelude.{slice_index}
 use Rattle.std.specs.List.{flat_map}
 use Rattle.conn_messages.specs.declared.parameters.TheConstants.{SWITCH_LINK}
