@@ -22,3 +22,4 @@ mod step;
 mod uplink;
 mod upper_layers;
 mod views;
+mod waiting;

@@ -1,5 +1,5 @@
 // SPDX-License-Identifier: MIT OR Apache-2.0
-ghost use Rattle.std.specs.Prelude.{◌≡◌, ◌∷◌, [], ◌++◌, OnOk, option_map};
+ghost use Rattle.std.specs.Prelude.{◌≡◌, ◌∷◌, [], ◌++◌, drop, length, OnOk, option_map};
 ghost use Rattle.world_model.specs.Lists.{behind_first, first_in};
 ghost use Rattle.world_model.specs.World.{broken_link, new_link};
 
@@ -46,6 +46,20 @@ impl RelayLink {
         ensures { option_map (λ e. e.now) result ≡ first_in self.now.outbox }
     {
         self.outbox.front()
+    }
+
+    /// How many entries its outbox has.
+    pub(crate) fn len(&self) -> usize
+        ensures { result ≡ length self.now.outbox }
+    {
+        self.outbox.len()
+    }
+
+    /// The entry at a place of its outbox, from 0.
+    pub(crate) fn entry(&self, place: usize) -> Option<&OutboxEntry>
+        ensures { option_map (λ e. e.now) result ≡ first_in (drop place self.now.outbox) }
+    {
+        self.outbox.get(place)
     }
 
     /// Takes the first entry.

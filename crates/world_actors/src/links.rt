@@ -1,5 +1,5 @@
 // SPDX-License-Identifier: MIT OR Apache-2.0
-ghost use Rattle.std.specs.Prelude.{◌≡◌, IfOk, OnOk, option_map, replicate};
+ghost use Rattle.std.specs.Prelude.{◌≡◌, IfOk, OnOk, drop, length, option_map, replicate};
 ghost use Rattle.world_model.specs.Lists.{first_in};
 ghost use Rattle.world_model.specs.World.{new_link};
 ghost use Rattle.world_actors.specs.Links.{all_joined_in, broken_in, is_up_in};
@@ -58,6 +58,33 @@ impl Links {
     {
         match self.links.get(usize::from(link)) {
             Some(link) => link.first(),
+            None => None,
+        }
+    }
+
+    /// How many links there are.
+    pub fn count(&self) -> usize
+        ensures { result ≡ length self.now }
+    {
+        self.links.len()
+    }
+
+    /// How many entries an outbox has.
+    pub fn waiting(&self, link: usize) -> usize
+        ensures { result ≡ length (outbox_in self.now link) }
+    {
+        match self.links.get(link) {
+            Some(link) => link.len(),
+            None => 0,
+        }
+    }
+
+    /// The entry at a place of an outbox, from 0.
+    pub fn entry(&self, link: usize, place: usize) -> Option<&OutboxEntry>
+        ensures { option_map (λ e. e.now) result ≡ first_in (drop place (outbox_in self.now link)) }
+    {
+        match self.links.get(link) {
+            Some(link) => link.entry(place),
             None => None,
         }
     }

@@ -82,21 +82,21 @@ impl Network {
     }
 
     /// Whether the link of a source is up.
-    pub(crate) fn is_up(&self, source: u16) -> bool
+    pub fn is_up(&self, source: u16) -> bool
         ensures { result ≡ is_up self.now source }
     {
         self.relay.is_up(source)
     }
 
     /// Whether there is a station of this number, with a link that is up.
-    pub(crate) fn is_station_up(&self, station: u16) -> bool
+    pub fn is_station_up(&self, station: u16) -> bool
         ensures { result ≡ is_station_up self.now station }
     {
         station != SWITCH_LINK && self.is_up(station)
     }
 
     /// Whether it is the present tenure of its channel, and the station is up.
-    pub(crate) fn is_reached(&self, tenure: &Tenure) -> bool
+    pub fn is_reached(&self, tenure: &Tenure) -> bool
         ensures { result ≡ is_reached self.now tenure.now }
     {
         self.is_station_up(tenure.at.station) && self.stations.is_present(tenure)

@@ -1,5 +1,5 @@
 // SPDX-License-Identifier: MIT OR Apache-2.0
-ghost use Rattle.std.specs.Prelude.{◌≡◌, ◌+◌, [], IfOk, OnOk, None, length, option_map};
+ghost use Rattle.std.specs.Prelude.{◌≡◌, ◌+◌, [], IfOk, OnOk, None, drop, length, option_map};
 ghost use Rattle.std.specs.Prelude.{replicate};
 ghost use Rattle.bssmap_codec.specs.SccpText.{sccp_write_fault};
 ghost use Rattle.controller_model.specs.Controller.{new_controller};
@@ -96,6 +96,42 @@ impl Relay {
         ensures { option_map (λ e. e.now) result ≡ first_in (outbox_in self.now.links link) }
     {
         self.links.first(link)
+    }
+
+    /// How many links there are.
+    pub fn link_count(&self) -> usize
+        ensures { result ≡ length self.now.links }
+    {
+        self.links.count()
+    }
+
+    /// How many entries an outbox has.
+    pub fn waiting(&self, link: usize) -> usize
+        ensures { result ≡ length (outbox_in self.now.links link) }
+    {
+        self.links.waiting(link)
+    }
+
+    /// The entry at a place of an outbox, from 0.
+    pub fn entry(&self, link: usize, place: usize) -> Option<&OutboxEntry>
+        ensures { option_map (λ e. e.now) result
+            ≡ first_in (drop place (outbox_in self.now.links link)) }
+    {
+        self.links.entry(link, place)
+    }
+
+    /// How many items the inbox has.
+    pub fn inbox_len(&self) -> usize
+        ensures { result ≡ length self.now.inbox }
+    {
+        self.inbox.len()
+    }
+
+    /// The item at a place of the inbox, from 0.
+    pub fn item(&self, place: usize) -> Option<&Item>
+        ensures { option_map (λ i. i.now) result ≡ first_in (drop place self.now.inbox) }
+    {
+        self.inbox.get(place)
     }
 
     /// Takes the first entry of an outbox.

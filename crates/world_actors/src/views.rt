@@ -6,6 +6,7 @@ ghost use Rattle.world_model.specs.World.{mobile_of};
 use crate::Network;
 use octets::Octets;
 use world_ends::MobileStation;
+use world_model::Seat;
 
 /// What is seen of the world, by the number of a mobile or of a connection of the switch; none
 /// where there is none.
@@ -14,6 +15,16 @@ impl Network {
         ensures { option_map (λ m. m.now) result ≡ mobile_of self.now number }
     {
         self.mobiles.get(number)
+    }
+
+    /// Where a mobile is.
+    pub fn seat(&self, mobile: u8) -> Option<Seat>
+        ensures { result ≡ option_map (λ p. p.seat) (mobile_of self.now mobile) }
+    {
+        match self.mobile(mobile) {
+            Some(mobile) => Some(mobile.seat()),
+            None => None,
+        }
     }
 
     /// The messages of the flow that the upper layers of a mobile sent, in order, without numbers.

@@ -1,0 +1,3 @@
+pub mod Crosses
+pub mod Noting
+mod Rows

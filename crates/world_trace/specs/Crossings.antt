@@ -1,0 +1,64 @@
+-- The frames that cross the links of the controller at an event, by what its queues are given and
+-- what is taken from them.
+use Rattle.std.specs.Prelude.{ℕ, zero, suc, ◌==◌, if◌then◌else◌, List, [], ◌∷◌}
+use Rattle.std.specs.Prelude.{◌++◌, length, map}
+use Rattle.std.specs.List.{flat_map}
+use Rattle.conn_messages.specs.declared.parameters.TheConstants.{SWITCH_LINK}
+use Rattle.ruled_relay.specs.declared.item.Item.{Item}
+use Rattle.ruled_relay.specs.declared.item.What.{What}
+use Rattle.ruled_relay.specs.declared.item.What.TheVariants as whats
+use Rattle.world_model.specs.declared.event.Event.{Event}
+use Rattle.world_model.specs.declared.event.Event.TheVariants.{BaseTakes, SwitchTakes}
+use Rattle.world_model.specs.declared.line.OutboxEntry.{OutboxEntry}
+use Rattle.world_model.specs.Queues.{popped, pushed, put, taken}
+use Rattle.world_model.specs.World.{Actors}
+use Rattle.world_trace.specs.declared.crossing.Crossing.{Crossing}
+use Rattle.world_trace.specs.declared.crossing.End.{End}
+use Rattle.world_trace.specs.declared.crossing.End.TheVariants.{Switch, Station, Controller}
+use Rattle.world_trace.specs.declared.crossing.Passage.{Passage}
+use Rattle.world_trace.specs.declared.crossing.Passage.TheVariants.{Sent, Got}
+
+-- who is at the other end of a link
+abbrev pub far_end : ℕ → End
+far_end link = if link == SWITCH_LINK then Switch else Station link
+
+-- to the controller; the end of a link is no frame
+abbrev pub up_by : Passage → ℕ → What → List Crossing
+up_by passage source (whats.Frame frame) = record {
+  passage = passage;
+  from = far_end source;
+  to = Controller;
+  frame = frame;
+} ∷ []
+up_by passage source whats.Down = []
+
+abbrev pub up : Passage → Item → List Crossing
+up passage item = up_by passage item.source item.what
+
+-- from the controller
+abbrev pub down : Passage → OutboxEntry → Crossing
+down passage entry = record {
+  passage = passage;
+  from = Controller;
+  to = far_end entry.out.to;
+  frame = entry.out.frame;
+}
+
+-- what an event takes: the controller of its inbox, and the other end of a link of its outbox
+abbrev pub got : Actors → Event → List Crossing
+got w (BaseTakes station) = map (down Got) (taken station w (BaseTakes station))
+got w SwitchTakes = map (down Got) (taken SWITCH_LINK w SwitchTakes)
+got w event = flat_map (up Got) (popped w event)
+
+-- what the controller puts on the links below a number at an event, link by link
+abbrev pub put_below : ℕ → Actors → Event → List Crossing
+put_below zero w event = []
+put_below (suc link) w event = put_below link w event ++ map (down Sent) (put link w event)
+
+-- what an event puts on links: what comes to the controller, and what it puts itself
+abbrev pub sent : Actors → Event → List Crossing
+sent w event = flat_map (up Sent) (pushed w event) ++ put_below (length w.links) w event
+
+-- all that crosses a link at an event: first what is taken
+abbrev pub crossings : Actors → Event → List Crossing
+crossings w event = got w event ++ sent w event

@@ -1,0 +1,3 @@
+pub mod Crossings
+pub mod Marks
+pub mod Causes

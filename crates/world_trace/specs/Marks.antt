@@ -1,0 +1,41 @@
+-- How long the controller's queues are, and what came behind that.
+use Rattle.std.specs.Prelude.{◌≡◌, ℕ, zero, suc, ◌<◌, List, [], ◌++◌, length, map}
+use Rattle.std.specs.Prelude.{drop}
+use Rattle.std.specs.Prelude.{slice_index}
+use Rattle.std.specs.List.{flat_map}
+use Rattle.conn_messages.specs.declared.parameters.TheConstants.{SWITCH_LINK}
+use Rattle.world_model.specs.declared.event.Event.{Event}
+use Rattle.world_model.specs.declared.event.Event.TheVariants.{BaseTakes, Handle, SwitchTakes}
+use Rattle.world_model.specs.Queues.{first_of}
+use Rattle.world_model.specs.World.{Actors, outbox_of}
+use Rattle.world_trace.specs.declared.crossing.Crossing.{Crossing}
+use Rattle.world_trace.specs.declared.crossing.Passage.TheVariants.{Sent, Got}
+use Rattle.world_trace.specs.declared.sent.Marks.{Marks}
+use Rattle.world_trace.specs.Crossings.{up, down}
+
+-- what an event would take
+abbrev pub waiting : Actors → Event → List Crossing
+waiting w Handle = flat_map (up Got) (first_of w.inbox)
+waiting w (BaseTakes station) = map (down Got) (first_of (outbox_of w station))
+waiting w SwitchTakes = map (down Got) (first_of (outbox_of w SWITCH_LINK))
+waiting w _ = []
+
+-- the marks are the lengths of the queues
+pub record AreMarks (w : Actors) (marks : Marks) : Type 0 where
+  pub inbox : marks.inbox ≡ length w.inbox
+  pub links : length marks.outboxes.items ≡ length w.links
+  pub outboxes : (link : ℕ) → link < length marks.outboxes.items
+      → slice_index marks.outboxes.items link ≡ length (outbox_of w link)
+
+-- what stands in the outboxes of the links below a number behind these marks
+abbrev pub behind_below : ℕ → List ℕ → Actors → List Crossing
+behind_below zero marks w = []
+behind_below (suc link) marks w =
+    behind_below link marks w
+    ++ map (down Sent) (drop (slice_index marks link) (outbox_of w link))
+
+-- what stands in all queues behind the marks
+abbrev pub behind : Marks → Actors → List Crossing
+behind marks w =
+    flat_map (up Sent) (drop marks.inbox w.inbox)
+    ++ behind_below (length marks.outboxes.items) marks.outboxes.items w

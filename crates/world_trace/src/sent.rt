@@ -1,0 +1,124 @@
+ghost use Rattle.std.specs.Prelude.{◌≡◌, ◌++◌, IfOk, OnOk, drop, map, option_to_list};
+ghost use Rattle.std.specs.List.{flat_map};
+ghost use Rattle.world_model.specs.Lists.{first_in};
+ghost use Rattle.world_model.specs.World.{outbox_of};
+ghost use Rattle.world_trace.specs.declared.crossing.Passage.TheVariants.{Sent};
+ghost use Rattle.world_trace.specs.Crossings.{down, up};
+ghost use Rattle.world_trace.specs.Marks.{AreMarks, behind};
+
+use crate::crossing::{Crossing, Passage};
+use octets::Memory;
+use std::alloc::Global;
+use world_actors::Network;
+
+/// How long the controller's queues are, before an event.
+#[derive(Drop)]
+pub(crate) struct Marks {
+    inbox: usize,
+    /// Of each link, the switch's first.
+    outboxes: Vec<usize>,
+}
+
+impl Marks {
+    pub(crate) fn of(alloc: Global, network: &Network) -> Result<Marks, Memory>
+        ensures { IfOk result (λ marks. AreMarks network.now marks) }
+    {
+        let mut outboxes = Vec::new(alloc);
+        for link in 0..network.link_count() {
+            outboxes.push(network.outbox_len(link))?;
+        }
+        Ok(Marks {
+            inbox: network.inbox_len(),
+            outboxes,
+        })
+    }
+
+    /// Notes what stands in the queues behind the marks.
+    pub(crate) fn note_behind(
+        &self,
+        alloc: Global,
+        network: &Network,
+        crossings: &mut Vec<Crossing>,
+    ) -> Result<(), Memory>
+        ensures { OnOk result
+            (crossings.new.items ≡ crossings.old.items ++ behind self.now network.now) }
+    {
+        note_items(alloc, network, self.inbox, crossings)?;
+        for link in 0..self.outboxes.len() {
+            note_entries(alloc, network, link, self.outboxes[link], crossings)?;
+        }
+        Ok(())
+    }
+}
+
+/// Notes the items of the inbox from a place on.
+fn note_items(
+    alloc: Global,
+    network: &Network,
+    mark: usize,
+    crossings: &mut Vec<Crossing>,
+) -> Result<(), Memory>
+    ensures { OnOk result (crossings.new.items
+        ≡ crossings.old.items ++ flat_map (up Sent) (drop mark network.now.inbox)) }
+{
+    for place in mark..network.inbox_len() {
+        note_item(alloc, network, place, crossings)?;
+    }
+    Ok(())
+}
+
+fn note_item(
+    alloc: Global,
+    network: &Network,
+    place: usize,
+    crossings: &mut Vec<Crossing>,
+) -> Result<(), Memory>
+    ensures { OnOk result (crossings.new.items ≡ crossings.old.items
+        ++ flat_map (up Sent) (option_to_list (first_in (drop place network.now.inbox)))) }
+{
+    let Some(item) = network.inbox_item(place) else {
+        return Ok(());
+    };
+    match Crossing::up(alloc, Passage::Sent, item)? {
+        Some(crossing) => {
+            crossings.push(crossing)?;
+            Ok(())
+        }
+        None => Ok(()),
+    }
+}
+
+/// Notes the frames of an outbox from a place on.
+fn note_entries(
+    alloc: Global,
+    network: &Network,
+    link: usize,
+    mark: usize,
+    crossings: &mut Vec<Crossing>,
+) -> Result<(), Memory>
+    ensures { OnOk result (crossings.new.items
+        ≡ crossings.old.items ++ map (down Sent) (drop mark (outbox_of network.now link))) }
+{
+    for place in mark..network.outbox_len(link) {
+        note_entry(alloc, network, link, place, crossings)?;
+    }
+    Ok(())
+}
+
+fn note_entry(
+    alloc: Global,
+    network: &Network,
+    link: usize,
+    place: usize,
+    crossings: &mut Vec<Crossing>,
+) -> Result<(), Memory>
+    ensures { OnOk result (crossings.new.items ≡ crossings.old.items
+        ++ map (down Sent)
+        (option_to_list (first_in (drop place (outbox_of network.now link))))) }
+{
+    let Some(entry) = network.outbox_entry(link, place) else {
+        return Ok(());
+    };
+    crossings.push(Crossing::down(alloc, Passage::Sent, entry)?)?;
+    Ok(())
+}
