@@ -1,5 +1,6 @@
 // SPDX-License-Identifier: MIT OR Apache-2.0
-ghost use Rattle.std.specs.Prelude.{◌≡◌, ◌∷◌, [], ◌++◌, drop, length, OnOk, option_map};
+ghost use Rattle.std.specs.Prelude.{◌≡◌, ◌∷◌, [], ◌++◌, drop, length, OnOk};
+ghost use Rattle.std.specs.Prelude.{option_map};
 ghost use Rattle.world_model.specs.Lists.{behind_first, first_in};
 ghost use Rattle.world_model.specs.World.{broken_link, new_link};
 

@@ -1,5 +1,6 @@
 // SPDX-License-Identifier: MIT OR Apache-2.0
-ghost use Rattle.std.specs.Prelude.{◌≡◌, ◌+◌, [], IfOk, OnOk, None, drop, length, option_map};
+ghost use Rattle.std.specs.Prelude.{◌≡◌, ◌+◌, [], IfOk, OnOk, None, drop, length};
+ghost use Rattle.std.specs.Prelude.{option_map};
 ghost use Rattle.std.specs.Prelude.{replicate};
 ghost use Rattle.bssmap_codec.specs.SccpText.{sccp_write_fault};
 ghost use Rattle.controller_model.specs.Controller.{new_controller};

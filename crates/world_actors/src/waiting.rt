@@ -1,3 +1,4 @@
+// SPDX-License-Identifier: MIT OR Apache-2.0
 ghost use Rattle.std.specs.Prelude.{◌≡◌, drop, length, option_map};
 ghost use Rattle.world_model.specs.Lists.{first_in};
 ghost use Rattle.world_model.specs.World.{outbox_of};

@@ -1,3 +1,4 @@
+-- SPDX-License-Identifier: MIT OR Apache-2.0
 -- What crosses the links at the first events of a mobile, and why events aren't taken.
 use Rattle.std.proofs.Common.{◌≡◌, [], ◌∷◌, map, Some, None, true, refl}
 use Rattle.octets.proofs.Hex.{hex}

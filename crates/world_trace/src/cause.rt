@@ -1,3 +1,4 @@
+// SPDX-License-Identifier: MIT OR Apache-2.0
 ghost use Rattle.std.specs.Prelude.{◌≡◌, if◌then◌else◌};
 ghost use Rattle.msc_end.specs.Switch.{connection_of};
 ghost use Rattle.world_model.specs.declared.event.Event.TheVariants.{SwitchTakes};

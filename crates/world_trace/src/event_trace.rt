@@ -1,3 +1,4 @@
+// SPDX-License-Identifier: MIT OR Apache-2.0
 ghost use Rattle.std.specs.Prelude.{◌≡◌, IfOk, OnOk, None, Some, if◌then◌else◌};
 ghost use Rattle.world_model.specs.Life.{actors_after};
 ghost use Rattle.world_trace.specs.Causes.{cause, refusal};

@@ -1,3 +1,4 @@
+// SPDX-License-Identifier: MIT OR Apache-2.0
 ghost use Rattle.std.specs.Prelude.{◌≡◌, [], IfOk, if◌then◌else◌, map, option_to_list};
 ghost use Rattle.std.specs.List.{flat_map};
 ghost use Rattle.world_model.specs.Queues.{first_of};

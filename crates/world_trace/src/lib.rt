@@ -1,3 +1,4 @@
+// SPDX-License-Identifier: MIT OR Apache-2.0
 //! What crosses the links of the controller in a world, event by event: the frames that are put on
 //! a link, and those that are taken from one; and why an event isn't taken.
 #![tactic(auto)]

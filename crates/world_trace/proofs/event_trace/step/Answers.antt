@@ -1,3 +1,4 @@
+-- SPDX-License-Identifier: MIT OR Apache-2.0
 use Rattle.std.proofs.Common.{option_to_list}
 use Rattle.world_trace.proofs.Crosses.{crossings_are}
 use Rattle.world_trace.proofs.event_trace.step.Goals as goal

@@ -1,3 +1,4 @@
+-- SPDX-License-Identifier: MIT OR Apache-2.0
 use Rattle.world_model.specs.World.{outbox_of}
 use Rattle.world_trace.proofs.Noting.{entries_more}
 use Rattle.world_trace.proofs.sent.note_entries.Goals as goal

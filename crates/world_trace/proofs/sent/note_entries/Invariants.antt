@@ -1,3 +1,4 @@
+-- SPDX-License-Identifier: MIT OR Apache-2.0
 use Rattle.std.proofs.Common.{◌≡◌, ◌++◌, drop, map}
 use Rattle.world_model.specs.World.{outbox_of}
 use Rattle.world_trace.specs.declared.crossing.Passage.TheVariants.{Sent}

@@ -1,3 +1,4 @@
+-- SPDX-License-Identifier: MIT OR Apache-2.0
 use Rattle.world_trace.proofs.Noting.{items_more}
 use Rattle.world_trace.proofs.sent.note_items.Goals as goal
 

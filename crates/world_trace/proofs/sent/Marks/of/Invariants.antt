@@ -1,3 +1,4 @@
+-- SPDX-License-Identifier: MIT OR Apache-2.0
 use Rattle.world_trace.proofs.Noting.{MarksBelow}
 use Rattle.world_trace.proofs.sent.Marks.of.Given as goal
 
