@@ -12,8 +12,10 @@
 static long calls;
 static long live;
 static long refused;
+static int has_ended; /* what is written of the program at its end wants memory too, and isn't refused it */
 
 static int refuses(void) {
+  if (has_ended) return 0;
   if (refused == 0) {
     const char *text = getenv("REFUSE");
     refused = text ? atol(text) : -1;
@@ -70,6 +72,7 @@ static void tell(const char *variable, long count) {
 __attribute__((destructor)) static void tell_all(void) {
   long left = live;
   long all = calls;
+  has_ended = 1;
   tell("LIVE", left);
   tell("CALLS", all);
 }
