@@ -24,8 +24,9 @@ use std::thread::Threads;
 /// outbox was full 1,000 times in a row. A gate may refuse an item `limit` times in a row.
 ///
 /// There is one list of steps of the controller. Of each link its items in that list are the frames
-/// that were read, then `Down`, but for a `Down` that was added where the outbox was given up; and
-/// what was written are the octets of the frames that the controller put for it.
+/// that were read, then `Down`, but for a `Down` that was added where the outbox was given up, as the
+/// next step; and what was written are the octets of the frames that the controller put for it, of an
+/// outbox that was given up those before the frame that it refused.
 ///
 /// `Memory`: there was none for a queue or in a step of the controller, or a thread couldn't be
 /// had; in that last case none begins. The links are let go.
