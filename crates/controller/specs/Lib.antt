@@ -1,4 +1,5 @@
 pub mod Doing
+pub mod Laws
 pub mod Many
 pub mod Offers
 pub mod Reporting

@@ -7,7 +7,7 @@ pub use conn_messages::{Out, Outputs};
 pub use controller::Controller;
 pub use controller_model::{Forwarded, Item, Step, What};
 pub use controller_parts::{forwarded, handed};
-pub use life::run;
+pub use life::{lives_keep_laws, run};
 pub use settings::{Settings, SettingsFault};
 
 mod access;

@@ -10,4 +10,3 @@ mod Lists
 mod CrewRows
 mod Octets
 mod OctetRows
-mod Keeping

@@ -27,7 +27,7 @@ use Rattle.ruled_relay.specs.declared.item.Item.{Item}
 use Rattle.ruled_relay.specs.declared.item.What.{What}
 use Rattle.ruled_relay.specs.declared.item.What.TheVariants as whats
 use Rattle.settings.specs.Parameters.{AreAllowed, Parameters}
-use Rattle.station_io.proofs.Keeping.{new_keeps_laws}
+use Rattle.controller.proofs.LifeLaws.{new_keeps_laws}
 use Rattle.station_io.specs.Links.{Ended, HasCarried, LinkView, Relays, Writes, fault_of}
 use Rattle.station_io.specs.Octets.{Came, Next, Passes, PassesOctets, TakesWhole, behind, came_in, ended_behind, first_frames, first_step, frames_in, from_front, item_of, items_in, merged, octets_put, order_of, time}
 
