@@ -1,4 +1,5 @@
 pub mod Faults
+pub mod Gates
 pub mod Unread
 pub mod Reading
 pub mod Writing
