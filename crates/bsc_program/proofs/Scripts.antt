@@ -298,6 +298,13 @@ refuses_unread most start end old new (Endless reads) number reading is = absurd
 refuses_unread most start end old new (Device error) number reading is = absurd (no_bad_event (error_kind error) number is)
 refuses_unread most start end old new (Refused failure) number reading is = (reading.0, reading.1, reading.2 number is)
 
+-- the same of a sink that reads a script and does more
+pub refused_unread : {S : Type 0} (takes : S → List ℕ → S → Type 0) (refuses : S → List ℕ → S → Failure → Type 0) (most : ℕ) (start end : Option (List ℕ)) (old new : S) (unread : Unread Failure) (number : ℕ)
+    → ReadsInput takes refuses most start end old new (Err unread) → failure_unread unread ≡ failures.BadEvent number → (octets : List ℕ) × (failure : Failure) × Consumes start end octets × refuses old octets new failure × (failure ≡ failures.BadEvent number)
+refused_unread takes refuses most start end old new (Endless reads) number reading is = absurd cc
+refused_unread takes refuses most start end old new (Device error) number reading is = absurd (no_bad_event (error_kind error) number is)
+refused_unread takes refuses most start end old new (Refused failure) number reading is = (reading.0, failure, reading.1, reading.2, is)
+
 -- ---- a line
 
 neither : (event : Event) (fault : LineFault) → fault ≡ BadEvent → ((let r : Result Event LineFault = Err fault in r) ≡ Ok event) ⊎ ((let r : Result Event LineFault = Err fault in r) ≡ Err Memory) → ⊥

@@ -90,3 +90,18 @@ refuses_behind old mid first second number some refuses = record {
       ∙ ap (λ (k : ℕ). line_count (k + 1)) (add_assoc n (length some.lines) (length refuses.lines)
       ∙ ap (λ (k : ℕ). n + k) (sym (length-append some.lines refuses.lines)));
 }
+
+-- ---- the same, where the octets are kept
+
+pub keeps_nothing : (script : Script) (kept : List ℕ)
+    → Reads script script [] × (kept ≡ kept ++ [])
+keeps_nothing script kept = (reads_nothing script, sym (append-nil kept))
+
+pub keeps_both : (old mid new : Script) (kept more all first second : List ℕ)
+    → Reads old mid first × (more ≡ kept ++ first)
+    → Reads mid new second × (all ≡ more ++ second)
+    → Reads old new (first ++ second) × (all ≡ kept ++ (first ++ second))
+keeps_both old mid new kept more all first second some then = (
+  reads_both old mid new first second some.0 then.0,
+  then.1 ∙ ap (λ (xs : List ℕ). xs ++ second) some.1 ∙ append_assoc kept first second,
+)

@@ -14,22 +14,22 @@ use std::{mem, str};
 use world::Event;
 
 /// The octets that one read asks for.
-const BLOCK: usize = 65536;
+pub(crate) const BLOCK: usize = 65536;
 
 /// The events of a script, which is read in blocks that end anywhere.
 #[derive(Drop)]
-struct Script {
+pub(crate) struct Script {
     alloc: Global,
-    cells: u16,
-    events: Vec<Event>,
+    pub(crate) cells: u16,
+    pub(crate) events: Vec<Event>,
     /// The beginning of a line whose end hasn't come.
-    started: Vec<u8>,
+    pub(crate) started: Vec<u8>,
     /// How many lines were read.
-    lines: u64,
+    pub(crate) lines: u64,
 }
 
 impl Script {
-    fn new(alloc: Global, cells: u16) -> Script
+    pub(crate) fn new(alloc: Global, cells: u16) -> Script
         ensures cells { result.cells ≡ cells }
         ensures events { result.events.items ≡ [] }
         ensures started { result.started.items ≡ [] }
@@ -82,7 +82,7 @@ impl Script {
     }
 
     /// The events of the whole script. Its last line may lack its line feed.
-    fn finish(mut self) -> Result<Vec<Event>, Failure>
+    pub(crate) fn finish(mut self) -> Result<Vec<Event>, Failure>
         ensures ok { IfOk result (λ events. Finishes self events.items) }
         ensures bad { (n : ℕ) → result ≡ Err (BadEvent n) →
             (self.started.items ≢ []) × RefusesLine self self.started.items n }

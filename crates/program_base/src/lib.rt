@@ -11,6 +11,7 @@ pub use failure::Failure;
 pub use fault::ProgramFault;
 pub use input::{MOST_READS, Sink, Unread, read_all, room_for};
 pub use line_fault::LineFault;
+pub use names::frame_name;
 pub use output::put;
 pub use parsing::task;
 pub use read_count::ReadCount;

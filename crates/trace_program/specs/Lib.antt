@@ -1,0 +1,2 @@
+pub mod TraceLines
+pub mod Traced

@@ -1,0 +1,63 @@
+-- The lines of a trace. Each has six columns, which a tab parts: the number of the event, from
+-- whom, to whom, the name, what else is said, and octets in hexadecimal digits.
+use Rattle.std.specs.Prelude.{ℕ, List, [], ◌++◌, codes, decimal, Option, Some, None}
+use Rattle.std.specs.List.{flat_map}
+use Rattle.hex.specs.Hex.{encode_lower}
+use Rattle.world_trace.specs.declared.cause.Cause.{Cause}
+use Rattle.world_trace.specs.declared.cause.Cause.TheVariants as causes
+use Rattle.world_trace.specs.declared.crossing.Crossing.{Crossing}
+use Rattle.world_trace.specs.declared.crossing.End.{End}
+use Rattle.world_trace.specs.declared.crossing.End.TheVariants.{Switch, Station, Controller}
+use Rattle.world_trace.specs.declared.crossing.Passage.{Passage}
+use Rattle.world_trace.specs.declared.crossing.Passage.TheVariants.{Sent, Got}
+use Rattle.program_base.specs.Names.{name_of}
+
+abbrev pub end_text : End → List ℕ
+end_text Switch = codes "switch"
+end_text (Station number) = codes "station " ++ decimal number
+end_text Controller = codes "bsc"
+
+abbrev pub passage_text : Passage → List ℕ
+passage_text Sent = codes "sent"
+passage_text Got = codes "got"
+
+abbrev pub cause_text : Cause → List ℕ
+cause_text causes.NoMobile = codes "no such mobile"
+cause_text causes.MobileKnown = codes "the mobile connected before"
+cause_text causes.NotOnChannel = codes "the mobile isn't on a channel"
+cause_text causes.NotBetween = codes "the mobile isn't between two channels"
+cause_text causes.ChannelGone = codes "the channel was released"
+cause_text causes.LinkDown = codes "the link is down"
+cause_text causes.NothingInAir = codes "nothing new in the air"
+cause_text causes.FrameNotTaken = codes "the station hasn't taken the frame"
+cause_text causes.NoCommand = codes "no command to change the channel"
+cause_text causes.NoHandover = codes "the command is no handover"
+cause_text causes.BadMessage = codes "no lawful message"
+cause_text causes.OutboxEmpty = codes "the outbox is empty"
+cause_text causes.TenuresSpent = codes "the channel had its last tenure"
+cause_text causes.NothingMade = codes "nothing was made"
+cause_text causes.InboxEmpty = codes "the inbox is empty"
+cause_text causes.NoConnection = codes "no such connection"
+cause_text causes.ConnectionClosed = codes "the connection is clearing or ended"
+
+-- an event: its line in the script, and whether it was taken
+abbrev pub outcome_text : Option Cause → List ℕ
+outcome_text None = codes "taken"
+outcome_text (Some cause) = codes "not taken: " ++ cause_text cause
+
+abbrev pub event_line : ℕ → List ℕ → Option Cause → List ℕ
+event_line number line refusal =
+    decimal number ++ codes "\tscript\tworld\t" ++ line ++ codes "\t" ++ outcome_text refusal
+    ++ codes "\t\n"
+
+-- a frame
+abbrev pub crossing_line : ℕ → Crossing → List ℕ
+crossing_line number crossing =
+    decimal number ++ codes "\t" ++ end_text crossing.from ++ codes "\t" ++ end_text crossing.to
+    ++ codes "\t" ++ name_of crossing.frame ++ codes "\t" ++ passage_text crossing.passage
+    ++ codes "\t" ++ encode_lower crossing.frame.body ++ codes "\n"
+
+-- an event and the frames that crossed a link at it
+abbrev pub event_lines : ℕ → List ℕ → Option Cause → List Crossing → List ℕ
+event_lines number line refusal crossings =
+    event_line number line refusal ++ flat_map (crossing_line number) crossings

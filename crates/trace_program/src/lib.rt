@@ -1,0 +1,8 @@
+//! `bsc trace`: what crosses the links of the controller in a script, as lines of text.
+#![tactic(auto)]
+
+pub use run::{Tally, write_trace};
+
+mod lines;
+mod run;
+mod words;
