@@ -1,3 +1,4 @@
+-- SPDX-License-Identifier: MIT OR Apache-2.0
 -- The lines of a trace. Each has six columns, which a tab parts: the number of the event, from
 -- whom, to whom, the name, what else is said, and octets in hexadecimal digits.
 use Rattle.std.specs.Prelude.{ℕ, List, [], ◌++◌, codes, decimal, Option, Some, None}

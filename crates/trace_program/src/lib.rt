@@ -1,3 +1,4 @@
+// SPDX-License-Identifier: MIT OR Apache-2.0
 //! `bsc trace`: what crosses the links of the controller in a script, as lines of text.
 #![tactic(auto)]
 

@@ -1,3 +1,4 @@
+-- SPDX-License-Identifier: MIT OR Apache-2.0
 use Rattle.std.proofs.KnownBytes.{Appends-nil}
 use Rattle.trace_program.proofs.Tracing.{crossings_all, crossings_more}
 use Rattle.trace_program.proofs.lines.write_crossings.Goals as goal

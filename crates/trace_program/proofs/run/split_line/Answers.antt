@@ -1,3 +1,4 @@
+-- SPDX-License-Identifier: MIT OR Apache-2.0
 use Rattle.trace_program.proofs.Tracing.{line_found, no_line}
 use Rattle.trace_program.proofs.run.split_line.Goals as goal
 

@@ -1,3 +1,4 @@
+-- SPDX-License-Identifier: MIT OR Apache-2.0
 use Rattle.std.proofs.Common.{◌≡◌, ◌+◌, ◌<◌, drop}
 use Rattle.trace_program.specs.declared.run.Tally.{Tally}
 use Rattle.trace_program.specs.Traced.{tally_of}
