@@ -10,6 +10,7 @@ pub mod Decoded
 pub mod NamingLaws
 pub mod WordStatus
 pub mod CommandLine
+pub mod ToolLine
 pub mod WordsLeft
 pub mod Words
 pub mod Script

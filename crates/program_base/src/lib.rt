@@ -5,7 +5,7 @@
 //! lines of scripts, which name the events of a world.
 #![tactic(auto)]
 
-pub use arguments::asked;
+pub use arguments::{Asked, asked};
 pub use decode_command::decode;
 pub use failure::Failure;
 pub use fault::ProgramFault;
@@ -17,6 +17,7 @@ pub use parsing::task;
 pub use read_count::ReadCount;
 pub use script::read_line;
 pub use settings_file::{read_settings, settings_text};
+pub use tool::{Tool, tool};
 pub use value::read_source;
 pub use words::{Task, TaskFault};
 
@@ -35,5 +36,6 @@ mod parsing;
 mod read_count;
 mod script;
 mod settings_file;
+mod tool;
 mod value;
 mod words;

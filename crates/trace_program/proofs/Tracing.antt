@@ -54,7 +54,8 @@ line_by (x ∷ xs) (suc n) less none feed =
 pub line_found : (xs : List ℕ) (n : ℕ) → IsFirstByte (is_byte 10) xs (Some n) → (take n xs ≡ line_of xs) × (drop (n + 1) xs ≡ behind_line xs)
 line_found xs n found =
     let is = line_by xs n found.0.high (λ k lt feed. found.0.before k (omega arith) lt (eq-eqb (get_or xs k 0) 10 feed)) (eqb-true (get_or xs n 0) 10 found.1) in
-    is
+    let next : suc n ≡ n + 1 = omega arith in
+    (is.0, subst (λ (k : ℕ). drop k xs ≡ behind_line xs) next is.1)
 
 no_line_by : (xs : List ℕ) → ((k : ℕ) → k < length xs → get_or xs k 0 ≢ 10) → (xs ≡ line_of xs) × ([] ≡ behind_line xs)
 no_line_by [] none = (refl, refl)

@@ -3,6 +3,7 @@
 -- whom, to whom, the name, what else is said, and octets in hexadecimal digits.
 use Rattle.std.specs.Prelude.{ℕ, List, [], ◌++◌, codes, decimal, Option, Some, None}
 use Rattle.std.specs.List.{flat_map}
+use Rattle.ipa_framing.specs.declared.frame.Frame.{Frame}
 use Rattle.hex.specs.Hex.{encode_lower}
 use Rattle.world_trace.specs.declared.cause.Cause.{Cause}
 use Rattle.world_trace.specs.declared.cause.Cause.TheVariants as causes
@@ -51,12 +52,20 @@ event_line number line refusal =
     decimal number ++ codes "\tscript\tworld\t" ++ line ++ codes "\t" ++ outcome_text refusal
     ++ codes "\t\n"
 
--- a frame
+-- the columns of the ends of a link, from which to which
+abbrev pub ends_text : End → End → List ℕ
+ends_text from to = end_text from ++ codes "\t" ++ end_text to ++ codes "\t"
+
+-- a frame: its name, what else is said of it, and the octets of its body
+abbrev pub frame_text : Passage → Frame → List ℕ
+frame_text passage frame =
+    name_of frame ++ codes "\t" ++ passage_text passage ++ codes "\t" ++ encode_lower frame.body
+    ++ codes "\n"
+
 abbrev pub crossing_line : ℕ → Crossing → List ℕ
 crossing_line number crossing =
-    decimal number ++ codes "\t" ++ end_text crossing.from ++ codes "\t" ++ end_text crossing.to
-    ++ codes "\t" ++ name_of crossing.frame ++ codes "\t" ++ passage_text crossing.passage
-    ++ codes "\t" ++ encode_lower crossing.frame.body ++ codes "\n"
+    decimal number ++ codes "\t" ++ ends_text crossing.from crossing.to
+    ++ frame_text crossing.passage crossing.frame
 
 -- an event and the frames that crossed a link at it
 abbrev pub event_lines : ℕ → List ℕ → Option Cause → List Crossing → List ℕ

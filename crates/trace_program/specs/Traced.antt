@@ -27,6 +27,9 @@ trace_text w number octets (event ∷ events) =
     ++ trace_text (actors_after w event) (number + 1) (behind_line octets) events
 
 -- how many events weren't taken, and the number of the first of them
+abbrev pub no_tally : Tally
+no_tally = record { not_taken = 0; first = 0 }
+
 abbrev pub counted : Option Cause → ℕ → Tally → Tally
 counted None number tally = tally
 counted (Some cause) number tally = record {

@@ -1,16 +1,19 @@
 // SPDX-License-Identifier: MIT OR Apache-2.0
-ghost use Rattle.std.specs.Prelude.{◌≡◌, ◌++◌, OnOk, codes, decimal};
+ghost use Rattle.std.specs.Prelude.{◌≡◌, ◌++◌, IfErr, OnOk, codes, decimal};
 ghost use Rattle.std.specs.List.{flat_map};
 ghost use Rattle.std.specs.Io.KnownBytes.{Appends};
-ghost use Rattle.trace_program.specs.TraceLines.{crossing_line, end_text, event_line};
-ghost use Rattle.trace_program.specs.TraceLines.{event_lines, outcome_text};
+ghost use Rattle.program_base.specs.Status.{status_of};
+ghost use Rattle.hex.specs.Hex.{encode_lower};
+ghost use Rattle.trace_program.specs.TraceLines.{crossing_line, end_text, ends_text, event_line};
+ghost use Rattle.trace_program.specs.TraceLines.{event_lines, frame_text, outcome_text};
 
 use crate::words::{cause_text, passage_text};
+use ipa_framing::Frame;
 use octets::Memory;
 use program_base::{Failure, frame_name, put};
 use std::alloc::Global;
 use std::io::Write;
-use world_trace::{Cause, Crossing, End, EventTrace};
+use world_trace::{Cause, Crossing, End, EventTrace, Passage};
 
 /// Writes the line of an event, and a line for each frame that crossed a link at it.
 pub(crate) fn write_event<W: Write>(
@@ -20,8 +23,9 @@ pub(crate) fn write_event<W: Write>(
     trace: &EventTrace,
     output: &mut W,
 ) -> Result<(), Failure>
-    ensures { OnOk result (Appends (W.contents output.old) (W.contents output.new)
+    ensures text { OnOk result (Appends (W.contents output.old) (W.contents output.new)
         (event_lines number line.now trace.now.refusal trace.now.crossings.items)) }
+    ensures err { IfErr result (λ failure. status_of failure ≡ 3) }
 {
     write_event_line(number, line, trace.refusal, output)?;
     write_crossings(alloc, number, trace.crossings.as_slice(), output)
@@ -33,8 +37,9 @@ fn write_event_line<W: Write>(
     refusal: Option<Cause>,
     output: &mut W,
 ) -> Result<(), Failure>
-    ensures { OnOk result (Appends (W.contents output.old) (W.contents output.new)
+    ensures text { OnOk result (Appends (W.contents output.old) (W.contents output.new)
         (event_line number line.now refusal)) }
+    ensures err { IfErr result (λ failure. status_of failure ≡ 3) }
 {
     write!(output, "{number}\tscript\tworld\t")?;
     put(output, line)?;
@@ -43,8 +48,9 @@ fn write_event_line<W: Write>(
 
 /// Writes whether an event was taken, behind its line.
 fn write_outcome<W: Write>(refusal: Option<Cause>, output: &mut W) -> Result<(), Failure>
-    ensures { OnOk result (Appends (W.contents output.old) (W.contents output.new)
+    ensures text { OnOk result (Appends (W.contents output.old) (W.contents output.new)
         (codes "\t" ++ outcome_text refusal ++ codes "\t\n")) }
+    ensures err { IfErr result (λ failure. status_of failure ≡ 3) }
 {
     match refusal {
         None => writeln!(output, "\ttaken\t")?,
@@ -59,8 +65,9 @@ fn write_crossings<W: Write>(
     crossings: &[Crossing],
     output: &mut W,
 ) -> Result<(), Failure>
-    ensures { OnOk result (Appends (W.contents output.old) (W.contents output.new)
+    ensures text { OnOk result (Appends (W.contents output.old) (W.contents output.new)
         (flat_map (crossing_line number) crossings.now)) }
+    ensures err { IfErr result (λ failure. status_of failure ≡ 3) }
 {
     for crossing in crossings {
         write_crossing(alloc, number, crossing, output)?;
@@ -74,24 +81,62 @@ fn write_crossing<W: Write>(
     crossing: &Crossing,
     output: &mut W,
 ) -> Result<(), Failure>
-    ensures { OnOk result (Appends (W.contents output.old) (W.contents output.new)
+    ensures text { OnOk result (Appends (W.contents output.old) (W.contents output.new)
         (crossing_line number crossing.now)) }
+    ensures err { IfErr result (λ failure. status_of failure ≡ 3) }
 {
-    let name = frame_name(alloc, &crossing.frame)?;
-    let body = crossing.frame.body.as_slice();
-    let digits = hex::encode(alloc, body).map_err(Memory::from)?;
-    let passage = passage_text(crossing.passage);
     write!(output, "{number}\t")?;
-    write_end(crossing.from, output)?;
-    write!(output, "\t")?;
-    write_end(crossing.to, output)?;
-    writeln!(output, "\t{name}\t{passage}\t{digits}")?;
+    write_ends(crossing.from, crossing.to, output)?;
+    write_frame(alloc, crossing.passage, &crossing.frame, output)
+}
+
+/// Writes the columns of the ends of a link, from which to which.
+fn write_ends<W: Write>(from: End, to: End, output: &mut W) -> Result<(), Failure>
+    ensures text { OnOk result (Appends (W.contents output.old) (W.contents output.new)
+        (ends_text from to)) }
+    ensures err { IfErr result (λ failure. status_of failure ≡ 3) }
+{
+    write_end(from, output)?;
+    put(output, b"\t")?;
+    write_end(to, output)?;
+    put(output, b"\t")?;
+    Ok(())
+}
+
+/// Writes the name of a frame, what else is said of it, and the octets of its body.
+fn write_frame<W: Write>(
+    alloc: Global,
+    passage: Passage,
+    frame: &Frame,
+    output: &mut W,
+) -> Result<(), Failure>
+    ensures text { OnOk result (Appends (W.contents output.old) (W.contents output.new)
+        (frame_text passage frame.now)) }
+    ensures err { IfErr result (λ failure. status_of failure ≡ 3) }
+{
+    let name = frame_name(alloc, frame)?;
+    let fields = passage_text(passage);
+    write!(output, "{name}\t{fields}\t")?;
+    write_digits(alloc, frame.body.as_slice(), output)?;
+    put(output, b"\n")?;
+    Ok(())
+}
+
+/// Writes octets in hexadecimal digits.
+fn write_digits<W: Write>(alloc: Global, octets: &[u8], output: &mut W) -> Result<(), Failure>
+    ensures text { OnOk result (Appends (W.contents output.old) (W.contents output.new)
+        (encode_lower octets.now)) }
+    ensures err { IfErr result (λ failure. status_of failure ≡ 3) }
+{
+    let digits = hex::encode(alloc, octets).map_err(Memory::from)?;
+    put(output, digits.as_bytes())?;
     Ok(())
 }
 
 fn write_end<W: Write>(end: End, output: &mut W) -> Result<(), Failure>
-    ensures { OnOk result (Appends (W.contents output.old) (W.contents output.new)
+    ensures text { OnOk result (Appends (W.contents output.old) (W.contents output.new)
         (end_text end)) }
+    ensures err { IfErr result (λ failure. status_of failure ≡ 3) }
 {
     match end {
         End::Switch => write!(output, "switch")?,

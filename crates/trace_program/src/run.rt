@@ -1,7 +1,9 @@
 // SPDX-License-Identifier: MIT OR Apache-2.0
-ghost use Rattle.std.specs.Prelude.{◌≡◌, ◌+◌, ◌<◌, ◌^◌, IfOk, OnOk, length};
+ghost use Rattle.std.specs.Prelude.{◌≡◌, ◌+◌, ◌<◌, ◌^◌, IfErr, IfOk, OnOk, length};
 ghost use Rattle.std.specs.Io.KnownBytes.{Appends};
-ghost use Rattle.trace_program.specs.Traced.{behind_line, counted, line_of, tally_of, trace_text};
+ghost use Rattle.program_base.specs.Status.{status_of};
+ghost use Rattle.trace_program.specs.Traced.{behind_line, counted, line_of, no_tally, tally_of};
+ghost use Rattle.trace_program.specs.Traced.{trace_text};
 
 use crate::lines::write_event;
 use memchr::memchr;
@@ -31,7 +33,8 @@ pub fn write_trace<W: Write>(
     ensures text { OnOk result (Appends (W.contents output.old) (W.contents output.new)
         (trace_text network.old 1 script.now events.now)) }
     ensures tally { IfOk result (λ tally.
-        tally ≡ tally_of network.old 1 events.now (record { not_taken = 0; first = 0 })) }
+        tally ≡ tally_of network.old 1 events.now no_tally) }
+    ensures err { IfErr result (λ failure. status_of failure ≡ 3) }
 {
     let mut tally = Tally {
         not_taken: 0,
