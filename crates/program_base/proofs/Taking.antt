@@ -8,7 +8,7 @@ use Rattle.std.specs.Prelude.{Bool, String, codes, string_bytes}
 use Rattle.std.specs.declared.alloc.Global.{Global}
 use Rattle.program_base.specs.CommandLine.{IsTask}
 use Rattle.program_base.specs.ToolLine.{IsTrace}
-use Rattle.program_base.specs.declared.tool.Tool.TheVariants.{Trace}
+use Rattle.program_base.specs.declared.words.Tool.TheVariants.{Trace}
 use Rattle.program_base.specs.declared.words.Task.{Task}
 use Rattle.program_base.specs.declared.words.Task.TheVariants.{Run, Replay, Decode}
 use Rattle.clap.specs.declared.error.Error.{Error}

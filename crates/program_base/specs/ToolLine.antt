@@ -7,8 +7,8 @@ use Rattle.clap.specs.Words.{App, Row, Rule, Text, fault_of, first_of, matches_o
 use Rattle.clap.specs.Words.{with_rule}
 use Rattle.clap.specs.declared.builder.action.ArgAction.TheVariants.{SetTrue}
 use Rattle.program_base.specs.CommandLine.{required_config}
-use Rattle.program_base.specs.declared.tool.Tool.{Tool}
-use Rattle.program_base.specs.declared.tool.Tool.TheVariants.{Trace}
+use Rattle.program_base.specs.declared.words.Tool.{Tool}
+use Rattle.program_base.specs.declared.words.Tool.TheVariants.{Trace}
 
 -- `--strict`
 abbrev pub strict_flag : Rule

@@ -1,20 +1,13 @@
 // SPDX-License-Identifier: MIT OR Apache-2.0
 use crate::no_task::NoTask;
 use crate::parsing::found_task;
-use crate::tool::{Tool, behind_trace, found_trace};
-use crate::words::{Task, TaskFault};
+use crate::tools::{behind_trace, found_trace};
+use crate::words::{Asked, TaskFault};
 use clap::Error;
 use std::alloc::Global;
 use std::env;
 use std::io::ErrorKind;
 use std::rt::Runtime;
-
-/// What the words behind the program's name ask for.
-#[derive(Drop)]
-pub enum Asked {
-    Task(Task),
-    Tool(Tool),
-}
 
 /// Reads what the words behind the program's name ask for: a tool, where the first is the name of
 /// one, else a task. A word that isn't UTF-8 is a fault of words.

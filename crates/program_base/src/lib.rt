@@ -5,7 +5,7 @@
 //! lines of scripts, which name the events of a world.
 #![tactic(auto)]
 
-pub use arguments::{Asked, asked};
+pub use arguments::asked;
 pub use decode_command::decode;
 pub use failure::Failure;
 pub use fault::ProgramFault;
@@ -17,9 +17,9 @@ pub use parsing::task;
 pub use read_count::ReadCount;
 pub use script::read_line;
 pub use settings_file::{read_settings, settings_text};
-pub use tool::{Tool, tool};
+pub use tools::tool;
 pub use value::read_source;
-pub use words::{Task, TaskFault};
+pub use words::{Asked, Task, TaskFault, Tool};
 
 mod arguments;
 mod decode_command;
@@ -36,6 +36,6 @@ mod parsing;
 mod read_count;
 mod script;
 mod settings_file;
-mod tool;
+mod tools;
 mod value;
 mod words;

@@ -12,7 +12,7 @@ use Rattle.world_trace.specs.declared.crossing.End.{End}
 use Rattle.world_trace.specs.declared.crossing.End.TheVariants.{Switch, Station, Controller}
 use Rattle.world_trace.specs.declared.crossing.Passage.{Passage}
 use Rattle.world_trace.specs.declared.crossing.Passage.TheVariants.{Sent, Got}
-use Rattle.program_base.specs.Names.{name_of}
+use Rattle.frame_words.specs.MessageName.{message_name}
 
 abbrev pub end_text : End → List ℕ
 end_text Switch = codes "switch"
@@ -59,8 +59,8 @@ ends_text from to = end_text from ++ codes "\t" ++ end_text to ++ codes "\t"
 -- a frame: its name, what else is said of it, and the octets of its body
 abbrev pub frame_text : Passage → Frame → List ℕ
 frame_text passage frame =
-    name_of frame ++ codes "\t" ++ passage_text passage ++ codes "\t" ++ encode_lower frame.body
-    ++ codes "\n"
+    message_name frame ++ (codes "\t" ++ passage_text passage ++ codes "\t")
+    ++ encode_lower frame.body ++ codes "\n"
 
 abbrev pub crossing_line : ℕ → Crossing → List ℕ
 crossing_line number crossing =

@@ -1,9 +1,13 @@
 -- SPDX-License-Identifier: MIT OR Apache-2.0
 -- The trace of a script.
-use Rattle.std.specs.Prelude.{ℕ, ◌+◌, ◌==◌, if◌then◌else◌, List, [], ◌∷◌, ◌++◌, Option, Some, None}
+use Rattle.std.specs.Prelude.{◌≡◌, ℕ, ◌+◌, ◌==◌, ◌&&◌, Bool, not, if◌then◌else◌, IfSome, length}
+use Rattle.std.specs.Prelude.{List, [], ◌∷◌, ◌++◌, Option, Some, None}
+use Rattle.std.specs.Io.KnownBytes.{Appends}
+use Rattle.bsc_program.specs.Script.{IsScript}
+use Rattle.settings.specs.Parameters.{Parameters}
 use Rattle.world_model.specs.declared.event.Event.{Event}
 use Rattle.world_model.specs.Life.{actors_after}
-use Rattle.world_model.specs.World.{Actors}
+use Rattle.world_model.specs.World.{Actors, new_actors}
 use Rattle.world_trace.specs.declared.cause.Cause.{Cause}
 use Rattle.world_trace.specs.Causes.{refusal}
 use Rattle.world_trace.specs.Crossings.{crossings}
@@ -41,3 +45,16 @@ abbrev pub tally_of : Actors → ℕ → List Event → Tally → Tally
 tally_of w number [] tally = tally
 tally_of w number (event ∷ events) tally =
     tally_of (actors_after w event) (number + 1) events (counted (refusal w event) number tally)
+
+-- 4 where an event wasn't taken and each is to be
+abbrev pub status_of_tally : Bool → Tally → ℕ
+status_of_tally strict tally = if strict && not (tally.not_taken == 0) then 4 else 0
+
+-- Known contents grew by the trace of a known script in the world of these settings, of whose
+-- events the tally says how many weren't taken.
+abbrev pub Traces : Parameters → Tally → Option (List ℕ) → Option (List ℕ) → Option (List ℕ)
+    → Type 0
+Traces settings tally start old new = IfSome start (λ octets.
+    (events : List Event) × IsScript (length settings.cells) octets events
+    × Appends old new (trace_text (new_actors settings) 1 octets events)
+    × (tally ≡ tally_of (new_actors settings) 1 events no_tally))

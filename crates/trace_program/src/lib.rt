@@ -3,7 +3,9 @@
 #![tactic(auto)]
 
 pub use run::{Tally, write_trace};
+pub use trace_command::trace;
 
 mod lines;
 mod run;
+mod trace_command;
 mod words;

@@ -6,7 +6,7 @@ use Rattle.clap.specs.declared.builder.arg.Arg.{Arg}
 use Rattle.program_base.specs.CommandLine.{config, required_config}
 use Rattle.program_base.specs.ToolLine.{strict_flag, trace_program}
 use Rattle.program_base.proofs.Commanding.{app_with_rule, rule_as_required}
-use Rattle.program_base.proofs.tool.trace_command.Goals as goal
+use Rattle.program_base.proofs.tools.trace_command.Goals as goal
 
 pub returns : goal.returns
 returns c =

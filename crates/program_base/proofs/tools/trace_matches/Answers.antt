@@ -4,7 +4,7 @@ use Rattle.clap.specs.Words.{app_of, is_simple_and_free}
 use Rattle.program_base.specs.CommandLine.{texts}
 use Rattle.program_base.specs.ToolLine.{trace_command}
 use Rattle.program_base.proofs.Taking.{refused_by, taken_rows_by}
-use Rattle.program_base.proofs.tool.trace_matches.Goals as goal
+use Rattle.program_base.proofs.tools.trace_matches.Goals as goal
 
 -- the command line has none of the parts of `clap` whose outcome isn't said
 simple : is_simple_and_free trace_command ≡ true

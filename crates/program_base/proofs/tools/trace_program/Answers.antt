@@ -6,7 +6,7 @@ use Rattle.clap.specs.declared.builder.command.Command.{Command}
 use Rattle.clap.specs.declared.builder.command.Command.TheOpen.{Command-F}
 use Rattle.clap.specs.Simple.{app_of_fields}
 use Rattle.program_base.proofs.Commanding.{no_name_of}
-use Rattle.program_base.proofs.tool.trace_program.Goals as goal
+use Rattle.program_base.proofs.tools.trace_program.Goals as goal
 
 pub returns-clause-app : goal.returns-clause-app
 returns-clause-app c =

@@ -4,7 +4,7 @@ use Rattle.clap.specs.Words.{new_rule, rule_of}
 use Rattle.clap.specs.declared.builder.action.ArgAction.TheVariants.{SetTrue}
 use Rattle.clap.specs.declared.builder.arg.Arg.{Arg}
 use Rattle.program_base.proofs.Commanding.{rule_with_action}
-use Rattle.program_base.proofs.tool.strict_flag.Goals as goal
+use Rattle.program_base.proofs.tools.strict_flag.Goals as goal
 
 pub returns-clause-rule : goal.returns-clause-rule
 returns-clause-rule c = ap rule_of c.action.ensures ∙ rule_with_action c.option.result SetTrue (record (new_rule (codes "strict")) { long = Some (codes "strict") }) c.option.ensures.rule

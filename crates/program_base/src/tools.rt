@@ -14,17 +14,9 @@ ghost use Rattle.program_base.specs.declared.words.TaskFault.TheVariants.{Words}
 
 use crate::no_task::NoTask;
 use crate::parsing::option;
-use crate::words::TaskFault;
+use crate::words::{TaskFault, Tool};
 use clap::{Arg, ArgAction, ArgMatches, Command};
 use std::alloc::{AllocError, Global};
-
-/// What the program is asked to show.
-#[derive(Drop)]
-pub enum Tool {
-    /// `trace --config FILE [--strict]`: to show what crosses the links at each event of a script,
-    /// and with `true` to end with a status of its own where an event wasn't taken.
-    Trace(String, bool),
-}
 
 /// The options of `trace`.
 fn trace_command<'a>(alloc: Global) -> Result<Command<'a>, AllocError>
@@ -82,8 +74,8 @@ pub(crate) fn found_trace<'a>(alloc: Global, options: &'a [&'a str]) -> Result<T
 
 /// Whether a flag was given, by its value.
 fn is_true(value: Option<&str>) -> bool
-    ensures given { result ≡ true → option_map (λ text. text.now) value ≡ Some (codes "true") }
-    ensures only { option_map (λ text. text.now) value ≡ Some (codes "true") → result ≡ true }
+    ensures given { result ≡ true → option_map (λ text. text.now) value.entry ≡ Some (codes "true") }
+    ensures only { option_map (λ text. text.now) value.entry ≡ Some (codes "true") → result ≡ true }
 {
     match value {
         Some("true") => true,

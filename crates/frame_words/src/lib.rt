@@ -1,0 +1,10 @@
+// SPDX-License-Identifier: MIT OR Apache-2.0
+//! What a frame says in words, beside its name: the message that it carries.
+#![tactic(auto)]
+
+pub use carried::carried_name;
+pub use message_name::write_message_name;
+
+mod carried;
+mod message_name;
+mod names;
