@@ -52,9 +52,12 @@ abbrev pub layer_3_name : List ℕ → List ℕ
 layer_3_name message = layer_3_name_by (discriminator message) message
 
 -- a message of BSSAP, or why it isn't one
+abbrev pub bssap_message_name : Bssap → List ℕ
+bssap_message_name (Management message) = bssmap_name (bssmap_type_of message)
+bssap_message_name (Transfer dlci message) = dtap_name dlci
+
 abbrev pub bssap_name_by : Result Bssap InterfaceFault → List ℕ
-bssap_name_by (Ok (Management message)) = bssmap_name (bssmap_type_of message)
-bssap_name_by (Ok (Transfer dlci message)) = dtap_name dlci
+bssap_name_by (Ok message) = bssap_message_name message
 bssap_name_by (Err fault) = interface_fault_name fault
 
 abbrev pub bssap_name : List ℕ → List ℕ
@@ -62,8 +65,8 @@ bssap_name octets = bssap_name_by (bssap_reading octets)
 
 -- inside DATA REQUEST and DATA INDICATION
 abbrev pub rsl_carries_by : Result Rsl RslFault → Option (List ℕ)
-rsl_carries_by (Ok (DataRequest data)) = Some (layer_3_name data.l3)
-rsl_carries_by (Ok (DataIndication data)) = Some (layer_3_name data.l3)
+rsl_carries_by (Ok (DataRequest message)) = Some (layer_3_name message.l3)
+rsl_carries_by (Ok (DataIndication message)) = Some (layer_3_name message.l3)
 rsl_carries_by (Ok message) = None
 rsl_carries_by (Err fault) = None
 
@@ -72,7 +75,7 @@ rsl_carries body = rsl_carries_by (rsl_reading body)
 
 -- inside DT1
 abbrev pub sccp_carries_by : Result Sccp InterfaceFault → Option (List ℕ)
-sccp_carries_by (Ok (DataForm1 destination data)) = Some (bssap_name data)
+sccp_carries_by (Ok (DataForm1 destination octets)) = Some (bssap_name octets)
 sccp_carries_by (Ok message) = None
 sccp_carries_by (Err fault) = None
 

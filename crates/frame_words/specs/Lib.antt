@@ -1,4 +1,5 @@
 -- SPDX-License-Identifier: MIT OR Apache-2.0
 pub mod CarriedNames
 pub mod Carried
+pub mod Fields
 pub mod MessageName

@@ -1,6 +1,7 @@
 // SPDX-License-Identifier: MIT OR Apache-2.0
 ghost use Rattle.std.specs.Prelude.{◌≡◌, IfOk, option_map};
 ghost use Rattle.frame_words.specs.Carried.{bssap_name, carried_by, layer_3_name, rr_message_name};
+ghost use Rattle.frame_words.specs.Carried.{bssap_message_name as bssap_message_name_of};
 ghost use Rattle.frame_words.specs.Carried.{rsl_carries, sccp_carries};
 
 use crate::names::{bssmap_name, dtap_name, interface_fault_name, rr_name};
@@ -57,10 +58,18 @@ fn bssap_name(alloc: Global, octets: &[u8]) -> Result<&'static str, Memory>
     ensures { IfOk result (λ name. name.now ≡ bssap_name octets.now) }
 {
     match read_bssap(alloc, octets) {
-        Ok(Bssap::Management(message)) => Ok(bssmap_name(message.kind())),
-        Ok(Bssap::Transfer { dlci, .. }) => Ok(dtap_name(dlci)),
+        Ok(message) => Ok(bssap_message_name(&message)),
         Err(InterfaceFault::Memory) => Err(Memory),
         Err(fault) => Ok(interface_fault_name(fault)),
+    }
+}
+
+fn bssap_message_name(message: &Bssap) -> &'static str
+    ensures { result.now ≡ bssap_message_name_of message.now }
+{
+    match message {
+        Bssap::Management(message) => bssmap_name(message.kind()),
+        Bssap::Transfer { dlci, .. } => dtap_name(dlci.octet()),
     }
 }
 

@@ -3,8 +3,10 @@
 #![tactic(auto)]
 
 pub use carried::carried_name;
+pub use fields::write_fields;
 pub use message_name::write_message_name;
 
 mod carried;
+mod fields;
 mod message_name;
 mod names;

@@ -4,7 +4,7 @@ ghost use Rattle.std.specs.Prelude.{◌≡◌};
 ghost use Rattle.frame_words.specs.CarriedNames.{bssmap_name, dtap_name, interface_fault_name};
 ghost use Rattle.frame_words.specs.CarriedNames.{rr_name};
 
-use bssmap_codec::{BssmapType, Dlci, InterfaceFault};
+use bssmap_codec::{BssmapType, InterfaceFault};
 use dtap_codec::RrType;
 
 /// The SAPI of short messages in a DLCI, bits 3 to 1 (TS 48.006 clause 9.3.2).
@@ -29,11 +29,11 @@ pub(crate) fn bssmap_name(kind: BssmapType) -> &'static str
     }
 }
 
-/// DTAP, with the SAPI of its link.
-pub(crate) fn dtap_name(dlci: Dlci) -> &'static str
+/// DTAP, with the SAPI of this DLCI.
+pub(crate) fn dtap_name(dlci: u8) -> &'static str
     ensures { result.now ≡ dtap_name dlci }
 {
-    if dlci.octet() % 8 == SHORT_MESSAGE_SAPI {
+    if dlci % 8 == SHORT_MESSAGE_SAPI {
         "DTAP SAPI 3"
     } else {
         "DTAP SAPI 0"

@@ -12,6 +12,7 @@ use Rattle.world_trace.specs.declared.crossing.End.{End}
 use Rattle.world_trace.specs.declared.crossing.End.TheVariants.{Switch, Station, Controller}
 use Rattle.world_trace.specs.declared.crossing.Passage.{Passage}
 use Rattle.world_trace.specs.declared.crossing.Passage.TheVariants.{Sent, Got}
+use Rattle.frame_words.specs.Fields.{fields_text}
 use Rattle.frame_words.specs.MessageName.{message_name}
 
 abbrev pub end_text : End → List ℕ
@@ -56,11 +57,15 @@ event_line number line refusal =
 abbrev pub ends_text : End → End → List ℕ
 ends_text from to = end_text from ++ codes "\t" ++ end_text to ++ codes "\t"
 
+-- the column of what else is said of a frame
+abbrev pub said_column : Passage → Frame → List ℕ
+said_column passage frame =
+    codes "\t" ++ passage_text passage ++ fields_text frame ++ codes "\t"
+
 -- a frame: its name, what else is said of it, and the octets of its body
 abbrev pub frame_text : Passage → Frame → List ℕ
 frame_text passage frame =
-    message_name frame ++ (codes "\t" ++ passage_text passage ++ codes "\t")
-    ++ encode_lower frame.body ++ codes "\n"
+    message_name frame ++ said_column passage frame ++ encode_lower frame.body ++ codes "\n"
 
 abbrev pub crossing_line : ℕ → Crossing → List ℕ
 crossing_line number crossing =

@@ -6,10 +6,10 @@ ghost use Rattle.program_base.specs.Status.{status_of};
 ghost use Rattle.hex.specs.Hex.{encode_lower};
 ghost use Rattle.trace_program.specs.TraceLines.{crossing_line, end_text, ends_text, event_line};
 ghost use Rattle.trace_program.specs.TraceLines.{event_lines, frame_text, outcome_text};
-ghost use Rattle.trace_program.specs.TraceLines.{passage_text as passage_text_of};
+ghost use Rattle.trace_program.specs.TraceLines.{said_column};
 
 use crate::words::{cause_text, passage_text};
-use frame_words::write_message_name;
+use frame_words::{write_fields, write_message_name};
 use ipa_framing::Frame;
 use octets::Memory;
 use program_base::{Failure, put};
@@ -117,20 +117,27 @@ fn write_frame<W: Write>(
     ensures err { IfErr result (λ failure. status_of failure ≡ 3) }
 {
     write_message_name(alloc, frame, output)?;
-    write_fields(passage, output)?;
+    write_said(alloc, passage, frame, output)?;
     write_digits(alloc, frame.body.as_slice(), output)?;
     put(output, b"\n")?;
     Ok(())
 }
 
 /// Writes the column of what else is said of a frame.
-fn write_fields<W: Write>(passage: Passage, output: &mut W) -> Result<(), Failure>
+fn write_said<W: Write>(
+    alloc: Global,
+    passage: Passage,
+    frame: &Frame,
+    output: &mut W,
+) -> Result<(), Failure>
     ensures text { OnOk result (Appends (W.contents output.old) (W.contents output.new)
-        (codes "\t" ++ passage_text_of passage ++ codes "\t")) }
+        (said_column passage frame.now)) }
     ensures err { IfErr result (λ failure. status_of failure ≡ 3) }
 {
-    let fields = passage_text(passage);
-    write!(output, "\t{fields}\t")?;
+    let word = passage_text(passage);
+    write!(output, "\t{word}")?;
+    write_fields(alloc, frame, output)?;
+    put(output, b"\t")?;
     Ok(())
 }
 
