@@ -3,3 +3,4 @@ pub mod CarriedNames
 pub mod Carried
 pub mod Fields
 pub mod MessageName
+pub mod Numbered

@@ -5,8 +5,10 @@
 pub use carried::carried_name;
 pub use fields::write_fields;
 pub use message_name::write_message_name;
+pub use number::write_number;
 
 mod carried;
 mod fields;
 mod message_name;
 mod names;
+mod number;

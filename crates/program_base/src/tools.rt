@@ -74,8 +74,10 @@ pub(crate) fn found_trace<'a>(alloc: Global, options: &'a [&'a str]) -> Result<T
 
 /// Whether a flag was given, by its value.
 fn is_true(value: Option<&str>) -> bool
-    ensures given { result ≡ true → option_map (λ text. text.now) value.entry ≡ Some (codes "true") }
-    ensures only { option_map (λ text. text.now) value.entry ≡ Some (codes "true") → result ≡ true }
+    ensures given { result ≡ true
+        → option_map (λ text. text.now) value.entry ≡ Some (codes "true") }
+    ensures only { option_map (λ text. text.now) value.entry ≡ Some (codes "true")
+        → result ≡ true }
 {
     match value {
         Some("true") => true,

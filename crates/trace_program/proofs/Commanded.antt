@@ -5,7 +5,7 @@ use Rattle.std.specs.Prelude.{IfErr, IfSome, IsErrAnd, IsOkAnd, not, ◌&&◌, �
 use Rattle.std.specs.Io.KnownBytes.{Appends, Keeps}
 use Rattle.std.proofs.KnownBytes.{Appends-kept}
 use Rattle.world_model.specs.declared.event.Event.{Event}
-use Rattle.world_model.specs.World.{Actors, new_actors}
+use Rattle.world_model.specs.World.{Actors, modulus_in, new_actors}
 use Rattle.settings.specs.declared.fault.SettingsFault.{SettingsFault}
 use Rattle.settings.specs.Parameters.{Parameters}
 use Rattle.bsc_program.specs.Asked.{asked_with, controlled}
@@ -23,11 +23,13 @@ use Rattle.trace_program.specs.Traced.{Traces, no_tally, status_of_tally, tally_
 -- ---- what is printed
 
 -- the trace of a script that was read was written
-pub traced_by : (settings : Parameters) (tally : Tally) (w : Actors) (cells : ℕ) (start old new : Option (List ℕ)) (events : List Event) (kept : List ℕ) → cells ≡ length settings.cells → IfSome start (λ octets. IsScript cells octets events)
-    → IfSome start (λ octets. kept ≡ octets) → w ≡ new_actors settings → Appends old new (trace_text w 1 kept events) × (tally ≡ tally_of w 1 events no_tally) → Traces settings tally start old new
-traced_by settings tally w cells None old new events kept many script same begin done = tt
-traced_by settings tally w cells (Some stream) old new events kept many script same begin done =
-    let text : trace_text w 1 kept events ≡ trace_text (new_actors settings) 1 stream events = ap (λ (u : Actors). trace_text u 1 kept events) begin ∙ ap (λ (xs : List ℕ). trace_text (new_actors settings) 1 xs events) same in (
+pub traced_by : (settings : Parameters) (tally : Tally) (m : ℕ) (w : Actors) (cells : ℕ) (start old new : Option (List ℕ)) (events : List Event) (kept : List ℕ) → cells ≡ length settings.cells → IfSome start (λ octets. IsScript cells octets events)
+    → IfSome start (λ octets. kept ≡ octets) → m ≡ modulus_in settings → w ≡ new_actors settings → Appends old new (trace_text m w 1 kept events) × (tally ≡ tally_of w 1 events no_tally) → Traces settings tally start old new
+traced_by settings tally m w cells None old new events kept many script same numbers begin done = tt
+traced_by settings tally m w cells (Some stream) old new events kept many script same numbers begin done =
+    let text : trace_text m w 1 kept events ≡ trace_text (modulus_in settings) (new_actors settings) 1 stream events =
+    ap (λ (n : ℕ). trace_text n w 1 kept events) numbers ∙ ap (λ (u : Actors). trace_text (modulus_in settings) u 1 kept events) begin
+    ∙ ap (λ (xs : List ℕ). trace_text (modulus_in settings) (new_actors settings) 1 xs events) same in (
       events,
       subst (λ (n : ℕ). IsScript n stream events) many script,
       subst (Appends old new) text done.0,

@@ -30,12 +30,12 @@ not_taken : event_line 12 (codes "handle") (Some causes.InboxEmpty) ≡ codes "1
 unfolding digits
 not_taken = refl
 
-required : crossing_line 2 (record { passage = Sent; from = Station 1; to = Controller; frame = record { stream = 0; body = hex "0c 13 01 88 13 01 00 00 11 00" } })
+required : crossing_line 4 2 (record { passage = Sent; from = Station 1; to = Controller; frame = record { stream = 0; body = hex "0c 13 01 88 13 01 00 00 11 00" } })
     ≡ codes "2\tstation 1\tbsc\tCHANNEL REQUIRED\tsent channel 88\t0c130188130100001100\n"
 unfolding digits hex_on_literals on_literals
 required = refl
 
-dt1 : crossing_line 20 (record { passage = Got; from = Controller; to = Switch; frame = record { stream = 253; body = hex "06 80 00 01 00 01 05 01 00 02 03 45" } })
+dt1 : crossing_line 4 20 (record { passage = Got; from = Controller; to = Switch; frame = record { stream = 253; body = hex "06 80 00 01 00 01 05 01 00 02 03 45" } })
     ≡ codes "20\tbsc\tswitch\tDT1 DTAP SAPI 0\tgot to 800001\t068000010001050100020345\n"
 unfolding digits hex_on_literals on_literals
 dt1 = refl

@@ -23,16 +23,16 @@ use Rattle.trace_program.specs.Traced.{behind_line, counted, line_of, tally_of, 
 
 -- ---- the frames of an event
 
-pub crossings_more : (number next : ℕ) (xs : List Crossing) (x : Crossing) (old mid new : Option (List ℕ)) → Appends old mid (flat_map (crossing_line number) (take next xs)) → next < length xs → x ≡ get_or xs next x
-    → Appends mid new (crossing_line number x) → Appends old new (flat_map (crossing_line number) (take (next + 1) xs))
-crossings_more number next xs x old mid new some less is line =
+pub crossings_more : (m number next : ℕ) (xs : List Crossing) (x : Crossing) (old mid new : Option (List ℕ)) → Appends old mid (flat_map (crossing_line m number) (take next xs)) → next < length xs → x ≡ get_or xs next x
+    → Appends mid new (crossing_line m number x) → Appends old new (flat_map (crossing_line m number) (take (next + 1) xs))
+crossings_more m number next xs x old mid new some less is line =
     let front : List Crossing = take next xs in
     let longer : front ++ x ∷ [] ≡ take (next + 1) xs = ap (λ (y : Crossing). front ++ y ∷ []) is ∙ sym (take_more xs next x less) in
-    subst (Appends old new) (flat_map_more (crossing_line number) [] front x ∙ ap (flat_map (crossing_line number)) longer)
-    (Appends-trans old mid new (flat_map (crossing_line number) front) (crossing_line number x) some line)
+    subst (Appends old new) (flat_map_more (crossing_line m number) [] front x ∙ ap (flat_map (crossing_line m number)) longer)
+    (Appends-trans old mid new (flat_map (crossing_line m number) front) (crossing_line m number x) some line)
 
-pub crossings_all : (number next : ℕ) (xs : List Crossing) (old new : Option (List ℕ)) → Appends old new (flat_map (crossing_line number) (take next xs)) → length xs ≤ next → Appends old new (flat_map (crossing_line number) xs)
-crossings_all number next xs old new some all = subst (λ (ys : List Crossing). Appends old new (flat_map (crossing_line number) ys)) (take_all next xs all) some
+pub crossings_all : (m number next : ℕ) (xs : List Crossing) (old new : Option (List ℕ)) → Appends old new (flat_map (crossing_line m number) (take next xs)) → length xs ≤ next → Appends old new (flat_map (crossing_line m number) xs)
+crossings_all m number next xs old new some all = subst (λ (ys : List Crossing). Appends old new (flat_map (crossing_line m number) ys)) (take_all next xs all) some
 
 -- ---- a line
 
@@ -73,37 +73,37 @@ no_line xs none = no_line_by xs (λ k lt feed. none k (omega arith) lt (eq-eqb (
 -- ---- the events so far
 
 -- what is written, with what the events that are left give, is the whole trace
-pub record Traces (start : Actors) (script : List ℕ) (events : List Event) (w : Actors) (number : ℕ) (rest : List ℕ) (left : List Event) (old new : Option (List ℕ)) : Type 0 where
+pub record Traces (m : ℕ) (start : Actors) (script : List ℕ) (events : List Event) (w : Actors) (number : ℕ) (rest : List ℕ) (left : List Event) (old new : Option (List ℕ)) : Type 0 where
   pub text : List ℕ
   pub written : Appends old new text
-  pub whole : text ++ trace_text w number rest left ≡ trace_text start 1 script events
+  pub whole : text ++ trace_text m w number rest left ≡ trace_text m start 1 script events
 
-pub traces_none : (start : Actors) (script : List ℕ) (events : List Event) (old : Option (List ℕ)) → Traces start script events start 1 script events old old
-traces_none start script events old = record { text = []; written = Appends-nil old; whole = refl }
+pub traces_none : (m : ℕ) (start : Actors) (script : List ℕ) (events : List Event) (old : Option (List ℕ)) → Traces m start script events start 1 script events old old
+traces_none m start script events old = record { text = []; written = Appends-nil old; whole = refl }
 
-pub traces_more : (start : Actors) (script : List ℕ) (events : List Event) (w v : Actors) (number : ℕ) (rest behind line : List ℕ) (event : Event) (left others : List Event) (why : Option Cause) (frames : List Crossing) (old mid new : Option (List ℕ))
-    → Traces start script events w number rest left old mid → left ≡ event ∷ others → line ≡ line_of rest → behind ≡ behind_line rest → v ≡ actors_after w event → why ≡ refusal w event → frames ≡ crossings w event
-    → Appends mid new (event_lines number line why frames) → Traces start script events v (number + 1) behind others old new
-traces_more start script events w v number rest behind line event left others why frames old mid new some is lines parts after refused crossed written =
-    let more : List ℕ = event_lines number (line_of rest) (refusal w event) (crossings w event) in
+pub traces_more : (m : ℕ) (start : Actors) (script : List ℕ) (events : List Event) (w v : Actors) (number : ℕ) (rest behind line : List ℕ) (event : Event) (left others : List Event) (why : Option Cause) (frames : List Crossing) (old mid new : Option (List ℕ))
+    → Traces m start script events w number rest left old mid → left ≡ event ∷ others → line ≡ line_of rest → behind ≡ behind_line rest → v ≡ actors_after w event → why ≡ refusal w event → frames ≡ crossings w event
+    → Appends mid new (event_lines m number line why frames) → Traces m start script events v (number + 1) behind others old new
+traces_more m start script events w v number rest behind line event left others why frames old mid new some is lines parts after refused crossed written =
+    let more : List ℕ = event_lines m number (line_of rest) (refusal w event) (crossings w event) in
     let here : Appends mid new more =
-    subst (λ (l : List ℕ). Appends mid new (event_lines number l (refusal w event) (crossings w event))) lines
-    (subst (λ (o : Option Cause). Appends mid new (event_lines number line o (crossings w event))) refused
-    (subst (λ (cs : List Crossing). Appends mid new (event_lines number line why cs)) crossed written)) in
+    subst (λ (l : List ℕ). Appends mid new (event_lines m number l (refusal w event) (crossings w event))) lines
+    (subst (λ (o : Option Cause). Appends mid new (event_lines m number line o (crossings w event))) refused
+    (subst (λ (cs : List Crossing). Appends mid new (event_lines m number line why cs)) crossed written)) in
     record {
       text = some.text ++ more;
       written = Appends-trans old mid new some.text more some.written here;
       whole =
-          ap (λ (u : Actors). (some.text ++ more) ++ trace_text u (number + 1) behind others) after
-          ∙ ap (λ (xs : List ℕ). (some.text ++ more) ++ trace_text (actors_after w event) (number + 1) xs others) parts
-          ∙ append_assoc some.text more (trace_text (actors_after w event) (number + 1) (behind_line rest) others)
-          ∙ ap (λ (es : List Event). some.text ++ trace_text w number rest es) (sym is)
+          ap (λ (u : Actors). (some.text ++ more) ++ trace_text m u (number + 1) behind others) after
+          ∙ ap (λ (xs : List ℕ). (some.text ++ more) ++ trace_text m (actors_after w event) (number + 1) xs others) parts
+          ∙ append_assoc some.text more (trace_text m (actors_after w event) (number + 1) (behind_line rest) others)
+          ∙ ap (λ (es : List Event). some.text ++ trace_text m w number rest es) (sym is)
           ∙ some.whole;
     }
 
-pub traces_all : (start : Actors) (script : List ℕ) (events : List Event) (w : Actors) (number : ℕ) (rest : List ℕ) (left : List Event) (old new : Option (List ℕ)) → Traces start script events w number rest left old new → left ≡ [] → Appends old new (trace_text start 1 script events)
-traces_all start script events w number rest left old new some none =
-    subst (Appends old new) (sym (append-nil some.text) ∙ ap (λ (es : List Event). some.text ++ trace_text w number rest es) (sym none) ∙ some.whole) some.written
+pub traces_all : (m : ℕ) (start : Actors) (script : List ℕ) (events : List Event) (w : Actors) (number : ℕ) (rest : List ℕ) (left : List Event) (old new : Option (List ℕ)) → Traces m start script events w number rest left old new → left ≡ [] → Appends old new (trace_text m start 1 script events)
+traces_all m start script events w number rest left old new some none =
+    subst (Appends old new) (sym (append-nil some.text) ∙ ap (λ (es : List Event). some.text ++ trace_text m w number rest es) (sym none) ∙ some.whole) some.written
 
 -- the events that are left
 pub left_more : (events : List Event) (n : ℕ) (event : Event) → n < length events → event ≡ get_or events n event → drop n events ≡ event ∷ drop (n + 1) events

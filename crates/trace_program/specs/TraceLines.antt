@@ -1,9 +1,9 @@
 -- SPDX-License-Identifier: MIT OR Apache-2.0
 -- The lines of a trace. Each has six columns, which a tab parts: the number of the event, from
 -- whom, to whom, the name, what else is said, and octets in hexadecimal digits.
-use Rattle.std.specs.Prelude.{ℕ, List, [], ◌++◌, codes, decimal, Option, Some, None}
+use Rattle.std.specs.Prelude.{ℕ, Bool, true, false, if◌then◌else◌, List, [], ◌++◌}
+use Rattle.std.specs.Prelude.{Option, Some, None, codes, decimal}
 use Rattle.std.specs.List.{flat_map}
-use Rattle.ipa_framing.specs.declared.frame.Frame.{Frame}
 use Rattle.hex.specs.Hex.{encode_lower}
 use Rattle.world_trace.specs.declared.cause.Cause.{Cause}
 use Rattle.world_trace.specs.declared.cause.Cause.TheVariants as causes
@@ -14,6 +14,7 @@ use Rattle.world_trace.specs.declared.crossing.Passage.{Passage}
 use Rattle.world_trace.specs.declared.crossing.Passage.TheVariants.{Sent, Got}
 use Rattle.frame_words.specs.Fields.{fields_text}
 use Rattle.frame_words.specs.MessageName.{message_name}
+use Rattle.frame_words.specs.Numbered.{number_field, number_in_frame}
 
 abbrev pub end_text : End → List ℕ
 end_text Switch = codes "switch"
@@ -57,22 +58,36 @@ event_line number line refusal =
 abbrev pub ends_text : End → End → List ℕ
 ends_text from to = end_text from ++ codes "\t" ++ end_text to ++ codes "\t"
 
+-- up, from the side of the mobiles to that of the switch
+abbrev pub is_uplink : End → End → Bool
+is_uplink (Station number) to = true
+is_uplink from Switch = true
+is_uplink from to = false
+
+-- the number N(SD), of m, of what goes up
+abbrev pub number_said : ℕ → Crossing → List ℕ
+number_said m crossing =
+    if is_uplink crossing.from crossing.to
+    then number_field (number_in_frame m crossing.frame) else []
+
 -- the column of what else is said of a frame
-abbrev pub said_column : Passage → Frame → List ℕ
-said_column passage frame =
-    codes "\t" ++ passage_text passage ++ fields_text frame ++ codes "\t"
+abbrev pub said_column : ℕ → Crossing → List ℕ
+said_column m crossing =
+    codes "\t" ++ passage_text crossing.passage ++ fields_text crossing.frame
+    ++ number_said m crossing ++ codes "\t"
 
 -- a frame: its name, what else is said of it, and the octets of its body
-abbrev pub frame_text : Passage → Frame → List ℕ
-frame_text passage frame =
-    message_name frame ++ said_column passage frame ++ encode_lower frame.body ++ codes "\n"
+abbrev pub frame_text : ℕ → Crossing → List ℕ
+frame_text m crossing =
+    message_name crossing.frame ++ said_column m crossing ++ encode_lower crossing.frame.body
+    ++ codes "\n"
 
-abbrev pub crossing_line : ℕ → Crossing → List ℕ
-crossing_line number crossing =
-    decimal number ++ codes "\t" ++ ends_text crossing.from crossing.to
-    ++ frame_text crossing.passage crossing.frame
+-- its line, where messages have m numbers
+abbrev pub crossing_line : ℕ → ℕ → Crossing → List ℕ
+crossing_line m number crossing =
+    decimal number ++ codes "\t" ++ ends_text crossing.from crossing.to ++ frame_text m crossing
 
 -- an event and the frames that crossed a link at it
-abbrev pub event_lines : ℕ → List ℕ → Option Cause → List Crossing → List ℕ
-event_lines number line refusal crossings =
-    event_line number line refusal ++ flat_map (crossing_line number) crossings
+abbrev pub event_lines : ℕ → ℕ → List ℕ → Option Cause → List Crossing → List ℕ
+event_lines m number line refusal crossings =
+    event_line number line refusal ++ flat_map (crossing_line m number) crossings

@@ -1,13 +1,14 @@
 -- SPDX-License-Identifier: MIT OR Apache-2.0
 -- The trace of a script.
-use Rattle.std.specs.Prelude.{◌≡◌, ℕ, ◌+◌, ◌==◌, ◌&&◌, Bool, not, if◌then◌else◌, IfSome, length}
+use Rattle.std.specs.Prelude.{◌≡◌, ℕ, ◌+◌, ◌==◌, ◌&&◌, Bool, not, if◌then◌else◌}
+use Rattle.std.specs.Prelude.{IfSome, length}
 use Rattle.std.specs.Prelude.{List, [], ◌∷◌, ◌++◌, Option, Some, None}
 use Rattle.std.specs.Io.KnownBytes.{Appends}
 use Rattle.bsc_program.specs.Script.{IsScript}
 use Rattle.settings.specs.Parameters.{Parameters}
 use Rattle.world_model.specs.declared.event.Event.{Event}
 use Rattle.world_model.specs.Life.{actors_after}
-use Rattle.world_model.specs.World.{Actors, new_actors}
+use Rattle.world_model.specs.World.{Actors, modulus_in, new_actors}
 use Rattle.world_trace.specs.declared.cause.Cause.{Cause}
 use Rattle.world_trace.specs.Causes.{refusal}
 use Rattle.world_trace.specs.Crossings.{crossings}
@@ -23,12 +24,13 @@ abbrev pub behind_line : List ℕ → List ℕ
 behind_line [] = []
 behind_line (octet ∷ octets) = if octet == 10 then octets else behind_line octets
 
--- the lines of these events, whose texts the octets have, from this number on
-abbrev pub trace_text : Actors → ℕ → List ℕ → List Event → List ℕ
-trace_text w number octets [] = []
-trace_text w number octets (event ∷ events) =
-    event_lines number (line_of octets) (refusal w event) (crossings w event)
-    ++ trace_text (actors_after w event) (number + 1) (behind_line octets) events
+-- the lines of these events, whose texts the octets have, from this number on; messages have m
+-- numbers
+abbrev pub trace_text : ℕ → Actors → ℕ → List ℕ → List Event → List ℕ
+trace_text m w number octets [] = []
+trace_text m w number octets (event ∷ events) =
+    event_lines m number (line_of octets) (refusal w event) (crossings w event)
+    ++ trace_text m (actors_after w event) (number + 1) (behind_line octets) events
 
 -- how many events weren't taken, and the number of the first of them
 abbrev pub no_tally : Tally
@@ -52,9 +54,9 @@ status_of_tally strict tally = if strict && not (tally.not_taken == 0) then 4 el
 
 -- Known contents grew by the trace of a known script in the world of these settings, of whose
 -- events the tally says how many weren't taken.
-abbrev pub Traces : Parameters → Tally → Option (List ℕ) → Option (List ℕ) → Option (List ℕ)
-    → Type 0
+abbrev pub Traces : Parameters → Tally → Option (List ℕ) → Option (List ℕ)
+    → Option (List ℕ) → Type 0
 Traces settings tally start old new = IfSome start (λ octets.
     (events : List Event) × IsScript (length settings.cells) octets events
-    × Appends old new (trace_text (new_actors settings) 1 octets events)
+    × Appends old new (trace_text (modulus_in settings) (new_actors settings) 1 octets events)
     × (tally ≡ tally_of (new_actors settings) 1 events no_tally))

@@ -1,11 +1,14 @@
 // SPDX-License-Identifier: MIT OR Apache-2.0
-ghost use Rattle.std.specs.Prelude.{◌≡◌, ◌+◌, ◌<◌, ◌^◌, IfErr, IfOk, OnOk, length};
+ghost use Rattle.std.specs.Prelude.{◌≡◌, ◌+◌, ◌<◌, ◌^◌, length};
+ghost use Rattle.std.specs.Prelude.{IfErr, IfOk, OnOk};
 ghost use Rattle.std.specs.Io.KnownBytes.{Appends};
+ghost use Rattle.dtap_codec.specs.Number.{count_of};
 ghost use Rattle.program_base.specs.Status.{status_of};
 ghost use Rattle.trace_program.specs.Traced.{behind_line, counted, line_of, no_tally, tally_of};
 ghost use Rattle.trace_program.specs.Traced.{trace_text};
 
 use crate::lines::write_event;
+use dtap_codec::Modulus;
 use memchr::memchr;
 use program_base::Failure;
 use std::alloc::Global;
@@ -22,16 +25,18 @@ pub struct Tally {
 }
 
 /// Lets these events happen, and writes the trace of each. `script` has their lines. What is
-/// counted of those that weren't taken joins the tally.
+/// counted of those that weren't taken is the tally. Messages of the flow have as many numbers as
+/// the modulus says.
 pub fn write_trace<W: Write>(
     alloc: Global,
+    modulus: Modulus,
     network: &mut Network,
     events: &[Event],
     script: &[u8],
     output: &mut W,
 ) -> Result<Tally, Failure>
     ensures text { OnOk result (Appends (W.contents output.old) (W.contents output.new)
-        (trace_text network.old 1 script.now events.now)) }
+        (trace_text (count_of modulus) network.old 1 script.now events.now)) }
     ensures tally { IfOk result (λ tally.
         tally ≡ tally_of network.old 1 events.now no_tally) }
     ensures err { IfErr result (λ failure. status_of failure ≡ 3) }
@@ -45,7 +50,7 @@ pub fn write_trace<W: Write>(
     for event in events {
         let (line, others) = split_line(rest);
         let trace = step(alloc, network, event)?;
-        write_event(alloc, number, line, &trace, output)?;
+        write_event(alloc, modulus, number, line, &trace, output)?;
         tally = count(trace.refusal, number, tally);
         rest = others;
         number += 1;

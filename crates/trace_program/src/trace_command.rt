@@ -1,10 +1,12 @@
 // SPDX-License-Identifier: MIT OR Apache-2.0
-ghost use Rattle.std.specs.Prelude.{◌≡◌, ◌≢◌, ◌⊎◌, ℕ, Err, IfErr, IfOk, IsErrAnd, IsOkAnd};
-ghost use Rattle.std.specs.Prelude.{None, OnOk, Some, length};
+ghost use Rattle.std.specs.Prelude.{◌≡◌, ◌≢◌, ◌⊎◌, ℕ, Err, IfErr, IfOk};
+ghost use Rattle.std.specs.Prelude.{IsErrAnd, IsOkAnd, None, OnOk, Some, length};
 ghost use Rattle.std.specs.Io.KnownBytes.{Appends, IsAtEnd};
 ghost use Rattle.bsc_program.specs.Asked.{asked, controlled};
 ghost use Rattle.bsc_program.specs.Replayed.{Fails, HasBadLine};
 ghost use Rattle.bsc_program.specs.Script.{HasBadLineAt};
+ghost use Rattle.dtap_codec.specs.Number.{count_of};
+ghost use Rattle.world_model.specs.World.{modulus_in};
 ghost use Rattle.program_base.specs.SettingsText.{settings_of};
 ghost use Rattle.program_base.specs.Status.{status_of, status_of_fault};
 ghost use Rattle.program_base.specs.declared.failure.Failure.TheVariants.{BadEvent};
@@ -13,6 +15,7 @@ ghost use Rattle.trace_program.specs.Traced.{trace_text};
 
 use crate::run::{Tally, write_trace};
 use bsc_program::{KeptScript, read_kept_script};
+use dtap_codec::Modulus;
 use program_base::{Failure, ProgramFault, read_settings};
 use settings::Settings;
 use std::alloc::Global;
@@ -35,7 +38,8 @@ pub fn trace<R: Read, W: Write, E: Write>(
     output: &mut W,
     errors: &mut E,
 ) -> u8
-    ensures status { (result ≡ 0) ⊎ (result ≡ 1) ⊎ (result ≡ 2) ⊎ (result ≡ 3) ⊎ (result ≡ 4) }
+    ensures status { (result ≡ 0) ⊎ (result ≡ 1) ⊎ (result ≡ 2) ⊎ (result ≡ 3)
+        ⊎ (result ≡ 4) }
     // Settings with a fault give its status, unless memory runs out.
     ensures asked { IfErr (settings_of settings.now)
         (λ fault. (result ≡ status_of_fault fault) ⊎ (result ≡ 3)) }
@@ -98,24 +102,39 @@ fn trace_script<R: Read, W: Write>(
 {
     let cells = u16::from(settings.cell_count());
     let script = read_kept_script(alloc, cells, input)?;
+    let modulus = modulus_of(&settings);
     let network = Network::new(alloc, settings)?;
-    trace_events(alloc, network, &script, output)
+    trace_events(alloc, modulus, network, &script, output)
+}
+
+/// How many numbers the messages have, by the settings' network.
+fn modulus_of(settings: &Settings) -> Modulus
+    ensures { count_of result ≡ modulus_in settings.now }
+{
+    if settings.release98() {
+        Modulus::Two
+    } else {
+        Modulus::Four
+    }
 }
 
 /// Lets the events of a script happen in this network, and writes the trace of each.
 fn trace_events<W: Write>(
     alloc: Global,
+    modulus: Modulus,
     mut network: Network,
     script: &KeptScript,
     output: &mut W,
 ) -> Result<Tally, Failure>
     ensures ok { IfOk result (λ tally. Appends (W.contents output.old) (W.contents output.new)
-        (trace_text network.entry 1 script.now.octets.items script.now.events.items)
+        (trace_text (count_of modulus) network.entry 1
+        script.now.octets.items script.now.events.items)
         × (tally ≡ tally_of network.entry 1 script.now.events.items no_tally)) }
     ensures err { IfErr result (λ failure. status_of failure ≡ 3) }
 {
     let events = script.events.as_slice();
-    let tally = write_trace(alloc, &mut network, events, script.octets.as_slice(), output)?;
+    let octets = script.octets.as_slice();
+    let tally = write_trace(alloc, modulus, &mut network, events, octets, output)?;
     output.flush()?;
     Ok(tally)
 }
