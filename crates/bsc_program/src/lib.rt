@@ -3,14 +3,11 @@
 //! of a link are named.
 #![tactic(auto)]
 
-pub use kept_script::{KeptScript, read_kept_script};
 pub use laws::{lines_are_of_octets, scripts_run_in_order};
 pub use program_base::{Failure, ProgramFault, decode, read_settings};
 pub use replay_command::replay;
 
 mod breaks;
-mod kept_script;
 mod laws;
 mod replay_command;
 mod report;
-mod script;

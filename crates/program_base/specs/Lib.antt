@@ -15,3 +15,5 @@ pub mod WordsLeft
 pub mod Words
 pub mod Script
 pub mod ScriptReading
+pub mod WholeScript
+pub mod WholeScriptLaws

@@ -1,6 +1,6 @@
 -- SPDX-License-Identifier: MIT OR Apache-2.0
 -- What `trace` prints, and the status that it ends with, from what its parts do.
-use Rattle.std.proofs.Common.{◌≡◌, ◌⊎◌, ◌×◌, List, ℕ, Bool, true, false, length, Option, Some, None, Result, Ok, Err, refl, sym, ap, subst, ◌∙◌, inl, inr, if◌then◌else◌}
+use Rattle.std.proofs.Common.{◌≡◌, ◌≢◌, ◌⊎◌, List, ℕ, Bool, true, false, length, Option, Some, None, Result, Ok, Err, refl, sym, ap, subst, ◌∙◌, inl, inr, if◌then◌else◌}
 use Rattle.std.specs.Prelude.{IfErr, IfSome, IsErrAnd, IsOkAnd, not, ◌&&◌, ◌==◌}
 use Rattle.std.specs.Io.KnownBytes.{Appends, Keeps}
 use Rattle.std.proofs.KnownBytes.{Appends-kept}
@@ -8,17 +8,15 @@ use Rattle.world_model.specs.declared.event.Event.{Event}
 use Rattle.world_model.specs.World.{Actors, modulus_in, new_actors}
 use Rattle.settings.specs.declared.fault.SettingsFault.{SettingsFault}
 use Rattle.settings.specs.Parameters.{Parameters}
-use Rattle.bsc_program.specs.Asked.{asked_with, controlled}
-use Rattle.bsc_program.specs.Replayed.{Fails, HasBadLine}
-use Rattle.bsc_program.specs.Script.{IsBadScript, IsScript}
-use Rattle.bsc_program.proofs.Replaying.{settings_status}
+use Rattle.program_base.specs.WholeScript.{IsBadScript, IsScript}
 use Rattle.program_base.specs.SettingsText.{settings_or_fault}
 use Rattle.program_base.specs.Status.{status_of_fault}
+use Rattle.program_base.specs.declared.failure.Failure.{Failure}
 use Rattle.program_base.specs.declared.failure.Failure.TheVariants.{BadEvent, Device, Memory}
 use Rattle.program_base.specs.declared.fault.ProgramFault.{ProgramFault}
 use Rattle.program_base.specs.declared.fault.ProgramFault.TheVariants.{BadBreak, Failed, Settings, UnreadSettings}
 use Rattle.trace_program.specs.declared.run.Tally.{Tally}
-use Rattle.trace_program.specs.Traced.{Traces, no_tally, status_of_tally, tally_of, trace_text}
+use Rattle.trace_program.specs.Traced.{Fails, HasBadLine, Traces, no_tally, status_of_tally, tally_of, trace_text}
 
 -- ---- what is printed
 
@@ -70,6 +68,41 @@ pub no_fault : (found : Result Parameters ProgramFault) (status : ℕ) (P : Para
 no_fault (Ok settings) status P is = tt
 no_fault (Err fault) status P is = absurd is
 
+-- ---- why it fails
+
+memory_fails : (found : Result Parameters ProgramFault) (start : Option (List ℕ)) → Fails found start (Failed Memory)
+memory_fails (Err first) start = inr refl
+memory_fails (Ok settings) start = tt
+
+-- settings that weren't read have this fault, unless memory ran out
+unless_memory : (fault : ProgramFault) (found : Result Parameters ProgramFault) → ((let r : Result Parameters ProgramFault = Err fault in r) ≢ Err (Failed Memory) → (let r : Result Parameters ProgramFault = Err fault in r) ≡ found)
+    → (fault ≡ Failed Memory) ⊎ (found ≡ Err fault)
+unless_memory UnreadSettings found says = inr (sym (says (λ is. absurd (cc is))))
+unless_memory (Settings first) found says = inr (sym (says (λ is. absurd (cc is))))
+unless_memory BadBreak found says = inr (sym (says (λ is. absurd (cc is))))
+unless_memory (Failed Memory) found says = inl refl
+unless_memory (Failed Device) found says = inr (sym (says (λ is. absurd (cc is))))
+unless_memory (Failed (BadEvent n)) found says = inr (sym (says (λ is. absurd (cc is))))
+
+settings_fails : (found : Result Parameters ProgramFault) (start : Option (List ℕ)) (fault : ProgramFault) → (fault ≡ Failed Memory) ⊎ (found ≡ Err fault) → Fails found start fault
+settings_fails found start fault (inl memory) = subst (Fails found start) (sym memory) (memory_fails found start)
+settings_fails found start fault (inr is) = subst (λ (r : Result Parameters ProgramFault). Fails r start fault) (sym is) (inl refl)
+
+pub unread_fails : (found : Result Parameters ProgramFault) (start : Option (List ℕ)) (was fault : ProgramFault)
+    → ((let r : Result Parameters ProgramFault = Err was in r) ≢ Err (Failed Memory) → (let r : Result Parameters ProgramFault = Err was in r) ≡ found) → fault ≡ was → Fails found start fault
+unread_fails found start was fault says same = subst (Fails found start) (sym same) (settings_fails found start was (unless_memory was found says))
+
+script_fails : (settings : Parameters) (start : Option (List ℕ)) (failure : Failure) → ((n : ℕ) → failure ≡ BadEvent n → IfSome start (λ octets. IsBadScript (length settings.cells) octets n)) → Fails (Ok settings) start (Failed failure)
+script_fails settings start (BadEvent n) bad = bad n refl
+script_fails settings start Memory bad = tt
+script_fails settings start Device bad = tt
+
+-- a bad line, or memory or a device
+pub fails_by : (found : Result Parameters ProgramFault) (settings : Parameters) (start : Option (List ℕ)) (failure : Failure) (fault : ProgramFault) → (let r : Result Parameters ProgramFault = Ok settings in r) ≡ found → fault ≡ Failed failure
+    → ((n : ℕ) → failure ≡ BadEvent n → IfSome start (λ octets. IsBadScript (length settings.cells) octets n)) → Fails found start fault
+fails_by found settings start failure fault is same bad =
+    subst (λ (r : Result Parameters ProgramFault). Fails r start fault) is (subst (Fails (Ok settings) start) (sym same) (script_fails settings start failure bad))
+
 -- ---- the status of a fault
 
 pub fault_status : (fault : ProgramFault) (status : ℕ) → status ≡ status_of_fault fault → (status ≡ 1) ⊎ (status ≡ 2) ⊎ (status ≡ 3)
@@ -93,22 +126,28 @@ not_traced status (inr (inl two)) (inr four) = absurd (cc (two, four))
 not_traced status (inr (inr three)) (inl none) = absurd (cc (three, none))
 not_traced status (inr (inr three)) (inr four) = absurd (cc (three, four))
 
-pub settings_fault : (found : Result Parameters ProgramFault) (start : Option (List ℕ)) (fault : ProgramFault) (status : ℕ) → status ≡ status_of_fault fault → Fails (asked_with found None) start fault
+pub settings_fault : (found : Result Parameters ProgramFault) (start : Option (List ℕ)) (fault : ProgramFault) (status : ℕ) → status ≡ status_of_fault fault → Fails found start fault
     → IfErr found (λ first. (status ≡ status_of_fault first) ⊎ (status ≡ 3))
 settings_fault (Ok settings) start fault status is fails = tt
 settings_fault (Err first) start fault status is (inl same) = inl (is ∙ ap status_of_fault same)
 settings_fault (Err first) start fault status is (inr memory) = inr (is ∙ ap status_of_fault memory)
 
-pub one_status : (found : Result Parameters ProgramFault) (start : Option (List ℕ)) (fault : ProgramFault) → Fails (asked_with found None) start fault → status_of_fault fault ≡ 1 → IsErrAnd found (λ first. status_of_fault first ≡ 1)
-one_status (Err first) start fault fails one = settings_status (Err first) start fault fails one
-one_status (Ok settings) start fault fails one = settings_status (Ok (controlled settings)) start fault fails one
+pub one_status : (found : Result Parameters ProgramFault) (start : Option (List ℕ)) (fault : ProgramFault) → Fails found start fault → status_of_fault fault ≡ 1 → IsErrAnd found (λ first. status_of_fault first ≡ 1)
+one_status (Err first) start fault (inl same) one = ap status_of_fault (sym same) ∙ one
+one_status (Err first) start fault (inr memory) one = absurd (cc (ap status_of_fault memory, one))
+one_status (Ok settings) start (Failed (BadEvent n)) fails one = absurd (cc one)
+one_status (Ok settings) start (Failed Memory) fails one = absurd (cc one)
+one_status (Ok settings) start (Failed Device) fails one = absurd (cc one)
+one_status (Ok settings) start UnreadSettings fails one = absurd fails
+one_status (Ok settings) start (Settings first) fails one = absurd fails
+one_status (Ok settings) start BadBreak fails one = absurd fails
 
-bad_line : (settings : Parameters) (start : Option (List ℕ)) (n : ℕ) → IfSome start (λ octets. IsBadScript (length settings.cells) octets n) → HasBadLine (controlled settings) start
+bad_line : (settings : Parameters) (start : Option (List ℕ)) (n : ℕ) → IfSome start (λ octets. IsBadScript (length settings.cells) octets n) → HasBadLine (length settings.cells) start
 bad_line settings None n bad = tt
 bad_line settings (Some octets) n bad = (n, bad)
 
-pub two_status : (read : Result Parameters SettingsFault) (start : Option (List ℕ)) (fault : ProgramFault) → Fails (asked_with (settings_or_fault read) None) start fault → status_of_fault fault ≡ 2
-    → IsOkAnd (settings_or_fault read) (λ parameters. HasBadLine (controlled parameters) start)
+pub two_status : (read : Result Parameters SettingsFault) (start : Option (List ℕ)) (fault : ProgramFault) → Fails (settings_or_fault read) start fault → status_of_fault fault ≡ 2
+    → IsOkAnd (settings_or_fault read) (λ parameters. HasBadLine (length parameters.cells) start)
 two_status (Err first) start fault (inl same) two = absurd (cc (ap status_of_fault same, two))
 two_status (Err first) start fault (inr memory) two = absurd (cc (ap status_of_fault memory, two))
 two_status (Ok settings) start (Failed (BadEvent n)) fails two = bad_line settings start n fails

@@ -1,10 +1,13 @@
 -- SPDX-License-Identifier: MIT OR Apache-2.0
 -- The trace of a script.
-use Rattle.std.specs.Prelude.{◌≡◌, ℕ, ◌+◌, ◌==◌, ◌&&◌, Bool, not, if◌then◌else◌}
-use Rattle.std.specs.Prelude.{IfSome, length}
+use Rattle.std.specs.Prelude.{◌≡◌, ◌⊎◌, ℕ, ◌+◌, ◌==◌, ◌&&◌, Bool, not, if◌then◌else◌}
+use Rattle.std.specs.Prelude.{IfSome, length, Result, Ok, Err}
 use Rattle.std.specs.Prelude.{List, [], ◌∷◌, ◌++◌, Option, Some, None}
 use Rattle.std.specs.Io.KnownBytes.{Appends}
-use Rattle.bsc_program.specs.Script.{IsScript}
+use Rattle.program_base.specs.WholeScript.{HasBadLineAt, IsBadScript, IsScript}
+use Rattle.program_base.specs.declared.failure.Failure.TheVariants.{BadEvent, Device, Memory}
+use Rattle.program_base.specs.declared.fault.ProgramFault.{ProgramFault}
+use Rattle.program_base.specs.declared.fault.ProgramFault.TheVariants.{Failed}
 use Rattle.settings.specs.Parameters.{Parameters}
 use Rattle.world_model.specs.declared.event.Event.{Event}
 use Rattle.world_model.specs.Life.{actors_after}
@@ -60,3 +63,17 @@ Traces settings tally start old new = IfSome start (λ octets.
     (events : List Event) × IsScript (length settings.cells) octets events
     × Appends old new (trace_text (modulus_in settings) (new_actors settings) 1 octets events)
     × (tally ≡ tally_of (new_actors settings) 1 events no_tally))
+
+-- Why not all is traced: the settings have a fault, where memory isn't wanted before that is known;
+-- or a known script has a bad line, with this number; or memory or a device failed.
+abbrev pub Fails : Result Parameters ProgramFault → Option (List ℕ) → ProgramFault → Type 0
+Fails (Err found) start fault = (fault ≡ found) ⊎ (fault ≡ Failed Memory)
+Fails (Ok settings) start (Failed (BadEvent number)) =
+    HasBadLineAt (length settings.cells) start number
+Fails (Ok settings) start (Failed Memory) = Unit {0}
+Fails (Ok settings) start (Failed Device) = Unit {0}
+Fails (Ok settings) start _ = ⊥
+
+-- a known script has a bad line
+abbrev pub HasBadLine : ℕ → Option (List ℕ) → Type 0
+HasBadLine cells start = IfSome start (λ octets. (number : ℕ) × IsBadScript cells octets number)

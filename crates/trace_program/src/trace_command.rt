@@ -1,22 +1,20 @@
 // SPDX-License-Identifier: MIT OR Apache-2.0
 ghost use Rattle.std.specs.Prelude.{◌≡◌, ◌≢◌, ◌⊎◌, ℕ, Err, IfErr, IfOk};
-ghost use Rattle.std.specs.Prelude.{IsErrAnd, IsOkAnd, None, OnOk, Some, length};
+ghost use Rattle.std.specs.Prelude.{IsErrAnd, IsOkAnd, OnOk, length};
 ghost use Rattle.std.specs.Io.KnownBytes.{Appends, IsAtEnd};
-ghost use Rattle.bsc_program.specs.Asked.{asked, controlled};
-ghost use Rattle.bsc_program.specs.Replayed.{Fails, HasBadLine};
-ghost use Rattle.bsc_program.specs.Script.{HasBadLineAt};
+ghost use Rattle.program_base.specs.WholeScript.{HasBadLineAt};
 ghost use Rattle.dtap_codec.specs.Number.{count_of};
 ghost use Rattle.world_model.specs.World.{modulus_in};
 ghost use Rattle.program_base.specs.SettingsText.{settings_of};
 ghost use Rattle.program_base.specs.Status.{status_of, status_of_fault};
 ghost use Rattle.program_base.specs.declared.failure.Failure.TheVariants.{BadEvent};
-ghost use Rattle.trace_program.specs.Traced.{Traces, no_tally, status_of_tally, tally_of};
+ghost use Rattle.trace_program.specs.Traced.{Fails, HasBadLine, Traces, no_tally};
+ghost use Rattle.trace_program.specs.Traced.{status_of_tally, tally_of};
 ghost use Rattle.trace_program.specs.Traced.{trace_text};
 
 use crate::run::{Tally, write_trace};
-use bsc_program::{KeptScript, read_kept_script};
 use dtap_codec::Modulus;
-use program_base::{Failure, ProgramFault, read_settings};
+use program_base::{Failure, KeptScript, ProgramFault, read_kept_script, read_settings};
 use settings::Settings;
 use std::alloc::Global;
 use std::io::{Read, Write};
@@ -55,7 +53,7 @@ pub fn trace<R: Read, W: Write, E: Write>(
         (W.contents output.old) (W.contents output.new)) }
     // It ends with 2 only where a line of the script is bad.
     ensures bad { result ≡ 2 → IsOkAnd (settings_of settings.now)
-        (λ parameters. HasBadLine (controlled parameters) (R.remaining input.old)) }
+        (λ parameters. HasBadLine (length parameters.cells) (R.remaining input.old)) }
     // Where it ends with 1 or 2 nothing is printed.
     ensures kept { (result ≡ 1) ⊎ (result ≡ 2) → output.new ≡ output.old }
 {
@@ -78,7 +76,7 @@ fn try_trace<R: Read, W: Write>(
     ensures printed { IfOk result (λ tally. IsOkAnd (settings_of settings.now)
         (λ parameters. Traces parameters tally (R.remaining input.old)
         (W.contents output.old) (W.contents output.new))) }
-    ensures fails { IfErr result (λ fault. Fails (asked (Some settings.now) None)
+    ensures fails { IfErr result (λ fault. Fails (settings_of settings.now)
         (R.remaining input.old) fault) }
     ensures kept { IfErr result (λ fault. status_of_fault fault ≢ 3 → output.new ≡ output.old) }
 {

@@ -1,23 +1,19 @@
 -- SPDX-License-Identifier: MIT OR Apache-2.0
-use Rattle.std.proofs.Common.{None, refl, sym}
-use Rattle.bsc_program.specs.Asked.{controlled}
-use Rattle.bsc_program.proofs.Replaying.{asked_controlled, fails_by, unread_fails}
 use Rattle.program_base.proofs.Ends.{said_of}
 use Rattle.program_base.specs.SettingsText.{settings_of}
-use Rattle.trace_program.proofs.Commanded.{traces_as}
+use Rattle.trace_program.proofs.Commanded.{fails_by, traces_as, unread_fails}
 use Rattle.trace_program.proofs.trace_command.try_trace.Goals as goal
 
 pub returns-in_err-settings-clause-fails : goal.returns-in_err-settings-clause-fails
 returns-in_err-settings-clause-fails g c =
     said_of c.from_residual-in_err-settings.result _ _ c.from_residual-in_err-settings.ensures.1
-    (λ fault was. unread_fails (settings_of c.args.settings.now) None (g.R.Read.remaining c.args.input.now) _ fault c.in_err-settings.ensures was)
+    (λ fault was. unread_fails (settings_of c.args.settings.now) (g.R.Read.remaining c.args.input.now) _ fault c.in_err-settings.ensures was)
 
 pub returns-in_err-trace_script-clause-fails : goal.returns-in_err-trace_script-clause-fails
 returns-in_err-trace_script-clause-fails g c =
     said_of c.from_residual-in_err-trace_script.result _ _ c.from_residual-in_err-trace_script.ensures.1
     (λ fault was.
-    fails_by _ (controlled c.in_ok-settings.settings) (g.R.Read.remaining c.args.input.now) _ fault
-    (asked_controlled (settings_of c.args.settings.now) None c.in_ok-settings.settings (sym (c.in_ok-settings.ensures (λ is. absurd (cc is)))) refl) was
+    fails_by (settings_of c.args.settings.now) c.in_ok-settings.settings (g.R.Read.remaining c.args.input.now) _ fault (c.in_ok-settings.ensures (λ is. absurd (cc is))) was
     (λ n is. c.in_err-trace_script.ensures.bad n (cc is)))
 
 pub returns-clause-printed : goal.returns-clause-printed

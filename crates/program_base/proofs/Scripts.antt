@@ -22,10 +22,10 @@ use Rattle.program_base.specs.declared.input.Unread.{Unread}
 use Rattle.program_base.specs.declared.input.Unread.TheVariants.{Endless, Device, Refused}
 use Rattle.program_base.specs.Input.{ReadsInput}
 use Rattle.program_base.specs.Status.{failure_of, failure_unread}
-use Rattle.bsc_program.specs.declared.script.Script.{Script}
+use Rattle.program_base.specs.declared.whole_script.Script.{Script}
 use Rattle.program_base.specs.Pieces.{all_both}
-use Rattle.bsc_program.specs.ScriptLaws.{lines_both, texts_both}
-use Rattle.bsc_program.specs.Script.{AddsLine, AreTexts, Finishes, HasNoFeed, IsBadLine, IsBadScript, IsScript, Reads, RefusesAt, RefusesLine, line_count, lines_text}
+use Rattle.program_base.specs.WholeScriptLaws.{lines_both, texts_both}
+use Rattle.program_base.specs.WholeScript.{AddsLine, AreTexts, Finishes, HasNoFeed, IsBadLine, IsBadScript, IsScript, Reads, RefusesAt, RefusesLine, line_count, lines_text}
 
 -- of the block all but the rest was read
 pub record ReadsSome (old new : Script) (block rest : List ℕ) : Type 0 where

@@ -1,15 +1,16 @@
 // SPDX-License-Identifier: MIT OR Apache-2.0
 ghost use Rattle.std.specs.Prelude.{◌≡◌, ℕ, [], Err, IfOk, IfSome, OnOk};
 ghost use Rattle.std.specs.Io.KnownBytes.{IsAtEnd};
-ghost use Rattle.bsc_program.specs.Script.{HasBadLineAt, IsScript};
+ghost use Rattle.program_base.specs.WholeScript.{HasBadLineAt, IsScript};
 ghost use Rattle.program_base.specs.declared.failure.Failure.TheVariants.{BadEvent};
 
-use crate::script::{BLOCK, Script};
+use crate::failure::Failure;
+use crate::input::{Sink, read_all, room_for};
+use crate::whole_script::{BLOCK, Script};
 use octets::Memory;
-use program_base::{Failure, Sink, read_all, room_for};
 use std::alloc::Global;
 use std::io::Read;
-use world::Event;
+use world_model::Event;
 
 /// A script's events, and its octets.
 #[derive(Drop)]
@@ -42,8 +43,8 @@ impl Keeper {
 
 impl Sink for Keeper {
     ghost use Rattle.std.specs.Prelude.{◌≡◌, ◌++◌, ℕ};
-    ghost use Rattle.bsc_program.specs.Script.{Reads, RefusesAt};
-    ghost use Rattle.bsc_program.specs.ScriptLaws.{keeps_both, keeps_nothing, refuses_behind};
+    ghost use Rattle.program_base.specs.WholeScript.{Reads, RefusesAt};
+    ghost use Rattle.program_base.specs.WholeScriptLaws.{keeps_both, keeps_nothing, refuses_behind};
     ghost use Rattle.program_base.specs.declared.failure.Failure.TheVariants.{BadEvent};
 
     type Fault = Failure;

@@ -7,10 +7,10 @@ use Rattle.std.proofs.lemmas.List.{length-append}
 use Rattle.std.specs.Prelude.{codes}
 use Rattle.std.proofs.lemmas.Grind.{flat_map-append}
 use Rattle.world_model.specs.declared.event.Event.{Event}
-use Rattle.bsc_program.specs.declared.script.Script.{Script}
+use Rattle.program_base.specs.declared.whole_script.Script.{Script}
 use Rattle.program_base.specs.Pieces.{all_both}
-use Rattle.bsc_program.specs.Script.{AreTexts, HasNoFeed, IsBadLine, Reads, RefusesAt, line_count}
-use Rattle.bsc_program.specs.Script.{lines_text}
+use Rattle.program_base.specs.WholeScript.{AreTexts, HasNoFeed, IsBadLine, Reads, RefusesAt, line_count}
+use Rattle.program_base.specs.WholeScript.{lines_text}
 
 pub texts_both : (cells : ℕ) (es fs : List Event) (ls ms : List (List ℕ))
     → AreTexts cells es ls → AreTexts cells fs ms → AreTexts cells (es ++ fs) (ls ++ ms)

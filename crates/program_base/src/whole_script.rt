@@ -2,16 +2,19 @@
 ghost use Rattle.std.specs.Prelude.{◌≡◌, ◌≢◌, ℕ, ◌++◌, [], Err, IfOk, IfSome};
 ghost use Rattle.std.specs.Prelude.{OnOk};
 ghost use Rattle.std.specs.Io.KnownBytes.{IsAtEnd};
-ghost use Rattle.bsc_program.specs.Script.{AddsLine, Finishes, HasBadLineAt, IsScript, RefusesLine};
+ghost use Rattle.program_base.specs.WholeScript.{AddsLine, Finishes, HasBadLineAt, IsScript, RefusesLine};
 ghost use Rattle.program_base.specs.declared.failure.Failure.TheVariants.{BadEvent};
 
+use crate::failure::Failure;
+use crate::input::{Sink, read_all, room_for};
+use crate::line_fault::LineFault;
+use crate::script::read_line;
 use memchr::memchr;
 use octets::Memory;
-use program_base::{Failure, LineFault, Sink, read_all, read_line, room_for};
 use std::alloc::Global;
 use std::io::Read;
 use std::{mem, str};
-use world::Event;
+use world_model::Event;
 
 /// The octets that one read asks for.
 pub(crate) const BLOCK: usize = 65536;
@@ -96,9 +99,9 @@ impl Script {
 
 impl Sink for Script {
     ghost use Rattle.std.specs.Prelude.{◌≡◌, ℕ};
-    ghost use Rattle.bsc_program.specs.Script.{Reads, RefusesAt};
+    ghost use Rattle.program_base.specs.WholeScript.{Reads, RefusesAt};
     ghost use Rattle.program_base.specs.declared.failure.Failure.TheVariants.{BadEvent};
-    ghost use Rattle.bsc_program.specs.ScriptLaws.{reads_nothing, reads_both, refuses_behind};
+    ghost use Rattle.program_base.specs.WholeScriptLaws.{reads_nothing, reads_both, refuses_behind};
 
     type Fault = Failure;
 
@@ -127,7 +130,7 @@ impl Sink for Script {
 }
 
 /// Reads a script up to its end or its first bad line.
-pub(crate) fn read_script<R: Read>(
+pub fn read_script<R: Read>(
     alloc: Global,
     cells: u16,
     input: &mut R,

@@ -5,10 +5,10 @@ use Rattle.program_base.specs.declared.failure.Failure.{Failure}
 use Rattle.program_base.specs.declared.failure.Failure.TheVariants.{BadEvent}
 use Rattle.program_base.specs.declared.input.TheConstants.{MOST_READS}
 use Rattle.program_base.proofs.Ends.{error_as}
-use Rattle.bsc_program.specs.Script.{Reads, RefusesAt}
-use Rattle.bsc_program.specs.declared.kept_script.Keeper.{Keeper}
-use Rattle.bsc_program.proofs.Scripts.{refused_unread, script_all, script_bad_at, script_bad_last, script_more, script_none}
-use Rattle.bsc_program.proofs.kept_script.read_kept_script.Goals as goal
+use Rattle.program_base.specs.WholeScript.{Reads, RefusesAt}
+use Rattle.program_base.specs.declared.kept_script.Keeper.{Keeper}
+use Rattle.program_base.proofs.Scripts.{refused_unread, script_all, script_bad_at, script_bad_last, script_more, script_none}
+use Rattle.program_base.proofs.kept_script.read_kept_script.Goals as goal
 
 -- what the keeper takes and refuses
 abbrev Keeps : Keeper → List ℕ → Keeper → Type 0
