@@ -19,11 +19,7 @@ use std::io::Write;
 /// Writes what a frame says beside its name: of a message of a station's link the octet of its
 /// channel number, ` channel 41`; of one of the switch's the references that it has, that of its
 /// receiver and that of its sender, ` to 800001 from 000001`.
-pub fn write_fields<W: Write>(
-    alloc: Global,
-    frame: &Frame,
-    output: &mut W,
-) -> Result<(), Failure>
+pub fn write_fields<W: Write>(alloc: Global, frame: &Frame, output: &mut W) -> Result<(), Failure>
     ensures text { OnOk result (Appends (W.contents output.old) (W.contents output.new)
         (fields_text frame.now)) }
     ensures err { IfErr result (λ failure. status_of failure ≡ 3) }
@@ -91,11 +87,7 @@ fn write_channel<W: Write>(channel: Option<u8>, output: &mut W) -> Result<(), Fa
 }
 
 /// Writes the references of a message of the switch's link.
-fn write_references<W: Write>(
-    alloc: Global,
-    body: &[u8],
-    output: &mut W,
-) -> Result<(), Failure>
+fn write_references<W: Write>(alloc: Global, body: &[u8], output: &mut W) -> Result<(), Failure>
     ensures text { OnOk result (Appends (W.contents output.old) (W.contents output.new)
         (references_by (sccp_reading body.now))) }
     ensures err { IfErr result (λ failure. status_of failure ≡ 3) }

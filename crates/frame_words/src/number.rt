@@ -40,11 +40,7 @@ pub fn write_number<W: Write>(
     }
 }
 
-fn number_in_frame(
-    alloc: Global,
-    modulus: Modulus,
-    frame: &Frame,
-) -> Result<Option<u8>, Memory>
+fn number_in_frame(alloc: Global, modulus: Modulus, frame: &Frame) -> Result<Option<u8>, Memory>
     ensures { IfOk result (λ number. number ≡ number_in_frame (count_of modulus) frame.now) }
 {
     match frame.stream {

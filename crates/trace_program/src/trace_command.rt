@@ -125,9 +125,9 @@ fn trace_events<W: Write>(
     output: &mut W,
 ) -> Result<Tally, Failure>
     ensures ok { IfOk result (λ tally. Appends (W.contents output.old) (W.contents output.new)
-        (trace_text (count_of modulus) network.entry 1
+        (trace_text (count_of modulus) network 1
         script.now.octets.items script.now.events.items)
-        × (tally ≡ tally_of network.entry 1 script.now.events.items no_tally)) }
+        × (tally ≡ tally_of network 1 script.now.events.items no_tally)) }
     ensures err { IfErr result (λ failure. status_of failure ≡ 3) }
 {
     let events = script.events.as_slice();
@@ -152,7 +152,10 @@ fn ended<E: Write>(strict: bool, tally: Tally, errors: &mut E) -> u8
             NOT_TAKEN
         }
         count => {
-            let _ = writeln!(errors, "bsc: {count} events not taken, the first in line {first}");
+            let _ = writeln!(
+                errors,
+                "bsc: {count} events not taken, the first in line {first}"
+            );
             NOT_TAKEN
         }
     }
