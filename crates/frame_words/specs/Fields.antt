@@ -48,25 +48,25 @@ channel_field (Some channel) = codes " channel " ++ encode_lower (channel ∷ []
 
 -- ---- what its receiver and its sender call the connection of a message of the switch's link
 
-abbrev pub destination_of : Sccp → Option ℕ
+abbrev pub destination_of : Sccp → Option (List ℕ)
 destination_of (connection.ConnectionRequest source octets) = None
-destination_of (connection.ConnectionConfirm destination source) = Some destination
-destination_of (connection.ConnectionRefused destination) = Some destination
-destination_of (connection.Released destination source) = Some destination
-destination_of (connection.ReleaseComplete destination source) = Some destination
-destination_of (connection.DataForm1 destination octets) = Some destination
+destination_of (connection.ConnectionConfirm destination source) = Some (reference_text destination)
+destination_of (connection.ConnectionRefused destination) = Some (reference_text destination)
+destination_of (connection.Released destination source) = Some (reference_text destination)
+destination_of (connection.ReleaseComplete destination source) = Some (reference_text destination)
+destination_of (connection.DataForm1 destination octets) = Some (reference_text destination)
 
-abbrev pub source_of : Sccp → Option ℕ
-source_of (connection.ConnectionRequest source octets) = Some source
-source_of (connection.ConnectionConfirm destination source) = Some source
+abbrev pub source_of : Sccp → Option (List ℕ)
+source_of (connection.ConnectionRequest source octets) = Some (reference_text source)
+source_of (connection.ConnectionConfirm destination source) = Some (reference_text source)
 source_of (connection.ConnectionRefused destination) = None
-source_of (connection.Released destination source) = Some source
-source_of (connection.ReleaseComplete destination source) = Some source
+source_of (connection.Released destination source) = Some (reference_text source)
+source_of (connection.ReleaseComplete destination source) = Some (reference_text source)
 source_of (connection.DataForm1 destination octets) = None
 
-abbrev pub reference_field : List ℕ → Option ℕ → List ℕ
+abbrev pub reference_field : List ℕ → Option (List ℕ) → List ℕ
 reference_field word None = []
-reference_field word (Some reference) = word ++ encode_lower (reference_text reference)
+reference_field word (Some octets) = word ++ encode_lower octets
 
 abbrev pub references_text : Sccp → List ℕ
 references_text message =

@@ -2,6 +2,7 @@
 ghost use Rattle.std.specs.Prelude.{◌≡◌, ◌∷◌, [], IfErr, IfOk, OnOk};
 ghost use Rattle.std.specs.Io.KnownBytes.{Appends};
 ghost use Rattle.program_base.specs.Status.{status_of};
+ghost use Rattle.bssmap_codec.specs.Reference.{reference_text};
 ghost use Rattle.bssmap_codec.specs.SccpReading.{sccp_reading};
 ghost use Rattle.rsl_codec.specs.RslReading.{rsl_reading};
 ghost use Rattle.frame_words.specs.Fields.{channel_by, channel_field, channel_of, fields_text};
@@ -12,7 +13,7 @@ use bssmap_codec::{InterfaceFault, Reference, Sccp, read_sccp};
 use ipa_framing::{Frame, RSL_STREAM, SCCP_STREAM};
 use octets::Memory;
 use program_base::{Failure, put};
-use rsl_codec::{ChanNo, Rsl, RslFault};
+use rsl_codec::{Rsl, RslFault};
 use std::alloc::Global;
 use std::io::Write;
 
@@ -39,35 +40,35 @@ fn channel_in(alloc: Global, body: &[u8]) -> Result<Option<u8>, Memory>
     ensures { IfOk result (λ channel. channel ≡ channel_by (rsl_reading body.now)) }
 {
     match Rsl::read(alloc, body) {
-        Ok(message) => Ok(Some(channel_of(&message).octet())),
+        Ok(message) => Ok(Some(channel_of(&message))),
         Err(RslFault::Memory) => Err(Memory),
         Err(_) => Ok(None),
     }
 }
 
-fn channel_of(message: &Rsl) -> ChanNo
+fn channel_of(message: &Rsl) -> u8
     ensures { result ≡ channel_of message.now }
 {
     match message {
-        Rsl::DataRequest(message) => message.channel,
-        Rsl::DataIndication(message) => message.channel,
-        Rsl::ErrorIndication(message) => message.channel,
-        Rsl::EstablishRequest(message) => message.channel,
-        Rsl::EstablishConfirm(message) => message.channel,
-        Rsl::EstablishIndication(message) => message.channel,
-        Rsl::ReleaseRequest(message) => message.channel,
-        Rsl::ReleaseConfirm(message) => message.channel,
-        Rsl::ReleaseIndication(message) => message.channel,
-        Rsl::ChannelRequired(message) => message.channel,
-        Rsl::ImmediateAssignCommand(message) => message.channel,
-        Rsl::ChannelActivation(message) => message.channel,
-        Rsl::ChannelActivationAck(message) => message.channel,
-        Rsl::ChannelActivationNack(message) => message.channel,
-        Rsl::ConnectionFailure(message) => message.channel,
-        Rsl::HandoverDetection(message) => message.channel,
-        Rsl::MeasurementResult(message) => message.channel,
-        Rsl::RfChannelRelease(channel) => *channel,
-        Rsl::RfChannelReleaseAck(channel) => *channel,
+        Rsl::DataRequest(message) => message.channel.octet(),
+        Rsl::DataIndication(message) => message.channel.octet(),
+        Rsl::ErrorIndication(message) => message.channel.octet(),
+        Rsl::EstablishRequest(message) => message.channel.octet(),
+        Rsl::EstablishConfirm(message) => message.channel.octet(),
+        Rsl::EstablishIndication(message) => message.channel.octet(),
+        Rsl::ReleaseRequest(message) => message.channel.octet(),
+        Rsl::ReleaseConfirm(message) => message.channel.octet(),
+        Rsl::ReleaseIndication(message) => message.channel.octet(),
+        Rsl::ChannelRequired(message) => message.channel.octet(),
+        Rsl::ImmediateAssignCommand(message) => message.channel.octet(),
+        Rsl::ChannelActivation(message) => message.channel.octet(),
+        Rsl::ChannelActivationAck(message) => message.channel.octet(),
+        Rsl::ChannelActivationNack(message) => message.channel.octet(),
+        Rsl::ConnectionFailure(message) => message.channel.octet(),
+        Rsl::HandoverDetection(message) => message.channel.octet(),
+        Rsl::MeasurementResult(message) => message.channel.octet(),
+        Rsl::RfChannelRelease(channel) => channel.octet(),
+        Rsl::RfChannelReleaseAck(channel) => channel.octet(),
     }
 }
 
@@ -109,49 +110,56 @@ fn write_both<W: Write>(message: &Sccp, output: &mut W) -> Result<(), Failure>
 }
 
 /// What the receiver of a message calls the connection.
-fn destination_of(message: &Sccp) -> Option<Reference>
+fn destination_of(message: &Sccp) -> Option<[u8; 3]>
     ensures { result ≡ destination_of message.now }
 {
     match message {
         Sccp::ConnectionRequest { .. } => None,
-        Sccp::ConnectionConfirm { destination, .. } => Some(*destination),
-        Sccp::ConnectionRefused { destination } => Some(*destination),
-        Sccp::Released { destination, .. } => Some(*destination),
-        Sccp::ReleaseComplete { destination, .. } => Some(*destination),
-        Sccp::DataForm1 { destination, .. } => Some(*destination),
+        Sccp::ConnectionConfirm { destination, .. } => Some(octets_of(destination)),
+        Sccp::ConnectionRefused { destination } => Some(octets_of(destination)),
+        Sccp::Released { destination, .. } => Some(octets_of(destination)),
+        Sccp::ReleaseComplete { destination, .. } => Some(octets_of(destination)),
+        Sccp::DataForm1 { destination, .. } => Some(octets_of(destination)),
     }
 }
 
 /// What its sender calls it.
-fn source_of(message: &Sccp) -> Option<Reference>
+fn source_of(message: &Sccp) -> Option<[u8; 3]>
     ensures { result ≡ source_of message.now }
 {
     match message {
-        Sccp::ConnectionRequest { source, .. } => Some(*source),
-        Sccp::ConnectionConfirm { source, .. } => Some(*source),
+        Sccp::ConnectionRequest { source, .. } => Some(octets_of(source)),
+        Sccp::ConnectionConfirm { source, .. } => Some(octets_of(source)),
         Sccp::ConnectionRefused { .. } => None,
-        Sccp::Released { source, .. } => Some(*source),
-        Sccp::ReleaseComplete { source, .. } => Some(*source),
+        Sccp::Released { source, .. } => Some(octets_of(source)),
+        Sccp::ReleaseComplete { source, .. } => Some(octets_of(source)),
         Sccp::DataForm1 { .. } => None,
     }
+}
+
+/// The octets of a reference.
+fn octets_of(reference: &Reference) -> [u8; 3]
+    ensures { result ≡ reference_text reference.now }
+{
+    let [_, high, middle, low] = reference.number().to_be_bytes();
+    [high, middle, low]
 }
 
 /// Writes a reference behind a word, where there is one.
 fn write_reference<W: Write>(
     word: &str,
-    reference: Option<Reference>,
+    reference: Option<[u8; 3]>,
     output: &mut W,
 ) -> Result<(), Failure>
     ensures text { OnOk result (Appends (W.contents output.old) (W.contents output.new)
         (reference_field word.now reference)) }
     ensures err { IfErr result (λ failure. status_of failure ≡ 3) }
 {
-    let Some(reference) = reference else {
+    let Some(octets) = reference else {
         return Ok(());
     };
-    let [_, high, middle, low] = reference.number().to_be_bytes();
     let mut digits = [0; 6];
-    hex::encode_to_slice([high, middle, low], &mut digits).unwrap();
+    hex::encode_to_slice(octets, &mut digits).unwrap();
     put(output, word.as_bytes())?;
     put(output, &digits)?;
     Ok(())
