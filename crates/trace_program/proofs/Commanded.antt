@@ -60,6 +60,10 @@ pub not_two : (status : ℕ) → (status ≡ 0) ⊎ (status ≡ 4) → status �
 not_two status (inl none) two = absurd (cc (none, two))
 not_two status (inr four) two = absurd (cc (four, two))
 
+pub not_kept : (status : ℕ) → (status ≡ 0) ⊎ (status ≡ 4) → (status ≡ 1) ⊎ (status ≡ 2) → ⊥
+not_kept status some (inl one) = not_one status some one
+not_kept status some (inr two) = not_two status some two
+
 pub any_status : (status : ℕ) → (status ≡ 0) ⊎ (status ≡ 4) → (status ≡ 0) ⊎ (status ≡ 1) ⊎ (status ≡ 2) ⊎ (status ≡ 3) ⊎ (status ≡ 4)
 any_status status (inl none) = inl none
 any_status status (inr four) = inr (inr (inr (inr four)))

@@ -3,7 +3,7 @@ use Rattle.std.proofs.Common.{◌∙◌, sym}
 use Rattle.program_base.specs.SettingsText.{settings_of}
 use Rattle.toml.specs.Parse.{parse_document}
 use Rattle.settings.specs.Tables.{settings_in}
-use Rattle.trace_program.proofs.Commanded.{among_five, any_status, fault_status, no_fault, not_one, not_traced, not_two, one_status, settings_fault, tally_status, traces_with, two_status}
+use Rattle.trace_program.proofs.Commanded.{among_five, any_status, fault_status, no_fault, not_kept, not_one, not_traced, not_two, one_status, settings_fault, tally_status, traces_with, two_status}
 use Rattle.trace_program.proofs.trace_command.trace.Goals as goal
 
 pub returns-in-Ok-clause-status : goal.returns-in-Ok-clause-status
@@ -21,6 +21,9 @@ returns-in-Ok-clause-printed g c = λ all.
 
 pub returns-in-Ok-clause-bad : goal.returns-in-Ok-clause-bad
 returns-in-Ok-clause-bad g c = λ two. absurd (not_two c.ended.result (tally_status c.args.strict c.in-Ok.tally c.ended.result c.ended.ensures) two)
+
+pub returns-in-Ok-clause-kept : goal.returns-in-Ok-clause-kept
+returns-in-Ok-clause-kept g c = λ either. absurd (not_kept c.ended.result (tally_status c.args.strict c.in-Ok.tally c.ended.result c.ended.ensures) either)
 
 pub returns-in-Err-clause-status : goal.returns-in-Err-clause-status
 returns-in-Err-clause-status g c = among_five c.status.result (fault_status c.in-Err.fault c.status.result c.status.ensures)
