@@ -1,5 +1,5 @@
 -- SPDX-License-Identifier: MIT OR Apache-2.0
-use Rattle.std.proofs.Common.{◌≡◌, ◌++◌, ◌×◌, ℕ, List, ap, sym, ◌∙◌}
+use Rattle.std.proofs.Common.{◌≡◌, ◌++◌, ℕ, List, ap, sym, ◌∙◌}
 use Rattle.std.proofs.KnownBytes.{Consumes-whole}
 use Rattle.program_base.specs.declared.failure.Failure.{Failure}
 use Rattle.program_base.specs.declared.failure.Failure.TheVariants.{BadEvent}
@@ -46,7 +46,7 @@ returns-clause-events g c =
     let none = script_none c.args.cells start keeper.script c.new-keeper.ensures.cells c.new-keeper.ensures.events c.new-keeper.ensures.started c.new-keeper.ensures.lines in
     let some = c.in_ok-read_all.ensures in
     let read = script_more c.args.cells start start end keeper.script c.read_all.new.sink.script some.0 none some.1 some.2.0 in
-    script_all c.args.cells start end c.read_all.new.sink.script c.in_ok-events.events.items read some.3 c.in_ok-events.ensures
+    script_all c.args.cells start end c.read_all.new.sink.script c.in_ok-events.events.items read some.3 c.in_ok-events.ensures.ok
 
 pub returns-clause-octets : goal.returns-clause-octets
 returns-clause-octets g c =
