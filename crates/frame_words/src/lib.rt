@@ -3,11 +3,13 @@
 #![tactic(auto)]
 
 pub use carried::carried_name;
+pub use digits::write_digits;
 pub use fields::write_fields;
 pub use message_name::write_message_name;
 pub use number::write_number;
 
 mod carried;
+mod digits;
 mod fields;
 mod message_name;
 mod names;

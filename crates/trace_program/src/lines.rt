@@ -4,15 +4,13 @@ ghost use Rattle.std.specs.List.{flat_map};
 ghost use Rattle.std.specs.Io.KnownBytes.{Appends};
 ghost use Rattle.program_base.specs.Status.{status_of};
 ghost use Rattle.dtap_codec.specs.Number.{count_of};
-ghost use Rattle.hex.specs.Hex.{encode_lower};
 ghost use Rattle.trace_program.specs.TraceLines.{crossing_line, end_text, ends_text, event_line};
 ghost use Rattle.trace_program.specs.TraceLines.{event_lines, frame_text, outcome_text};
 ghost use Rattle.trace_program.specs.TraceLines.{is_uplink, number_said, said_column};
 
 use crate::words::{cause_text, passage_text};
 use dtap_codec::Modulus;
-use frame_words::{write_fields, write_message_name, write_number};
-use octets::Memory;
+use frame_words::{write_digits, write_fields, write_message_name, write_number};
 use program_base::{Failure, put};
 use std::alloc::Global;
 use std::io::Write;
@@ -174,17 +172,6 @@ fn is_uplink(from: End, to: End) -> bool
         (_, End::Switch) => true,
         _ => false,
     }
-}
-
-/// Writes octets in hexadecimal digits.
-fn write_digits<W: Write>(alloc: Global, octets: &[u8], output: &mut W) -> Result<(), Failure>
-    ensures text { OnOk result (Appends (W.contents output.old) (W.contents output.new)
-        (encode_lower octets.now)) }
-    ensures err { IfErr result (λ failure. status_of failure ≡ 3) }
-{
-    let digits = hex::encode(alloc, octets).map_err(Memory::from)?;
-    put(output, digits.as_bytes())?;
-    Ok(())
 }
 
 fn write_end<W: Write>(end: End, output: &mut W) -> Result<(), Failure>
