@@ -18,7 +18,8 @@ use Rattle.world_trace.specs.declared.crossing.Crossing.{Crossing}
 use Rattle.world_trace.specs.Causes.{refusal}
 use Rattle.world_trace.specs.Crossings.{crossings}
 use Rattle.trace_program.specs.declared.run.Tally.{Tally}
-use Rattle.trace_program.specs.TraceLines.{crossing_line, event_lines}
+use Rattle.std.specs.Prelude.{codes, decimal}
+use Rattle.trace_program.specs.TraceLines.{crossing_line, ends_text, event_lines, frame_text}
 use Rattle.trace_program.specs.Traced.{behind_line, counted, line_of, tally_of, trace_text}
 
 -- ---- the frames of an event
@@ -33,6 +34,17 @@ crossings_more m number next xs x old mid new some less is line =
 
 pub crossings_all : (m number next : ℕ) (xs : List Crossing) (old new : Option (List ℕ)) → Appends old new (flat_map (crossing_line m number) (take next xs)) → length xs ≤ next → Appends old new (flat_map (crossing_line m number) xs)
 crossings_all m number next xs old new some all = subst (λ (ys : List Crossing). Appends old new (flat_map (crossing_line m number) ys)) (take_all next xs all) some
+
+-- the line of a frame, from its three parts
+pub line_written : (m number : ℕ) (crossing : Crossing) (old one two new : Option (List ℕ)) → Appends old one (decimal number ++ codes "\t") → Appends one two (ends_text crossing.from crossing.to) → Appends two new (frame_text m crossing)
+    → Appends old new (crossing_line m number crossing)
+line_written m number crossing old one two new first ends frame =
+    let tab : List ℕ = codes "\t" in
+    let front : List ℕ = decimal number ++ tab in
+    let behind : List ℕ = ends_text crossing.from crossing.to in
+    let last : List ℕ = frame_text m crossing in
+    subst (Appends old new) (append_assoc front behind last ∙ append_assoc (decimal number) tab (behind ++ last))
+    (Appends-trans old two new (front ++ behind) last (Appends-trans old one two front behind first ends) frame)
 
 -- ---- a line
 
