@@ -45,7 +45,7 @@ traces_with (Err fault) strict status tally start old new is traces = traces
 
 -- ---- the status where all was traced
 
-four_or_none : (b : Bool) → ((if b then 4 else 0) ≡ 0) ⊎ ((if b then 4 else 0) ≡ 4)
+four_or_none : (b : Bool) → (◌≡◌ {A = ℕ} (if b then 4 else 0) 0) ⊎ (◌≡◌ {A = ℕ} (if b then 4 else 0) 4)
 four_or_none true = inr refl
 four_or_none false = inl refl
 

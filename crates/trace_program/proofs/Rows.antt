@@ -36,7 +36,7 @@ unfolding digits hex_on_literals on_literals
 required = refl
 
 dt1 : crossing_line 4 20 (record { passage = Got; from = Controller; to = Switch; frame = record { stream = 253; body = hex "06 80 00 01 00 01 05 01 00 02 03 45" } })
-    ≡ codes "20\tbsc\tswitch\tDT1 DTAP SAPI 0\tgot to 800001\t068000010001050100020345\n"
+    ≡ codes "20\tbsc\tswitch\tDT1 DTAP SAPI 0\tgot to 800001 N(SD) 1\t068000010001050100020345\n"
 unfolding digits hex_on_literals on_literals
 dt1 = refl
 

@@ -6,7 +6,7 @@ use Rattle.trace_program.proofs.trace_command.try_trace.Goals as goal
 
 pub returns-in_err-settings-clause-fails : goal.returns-in_err-settings-clause-fails
 returns-in_err-settings-clause-fails g c =
-    said_of c.from_residual-in_err-settings.result _ _ c.from_residual-in_err-settings.ensures.1
+    said_of c.from_residual.result _ _ c.from_residual.ensures.1
     (λ fault was. unread_fails (settings_of c.args.settings.now) (g.R.Read.remaining c.args.input.now) _ fault c.in_err-settings.ensures was)
 
 pub returns-in_err-trace_script-clause-fails : goal.returns-in_err-trace_script-clause-fails
