@@ -119,6 +119,7 @@ sent_is_first given_up link start moves sent is =
     (begins.0, sym (frames_are_put link start moves) ∙ begins.1)
 
 -- and all of them, where the outbox wasn't given up
-pub sent_is_all : (link : ℕ) (start : Controller) (moves : List Move) (sent : List Frame) → IsSent false false link (parts_of link start moves) sent
+pub sent_is_all : (given_up : Bool) (link : ℕ) (start : Controller) (moves : List Move) (sent : List Frame) → given_up ≡ false → IsSent given_up given_up link (parts_of link start moves) sent
     → frames_to link (over start (steps_of moves)).outs ≡ sent
-sent_is_all link start moves sent is = sym (frames_are_put link start moves) ∙ sym is.0
+sent_is_all false link start moves sent kept is = sym (frames_are_put link start moves) ∙ sym is.0
+sent_is_all true link start moves sent kept is = absurd (cc kept)

@@ -1,11 +1,11 @@
 -- SPDX-License-Identifier: MIT OR Apache-2.0
 -- What came of links, merged in the order of the steps, is these steps; and what one link makes of its octets.
 use Rattle.std.proofs.Common.{◌≡◌, ◌≢◌, ◌⊎◌, ℕ, zero, suc, ◌/◌, ◌%◌, ◌==◌, ◌≤◌, if◌then◌else◌, Bool, true, false, List, [], ◌∷◌, ◌++◌, drop, length, map, Option, Some, None, refl, sym, ap, ◌∙◌, subst, append-nil, append_assoc, arith, inl, inr, eqb, ⊎_elim, length-append}
-use Rattle.std.proofs.lemmas.Bool.{eq-eqb, ne_eqb, false≢true}
+use Rattle.std.proofs.lemmas.Bool.{eq-eqb, ne_eqb}
 use Rattle.std.proofs.lemmas.Bool.Decides.{eqb_tells}
 use Rattle.std.specs.List.{AllByRecursion, filter}
 use Rattle.std.specs.Io.KnownBytes.{Appends, IsAtEnd}
-use Rattle.controller_worker.specs.Moves.{IsSent, Move, parts_of, steps_of, taken_of}
+use Rattle.controller_worker.specs.Moves.{Move, steps_of}
 use Rattle.controller_worker.specs.Steps.{AreOfLinks, frames_to, items_of, over, whats_of}
 use Rattle.controller_model.specs.declared.step.Step.{Step}
 use Rattle.controller_model.specs.declared.step.Step.TheVariants.{Take, Tick}
@@ -150,7 +150,7 @@ passes start moves limit number old now c =
           ∙ ap ended_behind (sym (all_in c.octets c.frames c.rest c.parts (inl (at_end c.reading c.rest now.link.unread w.0 c.ends).0)));
       got = λ none.
           let w = well none in
-          let sent = sent_is_all number start moves c.sent (subst (λ (b : Bool). IsSent b b number (parts_of number start moves) c.sent) w.2 c.which) in
+          let sent = sent_is_all c.given_up number start moves c.sent w.2 c.which in
           again (λ text. Appends old.written now.link.written text)
           (subst (λ (fs : List Frame). Appends old.written now.link.written (frames_text fs)) (sym sent)
           (whole_of c.writing (frames_text c.sent) old.written now.link.written w.1 c.writes));
