@@ -1,6 +1,7 @@
 -- SPDX-License-Identifier: MIT OR Apache-2.0
 -- What `replay` prints of a script.
-use Rattle.std.specs.Prelude.{◌≡◌, ◌⊎◌, ℕ, List, Option, Result, Ok, Err, IfSome}
+use Rattle.std.specs.Prelude.{◌≡◌, ◌≢◌, ◌⊎◌, ℕ, List, Option, Result, Ok, Err}
+use Rattle.std.specs.Prelude.{IfErr, IfSome}
 use Rattle.std.specs.Io.KnownBytes.{Appends}
 use Rattle.world_model.specs.declared.event.Event.{Event}
 use Rattle.world.specs.World.{after_all, controlled_world, fixed_world}
@@ -23,10 +24,12 @@ IsPrinted (breaking settings source) events text =
     text ≡ break_lines (controlled_world settings) events source
 
 -- Known contents grew by what a known script's events give.
-abbrev pub Replays : Asked → Option (List ℕ) → Option (List ℕ) → Option (List ℕ) → Type 0
+abbrev pub Replays : Asked → Option (List ℕ) → Option (List ℕ) → Option (List ℕ)
+    → Type 0
 Replays asked start old new =
     IfSome start (λ octets. (events : List Event) × (text : List ℕ)
-    × IsScript (cells_of asked) octets events × IsPrinted asked events text × Appends old new text)
+    × IsScript (cells_of asked) octets events × IsPrinted asked events text
+    × Appends old new text)
 
 -- a known script has a bad line
 abbrev pub HasBadLine : Asked → Option (List ℕ) → Type 0
@@ -41,3 +44,7 @@ Fails (Ok asked) start (Failed (BadEvent number)) = HasBadLineAt (cells_of asked
 Fails (Ok asked) start (Failed Memory) = Unit {0}
 Fails (Ok asked) start (Failed Device) = Unit {0}
 Fails (Ok asked) start _ = ⊥
+
+-- a refusal wrote nothing to this output, but for one with status 3: memory or a device failed then
+abbrev pub UnwrittenOnErr : {X F W : Type 0} → (F → ℕ) → Result X F → W → W → Type 0
+UnwrittenOnErr status result old new = IfErr result (λ fault. status fault ≢ 3 → new ≡ old)

@@ -1,12 +1,12 @@
 // SPDX-License-Identifier: MIT OR Apache-2.0
-ghost use Rattle.std.specs.Prelude.{◌≡◌, ◌≢◌, ◌⊎◌, ℕ, List, Some, None, Err};
+ghost use Rattle.std.specs.Prelude.{◌≡◌, ◌⊎◌, ℕ, List, Some, None, Err};
 ghost use Rattle.std.specs.Prelude.{IfErr, IfOk, IsErrAnd};
 ghost use Rattle.std.specs.Prelude.{IsOkAnd, MatchResult, OnOk, length};
 ghost use Rattle.std.specs.Io.KnownBytes.{Appends, IsAtEnd};
 ghost use Rattle.world.specs.World.{after_all};
 ghost use Rattle.program_base.specs.Words.{source_in};
 ghost use Rattle.bsc_program.specs.Asked.{asked_for, asked_of_text, breaking, controlled, fixed};
-ghost use Rattle.bsc_program.specs.Replayed.{Fails, HasBadLine, Replays};
+ghost use Rattle.bsc_program.specs.Replayed.{Fails, HasBadLine, Replays, UnwrittenOnErr};
 ghost use Rattle.bsc_program.specs.Report.{IsReport};
 ghost use Rattle.bsc_program.specs.Script.{HasBadLineAt};
 ghost use Rattle.program_base.specs.SettingsText.{settings_of};
@@ -84,7 +84,7 @@ fn try_replay<R: Read, W: Write>(
         (W.contents output.old) (W.contents output.new))) }
     ensures fails { IfErr result (λ fault. Fails (asked_for settings.entry breaks.entry)
         (R.remaining input.old) fault) }
-    ensures kept { IfErr result (λ fault. status_of_fault fault ≢ 3 → output.new ≡ output.old) }
+    ensures kept { UnwrittenOnErr status_of_fault result output.old output.new }
 {
     match settings {
         Some(text) => replay_with(alloc, text, breaks, input, output),
@@ -109,7 +109,7 @@ fn replay_with<R: Read, W: Write>(
         (W.contents output.old) (W.contents output.new))) }
     ensures fails { IfErr result (λ fault. Fails (asked_of_text text.now breaks.entry)
         (R.remaining input.old) fault) }
-    ensures kept { IfErr result (λ fault. status_of_fault fault ≢ 3 → output.new ≡ output.old) }
+    ensures kept { UnwrittenOnErr status_of_fault result output.old output.new }
 {
     let settings = read_settings(alloc, text)?;
     match breaks {
@@ -142,8 +142,9 @@ fn replay_fixed<R: Read, W: Write>(
     ensures read { OnOk result (IsAtEnd (R.remaining input.new)) }
     ensures printed { OnOk result (Replays fixed (R.remaining input.old)
         (W.contents output.old) (W.contents output.new)) }
-    ensures bad { (n : ℕ) → result ≡ Err (BadEvent n) → HasBadLineAt 1 (R.remaining input.old) n }
-    ensures kept { IfErr result (λ failure. status_of failure ≢ 3 → output.new ≡ output.old) }
+    ensures bad { (n : ℕ) → result ≡ Err (BadEvent n)
+        → HasBadLineAt 1 (R.remaining input.old) n }
+    ensures kept { UnwrittenOnErr status_of result output.old output.new }
 {
     let events = read_script(alloc, FIXED_CELLS, input)?;
     let world = World::fixed(alloc, Modulus::Four);
@@ -162,7 +163,7 @@ fn replay_controlled<R: Read, W: Write>(
         (W.contents output.old) (W.contents output.new)) }
     ensures bad { (n : ℕ) → result ≡ Err (BadEvent n)
         → HasBadLineAt (length settings.cells) (R.remaining input.old) n }
-    ensures kept { IfErr result (λ failure. status_of failure ≢ 3 → output.new ≡ output.old) }
+    ensures kept { UnwrittenOnErr status_of result output.old output.new }
 {
     let cells = u16::from(settings.cell_count());
     let events = read_script(alloc, cells, input)?;
@@ -202,7 +203,7 @@ fn replay_breaks<R: Read, W: Write>(
         (W.contents output.old) (W.contents output.new))) }
     ensures bad { (n : ℕ) → result ≡ Err (BadEvent n)
         → HasBadLineAt cells (R.remaining input.old) n }
-    ensures kept { IfErr result (λ failure. status_of failure ≢ 3 → output.new ≡ output.old) }
+    ensures kept { UnwrittenOnErr status_of result output.old output.new }
 {
     let events = read_script(alloc, cells, input)?;
     write_breaks(alloc, text, &events, source, output)

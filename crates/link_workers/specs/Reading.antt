@@ -91,19 +91,22 @@ IsReported (Some fault) told = told ≡ Some fault
 
 -- The item was put last, and the gate let it through; or the gate refused it so often, and nothing
 -- was put.
-abbrev pub PutsGated : {X : Type 0} → ℕ → ℕ → ℕ → PassView → What → PassView → Result X IoFault
-    → Type 0
-PutsGated limit refused now old what new (Ok _) = (new ≡ having_put old (what ∷ [])) × (now ≡ 0)
+abbrev pub PutsGated : {X : Type 0} → ℕ → ℕ → ℕ → PassView → What → PassView
+    → Result X IoFault → Type 0
+PutsGated limit refused now old what new (Ok _) =
+    (new ≡ having_put old (what ∷ [])) × (now ≡ 0)
 PutsGated limit refused now old what new (Err fault) =
     (new ≡ old) × (now ≡ refused + limit) × (fault ≡ GateShut)
 
 -- `Down` was put, unasked where the gate had stayed shut; a gate that stays shut now is the fault.
-abbrev pub PutsDown : ℕ → ℕ → ℕ → PassView → PassView → Option IoFault → Option IoFault → Type 0
+abbrev pub PutsDown : ℕ → ℕ → ℕ → PassView → PassView → Option IoFault
+    → Option IoFault → Type 0
 PutsDown limit refused now old new (Some GateShut) fault =
     (new ≡ having_put old (Down ∷ [])) × (now ≡ refused) × (fault ≡ Some GateShut)
 PutsDown limit refused now old new before fault =
     (new ≡ having_put old (Down ∷ []))
-    × (((now ≡ 0) × (fault ≡ before)) ⊎ ((now ≡ refused + limit) × (fault ≡ Some GateShut)))
+    × (((now ≡ 0) × (fault ≡ before))
+    ⊎ ((now ≡ refused + limit) × (fault ≡ Some GateShut)))
 
 -- The octets are these frames and a rest, and the frames were put.
 pub record Puts (octets : List ℕ) (refused now : ℕ) (old new : PassView) (frames : List Frame)
@@ -123,8 +126,8 @@ pub record BreaksOff (octets : List ℕ) (limit refused now : ℕ) (old new : Pa
   pub stops : StopsBefore fault rest
 
 -- All frames were put that the framer held whole.
-abbrev pub PutsWhole : {X : Type 0} → FramerState → FramerState → ℕ → ℕ → ℕ → PassView → PassView
-    → Result X IoFault → Type 0
+abbrev pub PutsWhole : {X : Type 0} → FramerState → FramerState → ℕ → ℕ → ℕ
+    → PassView → PassView → Result X IoFault → Type 0
 PutsWhole held left limit refused now old new (Ok _) =
     ((frames : List Frame) × Puts held.octets refused now old new frames left.octets)
     × IsPartial left.octets × (left.failed ≡ held.failed)
@@ -132,8 +135,8 @@ PutsWhole held left limit refused now old new (Err fault) =
     BreaksOff held.octets limit refused now old new fault
 
 -- Octets were read to the end, and all their whole frames put.
-abbrev pub PutsAll : {X : Type 0} → Option (List ℕ) → Option (List ℕ) → ℕ → ℕ → ℕ → PassView
-    → PassView → Result X UnreadLink → Type 0
+abbrev pub PutsAll : {X : Type 0} → Option (List ℕ) → Option (List ℕ)
+    → ℕ → ℕ → ℕ → PassView → PassView → Result X UnreadLink → Type 0
 PutsAll start end limit refused now old new (Ok _) =
     (octets rest : List ℕ) × (frames : List Frame) × Consumes start end octets
     × Puts octets refused now old new frames rest × IsPartial rest × IsAtEnd end

@@ -65,7 +65,8 @@ having_answered switch frames = after_all switch (messages frames)
 
 -- The octets of the replies were written; where it isn't the reader that failed, a beginning of
 -- them.
-abbrev pub WritesReplies : Option IoFault → List Sccp → Option (List ℕ) → Option (List ℕ) → Type 0
+abbrev pub WritesReplies : Option IoFault → List Sccp → Option (List ℕ) → Option (List ℕ)
+    → Type 0
 WritesReplies None replies old new = Appends old new (replies_text replies)
 WritesReplies (Some ReadFailed) replies old new = Appends old new (replies_text replies)
 WritesReplies (Some _) replies old new = AppendsBeginning old new (replies_text replies)

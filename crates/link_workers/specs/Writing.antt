@@ -40,7 +40,8 @@ IsWriterFault FrameFault frames = AllByRecursion IsFrame frames → ⊥
 IsWriterFault _ frames = ⊥
 
 -- The octets of the frames were written, in order; with a fault a beginning of them.
-abbrev pub WritesFrames : Option IoFault → List Frame → Option (List ℕ) → Option (List ℕ) → Type 0
+abbrev pub WritesFrames : Option IoFault → List Frame → Option (List ℕ) → Option (List ℕ)
+    → Type 0
 WritesFrames None frames old new =
     AllByRecursion IsFrame frames × Appends old new (frames_text frames)
 WritesFrames (Some fault) frames old new =
@@ -58,7 +59,8 @@ pub record Delivers (old new : Option (List ℕ)) (taker taken : TakerView)
 
 -- The first octets were written, at least one; or the write was interrupted, or it failed, and none
 -- were.
-abbrev pub WritesOnce : Option (List ℕ) → Option (List ℕ) → List ℕ → Result Wrote IoFault → Type 0
+abbrev pub WritesOnce : Option (List ℕ) → Option (List ℕ) → List ℕ
+    → Result Wrote IoFault → Type 0
 WritesOnce old new octets (Ok (Octets count)) =
     (0 < count) × (count ≤ length octets) × Appends old new (take count octets)
 WritesOnce old new octets (Ok (Interrupted error)) =
@@ -66,8 +68,8 @@ WritesOnce old new octets (Ok (Interrupted error)) =
 WritesOnce old new octets (Err fault) = (fault ≡ WriteFailed) × Keeps old new
 
 -- the text was written; where that failed, a beginning of it
-abbrev pub WritesText : {X : Type 0} → Option (List ℕ) → Option (List ℕ) → List ℕ → Result X IoFault
-    → Type 0
+abbrev pub WritesText : {X : Type 0} → Option (List ℕ) → Option (List ℕ) → List ℕ
+    → Result X IoFault → Type 0
 WritesText old new text (Ok _) = Appends old new text
 WritesText old new text (Err fault) = AppendsBeginning old new text × (fault ≡ WriteFailed)
 
@@ -78,7 +80,8 @@ end_if false = []
 
 -- Frames were taken and their octets appended, and the mark was taken where it stood behind them. A
 -- frame that is refused was taken all the same.
-abbrev pub Gathers : TakerView → TakerView → List ℕ → List ℕ → Result Bool IoFault → Type 0
+abbrev pub Gathers : TakerView → TakerView → List ℕ → List ℕ → Result Bool IoFault
+    → Type 0
 Gathers old new text now (Ok ended) =
     (frames : List Frame) × (new ≡ having_taken old (lines frames ++ end_if ended))
     × (now ≡ text ++ frames_text frames) × AllByRecursion IsFrame frames
@@ -87,8 +90,8 @@ Gathers old new text now (Err fault) =
 
 -- All frames up to the mark were taken and written. Where that broke off, it is told whether the
 -- mark was taken.
-abbrev pub WritesLines : {X : Type 0} → Option (List ℕ) → Option (List ℕ) → TakerView → TakerView
-    → Result X Broken → Type 0
+abbrev pub WritesLines : {X : Type 0} → Option (List ℕ) → Option (List ℕ) → TakerView
+    → TakerView → Result X Broken → Type 0
 WritesLines old new taker taken (Ok _) =
     (frames : List Frame) × (taken ≡ having_taken taker (lines frames ++ End ∷ []))
     × Appends old new (frames_text frames) × AllByRecursion IsFrame frames
@@ -98,4 +101,5 @@ WritesLines old new taker taken (Err broken) =
 
 -- frames were taken, and behind them the mark
 abbrev pub TakesToEnd : TakerView → TakerView → Type 0
-TakesToEnd old new = (frames : List Frame) × (new ≡ having_taken old (lines frames ++ End ∷ []))
+TakesToEnd old new =
+    (frames : List Frame) × (new ≡ having_taken old (lines frames ++ End ∷ []))

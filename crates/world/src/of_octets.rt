@@ -27,6 +27,7 @@ pub fn is_of_octets(event: &Event)
             initial,
             ..
         } => {
+            // its number is one of an octet too, which is known where it is read
             let _number = *mobile;
             octets_of(initial.as_slice());
         }

@@ -32,7 +32,8 @@ use Rattle.world_model.specs.Stations.{rsl_in}
 use Rattle.world_model.specs.Tickets.{LeadsBy}
 use Rattle.world_model.specs.World.{Actors, base_of, is_active_at, is_up, outbox_of, spot_at}
 
--- ---- what waits for a station: of one channel, which is active or not, and whose last tenure has this number
+-- ---- what waits for a station: of one channel, which is active or not, and whose last tenure has
+-- this number
 
 -- an IMMEDIATE ASSIGNMENT of the channel names the mobile of that tenure
 abbrev pub AssignsIn : (Tenure → ℕ) → Place → ℕ → Result RrMessage RrFault → Type 0
@@ -46,7 +47,8 @@ AssignsIn owner at tenure _ = Unit {0}
 
 -- it is activated only where it is there and isn't active; a command on it leads to a tenure of the
 -- same mobile
-abbrev pub FitsTenure : (Tenure → ℕ) → Place → Bool → ℕ → Option Tenure → Option Rsl → Type 0
+abbrev pub FitsTenure : (Tenure → ℕ) → Place → Bool → ℕ → Option Tenure → Option Rsl
+    → Type 0
 FitsTenure owner at active tenure target (Some (ChannelActivation a)) =
     a.channel ≡ at.number → (active ≡ false) × (at.number < CHANNEL_NUMBERS)
 FitsTenure owner at active tenure target (Some (ImmediateAssignCommand i)) =
@@ -83,7 +85,8 @@ abbrev pub tenure_behind : Actors → Place → Tenure
 tenure_behind w at =
     record {
       at = at;
-      number = tenure_all at.number (is_active_at w at) (spot_at w at).tenure (outbox_of w at.station);
+      number =
+          tenure_all at.number (is_active_at w at) (spot_at w at).tenure (outbox_of w at.station);
     }
 
 -- ---- the acknowledgements of a channel that are on their way up, or due for what waits
@@ -133,12 +136,15 @@ pub record Agrees (owner : Tenure → ℕ) (w : Actors) (at : Place) : Type 0 wh
   -- what waits fits the tenures
   pub line : AreFitting owner at (is_active_at w at) (spot_at w at).tenure (outbox_of w at.station)
   -- what comes fits the state, until the controller learns that the link broke
-  pub way : hears w.controller at.station ≡ true → IsOnItsWay w at (channel_state w.controller at)
+  pub way : hears w.controller at.station ≡ true
+      → IsOnItsWay w at (channel_state w.controller at)
   -- the last tenure is of the mobile of the connection that uses the channel, unless the link broke
   -- and no acknowledgement comes
   pub own : (number mobile : ℕ) → hears w.controller at.station ≡ true
-      → channel_state w.controller at ≡ InUse number → asker w.controller number ≡ Some mobile
-      → (is_up w at.station ≡ false → to_come w at ≡ [] → ⊥) → owner (tenure_behind w at) ≡ mobile
+      → channel_state w.controller at ≡ InUse number
+      → asker w.controller number ≡ Some mobile
+      → (is_up w at.station ≡ false → to_come w at ≡ [] → ⊥)
+      → owner (tenure_behind w at) ≡ mobile
 
 -- each channel of each station of the settings
 abbrev pub AllAgree : Parameters → (Tenure → ℕ) → Actors → Type 0

@@ -69,22 +69,28 @@ pub record HoldsAt (m : ℕ) (w : Actors) (event : Event) : Type 0 where
       → IsUnknownForGood (actors_after w event) number
   pub stays_over : (number : ℕ) → 1 ≤ number → number < w.controller.next_number
       → (IsThere (connection_of w.controller number) → ⊥) → IsOver w event number
-  pub goes_unheard : (number : ℕ) → 1 ≤ number → IsAsking (connection_of w.controller number)
+  pub goes_unheard : (number : ℕ) → 1 ≤ number
+      → IsAsking (connection_of w.controller number)
       → (IsThere (connection_of (actors_after w event).controller number) → ⊥)
       → IsUnknownForGood (actors_after w event) number
-  pub fresh : (mobile : ℕ) (s next : Connection) (q : Mobile) → (l : IsOpenAndLinedUp m w mobile s)
-      → IsAlone w mobile s → AcksAgree w s → IsFresh w l.lined.one s → next.number ≡ s.number
+  pub fresh : (mobile : ℕ) (s next : Connection) (q : Mobile)
+      → (l : IsOpenAndLinedUp m w mobile s) → IsAlone w mobile s → AcksAgree w s
+      → IsFresh w l.lined.one s → next.number ≡ s.number
       → IsHad (actors_after w event) next
-      → mobile_of (actors_after w event) mobile ≡ Some q → IsFresh (actors_after w event) q next
-  pub opened : (mobile : ℕ) (s next : Connection) → IsOpenAndLinedUp m w mobile s → IsAlone w mobile s
-      → AcksAgree w s → next.number ≡ s.number → IsHad (actors_after w event) next
+      → mobile_of (actors_after w event) mobile ≡ Some q
+      → IsFresh (actors_after w event) q next
+  pub opened : (mobile : ℕ) (s next : Connection) → IsOpenAndLinedUp m w mobile s
+      → IsAlone w mobile s → AcksAgree w s → next.number ≡ s.number
+      → IsHad (actors_after w event) next
       → TargetIsFresh (actors_after w event) next
       → (lined : AreLinedUp m (actors_after w event) mobile next)
       → HasOpened (actors_after w event) lined.one next
-  pub handled : (mobile : ℕ) (s : Connection) → is_of_controller event ≡ true → IsOpenAndLinedUp m w mobile s
-      → AcksAgree w s → is_up w SWITCH_LINK ≡ true → IsOpenOrEnded m (actors_after w event) mobile s
+  pub handled : (mobile : ℕ) (s : Connection) → is_of_controller event ≡ true
+      → IsOpenAndLinedUp m w mobile s → AcksAgree w s → is_up w SWITCH_LINK ≡ true
+      → IsOpenOrEnded m (actors_after w event) mobile s
   pub begun : (number : ℕ) → 1 ≤ number → is_up w SWITCH_LINK ≡ true
       → w.controller.next_number ≤ number
       → HasBegun (λ v s. IsComingTo m v s.request.access s) (actors_after w event) number
-  pub came : (mobile : ℕ) (s : Connection) → is_up w SWITCH_LINK ≡ true → IsComingTo m w mobile s
+  pub came : (mobile : ℕ) (s : Connection) → is_up w SWITCH_LINK ≡ true
+      → IsComingTo m w mobile s
       → HasAccess (IsComingTo m) m (actors_after w event) mobile s.number
