@@ -1,5 +1,5 @@
 # SPDX-License-Identifier: MIT OR Apache-2.0
-# For the scripts of this folder and of bench/. Beforehand top is the repository's folder.
+# For the scripts of tests/ and of bench/. Beforehand top is the repository's folder.
 
 # needs COMMAND..: where one of them isn't here the script can't be tried, and ends with 77
 needs() {
@@ -16,4 +16,9 @@ prove_program() {
   program=$("$top/bsc" prove) && return
   echo "$0: there is no proved program"
   exit 1
+}
+
+# build_refusing_library FOLDER: FOLDER/refuse.so, which, preloaded, refuses one allocation
+build_refusing_library() {
+  gcc -shared -fPIC -O1 -o "$1/refuse.so" "$top/tests/lib/refuse.c" -ldl || exit 1
 }

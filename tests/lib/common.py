@@ -1,11 +1,11 @@
 # SPDX-License-Identifier: MIT OR Apache-2.0
-"""For the scripts of this folder and of bench/."""
+"""For the scripts of tests/ and of bench/: the repository's folder, the commands that a script needs, the proved program."""
 import shutil
 import subprocess
 import sys
 from pathlib import Path
 
-TOP = Path(__file__).resolve().parent.parent
+TOP = Path(__file__).resolve().parent.parent.parent
 
 
 def needs(*commands):
@@ -22,3 +22,10 @@ def proved_program():
     if done.returncode != 0:
         sys.exit(f"{sys.argv[0]}: there is no proved program")
     return Path(done.stdout.strip())
+
+
+def refusing_library(folder):
+    """Builds in this folder the library that, preloaded, refuses one allocation, and gives its path."""
+    library = Path(folder) / "refuse.so"
+    subprocess.run(["gcc", "-shared", "-fPIC", "-O1", "-o", library, TOP / "tests/lib/refuse.c", "-ldl"], check=True)
+    return library

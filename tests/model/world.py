@@ -1,8 +1,8 @@
 # SPDX-License-Identifier: MIT OR Apache-2.0
-"""Mobiles, stations and the switch round the controller of tests/controller.py: a second reading of docs/SCRIPT.md, beside the
+"""Mobiles, stations and the switch round the controller of tests/model/controller.py: a second reading of docs/SCRIPT.md, beside the
 proved one, for tests/random-scripts. An event is its kind and its words, octets as bytes.
 """
-from controller import Controller, discriminator
+from model.controller import Controller, discriminator
 
 LONGEST, LONGEST_INITIAL = 251, 113
 COMMANDS = {0x2B: ("handover", 9), 0x2E: ("assignment", 6), 0x0D: ("release", 3)}  # by type: what it is, its octets at least

@@ -256,7 +256,7 @@ class Controller:
             self.put(place[0], ("IMMEDIATE ASSIGN COMMAND", place[1], c.request))
             c.enter("WaitEstablish")
         elif c.state == "Preparing" and place == c.target:
-            # what describes the cell and the channel isn't looked at by the mobiles of tests/world.py
+            # what describes the cell and the channel isn't looked at by the mobiles of tests/model/world.py
             command = {"assignment": bytes([6, 0x2E, place[1], 0, 0, 0]), "handover": bytes([6, 0x2B, 0, 0, place[1], 0, 0, c.reference, 0])}
             self.put(c.serving[0], ("COMMAND", c.serving[1], 0, command[c.change]))
             c.short_link = "Down"
