@@ -89,8 +89,8 @@ def is_path(name):
 
 
 def missing_path(name):
-    name = name.removeprefix("./").rstrip("/")
-    is_there = fnmatch.filter(source_names(), name) if "*" in name else name in source_names()
+    path = name.removeprefix("./").rstrip("/")
+    is_there = fnmatch.filter(source_names(), path) if "*" in path else path in source_names()
     return not is_there and not name.startswith(PATHS_ELSEWHERE)
 
 
