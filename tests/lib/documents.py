@@ -6,8 +6,8 @@ import re
 
 from lib.common import TOP
 
-# paths of the system and of what is built; names of the system, and a key that no settings have
-PATHS_ELSEWHERE = ("/", "out/", "crates/bsc_main/out/")
+# paths of the system, of what is built and of what is installed; names of the system, and a key that no settings have
+PATHS_ELSEWHERE = ("/", "out/", "crates/bsc_main/out/", "PREFIX/", "share/", "lib/systemd/")
 WORDS_ELSEWHERE = ("LimitNOFILE", "TasksMax", "t3102_ms")
 # what ends a sentence, a cell of a table, an item of a list, or a heading
 END = re.compile(r"(?<=[.!?])[)*_`]*\s+|\s*\|\s*|\n\s*(?:[-*]|\d+\.)\s+|\n#+ |\n\s*\n")
