@@ -1,5 +1,5 @@
 # SPDX-License-Identifier: MIT OR Apache-2.0
-"""Passes the octets of a TCP connection on, and delays those of one way when it is told to. Not proved.
+"""Passes the octets of a TCP connection on, and delays those of one way when asked to. Not proved.
 
     python3 delay.py LISTEN CONNECT
 

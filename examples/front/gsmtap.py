@@ -2,7 +2,7 @@
 """The virtual radio of osmo-bts-virtual: GSMTAP frames over UDP multicast.
 
 A GSMTAP frame is a header of 16 octets and one block of a logical channel (23 octets, on the RACH one). All cells share
-two multicast groups, one of each direction, and are told apart by the ARFCN in the header. Nothing of it is proved.
+two multicast groups, one of each direction, and the ARFCN in the header says whose they are. Nothing of it is proved.
 
 Everything stays on the loopback interface: the groups are joined there and frames go out with a time to live of 0. Run
 it in a network namespace of its own all the same, since osmo-bts-virtual itself doesn't keep to one interface.
@@ -50,7 +50,7 @@ class Frame:
     signal_dbm: int = -60
 
     def octets(self) -> bytes:
-        """The frame as it stands in a datagram."""
+        """The frame as a datagram has it."""
         arfcn = self.arfcn | (UPLINK_FLAG if self.uplink else 0)
         header = HEADER.pack(VERSION, HEADER_WORDS, TYPE_UM, self.timeslot, arfcn, self.signal_dbm, 0,
                              self.frame_number, self.channel_type, 0, self.sub_slot, 0)

@@ -70,13 +70,13 @@ def read_lapdm(octets: bytes) -> LapdmFrame | None:
 
 
 class DataLinkUser(Protocol):
-    """Who stands above and below a data link: the channel."""
+    """Who is above and below a data link: the channel."""
 
     def transmit(self, link: "DataLink", frame: LapdmFrame) -> None:
         """Puts a frame of the link on the air."""
 
     def link_established(self, link: "DataLink") -> None:
-        """The link stands."""
+        """The link is up."""
 
     def link_released(self, link: "DataLink", reason: str) -> None:
         """The link is gone."""
@@ -200,7 +200,7 @@ class DataLink:
         self._send_next()
 
     def _establishment_answered(self, frame: LapdmFrame) -> None:
-        """UA: the link stands, unless another mobile's initial message comes back (clause 5.4.1.4)."""
+        """UA: the link is up, unless another mobile's initial message comes back (clause 5.4.1.4)."""
         self.timer = None
         if frame.information != self.initial:
             self._end("contention lost: another mobile has the channel")

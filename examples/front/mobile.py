@@ -5,12 +5,12 @@
     python3 examples/front mobile --imsi 001010000000001 [--arfcn 20] [--imei DIGITS] [--revision 1|2] [--name NAME]
 
 It camps on the first cell that it hears (or on the one of --arfcn), answers pagings, and prints each layer 3 message,
-up (->) and down (<-), with its name, N(SD) of those that have one, its place and its octets; 'again' stands behind the
+up (->) and down (<-), with its name, N(SD) of those that have one, its place and its octets; 'again' follows the
 place of one that is sent again after a change of channel. Of reports and system information only what is new is
-printed. Several mobiles run at once, told apart by IMSI. --revision 1 makes it a mobile of phase 2, which counts N(SD)
+printed. Several mobiles run at once, each with its IMSI. --revision 1 makes it a mobile of phase 2, which counts N(SD)
 modulo 2; 2 (release 99, modulo 4) is the default.
 
-It reads commands from standard input, one a line; what stands behind a # isn't looked at. The next command begins when
+It reads commands from standard input, one a line; what follows a # isn't looked at. The next command begins when
 the last one is done. All but wait and pause are done at once.
 
     location-update [normal|periodic|attach]   LOCATION UPDATING REQUEST, on a channel of its own
@@ -67,7 +67,7 @@ def read_arguments(arguments: list[str]) -> argparse.Namespace:
     parser.add_argument("--imei", default="490154203237518", help="15 digits")
     parser.add_argument("--arfcn", type=int, help="the cell to camp on")
     parser.add_argument("--revision", type=int, choices=(1, 2), default=2, help="1: phase 2; 2: release 99")
-    parser.add_argument("--name", help="stands in each line that is printed; else the IMSI")
+    parser.add_argument("--name", help="the name in each line that is printed; else the IMSI")
     found = parser.parse_args(arguments)
     if found.arfcn is not None and not 0 <= found.arfcn <= 1023:
         parser.error(f"an ARFCN is 0 to 1023, not {found.arfcn}")

@@ -18,7 +18,7 @@ class Cell:
     identity: int | None = None
     neighbours: list[int] = field(default_factory=list)  # of SYSTEM INFORMATION 2
     slow_neighbours: list[int] = field(default_factory=list)  # of SYSTEM INFORMATION 5
-    bsic: int | None = None  # the virtual radio has no synchronisation channel: told by a command or a handover
+    bsic: int | None = None  # the virtual radio has no synchronisation channel: known from a command or a handover
 
 
 class Cells:

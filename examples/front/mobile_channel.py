@@ -24,13 +24,13 @@ PERIOD_END_TCH_F = (12, 25, 38, 51, 64, 77, 90, 103)
 
 
 class ChannelUser(Protocol):
-    """Who stands above a channel: radio resource management."""
+    """Who is above a channel: radio resource management."""
 
     def report(self) -> bytes:
         """The MEASUREMENT REPORT for the SACCH's next block."""
 
     def established(self, channel: "DedicatedChannel", sapi: int) -> None:
-        """A link of the channel stands."""
+        """A link of the channel is up."""
 
     def released(self, channel: "DedicatedChannel", sapi: int, reason: str) -> None:
         """A link of the channel is gone."""
@@ -144,7 +144,7 @@ class DedicatedChannel:
     # From the data links.
 
     def link_established(self, link: lapdm.DataLink) -> None:
-        """The link stands."""
+        """The link is up."""
         self.user.established(self, link.sapi)
 
     def link_released(self, link: lapdm.DataLink, reason: str) -> None:

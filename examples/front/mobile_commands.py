@@ -1,5 +1,5 @@
 # SPDX-License-Identifier: MIT OR Apache-2.0
-"""The commands that drive a mobile; what they are called and do stands in mobile.py. Not proved."""
+"""The commands that drive a mobile; mobile.py says what they are called and do. Not proved."""
 from __future__ import annotations
 
 import time

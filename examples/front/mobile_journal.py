@@ -38,7 +38,7 @@ class Journal:
         self.line(f"{arrow} {name}{number} ({place}): {message.hex()}")
 
     def repeated(self, direction: str, place: str, message: bytes) -> None:
-        """A message that is sent again and again: told of where it differs from the last one of its place."""
+        """A message that is sent again and again: printed where it differs from the last one of its place."""
         key = (direction, place + layer3.message_name(message))
         if self.last.get(key) != message:
             self.last[key] = message

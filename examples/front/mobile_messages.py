@@ -33,7 +33,7 @@ def number_digits(number: str) -> bytes:
 
 @dataclass
 class Subscriber:
-    """Who the mobile is, and what the network told it."""
+    """Who the mobile is, and what the network said to it."""
 
     imsi: str
     imei: str

@@ -21,7 +21,7 @@ SERVICES = {"call": 1, "emergency": 2, "short-message": 4, "supplementary": 8}  
 
 
 class ConnectionUser(Protocol):
-    """Who stands above: call control or short messages."""
+    """Who is above: call control or short messages."""
 
     def accepted(self) -> None:
         """The network gives the service that was asked for."""
@@ -62,7 +62,7 @@ class Mobility:
         return self._connect(detached, messages.REASON_OTHER_ON_SDCCH)
 
     def service(self, service: str, user: ConnectionUser | None = None) -> bool:
-        """CM SERVICE REQUEST, on a channel of its own where there is none; the user is told when it is given."""
+        """CM SERVICE REQUEST, on a channel of its own where there is none; the user hears when it is given."""
         self.asking = user
         request = messages.cm_service_request(self.subscriber, SERVICES[service])
         if not self.resource.is_idle:
@@ -88,7 +88,7 @@ class Mobility:
         return True
 
     def _unknown_area(self) -> bytes | None:
-        """The serving cell's network with the area code that stands for none."""
+        """The serving cell's network with the area code that means none."""
         here = self.cells.location
         return here[:3] + messages.DELETED_AREA_CODE if here is not None else None
 

@@ -28,7 +28,7 @@ PROTOCOL_ERROR = 0x6F  # RR cause, clause 10.5.2.31
 
 
 class RadioUser(Protocol):
-    """Who stands above: mobility management."""
+    """Who is above: mobility management."""
 
     def paged(self, identity: bytes) -> None:
         """The network calls an identity."""
@@ -175,7 +175,7 @@ class RadioResource:
     # Changes of channel.
 
     def _change_channel(self, command: bytes, at: int) -> None:
-        """HANDOVER COMMAND or ASSIGNMENT COMMAND, whose channel description stands at this octet."""
+        """HANDOVER COMMAND or ASSIGNMENT COMMAND, whose channel description begins at this octet."""
         assert self.channel is not None
         place = layer3.read_channel_description(command[at:at + 3])
         if place is None or not DedicatedChannel.is_known(place):
@@ -207,7 +207,7 @@ class RadioResource:
         self.channel.links[0].establish()
 
     def _change_done(self) -> None:
-        """Layer 2 stands: COMPLETE or FAILURE, and behind it what waited (TS 44.018 clauses 3.4.3.1 and 3.4.4.3)."""
+        """Layer 2 is up: COMPLETE or FAILURE, and behind it what waited (TS 44.018 clauses 3.4.3.1 and 3.4.4.3)."""
         change, self.change = self.change, None
         assert change is not None and self.channel is not None
         self.send(0, change.last_message)
@@ -229,7 +229,7 @@ class RadioResource:
         return report
 
     def established(self, channel: DedicatedChannel, sapi: int) -> None:
-        """A link stands."""
+        """A link is up."""
         self.journal.event("established", f"SAPI {sapi}, {channel.place.name}")
         if sapi == 0 and self.change is not None:
             self._change_done()
@@ -245,7 +245,7 @@ class RadioResource:
         self.drop(reason)
 
     def acknowledged(self, channel: DedicatedChannel, sapi: int, message: bytes) -> None:
-        """The base station has a message: it isn't sent again, unless the mobile is told to forget that."""
+        """The base station has a message: it isn't sent again, unless a command has the mobile forget that."""
         if sapi == 0 and len(message) >= 2 and layer3.discriminator(message) in layer3.NUMBERED:
             self.last_numbered = message
 

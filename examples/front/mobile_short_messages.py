@@ -13,7 +13,7 @@ OTHER_SIDE = 0x80  # the flag of the transaction identifier: who gave it (TS 24.
 SERVICE_CENTRE = "447785016005"  # any number does for osmo-msc, which is its own service centre
 
 
-# The alphabet of 7 bits (TS 23.038 clause 6.2.1) as far as ASCII has its characters; an underscore stands for others.
+# The alphabet of 7 bits (TS 23.038 clause 6.2.1) as far as ASCII has its characters; an underscore in place of others.
 ALPHABET = "".join(chr(code) if code in (10, 13) or 32 <= code <= 90 and code not in (36, 64) or 97 <= code <= 122
                    else {0: "@", 2: "$"}.get(code, "_") for code in range(128))
 LONGEST_TEXT = 160

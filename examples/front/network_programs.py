@@ -12,7 +12,7 @@ CALLED = "001010000000002", "1002"
 
 
 class Network:
-    """All programs of a trial. The relay is what stands between the halves of the front."""
+    """All programs of a trial. The relay is what is between the halves of the front."""
 
     def __init__(self, processes: Processes, front: str, relay: list[str], preload: dict[str, str]) -> None:
         self.processes = processes

@@ -2,7 +2,7 @@
 """Configures a base station by OML (TS 12.21, with the messages that ip.access added). Not proved.
 
 Object by object its attributes are set, it is unlocked, and its operation is started (OPSTART), in the order in which osmo-bsc
-does it. At last the baseband transceiver is told where to open the RSL link.
+does it. At last the baseband transceiver learns where to open the RSL link.
 """
 import asyncio
 from collections import Counter
@@ -108,7 +108,7 @@ class Station:
             return kind, which, attributes
 
     def take_state(self, which: Object, attributes: bytes) -> None:
-        """Notes an object's availability: attribute 07 stands behind the operational state (24)."""
+        """Notes an object's availability: attribute 07 follows the operational state (24)."""
         if len(attributes) > 5 and attributes[2] == AVAILABILITY_STATUS:
             self.availability[which] = attributes[5]
 

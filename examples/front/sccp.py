@@ -68,7 +68,7 @@ def connection_request(reference: bytes, data: bytes) -> bytes:
 def with_calling_address(body: bytes, point_code: int) -> bytes:
     """A connection request with the calling address as its first option (clause 3.5): osmo-msc ends at one without.
 
-    The pointer to the options stands in octet 7 and counts from itself; 0 means that there is none.
+    The pointer to the options is octet 7 and counts from itself; 0 means that there is none.
     """
     if len(body) < 7 or body[0] != CONNECTION_REQUEST:
         return body

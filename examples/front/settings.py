@@ -31,7 +31,7 @@ class Cell:
 class Station:
     """[station] of the front's settings."""
     oml: str = "127.0.0.1:3002"  # where base stations' OML is listened for
-    rsl: str = "127.0.0.2:3003"  # where base stations' RSL is listened for: they are told so
+    rsl: str = "127.0.0.2:3003"  # where base stations' RSL is listened for: OML says so to them
     release_delay_ms: int = 1000  # how long RF CHANNEL RELEASE waits behind CHANNEL RELEASE
     units: list[str] = field(default_factory=list)  # the unit id of each cell's station; 'N/0' for cell N where left out
 

@@ -89,7 +89,7 @@ class Stations:
     def __init__(self, front: settings.Front) -> None:
         self.front = front
         self.rsl = settings.read_transport_address(front.station.rsl)
-        for cell in front.cells:  # so that what can't be told a station is found at the start
+        for cell in front.cells:  # so that what can't be said to a station is found at the start
             oml.combinations(cell)
             rsl.system_information(cell, front.mcc, front.mnc)
         self.cells = {cell.unit: cell for cell in front.cells}

@@ -97,7 +97,7 @@ class Switch:
 
     @staticmethod
     async def drain(link: ipa.Link | None) -> None:
-        """Waits for a link that may be absent; that it has broken is told by its own reader."""
+        """Waits for a link that may be absent; its own reader finds that it has broken."""
         if link:
             try:
                 await link.drain()

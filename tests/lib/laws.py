@@ -15,7 +15,7 @@ class Law:
     name: str
     path: Path  # from the repository's folder
     line: int
-    text: str  # what stands over the function, as one paragraph
+    text: str  # what is written over the function, as one paragraph
     clauses: list  # each clause's name, or '', and its statement
 
 

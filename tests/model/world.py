@@ -56,7 +56,7 @@ class Mobile:
         self.waiting[sapi].append(message)
 
     def frame(self, sapi):
-        """What stands in the air and wasn't taken; it is taken with that."""
+        """What is in the air and wasn't taken; it is taken with that."""
         if self.air[sapi] is None and self.waiting[sapi]:
             self.air[sapi], self.was_taken[sapi] = self.waiting[sapi].pop(0), False
         if self.air[sapi] is None or self.was_taken[sapi]:
