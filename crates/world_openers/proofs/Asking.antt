@@ -1,26 +1,24 @@
 -- SPDX-License-Identifier: MIT OR Apache-2.0
 -- A connection that hasn't asked the switch, when the controller takes a step: it doesn't ask, or
 -- its connection request carries the initial message that came of its channel.
-use Rattle.std.proofs.Common.{◌≡◌, ℕ, ◌≤◌, true, List, [], ◌∷◌, ◌++◌, map, unwrap_or, Option, Some, None, refl, sym, ap, ◌∙◌, subst, arith}
+use Rattle.std.proofs.Common.{◌≡◌, ℕ, ◌≤◌, true, List, [], ◌∷◌, ◌++◌, map, Option, Some, sym, ap, ◌∙◌, subst}
 use Rattle.std.proofs.lemmas.Option.{none-some, same_Some}
 use Rattle.std.specs.List.{AllByRecursion}
 use Rattle.conn_messages.specs.declared.channel.Channel.{Channel}
 use Rattle.conn_messages.specs.declared.channel.Place.{Place}
 use Rattle.conn_messages.specs.declared.message.Message.{Message}
-use Rattle.conn_messages.specs.declared.out.Out.{Out}
 use Rattle.conn_messages.specs.declared.parameters.TheConstants.{SWITCH_LINK}
 use Rattle.conn_messages.specs.Out.{outs_of}
 use Rattle.conn_messages.specs.SwitchMessage.{complete_layer3}
-use Rattle.conn_rules.specs.declared.input.Input.{Input}
 use Rattle.conn_rules.specs.declared.input.Input.TheVariants as inputs
 use Rattle.conn_rules.specs.declared.state.State.{State}
-use Rattle.conn_rules.specs.declared.state.State.TheVariants.{Removed, WaitConfirm}
+use Rattle.conn_rules.specs.declared.state.State.TheVariants.{WaitConfirm}
 use Rattle.conn_rules.specs.Connection.{Connection, is_at}
 use Rattle.conn_rules.specs.Steps.{Row}
 use Rattle.conn_rules.specs.Streams.{relayed}
 use Rattle.controller_model.proofs.LifeLaws.Lives.{life_acts}
 use Rattle.controller_model.proofs.LifeLaws.SeenFrames.{forwarded_seen}
-use Rattle.controller_model.specs.Controller.{Controller, Turn, place_of}
+use Rattle.controller_model.specs.Controller.{Controller, Turn}
 use Rattle.controller_model.specs.declared.forwarded.Forwarded.{Forwarded}
 use Rattle.controller_model.specs.declared.step.Step.{Step}
 use Rattle.controller_model.specs.Life.{step}

@@ -28,7 +28,7 @@ use Rattle.mobile_end.specs.MobileState.{MobileState}
 use Rattle.world_model.specs.declared.event.Event.{Event}
 use Rattle.world_model.specs.declared.line.AirMessage.{AirMessage}
 use Rattle.world_model.specs.declared.seat.Seat.{Seat}
-use Rattle.world_model.specs.declared.seat.Seat.TheVariants.{Asking, Moving, On}
+use Rattle.world_model.specs.declared.seat.Seat.TheVariants.{Moving, On}
 use Rattle.world_model.specs.declared.seat.Tenure.{Tenure}
 use Rattle.world_model.specs.Mobiles.{connected, controlled, hearing, remembering}
 use Rattle.world_model.specs.World.{Actors, Mobile}

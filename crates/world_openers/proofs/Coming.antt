@@ -1,16 +1,15 @@
 -- SPDX-License-Identifier: MIT OR Apache-2.0
 -- Of the channel of a connection that hasn't asked the switch, no initial message comes but that
 -- of its mobile.
-use Rattle.std.proofs.Common.{◌≡◌, ◌≢◌, ℕ, ◌-◌, ◌==◌, nat_eq, Bool, true, false, if◌then◌else◌, cond, List, [], ◌∷◌, ◌++◌, find, Option, Some, None}
+use Rattle.std.proofs.Common.{◌≡◌, ℕ, ◌-◌, ◌==◌, nat_eq, Bool, true, false, if◌then◌else◌, cond, List, [], ◌∷◌, ◌++◌, Option, Some, None}
 use Rattle.std.proofs.Common.{refl, sym, ap, ◌∙◌, subst, append_assoc}
 use Rattle.std.proofs.lemmas.Bool.{eqb-false, eqb-true}
 use Rattle.std.proofs.lemmas.Grind.{flat_map-append}
 use Rattle.std.proofs.lemmas.List.{append-nil}
-use Rattle.std.proofs.lemmas.Option.{none-some, same_Some}
+use Rattle.std.proofs.lemmas.Option.{same_Some}
 use Rattle.std.specs.List.{AllByRecursion, flat_map}
 use Rattle.conn_messages.specs.declared.channel.Channel.{Channel}
 use Rattle.conn_messages.specs.declared.channel.Place.{Place}
-use Rattle.conn_messages.specs.declared.parameters.TheConstants.{SWITCH_LINK}
 use Rattle.conn_rules.proofs.DownlinkMessages.{AllByRecursion-append}
 use Rattle.conn_rules.specs.Connection.{Connection, is_at}
 use Rattle.conn_rules.specs.Streams.{target_in, undone, used_channels}
@@ -18,13 +17,10 @@ use Rattle.controller_model.specs.Controller.{Controller, place_of}
 use Rattle.controller_model.specs.declared.step.Step.{Step}
 use Rattle.controller_model.specs.declared.step.Step.TheVariants as steps
 use Rattle.controller_model.specs.Life.{step, take, tick}
-use Rattle.controller_model.specs.LifeLaws.Acts.{IsBrought, brought_in}
 use Rattle.controller_model.specs.LifeLaws.History.{connection_of}
 use Rattle.dtap_codec.specs.declared.sapi.Sapi.TheVariants.{Zero}
-use Rattle.link_model.specs.Base.{after_establish}
 use Rattle.link_model.specs.BaseState.{BaseState}
 use Rattle.link_model.specs.Message.{data_indication, establish_indication}
-use Rattle.mobile_end.specs.DataLink.{after_lending, to_be_taken}
 use Rattle.mobile_end.specs.Mobile.{frame_answer}
 use Rattle.rsl_codec.specs.declared.rsl.Rsl.{Rsl}
 use Rattle.ruled_relay.specs.declared.item.Item.{Item}

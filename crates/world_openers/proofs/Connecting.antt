@@ -2,7 +2,7 @@
 -- Each mobile connected with one message, event by event.
 use Rattle.std.proofs.Common.{◌≡◌, ℕ, ◌==◌, ◌&&◌, nat_eq, Bool, true, false, if◌then◌else◌, List, [], ◌∷◌, ◌++◌, find, is_some, unwrap_or, Option, Some, None, refl}
 use Rattle.std.proofs.Common.{sym, ap, ◌∙◌, subst}
-use Rattle.std.proofs.lemmas.Bool.{eqb-false, eqb-true, true≢false}
+use Rattle.std.proofs.lemmas.Bool.{eqb-false, eqb-true}
 use Rattle.std.proofs.lemmas.Option.{none-some, same_Some}
 use Rattle.std.specs.Option.{is_none, option_or}
 use Rattle.mobile_end.specs.declared.fault.MobileFault.{MobileFault}
@@ -24,7 +24,7 @@ use Rattle.world_model.proofs.Leads.{and_left, and_right}
 use Rattle.world_openers.specs.Initials.{initial_at, initial_of}
 use Rattle.world_openers.specs.Openers.{MobilesConnectOnce}
 use Rattle.world_openers.proofs.Beginning.{BeginsWith, become_begins, connected_begins}
-use Rattle.world_openers.proofs.Initials.{initial_stays, snoc_initial}
+use Rattle.world_openers.proofs.Initials.{snoc_initial}
 use Rattle.world_openers.proofs.Runs.{each_event}
 
 -- the mobile of this number never connected; or it connected with this message, and begins with it

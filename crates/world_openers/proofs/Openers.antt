@@ -1,7 +1,7 @@
 -- SPDX-License-Identifier: MIT OR Apache-2.0
 -- What the switch took of each connection of a run begins with the message that the connection's
 -- mobile connected with.
-use Rattle.std.proofs.Common.{◌≡◌, ◌⊎◌, inl, inr, ℕ, ◌≤◌, Bool, true, false, find, length, List, [], ◌∷◌, ◌++◌, option_map, Option, Some, None, refl}
+use Rattle.std.proofs.Common.{◌≡◌, ◌⊎◌, inl, inr, ℕ, ◌≤◌, Bool, true, false, find, List, [], ◌∷◌, ◌++◌, option_map, Option, Some, None, refl}
 use Rattle.std.proofs.Common.{sym, ap, ◌∙◌, subst, unwrap_or}
 use Rattle.std.proofs.lemmas.Bool.{true≢false}
 use Rattle.std.proofs.lemmas.List.{append-nil}
@@ -10,12 +10,11 @@ use Rattle.std.specs.List.{AllByRecursion}
 use Rattle.std.specs.Option.{option_and_then, option_or}
 use Rattle.conn_messages.specs.declared.parameters.TheConstants.{SWITCH_LINK}
 use Rattle.conn_rules.specs.declared.state.State.{State}
-use Rattle.conn_rules.specs.declared.state.State.TheVariants.{Removed, WaitActivation, WaitConfirm, WaitEstablish, Closed}
+use Rattle.conn_rules.specs.declared.state.State.TheVariants.{WaitActivation, WaitConfirm, WaitEstablish}
 use Rattle.conn_rules.specs.Connection.{Connection}
 use Rattle.controller_model.specs.Controller.{Controller, place_of}
-use Rattle.controller_model.specs.declared.step.Step.{Step}
 use Rattle.controller_model.specs.declared.step.Step.TheVariants as steps
-use Rattle.controller_model.specs.Life.{step, take, tick}
+use Rattle.controller_model.specs.Life.{take, tick}
 use Rattle.controller_model.specs.LifeLaws.End.{IsThere}
 use Rattle.controller_model.specs.LifeLaws.History.{connection_of}
 use Rattle.controller_model.specs.LifeLaws.Sending.{IsOctetStep}
@@ -25,7 +24,6 @@ use Rattle.msc_end.specs.SwitchState.{SwitchState}
 use Rattle.nsd_filter.specs.AcceptedList.{accepted_list}
 use Rattle.ruled_relay.specs.declared.item.Item.{Item}
 use Rattle.settings.specs.Parameters.{AreAllowed, Parameters}
-use Rattle.world_laws.specs.Access.Coming.{IsComing}
 use Rattle.world_laws.specs.Access.Requested.{HasAccess}
 use Rattle.world_laws.specs.Access.Requested.HasAccess.{comes, goes, requests}
 use Rattle.world_laws.specs.AccountedFor.{IsBeyondAsking, IsUnconfirmed, IsUnknownForGood, initials_up}
@@ -36,7 +34,7 @@ use Rattle.world_laws.specs.Order.Beginning.HasBegun.{begins, not_yet}
 use Rattle.world_laws.specs.Order.Facts.{Holds, HoldsAt, IsAsking}
 use Rattle.world_laws.specs.Order.Openers.{first_served, has_asked, served_by}
 use Rattle.world_laws.specs.Order.Order.{opener_of}
-use Rattle.world_laws.specs.Order.Standing.{IsComingTo, OnceDown, Standing, WhileUp}
+use Rattle.world_laws.specs.Order.Standing.{IsComingTo, Standing}
 use Rattle.world_laws.specs.Order.Standing.OnceDown.{cut, silent}
 use Rattle.world_laws.specs.Order.Standing.Standing.{once_down, while_up}
 use Rattle.world_laws.specs.Order.Standing.WhileUp.{coming, ended, lives, unborn, unheard}
@@ -70,7 +68,7 @@ use Rattle.world_model.specs.Life.{actors_after, event_after}
 use Rattle.world_model.specs.Relay.{handled, target_in as target_of, with_turn}
 use Rattle.world_model.specs.Steps.{all_steps, first_taken, step_at}
 use Rattle.world_model.specs.Views.{taken}
-use Rattle.world_model.specs.World.{Actors, is_up, modulus_in, new_actors, outbox_of}
+use Rattle.world_model.specs.World.{Actors, is_up, modulus_in, new_actors}
 use Rattle.world_model.proofs.Outboxes.{down_after}
 use Rattle.world_openers.specs.Initials.{initial_of}
 use Rattle.world_openers.specs.Openers.{BeginsWithMessage, OpenersMessagesAreFirst}

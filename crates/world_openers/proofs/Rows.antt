@@ -1,7 +1,7 @@
 -- SPDX-License-Identifier: MIT OR Apache-2.0
 -- Rows: with which message a mobile connected, and how what the switch took of its connection
 -- begins.
-use Rattle.std.proofs.Common.{◌≡◌, ℕ, zero, suc, ◌-◌, Bool, true, if◌then◌else◌, List, [], ◌∷◌, ◌++◌, map, option_map, slice_get, slice_index_or, Option, Some, None, refl, sym, ap, ◌∙◌, arith}
+use Rattle.std.proofs.Common.{◌≡◌, ℕ, zero, suc, ◌-◌, Bool, true, if◌then◌else◌, List, [], ◌∷◌, ◌++◌, map, option_map, slice_get, slice_index_or, Some, None, refl, sym, ap, ◌∙◌, arith}
 use Rattle.std.proofs.lemmas.Bool.{ne_eqb}
 use Rattle.std.proofs.lemmas.Option.{none-some, same_Some}
 use Rattle.octets.proofs.Hex.{hex}
@@ -11,7 +11,7 @@ use Rattle.msc_end.specs.declared.connection.Connection.{Connection}
 use Rattle.msc_end.specs.declared.connection.Stage.TheVariants.{Open}
 use Rattle.world_laws.specs.Order.Order.{opener_of}
 use Rattle.world_model.specs.declared.event.Event.{Event}
-use Rattle.world_model.specs.declared.event.Event.TheVariants.{AirAck, AirUp, BasePush, BaseTakes, Connect, Handle, SwitchTakes, Upper}
+use Rattle.world_model.specs.declared.event.Event.TheVariants.{AirUp, BasePush, BaseTakes, Connect, Handle, SwitchTakes}
 use Rattle.world_model.specs.Life.{actors_after_all}
 use Rattle.world_model.specs.Views.{taken}
 use Rattle.world_model.specs.World.{Actors, new_actors}

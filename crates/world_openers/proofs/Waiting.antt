@@ -51,8 +51,8 @@ moves_at w event number delivers = by (step SWITCH_LINK w event) where
   by : Step SWITCH_LINK w event v → Moves w v number
   by (goes same flows) = goes_on more (ap (λ (xs : List (List ℕ)). xs ++ waiting_of v number) takes ∙ append_assoc (taken_of w number) first (waiting_of v number)
       ∙ ap (λ (xs : List (List ℕ)). taken_of w number ++ xs) (sym waits) ∙ sym (append_assoc (taken_of w number) (waiting_of w number) more)) where
-    waits : waiting_of w number ++ more ≡ first ++ waiting_of v number
-    waits = sym (waiting-append (outbox_of w SWITCH_LINK) (put SWITCH_LINK w event) number) ∙ ap (λ (entries : List OutboxEntry). waiting_in entries number) flows
-        ∙ waiting-append (taken SWITCH_LINK w event) (outbox_of v SWITCH_LINK) number
+        waits : waiting_of w number ++ more ≡ first ++ waiting_of v number
+        waits = sym (waiting-append (outbox_of w SWITCH_LINK) (put SWITCH_LINK w event) number) ∙ ap (λ (entries : List OutboxEntry). waiting_in entries number) flows
+            ∙ waiting-append (taken SWITCH_LINK w event) (outbox_of v SWITCH_LINK) number
   by (breaks broken nothing nobody) = is_cut (ap (λ (link : Link). link.up) broken)
       (takes ∙ ap (λ (entries : List OutboxEntry). taken_of w number ++ waiting_in entries number) nobody ∙ ap (λ (xs : List (List ℕ)). taken_of w number ++ xs) (none_waits number) ∙ append-nil (taken_of w number))
