@@ -1,7 +1,7 @@
 -- SPDX-License-Identifier: MIT OR Apache-2.0
 -- Until a station took it, the message that a mobile connected with is the first of its link.
-use Rattle.std.proofs.Common.{◌≡◌, ℕ, ◌%◌, Bool, true, false, if◌then◌else◌, List, [], ◌∷◌, ◌++◌, length, Option, Some, refl, sym, ap, ◌∙◌, subst}
-use Rattle.std.proofs.Common.{Result, Ok}
+use Rattle.std.proofs.Common.{◌≡◌, ℕ, ◌%◌, Bool, true, false, if◌then◌else◌, List, [], ◌∷◌, ◌++◌, length, Option, Some, refl, sym, ap, ◌∙◌}
+use Rattle.std.proofs.Common.{subst, Result, Ok}
 use Rattle.std.proofs.Math.Nat.{zero-mod}
 use Rattle.conn_messages.specs.declared.channel.Change.{Change}
 use Rattle.conn_messages.specs.declared.channel.Change.TheVariants.{Assignment, Handover}
@@ -48,22 +48,30 @@ pub record BeginsWith (initial : List ℕ) (p : Mobile) : Type 0 where
 
 -- ---- a mobile as it connected
 
-first_clear : (m : ℕ) (initial : List ℕ) → is_initial initial ≡ true → is_flow_message initial ≡ true → with_number (0 % m) initial ≡ initial
-first_clear m initial lawful flow = ap (λ (n : ℕ). with_number n initial) (zero-mod m) ∙ (IsClear-flow initial (is_initial_clear initial lawful) flow).cleared
+first_clear : (m : ℕ) (initial : List ℕ) → is_initial initial ≡ true → is_flow_message initial ≡ true
+    → with_number (0 % m) initial ≡ initial
+first_clear m initial lawful flow =
+    ap (λ (n : ℕ). with_number n initial) (zero-mod m) ∙ (IsClear-flow initial (is_initial_clear initial lawful) flow).cleared
 
-connected_first : (m : ℕ) (initial : List ℕ) → is_initial initial ≡ true → to_be_taken (after_connect (new_mobile m) (Some initial)).zero ≡ initial ∷ []
+connected_first : (m : ℕ) (initial : List ℕ) → is_initial initial ≡ true
+    → to_be_taken (after_connect (new_mobile m) (Some initial)).zero ≡ initial ∷ []
 connected_first m initial lawful = by (is_flow_message initial) refl where
   by : (b : Bool) → is_flow_message initial ≡ b
-      → to_be_taken (connected_mobile (if b then after_number (new_mobile m) initial else with_link (new_mobile m) Zero (waits (link_of (new_mobile m) Zero) initial))).zero ≡ initial ∷ []
+      → to_be_taken
+      (connected_mobile
+      (if b then after_number (new_mobile m) initial else with_link (new_mobile m) Zero
+      (waits (link_of (new_mobile m) Zero) initial))).zero ≡ initial ∷ []
   by true flow = ap (λ (x : List ℕ). x ∷ []) (first_clear m initial lawful flow)
   by false apart = refl
 
-pub connected_begins : (m number : ℕ) (initial : List ℕ) (accepts : Bool) → is_initial initial ≡ true → BeginsWith initial (connected m number initial accepts)
+pub connected_begins : (m number : ℕ) (initial : List ℕ) (accepts : Bool) → is_initial initial ≡ true
+    → BeginsWith initial (connected m number initial accepts)
 connected_begins m number initial accepts lawful = record { first = λ is. ([], connected_first m initial lawful); still = λ is. tt }
 
 -- ---- what a mobile does
 
-queued_first : (e : MobileState) (sapi : Sapi) (message initial : List ℕ) (rest : List (List ℕ)) → to_be_taken e.zero ≡ initial ∷ rest → (more : List (List ℕ)) × (to_be_taken (after_queue e sapi message).zero ≡ initial ∷ more)
+queued_first : (e : MobileState) (sapi : Sapi) (message initial : List ℕ) (rest : List (List ℕ)) → to_be_taken e.zero ≡ initial ∷ rest
+    → (more : List (List ℕ)) × (to_be_taken (after_queue e sapi message).zero ≡ initial ∷ more)
 queued_first e sapi message initial rest is = by (is_flow_message message) where
   behind : (x : List ℕ) → to_be_taken (waits e.zero x) ≡ initial ∷ (rest ++ x ∷ [])
   behind x = to_be_taken-waits e.zero x ∙ ap (λ (xs : List (List ℕ)). xs ++ x ∷ []) is
@@ -72,7 +80,9 @@ queued_first e sapi message initial rest is = by (is_flow_message message) where
   on Zero = (rest ++ message ∷ [], behind message)
   on Three = (rest, is)
 
-  by : (b : Bool) → (more : List (List ℕ)) × (to_be_taken (if b then after_number e message else with_link e sapi (waits (link_of e sapi) message)).zero ≡ initial ∷ more)
+  by : (b : Bool)
+      → (more : List (List ℕ)) ×
+      (to_be_taken (if b then after_number e message else with_link e sapi (waits (link_of e sapi) message)).zero ≡ initial ∷ more)
   by true = (rest ++ with_number (length e.sent % e.modulus) message ∷ [], behind (with_number (length e.sent % e.modulus) message))
   by false = on sapi
 
@@ -101,14 +111,17 @@ hearing_still p a still = by_kind (is_dtap a.message) where
   by_message (Some target) (Ok (HandoverCommand cell channel reference)) = by_seat Handover target p.seat
   by_message target _ = still
 
-  by_kind : (b : Bool) → IsStill (if b then record p { received = p.received ++ a.message ∷ [] } else controlled p a.target (rr_reading a.message)).seat
+  by_kind : (b : Bool)
+      → IsStill (if b then record p { received = p.received ++ a.message ∷ [] } else controlled p a.target (rr_reading a.message)).seat
   by_kind true = still
   by_kind false = by_message a.target (rr_reading a.message)
 
-same_first : {initial : List ℕ} {xs ys : List (List ℕ)} → ys ≡ xs → (rest : List (List ℕ)) × (xs ≡ initial ∷ rest) → (rest : List (List ℕ)) × (ys ≡ initial ∷ rest)
+same_first : {initial : List ℕ} {xs ys : List (List ℕ)} → ys ≡ xs → (rest : List (List ℕ)) × (xs ≡ initial ∷ rest)
+    → (rest : List (List ℕ)) × (ys ≡ initial ∷ rest)
 same_first is first = (first.0, is ∙ first.1)
 
-pub become_begins : {w : Actors} {number : ℕ} {event : Event} {p q : Mobile} (initial : List ℕ) → Becomes w number event p q → BeginsWith initial p → BeginsWith initial q
+pub become_begins : {w : Actors} {number : ℕ} {event : Event} {p q : Mobile} (initial : List ℕ) → Becomes w number event p q
+    → BeginsWith initial p → BeginsWith initial q
 become_begins initial (queues sapi message p may) begins = record {
   first = λ is. let first = begins.first is in queued_first p.end sapi message initial first.0 first.1;
   still = begins.still;
@@ -123,11 +136,14 @@ become_begins initial (is_acked sapi p) begins = record {
   still = begins.still;
 }
 become_begins initial (hears p tenure command first others seat reached stood) begins = record {
-  first = λ is. same_first (ap (λ (e : MobileState). to_be_taken e.zero) (hearing-end p first)) (begins.first (sym (hearing-opens p first) ∙ is));
+  first = λ is. same_first (ap (λ (e : MobileState). to_be_taken e.zero) (hearing-end p first))
+      (begins.first (sym (hearing-opens p first) ∙ is));
   still = λ is. hearing_still p first (begins.still (sym (hearing-opens p first) ∙ is));
 }
 become_begins initial (misses p) begins = begins
 become_begins initial (leaves p tenure command seat reached) begins = record { first = λ is. absurd cc; still = λ is. absurd cc }
-become_begins initial (arrives p from command seat reached) begins = record { first = λ is. absurd (subst IsStill seat (begins.still is)); still = λ is. tt }
-become_begins initial (returns p from command seat reached) begins = record { first = λ is. absurd (subst IsStill seat (begins.still is)); still = λ is. tt }
+become_begins initial (arrives p from command seat reached) begins =
+    record { first = λ is. absurd (subst IsStill seat (begins.still is)); still = λ is. tt }
+become_begins initial (returns p from command seat reached) begins =
+    record { first = λ is. absurd (subst IsStill seat (begins.still is)); still = λ is. tt }
 become_begins initial (sits station p channel asks) begins = record { first = begins.first; still = λ is. tt }

@@ -57,38 +57,53 @@ use Rattle.world_openers.proofs.Beginning.{BeginsWith}
 
 -- ---- what a station makes of a frame of SAPI 0 stands behind the rest
 
-told_base : (base : BaseState) (channel : ℕ) (frame : List ℕ) (b : Bool) → (signalling_brought base channel b frame).messages ≡ base.messages ++ (if b then establish_indication channel Zero (Some frame) else data_indication channel Zero frame) ∷ []
+told_base : (base : BaseState) (channel : ℕ) (frame : List ℕ) (b : Bool)
+    → (signalling_brought base channel b frame).messages ≡ base.messages ++
+    (if b then establish_indication channel Zero (Some frame) else data_indication channel Zero frame) ∷ []
 told_base base channel frame true = refl
 told_base base channel frame false = refl
 
-sent_ups : (w : Actors) (p : Mobile) (tenure : Tenure) (frame : List ℕ) (n : ℕ) → Sub (messages_up (brought w p tenure.at Zero frame) n) (messages_up w n ++ told_of p tenure.at.number frame ∷ [])
+sent_ups : (w : Actors) (p : Mobile) (tenure : Tenure) (frame : List ℕ) (n : ℕ)
+    → Sub (messages_up (brought w p tenure.at Zero frame) n) (messages_up w n ++ told_of p tenure.at.number frame ∷ [])
 sent_ups w p tenure frame n =
-    subst (Sub (messages_up (brought w p tenure.at Zero frame) n)) (sym (append_assoc (flat_map (read_of n) w.inbox) (base_of w n).messages (told_of p tenure.at.number frame ∷ [])))
+    subst (Sub (messages_up (brought w p tenure.at Zero frame) n))
+    (sym (append_assoc (flat_map (read_of n) w.inbox) (base_of w n).messages (told_of p tenure.at.number frame ∷ [])))
     (sub_append (sub_itself (flat_map (read_of n) w.inbox))
-    (set_related (λ (a b : Station). Sub a.base.messages (b.base.messages ++ told_of p tenure.at.number frame ∷ [])) (λ x. sub_front x.base.messages (told_of p tenure.at.number frame ∷ [])) w.stations no_station (tenure.at.station - 1) (n - 1) (record (station_of w tenure.at.station) { base = signalling_brought (base_of w tenure.at.station) tenure.at.number p.opens frame })
-    (subst (λ (xs : List Rsl). Sub xs ((base_of w tenure.at.station).messages ++ told_of p tenure.at.number frame ∷ [])) (sym (told_base (base_of w tenure.at.station) tenure.at.number frame p.opens)) (sub_itself ((base_of w tenure.at.station).messages ++ told_of p tenure.at.number frame ∷ [])))))
+    (set_related (λ (a b : Station). Sub a.base.messages (b.base.messages ++ told_of p tenure.at.number frame ∷ []))
+    (λ x. sub_front x.base.messages (told_of p tenure.at.number frame ∷ [])) w.stations no_station (tenure.at.station - 1) (n - 1)
+    (record (station_of w tenure.at.station) { base = signalling_brought (base_of w tenure.at.station) tenure.at.number p.opens frame })
+    (subst (λ (xs : List Rsl). Sub xs ((base_of w tenure.at.station).messages ++ told_of p tenure.at.number frame ∷ []))
+    (sym (told_base (base_of w tenure.at.station) tenure.at.number frame p.opens))
+    (sub_itself ((base_of w tenure.at.station).messages ++ told_of p tenure.at.number frame ∷ [])))))
 
 -- the initial message is the frame, of a mobile that is to send it
-told_all : (P : List ℕ → Type 0) (p : Mobile) (channel other : ℕ) (frame : List ℕ) → (p.opens ≡ true → P frame) → AllByRecursion P (initial_by other (told_of p channel frame))
+told_all : (P : List ℕ → Type 0) (p : Mobile) (channel other : ℕ) (frame : List ℕ) → (p.opens ≡ true → P frame)
+    → AllByRecursion P (initial_by other (told_of p channel frame))
 told_all P p channel other frame own = by p.opens refl where
   opening : (b : Bool) → P frame → AllByRecursion P (cond b (frame ∷ []) [])
   opening true is = (is, tt)
   opening false is = tt
 
-  by : (b : Bool) → p.opens ≡ b → AllByRecursion P (initial_by other (if b then establish_indication channel Zero (Some frame) else data_indication channel Zero frame))
+  by : (b : Bool) → p.opens ≡ b
+      → AllByRecursion P
+      (initial_by other (if b then establish_indication channel Zero (Some frame) else data_indication channel Zero frame))
   by true is = opening (channel == other) (own is)
   by false is = tt
 
-pub sent_all : (P : List ℕ → Type 0) (w : Actors) (p : Mobile) (tenure : Tenure) (frame : List ℕ) (at : Place) → (p.opens ≡ true → P frame) → AllByRecursion P (initials_up w at) → AllByRecursion P (initials_up (brought w p tenure.at Zero frame) at)
+pub sent_all : (P : List ℕ → Type 0) (w : Actors) (p : Mobile) (tenure : Tenure) (frame : List ℕ) (at : Place) → (p.opens ≡ true → P frame)
+    → AllByRecursion P (initials_up w at) → AllByRecursion P (initials_up (brought w p tenure.at Zero frame) at)
 sent_all P w p tenure frame at own all =
     sub_all P (sub_flat_map (initial_by at.number) (sent_ups w p tenure frame at.station))
-    (subst (AllByRecursion P) (sym (flat_map-append (initial_by at.number) (messages_up w at.station) (told_of p tenure.at.number frame ∷ [])))
+    (subst (AllByRecursion P)
+    (sym (flat_map-append (initial_by at.number) (messages_up w at.station) (told_of p tenure.at.number frame ∷ [])))
     (AllByRecursion-append P (initials_up w at) (initial_by at.number (told_of p tenure.at.number frame) ++ []) all
-    (subst (AllByRecursion P) (sym (append-nil (initial_by at.number (told_of p tenure.at.number frame)))) (told_all P p tenure.at.number at.number frame own))))
+    (subst (AllByRecursion P) (sym (append-nil (initial_by at.number (told_of p tenure.at.number frame))))
+    (told_all P p tenure.at.number at.number frame own))))
 
 -- ---- the frame of a mobile that is to begin
 
-begins_frame : (p : Mobile) (initial frame : List ℕ) → BeginsWith initial p → frame_in (frame_answer p.end Zero) ≡ Some frame → p.opens ≡ true → frame ≡ initial
+begins_frame : (p : Mobile) (initial frame : List ℕ) → BeginsWith initial p → frame_in (frame_answer p.end Zero) ≡ Some frame
+    → p.opens ≡ true → frame ≡ initial
 begins_frame p initial frame begins lent is =
     let first = begins.first is in
     same_heads (sym (lent_first p.end.zero frame (frame_lent p.end frame lent).lent) ∙ first.1) where
@@ -119,7 +134,8 @@ module _ (settings : Parameters) (done : List Event) (P : List ℕ → Type 0) (
 
   -- after it
   abbrev Comes : Actors → Type 0
-  Comes v = connection_of v.controller s.number ≡ Some next → IsEarlyIn next.state → AllByRecursion P (initials_up v (place_of next.serving))
+  Comes v =
+      connection_of v.controller s.number ≡ Some next → IsEarlyIn next.state → AllByRecursion P (initials_up v (place_of next.serving))
 
   -- where the controller takes no part
   as_it_was : (v : Actors) → Ahead → v.controller ≡ w.controller → AllByRecursion P (initials_up v at) → Comes v
@@ -133,33 +149,42 @@ module _ (settings : Parameters) (done : List Event) (P : List ℕ → Type 0) (
   passing_comes : (event : Event) → is_passing event ≡ true → Ahead → Comes (actors_after w event)
   passing_comes event passing h =
       let v : Actors = actors_after w event in
-      let passes : Passes w v = after_taken (Passes w) (event_after w event) w (event_passes w event passing (good_all (new_actors settings) done (good_new settings))) (passes_itself w) in
+      let passes : Passes w v =
+      after_taken (Passes w) (event_after w event) w
+      (event_passes w event passing (good_all (new_actors settings) done (good_new settings))) (passes_itself w) in
       as_it_was v h passes.controller (sub_all P (initials_pass at (serving_placed settings done s h.allowed h.had) passes) h.all)
 
-  sent_comes : (number : ℕ) (p : Mobile) (tenure : Tenure) (command : Option Command) (frame : List ℕ) → mobile_of w number ≡ Some p → p.seat ≡ On tenure command → frame_in (frame_answer p.end Zero) ≡ Some frame → is_reached w tenure ≡ true
+  sent_comes : (number : ℕ) (p : Mobile) (tenure : Tenure) (command : Option Command) (frame : List ℕ) → mobile_of w number ≡ Some p
+      → p.seat ≡ On tenure command → frame_in (frame_answer p.end Zero) ≡ Some frame → is_reached w tenure ≡ true
       → Ahead → AllByRecursion P (initials_up (brought w p tenure.at Zero frame) at)
   sent_comes number p tenure command frame acts sits lent reached h = by (nat_eq number mobile) refl where
     by : (b : Bool) → nat_eq number mobile ≡ b → AllByRecursion P (initials_up (brought w p tenure.at Zero frame) at)
     by true hit =
         let is : h.one ≡ p = same_Some _ _ (sym h.found ∙ ap (mobile_of w) (sym (eqb-true number mobile hit)) ∙ acts) in
-        sent_all P w p tenure frame at (λ opens. subst P (sym (begins_frame p h.initial frame (subst (BeginsWith h.initial) is h.begins) lent opens)) h.is_so) h.all
+        sent_all P w p tenure frame at
+        (λ opens. subst P (sym (begins_frame p h.initial frame (subst (BeginsWith h.initial) is h.begins) lent opens)) h.is_so) h.all
     by false miss =
-        let apart : IsElsewhere (used_channels s) tenure.at = h.alone number p tenure command (eqb-false number mobile miss) acts sits reached in
+        let apart : IsElsewhere (used_channels s) tenure.at =
+        h.alone number p tenure command (eqb-false number mobile miss) acts sits reached in
         let here = (all_right (λ (c : Channel). is_at tenure.at c ≡ false) (undone s.draining) (s.serving ∷ target_in s.state) apart).0 in
         sub_all P (initials_apart w p tenure frame s.serving reached (serving_placed settings done s h.allowed h.had) here) h.all
 
   air_up_comes : (number : ℕ) → Ahead → Comes (actors_after w (events.AirUp number Zero))
   unfolding event_after
   air_up_comes number h =
-      after_taken Comes (event_after w (events.AirUp number Zero)) w (air_up_leads Comes w number Zero (λ p tenure command frame acts sits lent reached.
-      as_it_was (brought w p tenure.at Zero frame) h refl (sent_comes number p tenure command frame acts sits lent reached h))) (unchanged h)
+      after_taken Comes (event_after w (events.AirUp number Zero)) w
+      (air_up_leads Comes w number Zero (λ p tenure command frame acts sits lent reached.
+      as_it_was (brought w p tenure.at Zero frame) h refl (sent_comes number p tenure command frame acts sits lent reached h)))
+      (unchanged h)
 
   -- the controller takes a step
   turn_comes : (st : Step) (v : Actors) → Ahead → v.controller ≡ (step w.controller st).next → AllByRecursion P (initials_up v at) → Comes v
-  turn_comes st v h leads all now early = by (fate settings done st s next h.had.from_one h.early h.had.there (ap (λ (c : Controller). connection_of c s.number) (sym leads) ∙ now)) where
-    by : Fate w.controller st s next → AllByRecursion P (initials_up v (place_of next.serving))
-    by (waits_on same still) = subst (λ (c : Channel). AllByRecursion P (initials_up v (place_of c))) (sym same) all
-    by (asks_now place initial serving state brought_it here puts) = absurd (subst IsEarlyIn state early)
+  turn_comes st v h leads all now early =
+      by (fate settings done st s next h.had.from_one h.early h.had.there
+      (ap (λ (c : Controller). connection_of c s.number) (sym leads) ∙ now)) where
+        by : Fate w.controller st s next → AllByRecursion P (initials_up v (place_of next.serving))
+        by (waits_on same still) = subst (λ (c : Channel). AllByRecursion P (initials_up v (place_of c))) (sym same) all
+        by (asks_now place initial serving state brought_it here puts) = absurd (subst IsEarlyIn state early)
 
   turned : (target : Option Tenure) (st : Step) (u : Actors) → initials_up (with_turn target (step w.controller st) u) at ≡ initials_up u at
   turned target st u = turn_leads (λ v. initials_up v at ≡ initials_up u at) target (step w.controller st) u (λ links. refl)
@@ -167,7 +192,8 @@ module _ (settings : Parameters) (done : List Event) (P : List ℕ → Type 0) (
   behind : (item : Item) (items : List Item) → w.inbox ≡ item ∷ items → Sub (initials_up (record w { inbox = items }) at) (initials_up w at)
   behind item items stood =
       sub_flat_map (initial_by at.number) (sub_append
-      (subst (λ (xs : List Item). Sub (flat_map (read_of at.station) items) (flat_map (read_of at.station) xs)) (sym stood) (sub_behind (read_of at.station item) (flat_map (read_of at.station) items)))
+      (subst (λ (xs : List Item). Sub (flat_map (read_of at.station) items) (flat_map (read_of at.station) xs)) (sym stood)
+      (sub_behind (read_of at.station item) (flat_map (read_of at.station) items)))
       (sub_itself (base_of w at.station).messages))
 
   handle_comes : Ahead → Comes (actors_after w events.Handle)
@@ -180,7 +206,9 @@ module _ (settings : Parameters) (done : List Event) (P : List ℕ → Type 0) (
 
   tick_comes : (ms : ℕ) → Ahead → Comes (actors_after w (events.Tick ms))
   unfolding event_after
-  tick_comes ms h = turn_comes (steps.Tick ms) (with_turn None (tick ms w.controller) w) h (controller-is None (tick ms w.controller) w) (subst (AllByRecursion P) (sym (turned None (steps.Tick ms) w)) h.all)
+  tick_comes ms h =
+      turn_comes (steps.Tick ms) (with_turn None (tick ms w.controller) w) h (controller-is None (tick ms w.controller) w)
+      (subst (AllByRecursion P) (sym (turned None (steps.Tick ms) w)) h.all)
 
   pub event_comes : (event : Event) → Ahead → Comes (actors_after w event)
   event_comes (events.AirUp number Zero) h = air_up_comes number h

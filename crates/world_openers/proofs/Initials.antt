@@ -16,13 +16,17 @@ or_assoc None b c = refl
 or_assoc (Some x) b c = refl
 
 -- one event more
-pub snoc_initial : (w : Actors) (events : List Event) (event : Event) (mobile : ℕ) → initial_of w (events ++ event ∷ []) mobile ≡ option_or (initial_of w events mobile) (initial_at (actors_after_all w events) event mobile)
+pub snoc_initial : (w : Actors) (events : List Event) (event : Event) (mobile : ℕ)
+    → initial_of w (events ++ event ∷ []) mobile ≡ option_or (initial_of w events mobile)
+    (initial_at (actors_after_all w events) event mobile)
 snoc_initial w [] event mobile = or_none (initial_at w event mobile)
 snoc_initial w (x ∷ xs) event mobile =
     ap (option_or (initial_at w x mobile)) (snoc_initial (actors_after w x) xs event mobile)
-    ∙ or_assoc (initial_at w x mobile) (initial_of (actors_after w x) xs mobile) (initial_at (actors_after_all (actors_after w x) xs) event mobile)
+    ∙ or_assoc (initial_at w x mobile) (initial_of (actors_after w x) xs mobile)
+    (initial_at (actors_after_all (actors_after w x) xs) event mobile)
 
 -- it stays the message
-pub initial_stays : (w : Actors) (events : List Event) (event : Event) (mobile : ℕ) (initial : List ℕ) → initial_of w events mobile ≡ Some initial → initial_of w (events ++ event ∷ []) mobile ≡ Some initial
+pub initial_stays : (w : Actors) (events : List Event) (event : Event) (mobile : ℕ) (initial : List ℕ)
+    → initial_of w events mobile ≡ Some initial → initial_of w (events ++ event ∷ []) mobile ≡ Some initial
 initial_stays w events event mobile initial is =
     snoc_initial w events event mobile ∙ ap (λ (o : Option (List ℕ)). option_or o (initial_at (actors_after_all w events) event mobile)) is

@@ -1,7 +1,8 @@
 -- SPDX-License-Identifier: MIT OR Apache-2.0
 -- Rows: with which message a mobile connected, and how what the switch took of its connection
 -- begins.
-use Rattle.std.proofs.Common.{◌≡◌, ℕ, zero, suc, ◌-◌, Bool, true, if◌then◌else◌, List, [], ◌∷◌, ◌++◌, map, option_map, slice_get, slice_index_or, Some, None, refl, sym, ap, ◌∙◌, arith}
+use Rattle.std.proofs.Common.{◌≡◌, ℕ, zero, suc, ◌-◌, Bool, true, if◌then◌else◌, List, [], ◌∷◌, ◌++◌, map, option_map, slice_get}
+use Rattle.std.proofs.Common.{slice_index_or, Some, None, refl, sym, ap, ◌∙◌, arith}
 use Rattle.std.proofs.lemmas.Bool.{ne_eqb}
 use Rattle.std.proofs.lemmas.Option.{none-some, same_Some}
 use Rattle.octets.proofs.Hex.{hex}
@@ -64,7 +65,8 @@ at_second : initial_of beginning (Connect 1 9 paging_response true ∷ connects_
 unfolding on_literals
 at_second = refl
 
-each_its_own : map (initial_of beginning (Connect 9 2 paging_response true ∷ connects_with service_request ∷ [])) (1 ∷ 2 ∷ 9 ∷ []) ≡ Some service_request ∷ None ∷ Some paging_response ∷ []
+each_its_own : map (initial_of beginning (Connect 9 2 paging_response true ∷ connects_with service_request ∷ []))
+    (1 ∷ 2 ∷ 9 ∷ []) ≡ Some service_request ∷ None ∷ Some paging_response ∷ []
 unfolding on_literals
 each_its_own = refl
 
@@ -81,7 +83,8 @@ opening_by mobile station message =
 abbrev two_open : List Event
 two_open = opening_by 9 2 paging_response ++ opening_by 1 1 service_request
 
-what_was_taken : map (taken (actors_after_all beginning two_open)) (0 ∷ 1 ∷ 2 ∷ 3 ∷ []) ≡ None ∷ Some (paging_response ∷ []) ∷ Some (service_request ∷ []) ∷ None ∷ []
+what_was_taken : map (taken (actors_after_all beginning two_open)) (0 ∷ 1 ∷ 2 ∷ 3 ∷ []) ≡ None ∷ Some (paging_response ∷ []) ∷ Some
+    (service_request ∷ []) ∷ None ∷ []
 unfolding on_literals
 what_was_taken = refl
 
@@ -99,20 +102,42 @@ unfolding on_literals
 none_behind n =
     let number : ℕ = suc (suc (suc n)) in
     let place : suc (suc (suc n)) - 1 ≡ suc (suc n) = omega arith in
-    ap (λ (b : Bool). option_map (λ (c : Connection). c.reception.taken) (if b then None else slice_get (actors_after_all beginning two_open).switch.connections (number - 1))) (ne_eqb number 0 (λ is. absurd (omega (arith, is))))
-    ∙ ap (λ (i : ℕ). option_map (λ (c : Connection). c.reception.taken) (slice_get (actors_after_all beginning two_open).switch.connections i)) place
+    ap (λ (b : Bool). option_map (λ (c : Connection). c.reception.taken)
+    (if b then None else slice_get (actors_after_all beginning two_open).switch.connections (number - 1)))
+    (ne_eqb number 0 (λ is. absurd (omega (arith, is))))
+    ∙ ap (λ (i : ℕ). option_map (λ (c : Connection). c.reception.taken)
+    (slice_get (actors_after_all beginning two_open).switch.connections i)) place
 
 each_begins : OpenersMessageIsFirst beginning two_open
 unfolding on_literals
 each_begins zero list is = absurd (none-some list is)
-each_begins (suc zero) list is = record { mobile = 9; opened = refl; initial = paging_response; connected = refl; others = []; first = sym (same_Some (paging_response ∷ []) list is) }
-each_begins (suc (suc zero)) list is = record { mobile = 1; opened = refl; initial = service_request; connected = refl; others = []; first = sym (same_Some (service_request ∷ []) list is) }
+each_begins (suc zero) list is =
+    record {
+      mobile = 9;
+      opened = refl;
+      initial = paging_response;
+      connected = refl;
+      others = [];
+      first =
+          sym (same_Some (paging_response ∷ []) list is);
+    }
+each_begins (suc (suc zero)) list is =
+    record {
+      mobile = 1;
+      opened = refl;
+      initial = service_request;
+      connected = refl;
+      others = [];
+      first =
+          sym (same_Some (service_request ∷ []) list is);
+    }
 each_begins (suc (suc (suc n))) list is = absurd (none-some list (sym (none_behind n) ∙ is))
 
 -- ---- what doesn't
 
 -- the opener and its message are these
-begins_so : {begin : Actors} {events : List Event} {connection : ℕ} {list : List (List ℕ)} (mobile : ℕ) (initial : List ℕ) → opener_of begin events connection ≡ Some mobile → initial_of begin events mobile ≡ Some initial
+begins_so : {begin : Actors} {events : List Event} {connection : ℕ} {list : List (List ℕ)} (mobile : ℕ) (initial : List ℕ)
+    → opener_of begin events connection ≡ Some mobile → initial_of begin events mobile ≡ Some initial
     → BeginsWithMessage begin events connection list → (others : List (List ℕ)) × (list ≡ initial ∷ others)
 begins_so {begin} {events} mobile initial whose own begins =
     let is : begins.mobile ≡ mobile = same_Some _ _ (sym begins.opened ∙ whose) in

@@ -24,7 +24,8 @@ use Rattle.settings.specs.Parameters.{AreAllowed, Parameters}
 use Rattle.world_laws.specs.OthersFrame.{TookOctets}
 use Rattle.world_laws.specs.References.Agree.{Agrees, AsksOnce, IsAddressedTo, IsHeeded, NamesAgree, Runs, is_over, reads, reads_of}
 use Rattle.world_laws.specs.References.Agree.Agrees.{is_asking, is_known, is_unasked, is_unheard}
-use Rattle.world_laws.specs.References.Reads.{AreNothing, Read, asks, carries, clears, initial_read, nothing, request_read, sccp_read, tells}
+use Rattle.world_laws.specs.References.Reads.{AreNothing, Read, asks, carries, clears, initial_read, nothing, request_read, sccp_read}
+use Rattle.world_laws.specs.References.Reads.{tells}
 use Rattle.world_laws.specs.Runs.{world}
 use Rattle.world_laws.proofs.Events.{snoc_actors}
 use Rattle.world_laws.proofs.Order.Controllers.{octets_front}
@@ -57,7 +58,8 @@ addressed_heeded reference over (tells destination) to = tt
 addressed_heeded reference over (clears destination) to = tt
 addressed_heeded reference over _ to = absurd to
 
-agreed_heeded : (w : Actors) (n : ℕ) (r : Read) (rest : List Read) → reads_of n (outbox_of w SWITCH_LINK) ≡ r ∷ rest → Agrees w n → IsHeeded r
+agreed_heeded : (w : Actors) (n : ℕ) (r : Read) (rest : List Read) → reads_of n (outbox_of w SWITCH_LINK) ≡ r ∷ rest → Agrees w n
+    → IsHeeded r
 agreed_heeded w n r rest stood (is_unasked un unknown) = (nothing_heeded r (subst AreNothing stood unknown.quiet).0).0
 agreed_heeded w n r rest stood (is_unheard has unknown) = (nothing_heeded r (subst AreNothing stood unknown.quiet).0).0
 agreed_heeded w n r rest stood (is_asking has way) = asks_heeded n r rest (subst (AsksOnce n) stood way.once)
@@ -65,11 +67,14 @@ agreed_heeded w n r rest stood (is_known past known) =
     addressed_heeded (REFERENCE_BASE + (known.place + 1)) (is_over known.of.stage) r
     (subst (λ (xs : List Read). Runs (REFERENCE_BASE + (known.place + 1)) (is_over known.of.stage) xs known.last) stood known.runs).0
 
-first_heeded : (w : Actors) (first : OutboxEntry) (others : List OutboxEntry) → NamesAgree w → outbox_of w SWITCH_LINK ≡ first ∷ others → IsHeeded (reads first.out)
+first_heeded : (w : Actors) (first : OutboxEntry) (others : List OutboxEntry) → NamesAgree w → outbox_of w SWITCH_LINK ≡ first ∷ others
+    → IsHeeded (reads first.out)
 first_heeded w first others agree stood = by first.out.conn refl where
   by : (n : ℕ) → first.out.conn ≡ n → IsHeeded (reads first.out)
   by zero is = subst IsHeeded (sym ((subst (AllByRecursion (λ entry. _)) stood agree.right).0.beside is)) tt
-  by (suc n) is = agreed_heeded w (suc n) (reads first.out) (reads_of (suc n) others) (ap (reads_of (suc n)) stood ∙ first-own (suc n) first others is) (agree.each (suc n) (omega arith))
+  by (suc n) is =
+      agreed_heeded w (suc n) (reads first.out) (reads_of (suc n) others) (ap (reads_of (suc n)) stood ∙ first-own (suc n) first others is)
+      (agree.each (suc n) (omega arith))
 
 -- ---- it took something
 
@@ -101,8 +106,10 @@ after_has c message has = by c.stage where
   by Ended = has
   by _ = live_has c message has
 
-data_has : (cs : List Connection) (n : ℕ) (o : Option Connection) (message : Option Bssap) → connection_of cs n ≡ o → AllHave cs → AllHave (connections_by cs n o message)
-data_has cs n (Some c) (Some message) is all = all_set HasTaken cs (n - 1) (connection_after c message) all (after_has c message (all_numbered HasTaken cs n c is all))
+data_has : (cs : List Connection) (n : ℕ) (o : Option Connection) (message : Option Bssap) → connection_of cs n ≡ o → AllHave cs
+    → AllHave (connections_by cs n o message)
+data_has cs n (Some c) (Some message) is all =
+    all_set HasTaken cs (n - 1) (connection_after c message) all (after_has c message (all_numbered HasTaken cs n c is all))
 data_has cs n (Some c) None is all = all
 data_has cs n None message is all = all
 
@@ -113,12 +120,14 @@ request_has source (Some user) heeded = by (message_in user) heeded where
   by (Some (Management (CompleteLayer3Information cell initial))) heeded = tt
   by _ heeded = absurd heeded
 
-message_has : (m : ℕ) (cs : List Connection) (message : Sccp) → IsHeeded (sccp_read (Some message)) → AllHave cs → AllHave (connections_after m cs message)
+message_has : (m : ℕ) (cs : List Connection) (message : Sccp) → IsHeeded (sccp_read (Some message)) → AllHave cs
+    → AllHave (connections_after m cs message)
 message_has m cs (ConnectionRequest source user) heeded all = by (nat_le CONNECTION_LIMIT (length cs)) where
   by : (b : Bool) → AllHave (if b then cs else with_connection m cs source user)
   by true = all
   by false = AllByRecursion-append HasTaken cs _ all (request_has source user heeded, tt)
-message_has m cs (DataForm1 destination user) heeded all = data_has cs (destination - REFERENCE_BASE) (connection_of cs (destination - REFERENCE_BASE)) (message_in user) refl all
+message_has m cs (DataForm1 destination user) heeded all =
+    data_has cs (destination - REFERENCE_BASE) (connection_of cs (destination - REFERENCE_BASE)) (message_in user) refl all
 message_has m cs _ heeded all = all
 
 abbrev SwitchHas : Actors → Type 0
@@ -136,15 +145,25 @@ clear_has switch n all = by (connection_of switch.connections n) refl where
   by None is = all
   by (Some c) is = all_set HasTaken switch.connections (n - 1) _ all (all_numbered HasTaken switch.connections n c is all)
 
-sends_has : (w : Actors) (connection : ℕ) (message : Bssap) (next : SwitchState) → SwitchHas w → AllHave next.connections → SwitchHas (unwrap_or (sent_on w connection message next) w)
+sends_has : (w : Actors) (connection : ℕ) (message : Bssap) (next : SwitchState) → SwitchHas w → AllHave next.connections
+    → SwitchHas (unwrap_or (sent_on w connection message next) w)
 sends_has w connection message next all sent = by (may_send_on w connection) where
-  by : (b : Bool) → SwitchHas (unwrap_or (if b then Some (record w { switch = next; switch_made = w.switch_made ++ data_forms_on (connection_of w.switch.connections connection) message }) else None) w)
+  by : (b : Bool)
+      → SwitchHas
+      (unwrap_or
+      (if b then Some
+      (record w {
+        switch = next;
+        switch_made =
+            w.switch_made ++ data_forms_on (connection_of w.switch.connections connection) message;
+      }) else None) w)
   by true = sent
   by false = all
 
 does_has : (w : Actors) (action : SwitchAction) → SwitchHas w → SwitchHas (unwrap_or (after_switch_does w action) w)
 does_has w (Assign connection) all = sends_has w connection assignment_request w.switch all all
-does_has w (Clear connection) all = sends_has w connection clear_command (after_clear w.switch connection) all (clear_has w.switch connection all)
+does_has w (Clear connection) all =
+    sends_has w connection clear_command (after_clear w.switch connection) all (clear_has w.switch connection all)
 does_has w (Dtap connection sapi message) all = by (is_layer_3 message) where
   by : (b : Bool) → SwitchHas (unwrap_or (if b then sent_on w connection (Transfer (dlci_for sapi) message) w.switch else None) w)
   by true = sends_has w connection (Transfer (dlci_for sapi) message) w.switch all all
@@ -152,10 +171,12 @@ does_has w (Dtap connection sapi message) all = by (is_layer_3 message) where
 
 -- ---- all events
 
-takes_has : (w : Actors) (up : Bool) (entries : List OutboxEntry) → NamesAgree w → outbox_of w SWITCH_LINK ≡ entries → SwitchHas w → SwitchHas (unwrap_or (if up then switch_took_first entries w else None) w)
+takes_has : (w : Actors) (up : Bool) (entries : List OutboxEntry) → NamesAgree w → outbox_of w SWITCH_LINK ≡ entries → SwitchHas w
+    → SwitchHas (unwrap_or (if up then switch_took_first entries w else None) w)
 takes_has w false entries agree stood all = all
 takes_has w true [] agree stood all = all
-takes_has w true (first ∷ others) agree stood all = took_has (sccp_in first.out.frame) (with_outbox SWITCH_LINK others w) (first_heeded w first others agree stood) all
+takes_has w true (first ∷ others) agree stood all =
+    took_has (sccp_in first.out.frame) (with_outbox SWITCH_LINK others w) (first_heeded w first others agree stood) all
 
 has_by : {w : Actors} {event : Event} → NamesAgree w → SwitchKind w event → SwitchHas w → SwitchHas (actors_after w event)
 unfolding event_after
@@ -163,7 +184,9 @@ has_by {w} agree takes all = takes_has w (is_up w SWITCH_LINK) (outbox_of w SWIT
 has_by {w} agree (does action) all = does_has w action all
 has_by agree (stays same) all = subst (λ (s : SwitchState). AllHave s.connections) (sym same) all
 
-pub switch_has : (settings : Parameters) (events : List Event) → AreAllowed settings → TookOctets settings events → AllByRecursion HasTaken (world settings events).switch.connections
+pub switch_has : (settings : Parameters) (events : List Event) → AreAllowed settings → TookOctets settings events
+    → AllByRecursion HasTaken (world settings events).switch.connections
 switch_has settings events allowed = each_octet_event settings (λ xs. SwitchHas (world settings xs)) tt (λ before event octets all.
     subst SwitchHas (sym (snoc_actors (new_actors settings) before event))
-    (has_by (names_always_agree_new settings before allowed (octets_front settings before (event ∷ []) octets)) (switch_kind (world settings before) event) all)) events
+    (has_by (names_always_agree_new settings before allowed (octets_front settings before (event ∷ []) octets))
+    (switch_kind (world settings before) event) all)) events
