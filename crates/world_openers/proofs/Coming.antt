@@ -55,13 +55,13 @@ use Rattle.world_openers.proofs.Asking.{Fate, fate}
 use Rattle.world_openers.proofs.Asking.Fate.{asks_now, waits_on}
 use Rattle.world_openers.proofs.Beginning.{BeginsWith}
 
--- ---- what a station makes of a frame of SAPI 0 stands behind the rest
+-- ---- what a station makes of a frame of SAPI 0 comes behind the rest
 
-told_base : (base : BaseState) (channel : ℕ) (frame : List ℕ) (b : Bool)
+made_base : (base : BaseState) (channel : ℕ) (frame : List ℕ) (b : Bool)
     → (signalling_brought base channel b frame).messages ≡ base.messages ++
     (if b then establish_indication channel Zero (Some frame) else data_indication channel Zero frame) ∷ []
-told_base base channel frame true = refl
-told_base base channel frame false = refl
+made_base base channel frame true = refl
+made_base base channel frame false = refl
 
 sent_ups : (w : Actors) (p : Mobile) (tenure : Tenure) (frame : List ℕ) (n : ℕ)
     → Sub (messages_up (brought w p tenure.at Zero frame) n) (messages_up w n ++ told_of p tenure.at.number frame ∷ [])
@@ -73,13 +73,13 @@ sent_ups w p tenure frame n =
     (λ x. sub_front x.base.messages (told_of p tenure.at.number frame ∷ [])) w.stations no_station (tenure.at.station - 1) (n - 1)
     (record (station_of w tenure.at.station) { base = signalling_brought (base_of w tenure.at.station) tenure.at.number p.opens frame })
     (subst (λ (xs : List Rsl). Sub xs ((base_of w tenure.at.station).messages ++ told_of p tenure.at.number frame ∷ []))
-    (sym (told_base (base_of w tenure.at.station) tenure.at.number frame p.opens))
+    (sym (made_base (base_of w tenure.at.station) tenure.at.number frame p.opens))
     (sub_itself ((base_of w tenure.at.station).messages ++ told_of p tenure.at.number frame ∷ [])))))
 
 -- the initial message is the frame, of a mobile that is to send it
-told_all : (P : List ℕ → Type 0) (p : Mobile) (channel other : ℕ) (frame : List ℕ) → (p.opens ≡ true → P frame)
+made_all : (P : List ℕ → Type 0) (p : Mobile) (channel other : ℕ) (frame : List ℕ) → (p.opens ≡ true → P frame)
     → AllByRecursion P (initial_by other (told_of p channel frame))
-told_all P p channel other frame own = by p.opens refl where
+made_all P p channel other frame own = by p.opens refl where
   opening : (b : Bool) → P frame → AllByRecursion P (cond b (frame ∷ []) [])
   opening true is = (is, tt)
   opening false is = tt
@@ -98,7 +98,7 @@ sent_all P w p tenure frame at own all =
     (sym (flat_map-append (initial_by at.number) (messages_up w at.station) (told_of p tenure.at.number frame ∷ [])))
     (AllByRecursion-append P (initials_up w at) (initial_by at.number (told_of p tenure.at.number frame) ++ []) all
     (subst (AllByRecursion P) (sym (append-nil (initial_by at.number (told_of p tenure.at.number frame))))
-    (told_all P p tenure.at.number at.number frame own))))
+    (made_all P p tenure.at.number at.number frame own))))
 
 -- ---- the frame of a mobile that is to begin
 

@@ -81,7 +81,7 @@ use Rattle.world_openers.proofs.Initials.{initial_stays}
 use Rattle.world_openers.proofs.Runs.{each_octet_event}
 use Rattle.world_openers.proofs.Taken.{HasTaken, IsSomething, switch_has}
 use Rattle.world_openers.proofs.Waiting.{Moves, moves_at, none_waits}
-use Rattle.world_openers.proofs.Waiting.Moves.{goes_on, is_cut}
+use Rattle.world_openers.proofs.Waiting.Moves.{joins, is_cut}
 
 -- ---- what is kept
 
@@ -163,7 +163,7 @@ module _ (settings : Parameters) (done : List Event) (event : Event) (number : �
 
   heard_moves : (mobile : ℕ) (initial : List ℕ) (rest : List (List ℕ)) → known mobile ≡ Some initial
       → taken_of w number ++ waiting_of w number ≡ initial ∷ rest → Moves w v number → Heard (then_known mobile) v number
-  heard_moves mobile initial rest is line (goes_on more same) =
+  heard_moves mobile initial rest is line (joins more same) =
       says initial (rest ++ more) (stays_known mobile initial is) (same ∙ ap (λ (xs : List (List ℕ)). xs ++ more) line)
   heard_moves mobile initial rest is line (is_cut down same) = by (taken_of w number) refl where
     by : (xs : List (List ℕ)) → taken_of w number ≡ xs → Heard (then_known mobile) v number

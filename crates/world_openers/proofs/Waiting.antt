@@ -33,7 +33,7 @@ none_waits number = refl
 
 -- more may join it; or the link of the switch breaks, and what waits is lost
 pub data Moves (w v : Actors) (number : ℕ) : Type 0 where
-  goes_on : (more : List (List ℕ)) → taken_of v number ++ waiting_of v number ≡ (taken_of w number ++ waiting_of w number) ++ more
+  joins : (more : List (List ℕ)) → taken_of v number ++ waiting_of v number ≡ (taken_of w number ++ waiting_of w number) ++ more
       → Moves w v number
   is_cut : is_up v SWITCH_LINK ≡ false → taken_of v number ≡ taken_of w number → Moves w v number
 
@@ -54,7 +54,7 @@ moves_at w event number delivers = by (step SWITCH_LINK w event) where
 
   by : Step SWITCH_LINK w event v → Moves w v number
   by (goes same flows) =
-      goes_on more
+      joins more
       (ap (λ (xs : List (List ℕ)). xs ++ waiting_of v number) takes ∙ append_assoc (taken_of w number) first (waiting_of v number)
       ∙ ap (λ (xs : List (List ℕ)). taken_of w number ++ xs) (sym waits)
       ∙ sym (append_assoc (taken_of w number) (waiting_of w number) more)) where
