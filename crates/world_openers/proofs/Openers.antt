@@ -21,7 +21,7 @@ use Rattle.controller_model.specs.LifeLaws.Sending.{IsOctetStep}
 use Rattle.msc_end.specs.declared.connection.Connection.{Connection as SwitchConnection}
 use Rattle.msc_end.specs.Switch.{connection_of as switch_connection_of}
 use Rattle.msc_end.specs.SwitchState.{SwitchState}
-use Rattle.nsd_filter.specs.AcceptedList.{accepted_list}
+use Rattle.world_model.specs.AcceptedList.{accepted_list}
 use Rattle.ruled_relay.specs.declared.item.Item.{Item}
 use Rattle.settings.specs.Parameters.{AreAllowed, Parameters}
 use Rattle.world_laws.specs.Access.Requested.{HasAccess}
