@@ -35,7 +35,7 @@ def sentences(document):
     for end in [*END.finditer(text), None]:
         sentence = text[place:end.start() if end else len(text)]
         if sentence.strip():
-            yield text.count("\n", 0, place + len(sentence) - len(sentence.lstrip())) + 1, " ".join(sentence.split())
+            yield text.count("\n", 0, place + len(sentence) - len(sentence.lstrip())) + 1, " ".join(sentence.split()).removeprefix("- ")
         place = end.end() if end else place
 
 
