@@ -26,6 +26,7 @@ pub mod Standing
 pub mod StandingChanges
 pub mod StandingSteps
 pub mod StandingTable
+mod StreamRows
 mod TimerRows
 pub mod UplinkMessages
 pub mod UplinkPlaces
