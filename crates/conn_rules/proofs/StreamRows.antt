@@ -57,7 +57,7 @@ of_sapi_3 : map (is_of Three) (hex "03 43 83 c3 0b fb 00 01 02 04 05 06 07 40 80
 of_sapi_3 = refl
 
 -- the discriminator of radio resource management is 6, in the lower half of the first octet
-dtap_ones : map is_dtap (hex "03 05" ∷ hex "05 24 71" ∷ hex "09 01" ∷ hex "60" ∷ hex "06 2e 00" ∷ hex "16 29" ∷ hex "f6" ∷ []) ≡
+dtap_ones : map is_dtap (hex "03 05" ∷ hex "05 24 71" ∷ hex "0e 01" ∷ hex "60" ∷ hex "06 2e 00" ∷ hex "16 29" ∷ hex "f6" ∷ []) ≡
     true ∷ true ∷ true ∷ true ∷ false ∷ false ∷ false ∷ []
 dtap_ones = refl
 
