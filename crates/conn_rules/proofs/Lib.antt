@@ -1,6 +1,7 @@
 -- SPDX-License-Identifier: MIT OR Apache-2.0
 mod Prelude
 mod AccessRows
+mod AccountRows
 mod ActiveRows
 mod CaseRows
 mod ChangingRows
