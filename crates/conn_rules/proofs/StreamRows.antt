@@ -307,8 +307,8 @@ closed = ended (Closed (WasAsked 5)) active
 final_row : IsFinal active (row (clear_request ∷ down 1 0x41 0x00 (hex "06 0d 00") ∷ []) closed)
 final_row = record {
   stays = λ shut. absurd (shut tt);
-  relays = λ shut. elim [ | Zero ↦ refl | Three ↦ refl ];
-  hands = λ shut. elim [ | Zero ↦ refl | Three ↦ refl ];
+  relays = λ shut. elim [ Zero ↦ refl | Three ↦ refl ];
+  hands = λ shut. elim [ Zero ↦ refl | Three ↦ refl ];
   cleared = tt;
 }
 
