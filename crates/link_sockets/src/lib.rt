@@ -26,5 +26,6 @@ mod relaying;
 mod run;
 mod runtime;
 mod socket;
+mod stations;
 mod stopwatch;
 mod style;
