@@ -22,6 +22,9 @@ const WRITE_TIMEOUT: u64 = 10;
 /// What an operator has to know where the switch's link ends before those of the stations.
 const NO_CALLS: &str = ": no call can be set up until bsc is started again";
 
+/// Why nothing more is written to a peer from which more could come.
+const GIVEN_UP: &str = ": the outbox stayed full, or memory ran out";
+
 /// Why nothing more comes from a peer that has shut its side.
 const CLOSED: &str = "link closed";
 
@@ -195,15 +198,15 @@ impl<R: Log> Write for WritingEnd<R> {
 
     fn flush(&mut self) -> io::Result<()> {
         if !self.shut {
-            let level = if self.at_end.load(Ordering::SeqCst) {
-                Level::Info
+            let (level, why) = if self.at_end.load(Ordering::SeqCst) {
+                (Level::Info, "")
             } else {
-                Level::Warn
+                (Level::Warn, GIVEN_UP)
             };
             log_line(
                 &self.rt,
                 level,
-                format_args!("{}: shut: nothing more is written", self.name),
+                format_args!("{}: shut: nothing more is written{why}", self.name),
             );
             self.shut();
         }
