@@ -29,3 +29,4 @@ mod socket;
 mod stations;
 mod stopwatch;
 mod style;
+mod told_settings;
