@@ -5,7 +5,7 @@
 //! lines of scripts, which name the events of a world.
 #![tactic(auto)]
 
-pub use arguments::asked;
+pub use arguments::{Wish, asked};
 pub use decode_command::decode;
 pub use failure::Failure;
 pub use fault::ProgramFault;
@@ -34,5 +34,6 @@ mod parsing;
 mod read_count;
 mod script;
 mod settings_file;
+mod usage;
 mod value;
 mod words;
