@@ -14,3 +14,4 @@ pub mod WordsLeft
 pub mod Words
 pub mod Script
 pub mod ScriptReading
+pub mod Pages

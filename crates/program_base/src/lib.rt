@@ -5,7 +5,7 @@
 //! lines of scripts, which name the events of a world.
 #![tactic(auto)]
 
-pub use arguments::asked;
+pub use arguments::{Wish, asked};
 pub use decode_command::decode;
 pub use failure::Failure;
 pub use fault::ProgramFault;
@@ -15,7 +15,7 @@ pub use output::put;
 pub use parsing::task;
 pub use read_count::ReadCount;
 pub use script::read_line;
-pub use settings_file::{read_settings, settings_text};
+pub use settings_file::{read_settings, settings_text, unread_fault};
 pub use value::read_source;
 pub use words::{Task, TaskFault};
 
@@ -34,5 +34,6 @@ mod parsing;
 mod read_count;
 mod script;
 mod settings_file;
+mod usage;
 mod value;
 mod words;
