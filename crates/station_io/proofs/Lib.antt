@@ -9,6 +9,7 @@ mod Relaying
 mod Rows
 mod Lists
 mod CrewRows
+mod Moves
 mod Octets
 mod OctetRows
 mod Keeping
