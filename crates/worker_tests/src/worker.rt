@@ -202,16 +202,19 @@ fn a_timer_expires_between_two_items(rt: HostRuntime) {
     assert!(rt; ender.join(&rt));
 }
 
-#[test]
-fn an_outbox_that_nobody_empties_is_given_up(rt: HostRuntime) {
+/// What the station gives before it is down, and how many items are ignored where its outbox is given
+/// up at the answer to the second: its own `Down`, and what waited before that.
+const GIVEN_UP: [(&[Text<'_>], u64); 2] = [
+    (&[CHANNEL_REQUIRED, ACTIVATION_ACK], 1),
+    (&[CHANNEL_REQUIRED, ACTIVATION_ACK, CHANNEL_REQUIRED], 2),
+];
+
+/// Whether the station's outbox, of one line, is given up over these frames of it while nobody takes,
+/// and so many items are ignored.
+fn is_given_up(rt: HostRuntime, texts: &[Text<'_>], ignored: u64) -> bool {
     let alloc = rt.alloc();
     let (ends, mut switch, mut station) = queues(&rt, alloc, 1);
-    put_all(
-        &rt,
-        alloc,
-        &mut station.pass,
-        &[CHANNEL_REQUIRED, ACTIVATION_ACK],
-    );
+    put_all(&rt, alloc, &mut station.pass, texts);
     let (clock, asked) = Script::counted(&rt, alloc, 0);
     let other = thread::spawn(&rt, move || {
         await_asked(&rt, &asked, 5);
@@ -223,8 +226,15 @@ fn an_outbox_that_nobody_empties_is_given_up(rt: HostRuntime) {
     })
     .expect(&rt, "a thread");
     let ended = run(&rt, alloc, ends, clock);
-    assert!(rt; ended.fault.is_none());
-    assert!(rt; ended.ignored == 1);
-    assert!(rt; ended.refusals == (0, 1_000));
-    assert!(rt; other.join(&rt));
+    ended.fault.is_none()
+        && ended.ignored == ignored
+        && ended.refusals == (0, 1_000)
+        && other.join(&rt)
+}
+
+#[test]
+fn an_outbox_that_nobody_empties_is_given_up_and_its_down_is_next(rt: HostRuntime) {
+    for (texts, ignored) in GIVEN_UP.iter() {
+        assert!(rt; is_given_up(rt, *texts, *ignored), "{ignored} ignored");
+    }
 }
