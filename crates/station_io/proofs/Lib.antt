@@ -12,4 +12,3 @@ mod CrewRows
 mod Moves
 mod Octets
 mod OctetRows
-mod Keeping

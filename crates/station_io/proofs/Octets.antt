@@ -7,6 +7,7 @@ use Rattle.std.specs.List.{AllByRecursion, filter}
 use Rattle.std.specs.Io.KnownBytes.{Appends, IsAtEnd}
 use Rattle.controller_worker.specs.Moves.{Move, steps_of}
 use Rattle.controller_worker.specs.Steps.{AreOfLinks, frames_to, items_of, over, whats_of}
+use Rattle.controller.proofs.LifeLaws.{new_keeps_laws}
 use Rattle.controller_model.specs.declared.step.Step.{Step}
 use Rattle.controller_model.specs.declared.step.Step.TheVariants.{Take, Tick}
 use Rattle.controller_model.specs.Controller.{Controller, new_controller}
@@ -28,7 +29,6 @@ use Rattle.ruled_relay.specs.declared.item.Item.{Item}
 use Rattle.ruled_relay.specs.declared.item.What.{What}
 use Rattle.ruled_relay.specs.declared.item.What.TheVariants as whats
 use Rattle.settings.specs.Parameters.{AreAllowed, Parameters}
-use Rattle.station_io.proofs.Keeping.{new_keeps_laws}
 use Rattle.station_io.proofs.Moves.{came_is, no_others, sent_is_all, sent_is_first, whats_others}
 use Rattle.station_io.specs.Links.{Ended, HasCarried, LinkView, Relays, Writes, fault_of}
 use Rattle.station_io.specs.Octets.{AreWithDown, Came, Next, Passes, PassesOctets, TakesWhole, behind, came_in, ended_behind, first_frames, first_step, frames_in, from_front, item_of, items_in, merged, octets_put, order_of, time}

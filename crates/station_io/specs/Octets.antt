@@ -20,7 +20,7 @@ use Rattle.link_workers.specs.Reading.{frames_text, given}
 use Rattle.link_workers.specs.Writing.{AppendsBeginning}
 use Rattle.ruled_relay.specs.declared.item.What.{What}
 use Rattle.ruled_relay.specs.declared.item.What.TheVariants.{Down}
-use Rattle.station_io.specs.Laws.{IsNew, KeepsLaws}
+use Rattle.controller.specs.Laws.{IsNew, KeepsLaws}
 use Rattle.station_io.specs.Links.{Ended, LinkView}
 
 -- ---- the frames of octets
