@@ -8,7 +8,7 @@ use Rattle.controller_worker.specs.Steps.{whats_of}
 use Rattle.controller_model.specs.Controller.{Controller}
 use Rattle.ipa_framing.specs.declared.frame.Frame.{Frame}
 use Rattle.link_workers.specs.declared.fault.IoFault.{IoFault}
-use Rattle.link_workers.specs.Reading.{Serves as ReadServes, frames_text, given}
+use Rattle.link_workers.specs.Reading.{Serves as ReadServes, given}
 use Rattle.link_workers.specs.Writing.{Delivers, WritesFrames}
 use Rattle.ruled_relay.specs.declared.item.What.{What}
 use Rattle.ruled_relay.specs.declared.item.What.TheVariants.{Frame as GivenFrame, Down}
@@ -16,7 +16,7 @@ use Rattle.ruled_relay.specs.declared.outbox.Line.{Line}
 use Rattle.ruled_relay.specs.declared.outbox.Line.TheVariants.{Frame as FrameLine, End}
 use Rattle.ruled_relay.specs.Inbox.{PassView}
 use Rattle.ruled_relay.specs.Outbox.{PutterView, TakerView}
-use Rattle.station_io.specs.Links.{HasCarried, LinkView, Writes, fault_of}
+use Rattle.station_io.specs.Links.{HasCarried, LinkView, fault_of}
 use Rattle.station_io.proofs.Marks.{all_taken, map_apart, same_before}
 
 frame_is_not_down : (f : Frame) → GivenFrame f ≡ Down → ⊥
@@ -37,11 +37,6 @@ got_is_sent sent got put taken rest is_put is_taken is =
 -- all that a reader put was taken, where its `Down` was
 pub taken_is_given : (frames : List Frame) (put taken rest : List What) → put ≡ given frames ++ Down ∷ [] → HasDown taken → put ≡ taken ++ rest → taken ≡ given frames ++ Down ∷ []
 taken_is_given frames put taken rest is_put down is = all_taken GivenFrame Down frame_is_not_down frames put taken down.0 down.1 rest is_put down.2 is ∙ is_put
-
--- the octets of what was sent were written
-pub all_written : (writing : Option IoFault) (sent : List Frame) (old new : Option (List ℕ)) → WritesFrames writing sent old new → Writes writing (frames_text sent) old new
-all_written None sent old new writes = writes.1
-all_written (Some fault) sent old new writes = writes.1
 
 -- what reader, writer and call worker promise of a link is that it comes to its end
 pub comes : (start : Controller) (moves : List Move) (limit number : ℕ) (old new : LinkView)
@@ -71,5 +66,5 @@ comes start moves limit number old new pass put taker taken putter sent reading 
       items = taken_is_given reads.frames put.put (whats_of number (taken_of moves)) inbox.0 is_put (calls.down refl) inbox.1;
       sent = calls.sent;
       which = subst (λ a. IsSent up a number (parts_of number start moves) calls.sent) (calls.whole refl) calls.which;
-      writes = all_written writing calls.sent old.written new.written (subst (λ fs. WritesFrames writing fs old.written new.written) got delivers.writes);
+      writes = subst (λ fs. WritesFrames writing fs old.written new.written) got delivers.writes;
     }

@@ -22,7 +22,7 @@ use Rattle.ipa_framing.specs.Front.{front_of}
 use Rattle.ipa_framing.proofs.Stream.{front_again, front_long, front_partial, run_splits, splits_some}
 use Rattle.link_workers.specs.declared.fault.IoFault.{IoFault}
 use Rattle.link_workers.specs.Reading.{Ends, Parts, frames_text, given}
-use Rattle.link_workers.specs.Writing.{AppendsBeginning}
+use Rattle.link_workers.specs.Writing.{AppendsBeginning, WritesFrames}
 use Rattle.octets.specs.Element.{AreOctets}
 use Rattle.octets.proofs.Grammar.{octets_back, octets_front}
 use Rattle.ruled_relay.specs.declared.item.Item.{Item}
@@ -30,7 +30,7 @@ use Rattle.ruled_relay.specs.declared.item.What.{What}
 use Rattle.ruled_relay.specs.declared.item.What.TheVariants as whats
 use Rattle.settings.specs.Parameters.{AreAllowed, Parameters}
 use Rattle.station_io.proofs.Moves.{came_is, no_others, sent_is_all, sent_is_first, whats_others}
-use Rattle.station_io.specs.Links.{Ended, HasCarried, LinkView, Relays, Writes, fault_of}
+use Rattle.station_io.specs.Links.{Ended, HasCarried, LinkView, Relays, fault_of}
 use Rattle.station_io.specs.Octets.{AreWithDown, Came, Next, Passes, PassesOctets, TakesWhole, behind, came_in, ended_behind, first_frames, first_step, frames_in, from_front, item_of, items_in, merged, octets_put, order_of, time}
 
 -- ---- the frames of octets
@@ -115,12 +115,14 @@ text_begins all sent more is = ap (λ (fs : List Frame). frames_text fs) is ∙ 
     text_both [] ys = refl
     text_both (x ∷ xs) ys = ap (λ (os : List ℕ). frame_text x ++ os) (text_both xs ys) ∙ sym (append_assoc (frame_text x) (frames_text xs) (frames_text ys))
 
-beginning_of : (writing : Option IoFault) (text more : List ℕ) (old new : Option (List ℕ)) → Writes writing text old new → AppendsBeginning old new (text ++ more)
-beginning_of None text more old new all = (text, more, refl, all)
-beginning_of (Some fault) text more old new part = (part.0, part.1 ++ more, ap (λ (os : List ℕ). os ++ more) part.2 ∙ append_assoc part.0 part.1 more, part.3)
+beginning_of : (writing : Option IoFault) (sent : List Frame) (more : List ℕ) (old new : Option (List ℕ)) → WritesFrames writing sent old new
+    → AppendsBeginning old new (frames_text sent ++ more)
+beginning_of None sent more old new all = (frames_text sent, more, refl, all.1)
+beginning_of (Some fault) sent more old new (why, part) =
+    (part.0, part.1 ++ more, ap (λ (os : List ℕ). os ++ more) part.2 ∙ append_assoc part.0 part.1 more, part.3)
 
-whole_of : (writing : Option IoFault) (text : List ℕ) (old new : Option (List ℕ)) → writing ≡ None → Writes writing text old new → Appends old new text
-whole_of writing text old new w writes = subst (λ (o : Option IoFault). Writes o text old new) w writes
+whole_of : (writing : Option IoFault) (sent : List Frame) (old new : Option (List ℕ)) → writing ≡ None → WritesFrames writing sent old new → Appends old new (frames_text sent)
+whole_of writing sent old new w writes = (subst (λ (o : Option IoFault). WritesFrames o sent old new) w writes).1
 
 at_end : (reading : Option IoFault) (rest : List ℕ) (now : Option (List ℕ)) → reading ≡ None → Ends reading rest now → IsPartial rest × IsAtEnd now
 at_end reading rest now r ends = subst (λ (o : Option IoFault). Ends o rest now) r ends
@@ -142,7 +144,7 @@ passes start moves limit number old now c =
       first = (c.frames, first_frames all.0 c.rest, c.given_up, all.1, came);
       part = again (λ text. AppendsBeginning old.written now.link.written text)
           (subst (λ (text : List ℕ). AppendsBeginning old.written now.link.written text) (sym (text_begins (outs steps) c.sent first.0 first.1))
-          (beginning_of c.writing (frames_text c.sent) (frames_text first.0) old.written now.link.written c.writes));
+          (beginning_of c.writing c.sent (frames_text first.0) old.written now.link.written c.writes));
       end = λ none. (at_end c.reading c.rest now.link.unread (well none).0 c.ends).1;
       items = λ none.
           let w = well none in
@@ -153,7 +155,7 @@ passes start moves limit number old now c =
           let sent = sent_is_all c.given_up number start moves c.sent w.2 c.which in
           again (λ text. Appends old.written now.link.written text)
           (subst (λ (fs : List Frame). Appends old.written now.link.written (frames_text fs)) (sym sent)
-          (whole_of c.writing (frames_text c.sent) old.written now.link.written w.1 c.writes));
+          (whole_of c.writing c.sent old.written now.link.written w.1 c.writes));
     }
 
 -- ---- all links

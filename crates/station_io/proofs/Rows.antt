@@ -15,8 +15,9 @@ use Rattle.controller_model.proofs.Lives.{usual_settings}
 use Rattle.controller_model.proofs.OnLiterals.{on_literals}
 use Rattle.ipa_framing.specs.declared.frame.Frame.{Frame}
 use Rattle.link_workers.specs.declared.fault.IoFault.{IoFault}
-use Rattle.link_workers.specs.declared.fault.IoFault.TheVariants.{GateShut, GivenUp, Memory, ReadFailed, WriteFailed}
+use Rattle.link_workers.specs.declared.fault.IoFault.TheVariants.{FrameFault, GateShut, GivenUp, Memory, ReadFailed, WriteFailed}
 use Rattle.link_workers.specs.Reading.{Ends, frames_text, given}
+use Rattle.link_workers.specs.Writing.{WritesFrames}
 use Rattle.ruled_relay.specs.declared.item.Item.{Item}
 use Rattle.ruled_relay.specs.declared.item.What.{What}
 use Rattle.ruled_relay.specs.declared.item.What.TheVariants as whats
@@ -33,7 +34,7 @@ use Rattle.link_workers.specs.declared.writer.HasWritten.{HasWritten}
 use Rattle.station_io.specs.Calls.{Calls, HasEnd}
 use Rattle.station_io.specs.Done.{AreRead, AreWritten}
 use Rattle.station_io.specs.Given.{Follows, HasRoom, all_given, given_back}
-use Rattle.station_io.specs.Links.{HasCarried, Ended, LinkView, Relays, Writes, ended_view, fault_of, link_view}
+use Rattle.station_io.specs.Links.{HasCarried, Ended, LinkView, Relays, ended_view, fault_of, link_view}
 use Rattle.station_io.specs.Pairs.{EachPair, paired}
 use Rattle.station_io.specs.Work.{AreNewOutboxes, AreNewQueues, readings, writings}
 
@@ -82,22 +83,30 @@ not_each_pair bad = omega (arith, bad 1 2 3 refl refl)
 
 -- ---- what was written
 
-writes_all : Writes None (hex "07 08") (Some (0x01 ∷ [])) (Some (hex "01 07 08"))
-writes_all = refl
+writes_all : WritesFrames None (pong ∷ []) (Some (0x01 ∷ [])) (Some (hex "01 00 01 fe 01"))
+writes_all = ((omega arith, tt), refl)
 
-appended : (text old new : List ℕ) → Writes None text (Some old) (Some new) → new ≡ old ++ text
-appended text old new writes = writes
+appended : (frames : List Frame) (old new : List ℕ) → WritesFrames None frames (Some old) (Some new) → new ≡ old ++ frames_text frames
+appended frames old new writes = writes.1
 
-writes_less_without_a_cause : Writes None (hex "07 08") (Some (0x01 ∷ [])) (Some (hex "01 07")) → ⊥
-writes_less_without_a_cause bad = omega (arith, ap length (appended (hex "07 08") (0x01 ∷ []) (hex "01 07") bad))
+writes_less_without_a_cause : WritesFrames None (pong ∷ []) (Some (0x01 ∷ [])) (Some (hex "01 00")) → ⊥
+writes_less_without_a_cause bad = omega (arith, ap length (appended (pong ∷ []) (0x01 ∷ []) (hex "01 00") bad))
 
-writes_less_after_a_fault : Writes (Some WriteFailed) (hex "07 08") (Some (0x01 ∷ [])) (Some (hex "01 07"))
-writes_less_after_a_fault = (0x07 ∷ [], 0x08 ∷ [], refl, refl)
+-- a writer ends by its device, for want of memory, or at a frame that is too long
+gate_is_none_of_a_writer : WritesFrames (Some GateShut) (pong ∷ []) (Some []) (Some []) → ⊥
+gate_is_none_of_a_writer bad = bad.0
 
-writes_the_second_alone : Writes (Some WriteFailed) (hex "07 08") (Some []) (Some (0x08 ∷ [])) → ⊥
+no_frame_is_too_long : WritesFrames (Some FrameFault) (pong ∷ []) (Some []) (Some []) → ⊥
+no_frame_is_too_long bad = bad.0 (omega arith, tt)
+
+writes_less_after_a_fault : WritesFrames (Some WriteFailed) (pong ∷ []) (Some (0x01 ∷ [])) (Some (hex "01 00 01"))
+writes_less_after_a_fault = (tt, hex "00 01", hex "fe 01", refl, refl)
+
+writes_the_second_alone : WritesFrames (Some WriteFailed) (pong ∷ []) (Some []) (Some (0x01 ∷ [])) → ⊥
 writes_the_second_alone bad =
-    let first : 0x08 ∷ [] ≡ bad.0 = bad.3 in
-    let whole : hex "07 08" ≡ 0x08 ∷ bad.1 = bad.2 ∙ ap (λ l. l ++ bad.1) (sym first) in
+    let part = bad.1 in
+    let first : 0x01 ∷ [] ≡ part.0 = part.3 in
+    let whole : hex "00 01 fe 01" ≡ 0x01 ∷ part.1 = part.2 ∙ ap (λ l. l ++ part.1) (sym first) in
     absurd (cc whole)
 
 -- ---- one link over moves of the call worker
@@ -164,7 +173,7 @@ station_is_answered = record {
   items = refl;
   sent = pong ∷ [];
   which = (sym pong_for_station, none_added 1);
-  writes = refl;
+  writes = ((omega arith, tt), refl);
 }
 
 switch_closes : HasCarried start moves_of_both 1 0 (link [] [] 0) (link [] [] 0) None
@@ -183,7 +192,7 @@ switch_closes = record {
   items = refl;
   sent = [];
   which = (sym none_for_switch, none_added 0);
-  writes = refl;
+  writes = (tt, refl);
 }
 
 -- its outbox refused the answer until it was given up, and the `Down` that was added is the next
@@ -228,7 +237,7 @@ given_up_at_once = record {
   items = refl;
   sent = [];
   which = refused_at_once;
-  writes = refl;
+  writes = (tt, refl);
 }
 
 -- where there is no fault there was none of the reader, the writer and the outbox
@@ -246,23 +255,24 @@ well_sent : (given_up : Bool) (number : ℕ) (parts : List Part) (sent : List Fr
 well_sent false number parts sent well which = which.0
 well_sent true number parts sent well which = absurd (cc well)
 
-well_written : (reading writing : Option IoFault) (given_up : Bool) (text old new : List ℕ) → IsWell reading writing given_up → Writes writing text (Some old) (Some new) → new ≡ old ++ text
-well_written reading (Some writing) given_up text old new well writes = absurd (cc well.1)
-well_written reading None given_up text old new well writes = appended text old new writes
+well_written : (reading writing : Option IoFault) (given_up : Bool) (sent : List Frame) (old new : List ℕ) → IsWell reading writing given_up
+    → WritesFrames writing sent (Some old) (Some new) → new ≡ old ++ frames_text sent
+well_written reading (Some writing) given_up sent old new well writes = absurd (cc well.1)
+well_written reading None given_up sent old new well writes = appended sent old new writes
 
 -- the answer went to another link
 other_link_is_answered : HasCarried start moves_of_both 1 0 (link [] [] 0) (link [] pong_octets 0) None → ⊥
 other_link_is_answered c =
     let well = is_well c.reading c.writing c.given_up c.why in
     let sent : c.sent ≡ [] = well_sent c.given_up 0 (parts_of 0 start moves_of_both) c.sent well.2 c.which ∙ none_for_switch in
-    let w = well_written c.reading c.writing c.given_up (frames_text c.sent) [] pong_octets well c.writes ∙ ap frames_text sent in
+    let w = well_written c.reading c.writing c.given_up c.sent [] pong_octets well c.writes ∙ ap frames_text sent in
     omega (arith, ap length w)
 
 station_is_left_alone : HasCarried start moves_of_both 1 1 (link ping_octets [] 0) (link [] [] 0) None → ⊥
 station_is_left_alone c =
     let well = is_well c.reading c.writing c.given_up c.why in
     let sent : c.sent ≡ pong ∷ [] = well_sent c.given_up 1 (parts_of 1 start moves_of_both) c.sent well.2 c.which ∙ pong_for_station in
-    let w = well_written c.reading c.writing c.given_up (frames_text c.sent) [] [] well c.writes ∙ ap frames_text sent in
+    let w = well_written c.reading c.writing c.given_up c.sent [] [] well c.writes ∙ ap frames_text sent in
     omega (arith, ap length w)
 
 -- nothing was taken of the link, not even its `Down`

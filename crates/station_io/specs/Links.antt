@@ -3,7 +3,7 @@
 use Rattle.std.specs.Prelude.{◌≡◌, ℕ, Bool, true, false, List, [], ◌∷◌, ◌++◌}
 use Rattle.std.specs.Prelude.{length, Option, Some}
 use Rattle.std.specs.Prelude.{None}
-use Rattle.std.specs.Io.KnownBytes.{Appends, Consumes}
+use Rattle.std.specs.Io.KnownBytes.{Consumes}
 use mathlib.Core.Option.{some}
 use lib.ListN.{get_elem?}
 use Rattle.controller_worker.specs.Moves.{IsSent, Move, parts_of, steps_of, taken_of}
@@ -13,8 +13,8 @@ use Rattle.controller_model.specs.Controller.{Controller}
 use Rattle.ipa_framing.specs.declared.frame.Frame.{Frame}
 use Rattle.link_workers.specs.declared.fault.IoFault.{IoFault}
 use Rattle.link_workers.specs.declared.fault.IoFault.TheVariants.{GivenUp}
-use Rattle.link_workers.specs.Reading.{AsksGate, Ends, Parts, frames_text, given}
-use Rattle.link_workers.specs.Writing.{AppendsBeginning}
+use Rattle.link_workers.specs.Reading.{AsksGate, Ends, Parts, given}
+use Rattle.link_workers.specs.Writing.{WritesFrames}
 use Rattle.ruled_relay.specs.declared.item.What.TheVariants.{Down}
 use Rattle.station_io.specs.declared.link.Link.{Link}
 
@@ -45,11 +45,6 @@ fault_of None (Some writing) given_up = Some writing
 fault_of None None true = Some GivenUp
 fault_of None None false = None
 
--- the text was written; where the writer had a fault, a beginning of it
-abbrev pub Writes : Option IoFault → List ℕ → Option (List ℕ) → Option (List ℕ) → Type 0
-Writes None text old new = Appends old new text
-Writes (Some writing) text old new = AppendsBeginning old new text
-
 -- One link over these moves from a controller on.
 pub record HasCarried (start : Controller) (moves : List Move) (limit number : ℕ)
     (old new : LinkView) (fault : Option IoFault) : Type 0 where
@@ -72,8 +67,8 @@ pub record HasCarried (start : Controller) (moves : List Move) (limit number : �
   -- the refused one, and its `Down` was added as the next move
   pub sent : List Frame
   pub which : IsSent given_up given_up number (parts_of number start moves) sent
-  -- the octets of what was sent were written
-  pub writes : Writes writing (frames_text sent) old.written new.written
+  -- the octets of what was sent were written; with a fault of the writer a beginning of them
+  pub writes : WritesFrames writing sent old.written new.written
 
 -- There is one list of steps, of these links' items and of time. They are the call worker's moves,
 -- over which each link has come to its end.
