@@ -52,7 +52,7 @@ all_after (Some faults.FrameFault) a b c p q r f g = each_both a b c p q r f g
 all_after (Some faults.Memory) a b c p q r f g = each_both a b c p q r f g
 all_after (Some faults.GateShut) a b c p q r f g = (
   f.0 ++ g.0,
-  g.1 ∙ ap (λ l. l ++ g.0 ++ Down ∷ []) f.1 ∙ append_assoc p.put f.0 (g.0 ++ Down ∷ []) ∙ ap (λ l. p.put ++ l) (sym (append_assoc f.0 g.0 (Down ∷ []))),
+  g.1 ∙ ap (λ l. l ++ (g.0 ++ Down ∷ [])) f.1 ∙ append_assoc p.put f.0 (g.0 ++ Down ∷ []) ∙ ap (λ l. p.put ++ l) (sym (append_assoc f.0 g.0 (Down ∷ []))),
   subst (λ n. HasLet a c n) (sym (length-append f.0 g.0)) (let_both a b c (length f.0) (length g.0) f.2 g.2),
 )
 all_after (Some faults.GivenUp) a b c p q r f g = each_both a b c p q r f g

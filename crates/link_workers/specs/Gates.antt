@@ -26,5 +26,5 @@ LetsDown fault before now = HasLet before now 1
 -- so over a whole reader; but `Down` is put all the same where the gate stayed shut
 abbrev pub LetsAll : Option IoFault → Option ℕ → Option ℕ → PassView → PassView → Type 0
 LetsAll (Some GateShut) before now old new = (items : List What)
-    × (new.put ≡ old.put ++ items ++ Down ∷ []) × HasLet before now (length items)
+    × (new.put ≡ old.put ++ (items ++ Down ∷ [])) × HasLet before now (length items)
 LetsAll fault before now old new = LetsEach before now old new

@@ -153,7 +153,6 @@ fn ask_for_down<G: Gate, R: Wait>(
 }
 
 /// Puts the frames of a link until there are no octets left to be read.
-#[tactic(auto, using(crate::proofs::Letting::each_both))]
 fn put_all<I: Read, G: Gate, R: Wait>(
     rt: &R,
     alloc: Global,
@@ -178,7 +177,7 @@ fn put_all<I: Read, G: Gate, R: Wait>(
 }
 
 /// Puts the frames that the framer holds whole.
-#[tactic(auto, using(crate::proofs::Letting::each_both, crate::proofs::Letting::each_none))]
+#[tactic(auto, using(crate::proofs::Letting::each_none))]
 fn put_frames<G: Gate, R: Wait>(
     rt: &R,
     framer: &mut Framer,

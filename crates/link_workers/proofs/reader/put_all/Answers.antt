@@ -41,6 +41,9 @@ returns-in_err-put_frames-clause-puts g c =
     (subst (λ limit. BreaksOff c.read_on.new.framer.octets limit (g.G.Gate.refused c.loop-framer.gated.gate) later c.loop-framer.gated.pass c.put_frames.new.gated.pass c.in_err-put_frames.field-0.0) c.loop-framer.invariant.3
     c.in_err-put_frames.ensures.puts))
 
+pub returns-in_err-put_frames-clause-each : goal.returns-in_err-put_frames-clause-each
+returns-in_err-put_frames-clause-each g c = each_both _ _ _ c.args.gated.now.pass c.loop-framer.gated.pass c.put_frames.new.gated.pass c.loop-framer.invariant.5 c.put_frames.ensures.each
+
 pub loop-framer-preserved : goal.loop-framer-preserved
 loop-framer-preserved g c =
     let more : c.in_ok-read_on.field-0 ≡ true = search rules in

@@ -5,6 +5,9 @@ use Rattle.link_workers.proofs.Letting.{each_both}
 use Rattle.link_workers.proofs.Reading.{puts_more}
 use Rattle.link_workers.proofs.reader.put_frames.Goals as goal
 
+pub returns-in_err-put-clause-each : goal.returns-in_err-put-clause-each
+returns-in_err-put-clause-each g c = each_both _ _ _ c.args.gated.now.pass c.loop-frame.gated.pass c.put.new.self.pass c.loop-frame.invariant.3 c.put.ensures.each
+
 pub loop-frame-preserved : goal.loop-frame-preserved
 loop-frame-preserved g c =
     let takes = subst (λ found. Takes c.loop-frame.framer (Ok found) c.next.new.self) c.in-Some.is c.in_ok-frame.ensures in
