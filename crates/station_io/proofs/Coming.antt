@@ -17,7 +17,7 @@ use Rattle.ruled_relay.specs.declared.outbox.Line.TheVariants.{Frame as FrameLin
 use Rattle.ruled_relay.specs.Inbox.{PassView}
 use Rattle.ruled_relay.specs.Outbox.{PutterView, TakerView}
 use Rattle.station_io.specs.Links.{HasCarried, LinkView, fault_of}
-use Rattle.station_io.proofs.Marks.{all_taken, map_apart, same_before}
+use Rattle.station_io.proofs.EndMarks.{all_taken, map_apart, same_before}
 
 frame_is_not_down : (f : Frame) → GivenFrame f ≡ Down → ⊥
 frame_is_not_down f e = cc

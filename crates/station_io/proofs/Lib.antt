@@ -1,5 +1,5 @@
 -- SPDX-License-Identifier: MIT OR Apache-2.0
-mod Marks
+mod EndMarks
 mod Coming
 mod Calling
 mod Pairing
