@@ -100,7 +100,7 @@ no_frame_is_too_long : WritesFrames (Some FrameFault) (pong ∷ []) (Some []) (S
 no_frame_is_too_long bad = bad.0 (omega arith, tt)
 
 writes_less_after_a_fault : WritesFrames (Some WriteFailed) (pong ∷ []) (Some (0x01 ∷ [])) (Some (hex "01 00 01"))
-writes_less_after_a_fault = (tt, hex "00 01", hex "fe 01", refl, refl)
+writes_less_after_a_fault = (tt, (hex "00 01", hex "fe 01", refl, refl))
 
 writes_the_second_alone : WritesFrames (Some WriteFailed) (pong ∷ []) (Some []) (Some (0x01 ∷ [])) → ⊥
 writes_the_second_alone bad =
