@@ -14,7 +14,7 @@ use std::alloc::Global;
 use std::process::Abort;
 use std::sync::Wait;
 use std::sync::atomic::{AtomicU64, Ordering};
-use std::thread;
+use std::thread::{self, Threads};
 use std::time::{Clock, Duration};
 
 const ONE_CELL: &str =
@@ -265,8 +265,10 @@ fn room_for(texts: &[Text]) -> usize
 }
 
 /// Whether the link's outbox is given up at the 1,000th refusal, and all else is as in this row.
-fn is_given_up(rt: HostRuntime, row: Full<'static>) -> bool {
-    let alloc = rt.alloc();
+fn is_given_up<R>(rt: R, alloc: Global, row: Full<'static>) -> bool
+where
+    R: Abort + Clock + Threads + Wait + Copy + Drop + Send + 'static,
+{
     let room = room_for(row.gets);
     let rooms = if row.is_switch { (room, 8) } else { (8, room) };
     let (ends, switch, station) = queues(&rt, alloc, rooms);
@@ -297,6 +299,6 @@ fn is_given_up(rt: HostRuntime, row: Full<'static>) -> bool {
 #[test]
 fn an_outbox_that_nobody_empties_is_given_up_and_its_down_is_next(rt: HostRuntime) {
     for (number, row) in FULL.iter().enumerate() {
-        assert!(rt; is_given_up(rt, *row), "row {number}");
+        assert!(rt; is_given_up(rt, rt.alloc(), *row), "row {number}");
     }
 }
