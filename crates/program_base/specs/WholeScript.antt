@@ -7,7 +7,7 @@ use Rattle.std.specs.List.{flat_map, AllByRecursion}
 use Rattle.std.specs.Str.{IsUtf8}
 use Rattle.world_model.specs.declared.event.Event.{Event}
 use Rattle.program_base.specs.Script.{IsLine}
-use Rattle.bsc_program.specs.declared.script.Script.{Script}
+use Rattle.program_base.specs.declared.whole_script.Script.{Script}
 
 abbrev pub HasNoFeed : List ℕ → Type 0
 HasNoFeed line = AllByRecursion (λ octet. octet ≢ 10) line

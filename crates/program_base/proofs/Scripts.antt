@@ -22,10 +22,10 @@ use Rattle.program_base.specs.declared.input.Unread.{Unread}
 use Rattle.program_base.specs.declared.input.Unread.TheVariants.{Endless, Device, Refused}
 use Rattle.program_base.specs.Input.{ReadsInput}
 use Rattle.program_base.specs.Status.{failure_of, failure_unread}
-use Rattle.bsc_program.specs.declared.script.Script.{Script}
+use Rattle.program_base.specs.declared.whole_script.Script.{Script}
 use Rattle.program_base.specs.Pieces.{all_both}
-use Rattle.bsc_program.specs.ScriptLaws.{lines_both, texts_both}
-use Rattle.bsc_program.specs.Script.{AddsLine, AreTexts, Finishes, HasNoFeed, IsBadLine, IsBadScript, IsScript, Reads, RefusesAt, RefusesLine, line_count, lines_text}
+use Rattle.program_base.specs.WholeScriptLaws.{lines_both, texts_both}
+use Rattle.program_base.specs.WholeScript.{AddsLine, AreTexts, Finishes, HasNoFeed, IsBadLine, IsBadScript, IsScript, Reads, RefusesAt, RefusesLine, line_count, lines_text}
 
 -- of the block all but the rest was read
 pub record ReadsSome (old new : Script) (block rest : List ℕ) : Type 0 where
@@ -297,6 +297,13 @@ pub refuses_unread : (most : ℕ) (start end : Option (List ℕ)) (old new : Scr
 refuses_unread most start end old new (Endless reads) number reading is = absurd cc
 refuses_unread most start end old new (Device error) number reading is = absurd (no_bad_event (error_kind error) number is)
 refuses_unread most start end old new (Refused failure) number reading is = (reading.0, reading.1, reading.2 number is)
+
+-- the same of a sink that reads a script and does more
+pub refused_unread : {S : Type 0} (takes : S → List ℕ → S → Type 0) (refuses : S → List ℕ → S → Failure → Type 0) (most : ℕ) (start end : Option (List ℕ)) (old new : S) (unread : Unread Failure) (number : ℕ)
+    → ReadsInput takes refuses most start end old new (Err unread) → failure_unread unread ≡ failures.BadEvent number → (octets : List ℕ) × (failure : Failure) × Consumes start end octets × refuses old octets new failure × (failure ≡ failures.BadEvent number)
+refused_unread takes refuses most start end old new (Endless reads) number reading is = absurd cc
+refused_unread takes refuses most start end old new (Device error) number reading is = absurd (no_bad_event (error_kind error) number is)
+refused_unread takes refuses most start end old new (Refused failure) number reading is = (reading.0, failure, reading.1, reading.2, is)
 
 -- ---- a line
 

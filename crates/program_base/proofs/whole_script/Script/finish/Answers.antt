@@ -1,10 +1,10 @@
 -- SPDX-License-Identifier: MIT OR Apache-2.0
 use Rattle.std.proofs.Common.{append-nil, rules, subst}
-use Rattle.bsc_program.specs.Script.{RefusesLine}
+use Rattle.program_base.specs.WholeScript.{RefusesLine}
 use Rattle.program_base.specs.declared.failure.Failure.TheVariants.{BadEvent}
 use Rattle.program_base.proofs.Ends.{error_as}
-use Rattle.bsc_program.proofs.Scripts.{has_octets}
-use Rattle.bsc_program.proofs.script.Script.finish.Goals as goal
+use Rattle.program_base.proofs.Scripts.{has_octets}
+use Rattle.program_base.proofs.whole_script.Script.finish.Goals as goal
 
 pub returns-in_err-end_line-clause-bad : goal.returns-in_err-end_line-clause-bad
 returns-in_err-end_line-clause-bad c = λ n is.

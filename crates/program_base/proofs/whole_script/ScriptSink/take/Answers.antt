@@ -1,9 +1,9 @@
 -- SPDX-License-Identifier: MIT OR Apache-2.0
 use Rattle.program_base.proofs.Lists.{all_of}
-use Rattle.bsc_program.proofs.Scripts.{no_feed, reads_all, reads_more, reads_none, refuses_at}
+use Rattle.program_base.proofs.Scripts.{no_feed, reads_all, reads_more, reads_none, refuses_at}
 use Rattle.program_base.proofs.Ends.{said_of}
 use Rattle.std.proofs.Common.{◌≡◌, ◌++◌, refl, rules}
-use Rattle.bsc_program.proofs.script.ScriptSink.take.Goals as goal
+use Rattle.program_base.proofs.whole_script.ScriptSink.take.Goals as goal
 
 pub loop-end-init : goal.loop-end-init
 loop-end-init c = reads_none c.args.self.now c.args.piece.now

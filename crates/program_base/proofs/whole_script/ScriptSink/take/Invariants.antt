@@ -1,7 +1,7 @@
 -- SPDX-License-Identifier: MIT OR Apache-2.0
 use Rattle.std.proofs.Common.{length}
-use Rattle.bsc_program.proofs.Scripts.{ReadsSome}
-use Rattle.bsc_program.proofs.script.ScriptSink.take.Given as goal
+use Rattle.program_base.proofs.Scripts.{ReadsSome}
+use Rattle.program_base.proofs.whole_script.ScriptSink.take.Given as goal
 
 abbrev pub invariant-loop-end : goal.invariant-loop-end
 invariant-loop-end l = ReadsSome l.initial.self l.self l.piece l.rest

@@ -1,8 +1,8 @@
 -- SPDX-License-Identifier: MIT OR Apache-2.0
 use Rattle.std.proofs.Common.{◌≡◌, ◌++◌, ap, rules, subst, ◌∙◌}
-use Rattle.bsc_program.specs.Script.{RefusesLine}
-use Rattle.bsc_program.proofs.Scripts.{behind_none}
-use Rattle.bsc_program.proofs.script.Script.end_line.Goals as goal
+use Rattle.program_base.specs.WholeScript.{RefusesLine}
+use Rattle.program_base.proofs.Scripts.{behind_none}
+use Rattle.program_base.proofs.whole_script.Script.end_line.Goals as goal
 
 pub returns-then-is_empty-clause-bad : goal.returns-then-is_empty-clause-bad
 returns-then-is_empty-clause-bad c = λ n is.

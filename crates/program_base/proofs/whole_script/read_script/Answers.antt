@@ -4,8 +4,8 @@ use Rattle.std.proofs.lemmas.Result.{IfOk-weaker}
 use Rattle.program_base.specs.declared.failure.Failure.TheVariants.{BadEvent}
 use Rattle.program_base.specs.declared.input.TheConstants.{MOST_READS}
 use Rattle.program_base.proofs.Ends.{error_as}
-use Rattle.bsc_program.proofs.Scripts.{refuses_unread, script_all, script_bad_at, script_bad_last, script_more, script_none}
-use Rattle.bsc_program.proofs.script.read_script.Goals as goal
+use Rattle.program_base.proofs.Scripts.{refuses_unread, script_all, script_bad_at, script_bad_last, script_more, script_none}
+use Rattle.program_base.proofs.whole_script.read_script.Goals as goal
 
 pub returns-in_err-read_all-clause-bad : goal.returns-in_err-read_all-clause-bad
 returns-in_err-read_all-clause-bad g c = λ n is.

@@ -2,34 +2,38 @@
 ghost use Rattle.std.specs.Prelude.{◌≡◌, ◌≢◌, ℕ, ◌++◌, [], Err, IfOk, IfSome};
 ghost use Rattle.std.specs.Prelude.{OnOk};
 ghost use Rattle.std.specs.Io.KnownBytes.{IsAtEnd};
-ghost use Rattle.bsc_program.specs.Script.{AddsLine, Finishes, HasBadLineAt, IsScript, RefusesLine};
+ghost use Rattle.program_base.specs.WholeScript.{AddsLine, Finishes, HasBadLineAt, IsScript};
+ghost use Rattle.program_base.specs.WholeScript.{RefusesLine};
 ghost use Rattle.program_base.specs.declared.failure.Failure.TheVariants.{BadEvent};
 
+use crate::failure::Failure;
+use crate::input::{Sink, read_all, room_for};
+use crate::line_fault::LineFault;
+use crate::script::read_line;
 use memchr::memchr;
 use octets::Memory;
-use program_base::{Failure, LineFault, Sink, read_all, read_line, room_for};
 use std::alloc::Global;
 use std::io::Read;
 use std::{mem, str};
-use world::Event;
+use world_model::Event;
 
 /// The octets that one read asks for.
-const BLOCK: usize = 65536;
+pub(crate) const BLOCK: usize = 65536;
 
 /// The events of a script, which is read in blocks that end anywhere.
 #[derive(Drop)]
-struct Script {
+pub(crate) struct Script {
     alloc: Global,
-    cells: u16,
-    events: Vec<Event>,
+    pub(crate) cells: u16,
+    pub(crate) events: Vec<Event>,
     /// The beginning of a line whose end hasn't come.
-    started: Vec<u8>,
+    pub(crate) started: Vec<u8>,
     /// How many lines were read.
-    lines: u64,
+    pub(crate) lines: u64,
 }
 
 impl Script {
-    fn new(alloc: Global, cells: u16) -> Script
+    pub(crate) fn new(alloc: Global, cells: u16) -> Script
         ensures cells { result.cells ≡ cells }
         ensures events { result.events.items ≡ [] }
         ensures started { result.started.items ≡ [] }
@@ -82,7 +86,7 @@ impl Script {
     }
 
     /// The events of the whole script. Its last line may lack its line feed.
-    fn finish(mut self) -> Result<Vec<Event>, Failure>
+    pub(crate) fn finish(mut self) -> Result<Vec<Event>, Failure>
         ensures ok { IfOk result (λ events. Finishes self events.items) }
         ensures bad { (n : ℕ) → result ≡ Err (BadEvent n) →
             (self.started.items ≢ []) × RefusesLine self self.started.items n }
@@ -96,9 +100,9 @@ impl Script {
 
 impl Sink for Script {
     ghost use Rattle.std.specs.Prelude.{◌≡◌, ℕ};
-    ghost use Rattle.bsc_program.specs.Script.{Reads, RefusesAt};
+    ghost use Rattle.program_base.specs.WholeScript.{Reads, RefusesAt};
     ghost use Rattle.program_base.specs.declared.failure.Failure.TheVariants.{BadEvent};
-    ghost use Rattle.bsc_program.specs.ScriptLaws.{reads_nothing, reads_both, refuses_behind};
+    ghost use Rattle.program_base.specs.WholeScriptLaws.{reads_nothing, reads_both, refuses_behind};
 
     type Fault = Failure;
 
@@ -127,11 +131,7 @@ impl Sink for Script {
 }
 
 /// Reads a script up to its end or its first bad line.
-pub(crate) fn read_script<R: Read>(
-    alloc: Global,
-    cells: u16,
-    input: &mut R,
-) -> Result<Vec<Event>, Failure>
+pub fn read_script<R: Read>(alloc: Global, cells: u16, input: &mut R) -> Result<Vec<Event>, Failure>
     ensures read { OnOk result (IsAtEnd (R.remaining input.new)) }
     ensures events { IfOk result (λ events.
         IfSome (R.remaining input.old) (λ octets. IsScript cells octets events.items)) }

@@ -1,7 +1,7 @@
 -- SPDX-License-Identifier: MIT OR Apache-2.0
 use Rattle.std.proofs.Common.{◌∙◌}
-use Rattle.bsc_program.proofs.Scripts.{no_event}
-use Rattle.bsc_program.proofs.script.Script.line.Goals as goal
+use Rattle.program_base.proofs.Scripts.{no_event}
+use Rattle.program_base.proofs.whole_script.Script.line.Goals as goal
 
 pub returns-in-Err-BadEvent-clause-bad : goal.returns-in-Err-BadEvent-clause-bad
 returns-in-Err-BadEvent-clause-bad c = λ n is.

@@ -7,10 +7,10 @@ use Rattle.std.proofs.lemmas.List.{length-append}
 use Rattle.std.specs.Prelude.{codes}
 use Rattle.std.proofs.lemmas.Grind.{flat_map-append}
 use Rattle.world_model.specs.declared.event.Event.{Event}
-use Rattle.bsc_program.specs.declared.script.Script.{Script}
+use Rattle.program_base.specs.declared.whole_script.Script.{Script}
 use Rattle.program_base.specs.Pieces.{all_both}
-use Rattle.bsc_program.specs.Script.{AreTexts, HasNoFeed, IsBadLine, Reads, RefusesAt, line_count}
-use Rattle.bsc_program.specs.Script.{lines_text}
+use Rattle.program_base.specs.WholeScript.{AreTexts, HasNoFeed, IsBadLine, Reads, RefusesAt}
+use Rattle.program_base.specs.WholeScript.{line_count, lines_text}
 
 pub texts_both : (cells : ℕ) (es fs : List Event) (ls ms : List (List ℕ))
     → AreTexts cells es ls → AreTexts cells fs ms → AreTexts cells (es ++ fs) (ls ++ ms)
@@ -90,3 +90,18 @@ refuses_behind old mid first second number some refuses = record {
       ∙ ap (λ (k : ℕ). line_count (k + 1)) (add_assoc n (length some.lines) (length refuses.lines)
       ∙ ap (λ (k : ℕ). n + k) (sym (length-append some.lines refuses.lines)));
 }
+
+-- ---- the same, where the octets are kept
+
+pub keeps_nothing : (script : Script) (kept : List ℕ)
+    → Reads script script [] × (kept ≡ kept ++ [])
+keeps_nothing script kept = (reads_nothing script, sym (append-nil kept))
+
+pub keeps_both : (old mid new : Script) (kept more all first second : List ℕ)
+    → Reads old mid first × (more ≡ kept ++ first)
+    → Reads mid new second × (all ≡ more ++ second)
+    → Reads old new (first ++ second) × (all ≡ kept ++ (first ++ second))
+keeps_both old mid new kept more all first second some then = (
+  reads_both old mid new first second some.0 then.0,
+  then.1 ∙ ap (λ (xs : List ℕ). xs ++ second) some.1 ∙ append_assoc kept first second,
+)
