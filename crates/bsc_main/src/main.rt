@@ -7,20 +7,22 @@ pub use bsc_program::{decode, replay};
 use bsc_program::{Failure, ProgramFault};
 pub use link_sockets::{RunFault, run_links};
 use link_sockets::{VERSION, relay};
-use program_base::{Wish, asked, settings_text};
-pub use program_base::{Task, TaskFault, task};
+pub use program_base::{Task, TaskFault, Tool, task, tool};
+use program_base::{Asked, asked, settings_text};
 use std::io::BufWriter;
 use std::process::ExitCode;
+use trace_program::trace;
 
 /// The toolchain that the program is made with, as README has it.
 const TOOLCHAIN: &str = "rattle-kit-13f logic dac8208d650f15bf";
 
 fn main(rt: HostRuntime) -> ExitCode {
     let ended = match asked(&rt) {
-        Ok(Wish::Version) => versioned(&rt),
-        Ok(Wish::Task(Task::Run(file))) => relay(&rt, file.as_str()),
-        Ok(Wish::Task(Task::Replay(file, breaks))) => replayed(&rt, file, breaks),
-        Ok(Wish::Task(Task::Decode)) => decoded(&rt),
+        Ok(Asked::Version) => versioned(&rt),
+        Ok(Asked::Task(Task::Run(file))) => relay(&rt, file.as_str()),
+        Ok(Asked::Task(Task::Replay(file, breaks))) => replayed(&rt, file, breaks),
+        Ok(Asked::Task(Task::Decode)) => decoded(&rt),
+        Ok(Asked::Tool(Tool::Trace(file, strict))) => traced(&rt, file.as_str(), strict),
         Err(TaskFault::Memory) => Err(ProgramFault::Failed(Failure::Memory)),
         Err(fault) => Ok(fault.status()),
     };
@@ -73,4 +75,21 @@ fn decoded(rt: &HostRuntime) -> Result<u8, ProgramFault> {
         return Err(ProgramFault::Failed(Failure::Memory));
     };
     Ok(decode(rt.alloc(), &mut rt.stdin(), &mut output, &mut rt.stderr()))
+}
+
+/// Traces the script on standard input in the world of the settings in this file, and gives the
+/// status that the program ends with. What it prints is buffered.
+fn traced(rt: &HostRuntime, file: &str, strict: bool) -> Result<u8, ProgramFault> {
+    let settings = settings_text(rt, file)?;
+    let Ok(mut output) = BufWriter::new(rt.alloc(), rt.stdout()) else {
+        return Err(ProgramFault::Failed(Failure::Memory));
+    };
+    Ok(trace(
+        rt.alloc(),
+        settings.as_str(),
+        strict,
+        &mut rt.stdin(),
+        &mut output,
+        &mut rt.stderr(),
+    ))
 }

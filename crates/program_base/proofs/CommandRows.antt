@@ -24,9 +24,11 @@ replay_without_options : IsTask (Replay None None) (Some (codes "replay", []))
 unfolding IsTask
 replay_without_options = (refl, refl, refl)
 
-named : map page_named (codes "run" ∷ codes "replay" ∷ codes "decode" ∷ codes "runs" ∷ codes "" ∷ []) ≡ Some pages.Run ∷ Some pages.Replay ∷ Some pages.Decode ∷ None ∷ None ∷ []
+named : map page_named (codes "run" ∷ codes "replay" ∷ codes "trace" ∷ codes "decode" ∷ codes "runs" ∷ codes "" ∷ []) ≡
+    Some pages.Run ∷ Some pages.Replay ∷ Some pages.Trace ∷ Some pages.Decode ∷ None ∷ None ∷ []
 named = refl
 
 -- the first command that the words name
-asked_for : map page_of ([] ∷ (codes "--help" ∷ []) ∷ (codes "help" ∷ codes "decode" ∷ []) ∷ (codes "replay" ∷ codes "-h" ∷ codes "run" ∷ []) ∷ []) ≡ pages.Program ∷ pages.Program ∷ pages.Decode ∷ pages.Replay ∷ []
+asked_for : map page_of ([] ∷ (codes "--help" ∷ []) ∷ (codes "help" ∷ codes "decode" ∷ []) ∷ (codes "replay" ∷ codes "-h" ∷ codes "run" ∷ []) ∷ (codes "trace" ∷ codes "--help" ∷ []) ∷ []) ≡
+    pages.Program ∷ pages.Program ∷ pages.Decode ∷ pages.Replay ∷ pages.Trace ∷ []
 asked_for = refl

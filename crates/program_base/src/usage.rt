@@ -11,6 +11,7 @@ pub(crate) enum Page {
     Program,
     Run,
     Replay,
+    Trace,
     Decode,
 }
 
@@ -26,6 +27,10 @@ usage: bsc COMMAND
       in the world of the settings in FILE; with --break, for each place of the
       script how many messages were accepted and sent if the link of source N
       broke there
+  trace --config FILE [--strict]
+      reads a script as replay does, and prints each event and the frames that
+      crossed a link at it; with --strict it ends with 4 where an event wasn't
+      taken
   decode
       reads the octets of an IPA link on standard input, and prints the name of
       each frame
@@ -66,6 +71,21 @@ usage: bsc replay [--config FILE] [--break N]
   status 0: done. 1: the settings have a fault. 2: the words, N or a line of the
   script have one. 3: memory ran out, or a device failed.";
 
+const TRACE: &str = "\
+usage: bsc trace --config FILE [--strict]
+
+  reads a script as replay does, and prints each event and the frames that
+  crossed a link at it
+
+  --config FILE
+      in the world of these settings, a text in TOML
+  --strict
+      ends with status 4 where an event wasn't taken
+
+  status 0: done. 1: the settings have a fault. 2: the words or a line of the
+  script have one. 3: memory ran out, or a device failed. 4: an event wasn't
+  taken.";
+
 const DECODE: &str = "\
 usage: bsc decode
 
@@ -96,6 +116,7 @@ impl Page {
         match name {
             "run" => Some(Page::Run),
             "replay" => Some(Page::Replay),
+            "trace" => Some(Page::Trace),
             "decode" => Some(Page::Decode),
             _ => None,
         }
@@ -107,6 +128,7 @@ impl Page {
             Page::Program => PROGRAM,
             Page::Run => RUN,
             Page::Replay => REPLAY,
+            Page::Trace => TRACE,
             Page::Decode => DECODE,
         }
     }
