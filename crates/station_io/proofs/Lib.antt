@@ -9,6 +9,7 @@ mod Relaying
 mod Rows
 mod Lists
 mod CrewRows
+mod CapacityRows
 mod Moves
 mod Octets
 mod OctetRows
