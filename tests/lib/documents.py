@@ -2,7 +2,9 @@
 """The documents of the repository, for tests/documents-links and tests/documents-words: their lines, sentences, links and names."""
 import fnmatch
 import functools
+import os
 import re
+from pathlib import Path
 
 from lib.common import TOP
 
@@ -60,10 +62,14 @@ def names(document):
             yield number, code
 
 
+@functools.cache
 def source_paths():
-    """All files of the repository, from its folder."""
-    found = [path.relative_to(TOP) for path in TOP.rglob("*") if path.is_file()]
-    return [path for path in found if not {".git", "out", "__pycache__"} & set(path.parts)]
+    """All files of the repository, from its folder, but what is built."""
+    found = []
+    for folder, folders, files in os.walk(TOP):
+        folders[:] = sorted(set(folders) - {".git", "out", "__pycache__"})
+        found += [(Path(folder) / name).relative_to(TOP) for name in sorted(files)]
+    return found
 
 
 @functools.cache
