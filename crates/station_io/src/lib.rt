@@ -9,8 +9,10 @@
 pub use controller_worker::{Clock, HasRelayed, Marks, call_worker};
 pub use laws::octets_in_decide_octets_out;
 pub use link::Link;
-pub use link_workers::{Gate, HasAnswered, HasRead, HasWritten, IoFault, LinkReader};
-pub use link_workers::{serve_link_reader, serve_reader, serve_writer, switch_worker};
+pub use link_workers::{
+    Gate, HasAnswered, HasRead, HasWritten, IoFault, LinkReader, serve_link_reader, serve_reader,
+    serve_writer, switch_worker,
+};
 pub use serve::serve_links;
 
 mod crew;

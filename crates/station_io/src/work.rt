@@ -4,8 +4,9 @@
 use crate::worker::Worker;
 use controller::Controller;
 use controller_worker::{Clock, Marks, call_worker};
-use link_workers::{Gate, HasRead, HasWritten, IoFault, LinkReader};
-use link_workers::{serve_link_reader, serve_writer};
+use link_workers::{
+    Gate, HasRead, HasWritten, IoFault, LinkReader, serve_link_reader, serve_writer,
+};
 use ruled_relay::{Desk, Putter, SourcePass, Taker};
 use std::alloc::Global;
 use std::io::Write;

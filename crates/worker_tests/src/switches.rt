@@ -83,7 +83,10 @@ fn the_longest_unnumbered_message_has_251_octets(rt: HostRuntime) -> Result<(), 
     let alloc = rt.alloc();
     for (octets, taken) in [(251, 251), (252, 0)] {
         let text = message_of(alloc, octets)?;
-        assert!(rt; unnumbered(alloc, text.as_slice()) == Some(taken), "{octets} octets");
+        assert!(rt;
+            unnumbered(alloc, text.as_slice()) == Some(taken),
+            "{octets} octets"
+        );
     }
     Ok(())
 }

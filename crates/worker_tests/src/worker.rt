@@ -296,7 +296,11 @@ where
     })
     .expect(&rt, "a thread");
     let ended = run(&rt, alloc, ends, clock);
-    let refusals = if row.is_switch { (1_000, 0) } else { (0, 1_000) };
+    let refusals = if row.is_switch {
+        (1_000, 0)
+    } else {
+        (0, 1_000)
+    };
     ended.fault.is_none()
         && ended.ignored == row.ignored
         && ended.refusals == refusals
