@@ -142,8 +142,25 @@ impl<K: Clock> CallWorker<K> {
         None
     }
 
-    // Does a step, and puts its outputs into the outboxes. A refusal changes nothing.
+    // Does a step that the clock is shown.
     fn do_step<R: Wait>(&mut self, rt: &R, step: Step) -> Result<(), Memory>
+        requires { IsValid (seen K.told self.old) }
+        ensures ok { OnOk result (DoesStep step (seen K.told self.old) (seen K.told self.new)) }
+        ensures err { OnErr result (seen K.told self.new ≡ seen K.told self.old) }
+        ensures stands { IsValid (seen K.told self.new) }
+    {
+        self.show_step(&step);
+        self.do_shown_step(rt, step)
+    }
+
+    fn show_step(&mut self, step: &Step)
+        ensures { seen K.told self.new ≡ seen K.told self.old }
+    {
+        self.clock.see_step(step);
+    }
+
+    // Does a step, and puts its outputs into the outboxes. A refusal changes nothing.
+    fn do_shown_step<R: Wait>(&mut self, rt: &R, step: Step) -> Result<(), Memory>
         requires { IsValid (seen K.told self.old) }
         ensures ok { OnOk result (DoesStep step (seen K.told self.old) (seen K.told self.new)) }
         ensures err { OnErr result (seen K.told self.new ≡ seen K.told self.old) }
@@ -185,6 +202,7 @@ impl<K: Clock> CallWorker<K> {
         ensures same { seen K.told self.new
             ≡ record (seen K.told self.old) { putters = self.new.putters.items } }
     {
+        self.clock.see_outputs(&outputs);
         let more = outputs.len();
         send_all(rt, &mut self.putters, outputs.into_vec());
         self.count(more);

@@ -4,6 +4,8 @@ use crate::line::log_line;
 use crate::open::{OpenedLinks, SocketLink, open_links};
 use crate::refusing::Doorkeeper;
 use crate::stopwatch::Stopwatch;
+use crate::watch::Watch;
+use crate::watching::WatchingClock;
 use controller::Controller;
 use link_workers::IoFault;
 use log::{Level, Log};
@@ -39,7 +41,10 @@ where
     } = open_links(&rt, alloc, &settings)?;
     let controller = Controller::new(alloc, settings)?;
     let doorkeeper = Doorkeeper::start(rt, alloc, listeners, stations)?;
-    let clock = Stopwatch::new(rt);
+    let clock = WatchingClock {
+        stopwatch: Stopwatch::new(rt),
+        watch: Watch::new(rt, alloc, links.len())?,
+    };
     let served = serve_links(rt, alloc, controller, links, clock, REFUSALS);
     doorkeeper.end(&rt);
     match served {

@@ -3,6 +3,7 @@ ghost use Rattle.std.specs.Prelude.{◌≡◌, IfOk};
 
 use crate::dead_peer::notice_dead_peer;
 use crate::fault::RunFault;
+use crate::lengths::Lengths;
 use crate::line::log_line;
 use crate::name::LinkName;
 use crate::other_links::OtherLinks;
@@ -43,6 +44,7 @@ pub struct ReadingEnd<R> {
     name: LinkName,
     stream: TcpStream,
     broken: Option<IoFault>,
+    lengths: Lengths,
     /// Whether nothing more comes, which the writing end asks.
     at_end: Arc<AtomicBool, Global>,
     others: OtherLinks,
@@ -79,6 +81,7 @@ pub(crate) fn ends_of<R: Log + Copy>(
         name,
         stream,
         broken: None,
+        lengths: Lengths::new(),
         at_end,
         others,
     };
@@ -145,6 +148,7 @@ impl<R: Log> Read for ReadingEnd<R> {
                 let is_over = self.others.is_over();
                 self.end(Level::Info, if is_over { BEHIND_SWITCH } else { CLOSED });
             }
+            Ok(count) => self.lengths.pass(&buffer[..*count]),
             Err(error) if error.kind() != ErrorKind::Interrupted => {
                 self.at_end.store(true, Ordering::SeqCst);
                 log_line(
@@ -165,7 +169,12 @@ impl<R: Log> LinkReader for ReadingEnd<R> {
     fn break_off(&mut self, fault: IoFault) {
         self.broken = Some(fault);
         self.at_end.store(true, Ordering::SeqCst);
-        self.end(Level::Warn, format_args!("shut: {fault}"));
+        match (fault, self.lengths.too_long()) {
+            (IoFault::FrameFault, Some(length)) => {
+                self.end(Level::Warn, format_args!("shut: {fault}: {length} octets"));
+            }
+            _ => self.end(Level::Warn, format_args!("shut: {fault}")),
+        }
         let _ = self.stream.shutdown(Shutdown::Both);
     }
 }

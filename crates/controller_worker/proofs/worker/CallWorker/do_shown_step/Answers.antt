@@ -4,7 +4,7 @@ use Rattle.std.proofs.lemmas.Bool.{false≢true}
 use Rattle.controller_worker.specs.Advancing.{DoesStep}
 use Rattle.controller_worker.specs.Seen.{seen}
 use Rattle.controller_worker.proofs.Turns.{does_nothing, does_sent, stands_on}
-use Rattle.controller_worker.proofs.worker.CallWorker.do_step.Goals as goal
+use Rattle.controller_worker.proofs.worker.CallWorker.do_shown_step.Goals as goal
 
 pub returns-else-is_empty-clause-ok : goal.returns-else-is_empty-clause-ok
 returns-else-is_empty-clause-ok g c =
