@@ -47,7 +47,7 @@ pub(crate) struct Watch<R> {
     has_switch_ended: bool,
 }
 
-impl<R: Log> Watch<R> {
+impl<R: Log + Drop> Watch<R> {
     /// Looks on at so many links.
     pub(crate) fn new(rt: R, alloc: Global, count: usize) -> Result<Watch<R>, AllocError> {
         let mut links = Vec::with_capacity(alloc, count)?;
@@ -154,7 +154,7 @@ impl<R: Log> Watch<R> {
         }
     }
 
-    fn tell_refusal(&mut self, source: u16, line: fmt::Arguments<'_>) {
+    fn tell_refusal<D: fmt::Display + Drop>(&mut self, source: u16, line: D) {
         if let Some(link) = self.links.get_mut(usize::from(source)) {
             if let Some(count) = link.refused.come() {
                 log_line(&self.rt, Level::Warn, format_args!("{line}{}", Times(count)));

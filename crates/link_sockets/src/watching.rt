@@ -13,7 +13,7 @@ pub(crate) struct WatchingClock<R> {
     pub(crate) watch: Watch<R>,
 }
 
-impl<R: Clock + Log> controller_worker::Clock for WatchingClock<R> {
+impl<R: Clock + Log + Drop> controller_worker::Clock for WatchingClock<R> {
     ghost told = { λ c. c.stopwatch.told };
 
     fn elapsed(&mut self) -> u32 {
