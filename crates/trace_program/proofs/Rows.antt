@@ -10,6 +10,7 @@ use Rattle.world_trace.specs.declared.cause.Cause.TheVariants as causes
 use Rattle.world_trace.specs.declared.crossing.End.TheVariants.{Switch, Station, Controller}
 use Rattle.world_trace.specs.declared.crossing.Passage.TheVariants.{Sent, Got}
 use Rattle.frame_words.specs.Carried.{carried_by}
+use Rattle.trace_program.specs.declared.fate.Fate.TheVariants.{Accepted}
 use Rattle.trace_program.specs.TraceLines.{crossing_line, event_line}
 use Rattle.trace_program.specs.Traced.{behind_line, line_of}
 
@@ -30,7 +31,7 @@ not_taken : event_line 12 (codes "handle") (Some causes.InboxEmpty) ≡ codes "1
 unfolding digits
 not_taken = refl
 
-required : crossing_line 4 2 (record {
+required : crossing_line 4 2 None (record {
   passage = Sent;
   from = Station 1;
   to = Controller;
@@ -41,14 +42,14 @@ required : crossing_line 4 2 (record {
 unfolding digits hex_on_literals on_literals
 required = refl
 
-dt1 : crossing_line 4 20 (record {
+dt1 : crossing_line 4 20 (Some Accepted) (record {
   passage = Got;
   from = Controller;
   to = Switch;
   frame = record
       { stream = 253; body = hex "06 80 00 01 00 01 05 01 00 02 03 45" };
 })
-    ≡ codes "20\tbsc\tswitch\tDT1 DTAP SAPI 0\tgot to 800001 N(SD) 1\t068000010001050100020345\n"
+    ≡ codes "20\tbsc\tswitch\tDT1 DTAP SAPI 0\tgot to 800001 N(SD) 1 accepted\t068000010001050100020345\n"
 unfolding digits hex_on_literals on_literals
 dt1 = refl
 

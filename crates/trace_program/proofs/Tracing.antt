@@ -17,34 +17,36 @@ use Rattle.world_trace.specs.declared.cause.Cause.{Cause}
 use Rattle.world_trace.specs.declared.crossing.Crossing.{Crossing}
 use Rattle.world_trace.specs.Causes.{refusal}
 use Rattle.world_trace.specs.Crossings.{crossings}
+use Rattle.trace_program.specs.declared.fate.Fate.{Fate}
 use Rattle.trace_program.specs.declared.run.Tally.{Tally}
+use Rattle.trace_program.specs.Fate.{fate_at}
 use Rattle.std.specs.Prelude.{codes, decimal}
 use Rattle.trace_program.specs.TraceLines.{crossing_line, ends_text, event_lines, frame_text}
 use Rattle.trace_program.specs.Traced.{behind_line, counted, line_of, tally_of, trace_text}
 
 -- ---- the frames of an event
 
-pub crossings_more : (m number next : ℕ) (xs : List Crossing) (x : Crossing) (old mid new : Option (List ℕ))
-    → Appends old mid (flat_map (crossing_line m number) (take next xs)) → next < length xs → x ≡ get_or xs next x
-    → Appends mid new (crossing_line m number x) → Appends old new (flat_map (crossing_line m number) (take (next + 1) xs))
-crossings_more m number next xs x old mid new some less is line =
+pub crossings_more : (m number next : ℕ) (fate : Option Fate) (xs : List Crossing) (x : Crossing) (old mid new : Option (List ℕ))
+    → Appends old mid (flat_map (crossing_line m number fate) (take next xs)) → next < length xs → x ≡ get_or xs next x
+    → Appends mid new (crossing_line m number fate x) → Appends old new (flat_map (crossing_line m number fate) (take (next + 1) xs))
+crossings_more m number next fate xs x old mid new some less is line =
     let front : List Crossing = take next xs in
     let longer : front ++ x ∷ [] ≡ take (next + 1) xs = ap (λ (y : Crossing). front ++ y ∷ []) is ∙ sym (take_more xs next x less) in
-    subst (Appends old new) (flat_map_more (crossing_line m number) [] front x ∙ ap (flat_map (crossing_line m number)) longer)
-    (Appends-trans old mid new (flat_map (crossing_line m number) front) (crossing_line m number x) some line)
+    subst (Appends old new) (flat_map_more (crossing_line m number fate) [] front x ∙ ap (flat_map (crossing_line m number fate)) longer)
+    (Appends-trans old mid new (flat_map (crossing_line m number fate) front) (crossing_line m number fate x) some line)
 
-pub crossings_all : (m number next : ℕ) (xs : List Crossing) (old new : Option (List ℕ))
-    → Appends old new (flat_map (crossing_line m number) (take next xs)) → length xs ≤ next
-    → Appends old new (flat_map (crossing_line m number) xs)
-crossings_all m number next xs old new some all = subst (λ (ys : List Crossing). Appends old new (flat_map (crossing_line m number) ys))
+pub crossings_all : (m number next : ℕ) (fate : Option Fate) (xs : List Crossing) (old new : Option (List ℕ))
+    → Appends old new (flat_map (crossing_line m number fate) (take next xs)) → length xs ≤ next
+    → Appends old new (flat_map (crossing_line m number fate) xs)
+crossings_all m number next fate xs old new some all = subst (λ (ys : List Crossing). Appends old new (flat_map (crossing_line m number fate) ys))
     (take_all next xs all) some
 
 -- the line of a frame, from its three parts
-pub line_written : (m number : ℕ) (crossing : Crossing) (old one two new : Option (List ℕ)) → Appends old one (decimal number ++ codes "\t")
-    → Appends one two (ends_text crossing.from crossing.to) → Appends two new (frame_text m crossing)
-    → Appends old new (crossing_line m number crossing)
-line_written m number crossing old one two new first ends frame =
-    Appends-trans old two new (decimal number ++ codes "\t" ++ ends_text crossing.from crossing.to) (frame_text m crossing)
+pub line_written : (m number : ℕ) (fate : Option Fate) (crossing : Crossing) (old one two new : Option (List ℕ)) → Appends old one (decimal number ++ codes "\t")
+    → Appends one two (ends_text crossing.from crossing.to) → Appends two new (frame_text m fate crossing)
+    → Appends old new (crossing_line m number fate crossing)
+line_written m number fate crossing old one two new first ends frame =
+    Appends-trans old two new (decimal number ++ codes "\t" ++ ends_text crossing.from crossing.to) (frame_text m fate crossing)
     (Appends-trans old one two (decimal number ++ codes "\t") (ends_text crossing.from crossing.to) first ends) frame
 
 -- ---- a line
@@ -101,17 +103,19 @@ pub traces_none : (m : ℕ) (start : Actors) (script : List ℕ) (events : List 
 traces_none m start script events old = record { text = []; written = Appends-nil old; whole = refl }
 
 pub traces_more : (m : ℕ) (start : Actors) (script : List ℕ) (events : List Event) (w v : Actors) (number : ℕ) (rest behind line : List ℕ)
-    (event : Event) (left others : List Event) (why : Option Cause) (frames : List Crossing) (old mid new : Option (List ℕ))
+    (event : Event) (left others : List Event) (why : Option Cause) (fate : Option Fate) (frames : List Crossing)
+    (old mid new : Option (List ℕ))
     → Traces m start script events w number rest left old mid → left ≡ event ∷ others → line ≡ line_of rest → behind ≡ behind_line rest
-    → v ≡ actors_after w event → why ≡ refusal w event → frames ≡ crossings w event
-    → Appends mid new (event_lines m number line why frames) → Traces m start script events v (number + 1) behind others old new
-traces_more m start script events w v number rest behind line event left others why frames old mid new some is lines parts after refused
-    crossed written =
-    let more : List ℕ = event_lines m number (line_of rest) (refusal w event) (crossings w event) in
+    → v ≡ actors_after w event → why ≡ refusal w event → fate ≡ fate_at w event → frames ≡ crossings w event
+    → Appends mid new (event_lines m number line why fate frames) → Traces m start script events v (number + 1) behind others old new
+traces_more m start script events w v number rest behind line event left others why fate frames old mid new some is lines parts after
+    refused became crossed written =
+    let more : List ℕ = event_lines m number (line_of rest) (refusal w event) (fate_at w event) (crossings w event) in
     let here : Appends mid new more =
-    subst (λ (l : List ℕ). Appends mid new (event_lines m number l (refusal w event) (crossings w event))) lines
-    (subst (λ (o : Option Cause). Appends mid new (event_lines m number line o (crossings w event))) refused
-    (subst (λ (cs : List Crossing). Appends mid new (event_lines m number line why cs)) crossed written)) in
+    subst (λ (l : List ℕ). Appends mid new (event_lines m number l (refusal w event) (fate_at w event) (crossings w event))) lines
+    (subst (λ (o : Option Cause). Appends mid new (event_lines m number line o (fate_at w event) (crossings w event))) refused
+    (subst (λ (f : Option Fate). Appends mid new (event_lines m number line why f (crossings w event))) became
+    (subst (λ (cs : List Crossing). Appends mid new (event_lines m number line why fate cs)) crossed written))) in
     record {
       text = some.text ++ more;
       written = Appends-trans old mid new some.text more some.written here;

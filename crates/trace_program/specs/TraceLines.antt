@@ -15,6 +15,8 @@ use Rattle.world_trace.specs.declared.crossing.Passage.TheVariants.{Sent, Got}
 use Rattle.frame_words.specs.Fields.{fields_text}
 use Rattle.frame_words.specs.MessageName.{message_name}
 use Rattle.frame_words.specs.Numbered.{number_field, number_in_frame}
+use Rattle.trace_program.specs.declared.fate.Fate.{Fate}
+use Rattle.trace_program.specs.declared.fate.Fate.TheVariants.{Accepted, Unnumbered, Discarded}
 
 abbrev pub end_text : End → List ℕ
 end_text Switch = codes "switch"
@@ -70,24 +72,32 @@ number_said m crossing =
     if is_uplink crossing.from crossing.to
     then number_field (number_in_frame m crossing.frame) else []
 
+-- what the switch made of what it took
+abbrev pub fate_text : Option Fate → List ℕ
+fate_text None = []
+fate_text (Some Accepted) = codes " accepted"
+fate_text (Some Unnumbered) = codes " unnumbered"
+fate_text (Some Discarded) = codes " discarded"
+
 -- the column of what else is said of a frame
-abbrev pub said_column : ℕ → Crossing → List ℕ
-said_column m crossing =
+abbrev pub said_column : ℕ → Option Fate → Crossing → List ℕ
+said_column m fate crossing =
     codes "\t" ++ passage_text crossing.passage ++ fields_text crossing.frame
-    ++ number_said m crossing ++ codes "\t"
+    ++ number_said m crossing ++ fate_text fate ++ codes "\t"
 
 -- a frame: its name, what else is said of it, and the octets of its body
-abbrev pub frame_text : ℕ → Crossing → List ℕ
-frame_text m crossing =
-    message_name crossing.frame ++ said_column m crossing ++ encode_lower crossing.frame.body
-    ++ codes "\n"
+abbrev pub frame_text : ℕ → Option Fate → Crossing → List ℕ
+frame_text m fate crossing =
+    message_name crossing.frame ++ said_column m fate crossing
+    ++ encode_lower crossing.frame.body ++ codes "\n"
 
 -- its line, where messages have m numbers
-abbrev pub crossing_line : ℕ → ℕ → Crossing → List ℕ
-crossing_line m number crossing =
-    decimal number ++ codes "\t" ++ ends_text crossing.from crossing.to ++ frame_text m crossing
+abbrev pub crossing_line : ℕ → ℕ → Option Fate → Crossing → List ℕ
+crossing_line m number fate crossing =
+    decimal number ++ codes "\t" ++ ends_text crossing.from crossing.to
+    ++ frame_text m fate crossing
 
 -- an event and the frames that crossed a link at it
-abbrev pub event_lines : ℕ → ℕ → List ℕ → Option Cause → List Crossing → List ℕ
-event_lines m number line refusal crossings =
-    event_line number line refusal ++ flat_map (crossing_line m number) crossings
+abbrev pub event_lines : ℕ → ℕ → List ℕ → Option Cause → Option Fate → List Crossing → List ℕ
+event_lines m number line refusal fate crossings =
+    event_line number line refusal ++ flat_map (crossing_line m number fate) crossings

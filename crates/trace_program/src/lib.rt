@@ -2,9 +2,11 @@
 //! `bsc trace`: what crosses the links of the controller in a script, as lines of text.
 #![tactic(auto)]
 
+pub use fate::Fate;
 pub use run::{Tally, write_trace};
 pub use trace_command::trace;
 
+mod fate;
 mod lines;
 mod run;
 mod trace_command;

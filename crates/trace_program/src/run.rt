@@ -7,6 +7,7 @@ ghost use Rattle.program_base.specs.Status.{status_of};
 ghost use Rattle.trace_program.specs.Traced.{behind_line, counted, line_of, no_tally, tally_of};
 ghost use Rattle.trace_program.specs.Traced.{trace_text};
 
+use crate::fate::step_with_fate;
 use crate::lines::write_event;
 use dtap_codec::Modulus;
 use memchr::memchr;
@@ -15,7 +16,7 @@ use std::alloc::Global;
 use std::io::Write;
 use world_actors::Network;
 use world_model::Event;
-use world_trace::{Cause, step};
+use world_trace::Cause;
 
 /// How many events weren't taken, and the number of the first of them, 0 where there is none.
 #[derive(Clone, Copy)]
@@ -49,9 +50,9 @@ pub fn write_trace<W: Write>(
     let mut rest = script;
     for event in events {
         let (line, others) = split_line(rest);
-        let trace = step(alloc, network, event)?;
-        write_event(alloc, modulus, number, line, &trace, output)?;
-        tally = count(trace.refusal, number, tally);
+        let seen = step_with_fate(alloc, network, event)?;
+        write_event(alloc, modulus, number, line, &seen.trace, seen.fate, output)?;
+        tally = count(seen.trace.refusal, number, tally);
         rest = others;
         number += 1;
     }

@@ -1,7 +1,8 @@
 // SPDX-License-Identifier: MIT OR Apache-2.0
 ghost use Rattle.std.specs.Prelude.{◌≡◌};
-ghost use Rattle.trace_program.specs.TraceLines.{cause_text, passage_text};
+ghost use Rattle.trace_program.specs.TraceLines.{cause_text, fate_text, passage_text};
 
+use crate::fate::Fate;
 use world_trace::{Cause, Passage};
 
 /// The word of a passage.
@@ -11,6 +12,18 @@ pub(crate) fn passage_text(passage: Passage) -> &'static str
     match passage {
         Passage::Sent => "sent",
         Passage::Got => "got",
+    }
+}
+
+/// What the switch made of what it took, behind a space; nothing where it took nothing.
+pub(crate) fn fate_text(fate: Option<Fate>) -> &'static str
+    ensures { result.now ≡ fate_text fate }
+{
+    match fate {
+        None => "",
+        Some(Fate::Accepted) => " accepted",
+        Some(Fate::Unnumbered) => " unnumbered",
+        Some(Fate::Discarded) => " discarded",
     }
 }
 
