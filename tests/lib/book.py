@@ -1,0 +1,157 @@
+# SPDX-License-Identifier: MIT OR Apache-2.0
+"""The entries of docs/LAWS.md, drawn from the sources: each law in words, with the definitions that it names, the laws that its
+proof uses, and the must-fail edits of those definitions."""
+import functools
+import re
+
+from lib.common import TOP
+from lib.laws import laws
+from lib.proofs import crate_names, lemma_of, proof_file, used_lemmas
+
+MOST_LEMMAS = 20_000
+# that a claim holds of all settings and all that happened, also of what happens next, also of all numbers
+QUANTIFIERS = ("OfRuns", "AtEvents", "OfNumbers")
+
+
+@functools.cache
+def all_laws():
+    return tuple((law.crate, law.name, law) for law in laws())
+
+
+def answers(law):
+    """The module of the file that answers the law's goals, if it has one."""
+    module = f"{law.path.stem}.{law.name}.Answers"
+    return module if (TOP / "crates" / law.crate / "proofs" / (module.replace(".", "/") + ".antt")).is_file() else None
+
+
+@functools.cache
+def own_lemmas(crate, name):
+    """The lemmas with which a law's answers begin: that they hold is the law."""
+    law = next(law for one, other, law in all_laws() if (one, other) == (crate, name))
+    module = answers(law)
+    if not module:
+        return ()
+    path = TOP / "crates" / crate / "proofs" / (module.replace(".", "/") + ".antt")
+    heads = re.findall(r"^returns[\w-]* [^=\n]*= (?:λ [^.\n]*\. )?([^\W\d][\w'-]*)", path.read_text(), re.MULTILINE)
+    file = proof_file(path)
+    found = (lemma_of(*file.imports[head]) for head in heads if head in file.imports)
+    return tuple(lemma for lemma in found if lemma)
+
+
+@functools.cache
+def law_by_lemma():
+    found = {}
+    for crate, name, _ in all_laws():
+        for lemma in own_lemmas(crate, name):
+            found.setdefault(lemma, (crate, name))
+    return found
+
+
+def laws_below(law):
+    """The other laws that the proof of a law uses, as far as the first of them on each way."""
+    module = answers(law)
+    if not module:
+        return []
+    path = TOP / "crates" / law.crate / "proofs" / (module.replace(".", "/") + ".antt")
+    to_do = [lemma for name in proof_file(path).mentions for lemma in used_lemmas(law.crate, module, name)]
+    met, found, own = set(to_do), {}, set(own_lemmas(law.crate, law.name))
+    while to_do:
+        lemma = to_do.pop()
+        other = law_by_lemma().get(lemma)
+        if other and lemma not in own:
+            found[other] = None
+            continue
+        new = [one for one in used_lemmas(*lemma) if one not in met]
+        met.update(new)
+        to_do += new
+        assert len(met) < MOST_LEMMAS, law.name
+    order = [(crate, name) for crate, name, _ in all_laws()]
+    return sorted(found, key=order.index)
+
+
+def definitions(law):
+    """The definitions that the law's clauses name, and the files that have them, but those of the toolchain."""
+    source = (TOP / law.path).read_text()
+    places = {}
+    for crate, module, names in re.findall(r"ghost use Rattle\.(\w+)\.specs\.([\w.]+)\.\{([^}]*)\};", source):
+        if crate in crate_names():
+            for part in filter(None, (name.strip() for name in names.split(","))):
+                name, _, other = part.partition(" as ")
+                places[other or name] = (crate, module, name)
+    # without the types of variables
+    statements = [re.sub(r"\([^():]* : [^()]*\)", "", statement) for _, statement in law.clauses]
+    words = dict.fromkeys(word for statement in statements for word in re.findall(r"[^\W\d][\w'-]*", statement))
+    return [places[word] for word in words if word in places and word not in QUANTIFIERS]
+
+
+def spec_path(crate, module):
+    """The file of a module of definitions; of a declared type, its source."""
+    if module.startswith("declared."):
+        for place in (module.split(".")[1], "lib"):
+            if (path := TOP / "crates" / crate / "src" / f"{place}.rt").is_file():
+                return path.relative_to(TOP)
+    path = TOP / "crates" / crate / "specs" / (module.replace(".", "/") + ".antt")
+    while not path.is_file():
+        path = path.parent.with_suffix(".antt")
+    return path.relative_to(TOP)
+
+
+@functools.cache
+def edits():
+    """The must-fail edits by the files that they change."""
+    found = {}
+    for edit in sorted(TOP.glob("crates/*/must-fail/*.edit")):
+        crate = edit.parent.parent
+        for name in dict.fromkeys(re.findall(r"^file: (.*)$", edit.read_text(), re.MULTILINE)):
+            found.setdefault((crate / name).relative_to(TOP), []).append(edit.relative_to(TOP))
+    return found
+
+
+def heading(crate, name):
+    """A law's name, with its crate where another crate has a law of this name."""
+    return name if sum(other == name for _, other, _ in all_laws()) == 1 else f"{name} of {crate}"
+
+
+def anchor(crate, name):
+    return heading(crate, name).replace(" ", "-")
+
+
+def sentence_of(law):
+    text = law.text.removeprefix("Law: ")
+    return text[0].upper() + text[1:]
+
+
+def link(text, path):
+    return f"[{text}](../{path})"
+
+
+def proofs_of(law):
+    """Links to the lemmas that are the law, or else to the answers to its goals."""
+    if found := own_lemmas(law.crate, law.name):
+        return [link(f"`{name}`", f"crates/{crate}/proofs/{place.replace('.', '/')}.antt") for crate, place, name in found]
+    module = answers(law)
+    return [link("its answers", f"crates/{law.crate}/proofs/{module.replace('.', '/')}.antt")] if module else []
+
+
+def entry(law):
+    """The lines of a law."""
+    yield from ("", f"### {heading(law.crate, law.name)}", "", sentence_of(law), "")
+    named = [(name, spec_path(crate, module)) for crate, module, name in definitions(law) if name[0].isupper() and "declared" not in module]
+    says = ", by " + ", ".join(link(f"`{name}`", path) for name, path in named) if named else ""
+    yield f"- Law: {link(f'`{law.name}`', law.path)}{says}"
+    yield f"- Proof: {', '.join(proofs_of(law)) or 'found by the prover alone'}"
+    if below := laws_below(law):
+        yield "- It uses " + ", ".join(f"[`{name}`](#{anchor(crate, name)})" for crate, name in below)
+    if found := dict.fromkeys(edit for _, path in named for edit in edits().get(path, ())):
+        yield "- Must-fail edits of these definitions: " + ", ".join(link(f"`{edit.stem}`", edit) for edit in found)
+
+
+def drawn():
+    """The whole text of the entries."""
+    lines, crate = [], None
+    for one, _, law in all_laws():
+        if one != crate:
+            crate = one
+            lines += ["", f"## `{crate}`"]
+        lines += entry(law)
+    return "\n".join(lines) + "\n"
