@@ -69,6 +69,29 @@ def laws_below(law):
     return sorted(found, key=order.index)
 
 
+@functools.cache
+def depth(crate, name):
+    """How many laws are below this one, one below the other, at most."""
+    law = next(law for one, other, law in all_laws() if (one, other) == (crate, name))
+    return max((1 + depth(*below) for below in laws_below(law)), default=0)
+
+
+def in_order():
+    """The laws crate by crate, the lowest crate first; in a crate file by file, and those that use no other first."""
+    crates = list(dict.fromkeys(crate for crate, _, _ in all_laws()))
+    depths = {}
+    for crate, name, law in all_laws():
+        depths[law.path] = max(depths.get(law.path, 0), depth(crate, name))
+    return sorted((law for _, _, law in all_laws()), key=lambda law: (crates.index(law.crate), depths[law.path], law.path, law.line))
+
+
+def room(law):
+    """The room whose laws a file has, if it is one's."""
+    name = "".join(part.title() for part in law.path.stem.removesuffix("_laws").split("_"))
+    rooms = (TOP / "crates" / law.crate / "specs" / spelt for spelt in (name, f"{name}s", f"{name}Laws"))
+    return next((room.name for room in rooms if room.is_dir()), None)
+
+
 def definitions(law):
     """The definitions that the law's clauses name, and the files that have them, but those of the toolchain."""
     source = (TOP / law.path).read_text()
@@ -133,10 +156,21 @@ def proofs_of(law):
     return [link("its answers", f"crates/{law.crate}/proofs/{module.replace('.', '/')}.antt")] if module else []
 
 
+@functools.cache
+def claims(crate, name):
+    law = next(law for one, other, law in all_laws() if (one, other) == (crate, name))
+    return [(name, spec_path(crate, module)) for crate, module, name in definitions(law) if name[0].isupper() and "declared" not in module]
+
+
+def named_claims(law):
+    """The claims that a law's clauses name, with the files that define them."""
+    return claims(law.crate, law.name)
+
+
 def entry(law):
     """The lines of a law."""
     yield from ("", f"### {heading(law.crate, law.name)}", "", sentence_of(law), "")
-    named = [(name, spec_path(crate, module)) for crate, module, name in definitions(law) if name[0].isupper() and "declared" not in module]
+    named = named_claims(law)
     says = ", by " + ", ".join(link(f"`{name}`", path) for name, path in named) if named else ""
     yield f"- Law: {link(f'`{law.name}`', law.path)}{says}"
     yield f"- Proof: {', '.join(proofs_of(law)) or 'found by the prover alone'}"
@@ -146,12 +180,24 @@ def entry(law):
         yield "- Must-fail edits of these definitions: " + ", ".join(link(f"`{edit.stem}`", edit) for edit in found)
 
 
+def other_edits():
+    """The must-fail edits that no entry has, by crate."""
+    shown = {path for law in in_order() for name, path in named_claims(law)}
+    found = {}
+    for path, those in sorted(edits().items()):
+        if path not in shown:
+            found.setdefault(path.parts[1], {}).update(dict.fromkeys(those))
+    yield from ("", "## Other must-fail edits", "", "These are of definitions further down, and of code, which its contract has to refuse.", "")
+    for crate, those in found.items():
+        yield f"- `{crate}`: " + ", ".join(link(f"`{edit.stem}`", edit) for edit in those)
+
+
 def drawn():
     """The whole text of the entries."""
-    lines, crate = [], None
-    for one, _, law in all_laws():
-        if one != crate:
-            crate = one
-            lines += ["", f"## `{crate}`"]
+    lines, place = [], None
+    for law in in_order():
+        if (law.crate, room(law)) != place:
+            place = law.crate, room(law)
+            lines += ["", f"## `{law.crate}`" + (f", room `{room(law)}`" if room(law) else "")]
         lines += entry(law)
-    return "\n".join(lines) + "\n"
+    return "\n".join([*lines, *other_edits()]) + "\n"
