@@ -2,6 +2,7 @@
 """The entries of docs/LAWS.md, drawn from the sources: each law in words, with the definitions that it names, the laws that its
 proof uses, and the must-fail edits of those definitions."""
 import functools
+import itertools
 import re
 
 from lib.common import TOP
@@ -171,13 +172,53 @@ def entry(law):
     """The lines of a law."""
     yield from ("", f"### {heading(law.crate, law.name)}", "", sentence_of(law), "")
     named = named_claims(law)
-    says = ", by " + ", ".join(link(f"`{name}`", path) for name, path in named) if named else ""
+    says = "; it claims " + ", ".join(f"[`{claim[0]}`](#{claim_anchor(claim)})" for claim in named) if named else ""
     yield f"- Law: {link(f'`{law.name}`', law.path)}{says}"
     yield f"- Proof: {', '.join(proofs_of(law)) or 'found by the prover alone'}"
     if below := laws_below(law):
         yield "- It uses " + ", ".join(f"[`{name}`](#{anchor(crate, name)})" for crate, name in below)
     if found := dict.fromkeys(edit for _, path in named for edit in edits().get(path, ())):
         yield "- Must-fail edits of these definitions: " + ", ".join(link(f"`{edit.stem}`", edit) for edit in found)
+
+
+@functools.cache
+def all_claims():
+    """The claims that laws name, in their order, each with the file that defines it."""
+    return tuple(dict.fromkeys(claim for law in in_order() for claim in named_claims(law)))
+
+
+def claim_heading(claim):
+    """A claim's name, with its crate and its module where another claim has that name."""
+    name, path = claim
+    alike = [other for other, _ in all_claims()].count(name) + sum(other == name.lower() for _, other, _ in all_laws())
+    return name if alike == 1 else f"{name} of {path.parts[1]} {path.stem}"
+
+
+def claim_anchor(claim):
+    return claim_heading(claim).lower().replace(" ", "-")
+
+
+def words_of(claim):
+    """What is written over the definition of a claim, or else at the head of its file."""
+    name, path = claim
+    lines = (TOP / path).read_text().splitlines()
+    place = next(place for place, line in enumerate(lines) if re.match(rf"(?:abbrev |unfoldable )?(?:pub )?(?:record |data )?{name}\b", line))
+    words = []
+    while lines[place - 1].startswith("-- ") and not lines[place - 1].startswith("-- --"):
+        place -= 1
+        words.insert(0, lines[place][3:])
+    if not words:
+        head = itertools.takewhile(lambda line: line.startswith("-- "), lines[1:])
+        words = [line[3:] for line in head]
+    text = " ".join(words).strip()
+    return text[0].upper() + text[1:] + ("" if text.endswith((".", ":")) else ".")
+
+
+def claim_lines():
+    """The claims that laws name, each in words."""
+    yield from ("", "<!-- drawn from the definitions -->", "## The claims that laws name", "", "Each as the source has it: over its definition, or else at the head of its file.")
+    for claim in all_claims():
+        yield from ("", f"### {claim_heading(claim)}", "", f"{words_of(claim)} {link(claim[1].stem, claim[1])}, `{claim[1].parts[1]}`.")
 
 
 def other_edits():
@@ -200,4 +241,4 @@ def drawn():
             place = law.crate, room(law)
             lines += ["", f"## `{law.crate}`" + (f", room `{room(law)}`" if room(law) else "")]
         lines += entry(law)
-    return "\n".join([*lines, *other_edits()]) + "\n"
+    return "\n".join([*lines, *other_edits(), *claim_lines()]) + "\n"
