@@ -5,7 +5,8 @@ use Rattle.conn_rules.proofs.Prelude.{Channel, Assignment, Handover, Zero, Three
 use Rattle.conn_rules.proofs.Prelude.{Closed, Removed, Complete, WaitActivation, rf_channel_release, change_activation, handing}
 use Rattle.conn_rules.proofs.Prelude.{drops, refused, commands, stays, channel_release, clear_complete}
 use Rattle.conn_rules.specs.declared.input.Input.TheVariants as inputs
-use Rattle.conn_rules.specs.Roles.{Roles, TargetRole, change_by, MayBegin, orders, IsOfSwitch, FitsEnd, to_stations, IsGivenUp, IsTaken, IsAcknowledged, channels_in_use, IsNew, ChangesRolesBy}
+use Rattle.conn_rules.specs.Roles.{Roles, TargetRole, change_by, MayBegin, orders, IsOfSwitch, FitsEnd, to_stations, IsGivenUp, IsTaken}
+use Rattle.conn_rules.specs.Roles.{IsAcknowledged, channels_in_use, IsNew, ChangesRolesBy}
 use Rattle.conn_rules.specs.Roles.IsGivenUp.{released, broke, not_activated}
 use Rattle.conn_rules.proofs.CaseRows.{live, target, held, call, text, ended}
 use Rattle.conn_rules.proofs.Lives.{cell_1, cell_2, on_1, on_2, request}
@@ -50,7 +51,8 @@ not_beside_another may = absurd (let same = may.2 in cc)
 -- ---- what is ordered of stations, and what the mobile gets
 
 ordered_ones : orders (change_activation Handover (cell_2 0x41) ∷ handing (cell_1 0x41) Zero (call 1) ∷ rf_channel_release (cell_1 0x41)
-    ∷ clear_complete 5 ∷ channel_release (cell_1 0x41) 0 ∷ []) ≡ change_activation Handover (cell_2 0x41) ∷ rf_channel_release (cell_1 0x41) ∷ []
+    ∷ clear_complete 5 ∷ channel_release (cell_1 0x41) 0 ∷ []) ≡ change_activation Handover (cell_2 0x41)
+    ∷ rf_channel_release (cell_1 0x41) ∷ []
 ordered_ones = refl
 
 what_stations_get : to_stations (clear_complete 5 ∷ handing (cell_1 0x41) Zero (call 1) ∷ rf_channel_release (cell_1 0x41) ∷ []) ≡
@@ -139,5 +141,8 @@ not_new is = true≢false is.1.0
 
 -- ---- where no row fits, the input brings no step
 
-not_without_a_row : ChangesRolesBy (live (Preparing (target Assignment (cell_1 0x0a))) (cell_1 0x41)) (inputs.ActivationAck (on_1 0x0a)) None None → ⊥
+abbrev preparing : Connection
+preparing = live (Preparing (target Assignment (cell_1 0x0a))) (cell_1 0x41)
+
+not_without_a_row : ChangesRolesBy preparing (inputs.ActivationAck (on_1 0x0a)) None None → ⊥
 not_without_a_row is = absurd (let same : commands ≡ stays = is in cc)

@@ -1,10 +1,12 @@
 -- SPDX-License-Identifier: MIT OR Apache-2.0
 -- The words on streams at literal values: what messages carry, what may still come, and the rows that the laws on streams
 -- refuse.
-use Rattle.conn_rules.proofs.Prelude.{◌≡◌, ◌==◌, if◌then◌else◌, ℕ, true, false, true≢false, List, [], ◌∷◌, map, length, Some, None, refl, sym, ap, arith}
+use Rattle.conn_rules.proofs.Prelude.{◌≡◌, ◌==◌, if◌then◌else◌, ℕ, true, false, true≢false, List, [], ◌∷◌, map, length, Some, None, refl}
+use Rattle.conn_rules.proofs.Prelude.{sym, ap, arith}
 use Rattle.conn_rules.proofs.Prelude.{Channel, Place, Message, Station, Data, Request, ReleaseComplete, Sapi, Zero, Three, Assignment}
 use Rattle.conn_rules.proofs.Prelude.{hex, Input, Connection, Drain, Stage, Active, Preparing, Changing, Draining}
-use Rattle.conn_rules.proofs.Prelude.{WaitActivation, WaitEstablish, WaitConfirm, Live, Closed, Removed, Complete, Due, WasAsked, DataRequest}
+use Rattle.conn_rules.proofs.Prelude.{WaitActivation, WaitEstablish, WaitConfirm, Live, Closed, Removed, Complete, Due, WasAsked}
+use Rattle.conn_rules.proofs.Prelude.{DataRequest}
 use Rattle.conn_rules.proofs.Prelude.{OfRow, IsOpen, is_of, is_dtap, relayed, handed, IsHandedTo, Future, of_target, of_prepared}
 use Rattle.conn_rules.proofs.Prelude.{still_to_relay, from_input, undone, used_channels, AreApart, KeepsUplink}
 use Rattle.conn_rules.proofs.Prelude.{received_by, rejects, without_rejected, KeepsDownlink, IsChanging, IsSilent, OnlyReleases, IsFinal}
@@ -150,10 +152,12 @@ still_before_the_command = refl
 still_of_one : still_to_relay Zero coming (live Active (cell_1 0x41)) ≡ hex "01 41" ∷ []
 still_of_one = refl
 
-targets_to_come : map (of_target coming) (changing.state ∷ preparing.state ∷ Live 5 Active ∷ WaitConfirm ∷ []) ≡ (hex "01 0a" ∷ []) ∷ [] ∷ [] ∷ [] ∷ []
+targets_to_come : map (of_target coming) (changing.state ∷ preparing.state ∷ Live 5 Active ∷ WaitConfirm ∷ []) ≡ (hex "01 0a" ∷ []) ∷ []
+    ∷ [] ∷ [] ∷ []
 targets_to_come = refl
 
-targets_before_the_command : map (of_prepared coming) (changing.state ∷ preparing.state ∷ Live 5 Active ∷ WaitConfirm ∷ []) ≡ [] ∷ (hex "01 0a" ∷ []) ∷ [] ∷ [] ∷ []
+targets_before_the_command : map (of_prepared coming) (changing.state ∷ preparing.state ∷ Live 5 Active ∷ WaitConfirm ∷ []) ≡ []
+    ∷ (hex "01 0a" ∷ []) ∷ [] ∷ [] ∷ []
 targets_before_the_command = refl
 
 -- an input's message comes first on its channel, of its SAPI alone
@@ -182,7 +186,8 @@ come_of_3 : map (comes Three) (inputs.Dtap (on_1 0x41) Three (text 1) ∷ inputs
 come_of_3 = refl
 
 -- nothing is asked of what may come but on a channel that an input ends, or on a target
-nothing_ends : Ends coming changing.state (inputs.Dtap (on_1 0x41) Zero (call 1)) × Ends coming changing.state (inputs.ActivationAck (on_1 0x0a))
+nothing_ends : Ends coming changing.state (inputs.Dtap (on_1 0x41) Zero (call 1))
+    × Ends coming changing.state (inputs.ActivationAck (on_1 0x0a))
     × Ends coming preparing.state (inputs.Failure (on_2 0x0a) Assignment (record { 0 = 0 }))
     × Ends coming changing.state (inputs.Complete (on_1 0x0a) Assignment (record { 0 = 0 }))
     × Ends coming preparing.state (inputs.ActivationNack (on_1 0x0a)) × Ends coming changing.state inputs.Expiry
@@ -199,7 +204,8 @@ ends_of_its_place = refl
 abbrev number_of : Channel → ℕ
 number_of channel = channel.number
 
-undone_ones : map number_of (undone (is_done (cell_1 0x0b) ∷ drains (cell_1 0x41) ∷ is_done (cell_2 0x0a) ∷ drains (cell_2 0x49) ∷ [])) ≡ hex "41 49"
+undone_ones : map number_of (undone (is_done (cell_1 0x0b) ∷ drains (cell_1 0x41) ∷ is_done (cell_2 0x0a) ∷ drains (cell_2 0x49) ∷ [])) ≡
+    hex "41 49"
 undone_ones = refl
 
 used_ones : map number_of (used_channels changing) ≡ hex "41 0a 0a"
@@ -234,7 +240,8 @@ relays_it is = refl
 not_kept_back : KeepsUplink Zero nothing active (inputs.Dtap (on_1 0x41) Zero (call 1)) (row [] active) → ⊥
 not_kept_back keeps = none_is_some (keeps tt)
 
-not_relayed_twice : KeepsUplink Zero nothing active (inputs.Dtap (on_1 0x41) Zero (call 1)) (row (up 0x00 (call 1) ∷ up 0x00 (call 1) ∷ []) active) → ⊥
+not_relayed_twice : KeepsUplink Zero nothing active (inputs.Dtap (on_1 0x41) Zero (call 1)) (row (up 0x00 (call 1) ∷ up 0x00 (call 1)
+    ∷ []) active) → ⊥
 not_relayed_twice keeps = let long : 2 ≡ 1 = ap (λ (messages : List (List ℕ)). length messages) (keeps tt) in omega (arith, long)
 
 not_of_the_other : KeepsUplink Three nothing active (inputs.Dtap (on_1 0x41) Three (text 1)) (row (up 0x00 (text 1) ∷ []) active) → ⊥
@@ -242,10 +249,12 @@ not_of_the_other keeps = none_is_some (keeps tt)
 
 -- ---- the downlink
 
-received_ones : map (received_by Zero) (inputs.Downlink Zero (call 1) ∷ inputs.Downlink Three (text 1) ∷ inputs.Dtap (on_1 0x41) Zero (call 2) ∷ []) ≡ (call 1 ∷ []) ∷ [] ∷ [] ∷ []
+received_ones : map (received_by Zero) (inputs.Downlink Zero (call 1) ∷ inputs.Downlink Three (text 1)
+    ∷ inputs.Dtap (on_1 0x41) Zero (call 2) ∷ []) ≡ (call 1 ∷ []) ∷ [] ∷ [] ∷ []
 received_ones = refl
 
-received_texts : map (received_by Three) (inputs.Downlink Zero (call 1) ∷ inputs.Downlink Three (text 1) ∷ inputs.Dtap (on_1 0x41) Three (text 2) ∷ []) ≡ [] ∷ (text 1 ∷ []) ∷ [] ∷ []
+received_texts : map (received_by Three) (inputs.Downlink Zero (call 1) ∷ inputs.Downlink Three (text 1)
+    ∷ inputs.Dtap (on_1 0x41) Three (text 2) ∷ []) ≡ [] ∷ (text 1 ∷ []) ∷ [] ∷ []
 received_texts = refl
 
 rejecting_ones : map rejects (put_up ∷ (clear_request ∷ up 0x83 (text 1) ∷ []) ∷ [] ∷ (reject ∷ []) ∷ []) ≡ true ∷ false ∷ false ∷ true ∷ []
@@ -295,7 +304,8 @@ not_silent_of_3 silent = some_is_none (silent tt).1
 
 -- ---- the end
 
-only_answers : OnlyReleases (Closed Complete) (ReleaseComplete 5 ∷ ReleaseComplete 6 ∷ []) × OnlyReleases (Closed (WasAsked 5)) (clear_request ∷ [])
+only_answers : OnlyReleases (Closed Complete) (ReleaseComplete 5 ∷ ReleaseComplete 6
+    ∷ []) × OnlyReleases (Closed (WasAsked 5)) (clear_request ∷ [])
 only_answers = ((tt, (tt, tt)), tt)
 
 nothing_else : OnlyReleases (Closed Complete) (ReleaseComplete 5 ∷ clear_request ∷ []) → ⊥
@@ -307,8 +317,8 @@ closed = ended (Closed (WasAsked 5)) active
 final_row : IsFinal active (row (clear_request ∷ down 1 0x41 0x00 (hex "06 0d 00") ∷ []) closed)
 final_row = record {
   stays = λ shut. absurd (shut tt);
-  relays = λ shut. elim [ | Zero ↦ refl | Three ↦ refl ];
-  hands = λ shut. elim [ | Zero ↦ refl | Three ↦ refl ];
+  relays = λ shut. elim [ Zero ↦ refl | Three ↦ refl ];
+  hands = λ shut. elim [ Zero ↦ refl | Three ↦ refl ];
   cleared = tt;
 }
 
