@@ -76,7 +76,9 @@ first_with_number carries = carries.carries ∙ ap (with_number 0) (sym (some_is
 
 not_the_first : Rise 4 one 0 (hex "03 45" ∷ []) 1 → ⊥
 not_the_first (other not rest) = true≢false not
-not_the_first (next carries rest) = let octet : 69 ≡ 5 = ap (λ (message : List ℕ). get_or message 1 0) (first_with_number carries) in omega (arith, octet)
+not_the_first (next carries rest) =
+    let octet : 69 ≡ 5 = ap (λ (message : List ℕ). get_or message 1 0) (first_with_number carries) in
+    omega (arith, octet)
 not_the_first (again before carries rest) = omega (arith, before)
 
 second_waits : LinesUp begin [] (scene_of one (hex "03 45" ∷ []) []) → ⊥
@@ -129,7 +131,8 @@ not_of_one_number begins = let two : 2 ≤ 1 = two_at_least begins in omega (ari
 any_in_the_fixed_world : AreEventsFor begin (Upper 1 Zero (256 ∷ []) ∷ [])
 any_in_the_fixed_world = tt
 
-octets_with_a_controller : AreEventsFor (controlled_world usual_settings).scene (Upper 1 Zero (hex "03 05") ∷ Upper 1 Zero (256 ∷ []) ∷ []) → ⊥
+octets_with_a_controller : AreEventsFor (controlled_world usual_settings).scene (Upper 1 Zero (hex "03 05") ∷ Upper 1 Zero (256 ∷ [])
+    ∷ []) → ⊥
 octets_with_a_controller octets = let last : 256 < 256 = octets.1.0 0 in omega (arith, last)
 
 mobile_256_with_a_controller : AreEventsFor (controlled_world usual_settings).scene (Connect 256 1 (hex "05 24") true ∷ []) → ⊥
