@@ -9,6 +9,7 @@ mod Relaying
 mod Rows
 mod Lists
 mod CrewRows
+mod CapacityRows
 mod Octets
 mod OctetRows
 mod Keeping
