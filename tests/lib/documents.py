@@ -32,8 +32,8 @@ def prose(document):
 
 
 def sentences(document):
-    """Each sentence with the number of the line in which it begins."""
-    text, place = prose(document), 0
+    """Each sentence with the number of the line in which it begins, but those that are drawn from the sources."""
+    text, place = prose(document).partition("<!-- drawn from the sources")[0], 0
     for end in [*END.finditer(text), None]:
         sentence = text[place:end.start() if end else len(text)]
         if sentence.strip():
@@ -84,9 +84,9 @@ def source_names():
 
 @functools.cache
 def source_words():
-    """The words of all files that aren't documents."""
+    """The words of all files that aren't documents, and the names of all files."""
     texts = ((TOP / path).read_text(errors="replace") for path in source_paths() if path.suffix != ".md")
-    return {word for text in texts for word in re.findall(r"\w+", text)}
+    return {word for text in texts for word in re.findall(r"\w+", text)} | {path.stem for path in source_paths()}
 
 
 def is_path(name):
