@@ -2,7 +2,9 @@
 """The documents of the repository, for tests/documents-links and tests/documents-words: their lines, sentences, links and names."""
 import fnmatch
 import functools
+import os
 import re
+from pathlib import Path
 
 from lib.common import TOP
 
@@ -30,12 +32,12 @@ def prose(document):
 
 
 def sentences(document):
-    """Each sentence with the number of the line in which it begins."""
-    text, place = prose(document), 0
+    """Each sentence with the number of the line in which it begins, but those that are drawn from the sources."""
+    text, place = prose(document).partition("<!-- drawn from the sources")[0], 0
     for end in [*END.finditer(text), None]:
         sentence = text[place:end.start() if end else len(text)]
         if sentence.strip():
-            yield text.count("\n", 0, place + len(sentence) - len(sentence.lstrip())) + 1, " ".join(sentence.split())
+            yield text.count("\n", 0, place + len(sentence) - len(sentence.lstrip())) + 1, " ".join(sentence.split()).removeprefix("- ")
         place = end.end() if end else place
 
 
@@ -60,10 +62,14 @@ def names(document):
             yield number, code
 
 
+@functools.cache
 def source_paths():
-    """All files of the repository, from its folder."""
-    found = [path.relative_to(TOP) for path in TOP.rglob("*") if path.is_file()]
-    return [path for path in found if not {".git", "out", "__pycache__"} & set(path.parts)]
+    """All files of the repository, from its folder, but what is built."""
+    found = []
+    for folder, folders, files in os.walk(TOP):
+        folders[:] = sorted(set(folders) - {".git", "out", "__pycache__"})
+        found += [(Path(folder) / name).relative_to(TOP) for name in sorted(files)]
+    return found
 
 
 @functools.cache
@@ -78,9 +84,9 @@ def source_names():
 
 @functools.cache
 def source_words():
-    """The words of all files that aren't documents."""
+    """The words of all files that aren't documents, and the names of all files."""
     texts = ((TOP / path).read_text(errors="replace") for path in source_paths() if path.suffix != ".md")
-    return {word for text in texts for word in re.findall(r"\w+", text)}
+    return {word for text in texts for word in re.findall(r"\w+", text)} | {path.stem for path in source_paths()}
 
 
 def is_path(name):

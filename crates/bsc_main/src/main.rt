@@ -5,41 +5,26 @@
 
 pub use bsc_program::{decode, replay};
 use bsc_program::{Failure, ProgramFault};
-use link_sockets::relay;
 pub use link_sockets::{RunFault, run_links};
-pub use program_base::{Task, TaskFault, task};
-use program_base::{asked, settings_text};
+use link_sockets::{VERSION, relay};
+pub use program_base::{Task, TaskFault, Tool, task, tool};
+use program_base::{Asked, asked, settings_text};
 use std::io::BufWriter;
 use std::process::ExitCode;
+use trace_program::trace;
 
-const USAGE: &str = "\
-usage: bsc COMMAND
-
-  run --config FILE
-      relays between the switch and the base stations that the settings in FILE
-      name, until every link has ended; standard error tells of each link
-  replay [--config FILE] [--break N]
-      reads a script on standard input, an event a line, and prints what each
-      end sent, took and accepted: in a world with one mobile on one channel, or
-      in the world of the settings in FILE; with --break, for each place of the
-      script how many messages were accepted and sent if the link of source N
-      broke there
-  decode
-      reads the octets of an IPA link on standard input, and prints the name of
-      each frame";
+/// The toolchain that the program is made with, as README has it.
+const TOOLCHAIN: &str = "rattle-kit-13f logic dac8208d650f15bf";
 
 fn main(rt: HostRuntime) -> ExitCode {
     let ended = match asked(&rt) {
-        Ok(Task::Run(file)) => relay(&rt, file.as_str()),
-        Ok(Task::Replay(file, breaks)) => replayed(&rt, file, breaks),
-        Ok(Task::Decode) => decoded(&rt),
-        Err(fault) => {
-            let _ = match fault {
-                TaskFault::Words => eprintln!(rt; "{USAGE}"),
-                TaskFault::Memory => eprintln!(rt; "bsc: {fault}"),
-            };
-            Ok(fault.status())
-        }
+        Ok(Asked::Version) => versioned(&rt),
+        Ok(Asked::Task(Task::Run(file))) => relay(&rt, file.as_str()),
+        Ok(Asked::Task(Task::Replay(file, breaks))) => replayed(&rt, file, breaks),
+        Ok(Asked::Task(Task::Decode)) => decoded(&rt),
+        Ok(Asked::Tool(Tool::Trace(file, strict))) => traced(&rt, file.as_str(), strict),
+        Err(TaskFault::Memory) => Err(ProgramFault::Failed(Failure::Memory)),
+        Err(fault) => Ok(fault.status()),
     };
     let status = match ended {
         Ok(status) => status,
@@ -49,6 +34,14 @@ fn main(rt: HostRuntime) -> ExitCode {
         }
     };
     ExitCode::from(status)
+}
+
+/// Prints the version, and gives the status that the program ends with.
+fn versioned(rt: &HostRuntime) -> Result<u8, ProgramFault> {
+    match println!(rt; "bsc {VERSION} ({TOOLCHAIN})") {
+        Ok(()) => Ok(0),
+        Err(error) => Err(ProgramFault::Failed(Failure::from(error))),
+    }
 }
 
 /// Replays the script on standard input, with the settings in this file, if there is one, and gives
@@ -82,4 +75,21 @@ fn decoded(rt: &HostRuntime) -> Result<u8, ProgramFault> {
         return Err(ProgramFault::Failed(Failure::Memory));
     };
     Ok(decode(rt.alloc(), &mut rt.stdin(), &mut output, &mut rt.stderr()))
+}
+
+/// Traces the script on standard input in the world of the settings in this file, and gives the
+/// status that the program ends with. What it prints is buffered.
+fn traced(rt: &HostRuntime, file: &str, strict: bool) -> Result<u8, ProgramFault> {
+    let settings = settings_text(rt, file)?;
+    let Ok(mut output) = BufWriter::new(rt.alloc(), rt.stdout()) else {
+        return Err(ProgramFault::Failed(Failure::Memory));
+    };
+    Ok(trace(
+        rt.alloc(),
+        settings.as_str(),
+        strict,
+        &mut rt.stdin(),
+        &mut output,
+        &mut rt.stderr(),
+    ))
 }

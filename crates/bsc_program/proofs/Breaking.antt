@@ -2,8 +2,8 @@
 -- How the lines of all breaks are written, one by one.
 use Rattle.std.proofs.Common.{◌≡◌, ℕ, suc, ◌+◌, List, [], ◌++◌, length, Option, Result, Ok, Err, refl, sym, ap, subst, ◌∙◌, arith}
 use Rattle.std.specs.Prelude.{IfOk}
-use Rattle.std.specs.Io.KnownBytes.{Appends, Keeps}
-use Rattle.std.proofs.KnownBytes.{Appends-nil, Appends-trans, Appends-kept}
+use Rattle.std.specs.Io.KnownBytes.{Appends}
+use Rattle.std.proofs.KnownBytes.{Appends-nil, Appends-trans}
 use Rattle.settings.specs.Parameters.{Parameters}
 use Rattle.world_model.specs.declared.event.Event.{Event}
 use Rattle.world.specs.World.{controlled_world}
@@ -52,12 +52,11 @@ pub breaks_more : (text : List ℕ) (events : List Event) (source next : ℕ) (o
     → IfOk (settings_of text) (λ settings. Appends mid new (line_at settings events source next)) → WritesBreaks text events source (next + 1) old new
 breaks_more text events source next old mid new some line = places_more (settings_of text) events source next old mid new some line
 
-places_all : (settings : Result Parameters ProgramFault) (events : List Event) (source next : ℕ) (old mid new : Option (List ℕ)) → WritesPlaces settings events source next old mid → next ≡ length events + 1 → Keeps mid new
+places_all : (settings : Result Parameters ProgramFault) (events : List Event) (source next : ℕ) (old new : Option (List ℕ)) → WritesPlaces settings events source next old new → next ≡ length events + 1
     → IfOk settings (λ settings. Appends old new (break_lines (controlled_world settings) events source))
-places_all (Err fault) events source next old mid new some all keeps = tt
-places_all (Ok settings) events source next old mid new some all keeps =
-    subst (λ (n : ℕ). Appends old new (texts_below (line_at settings events source) n)) all (Appends-kept old mid new (texts_below (line_at settings events source) next) some keeps)
+places_all (Err fault) events source next old new some all = tt
+places_all (Ok settings) events source next old new some all = subst (λ (n : ℕ). Appends old new (texts_below (line_at settings events source) n)) all some
 
-pub breaks_all : (text : List ℕ) (events : List Event) (source next : ℕ) (old mid new : Option (List ℕ)) → WritesBreaks text events source next old mid → next ≡ length events + 1 → Keeps mid new
+pub breaks_all : (text : List ℕ) (events : List Event) (source next : ℕ) (old new : Option (List ℕ)) → WritesBreaks text events source next old new → next ≡ length events + 1
     → IfOk (settings_of text) (λ settings. Appends old new (break_lines (controlled_world settings) events source))
-breaks_all text events source next old mid new some all keeps = places_all (settings_of text) events source next old mid new some all keeps
+breaks_all text events source next old new some all = places_all (settings_of text) events source next old new some all

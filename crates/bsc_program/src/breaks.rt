@@ -31,7 +31,6 @@ pub(crate) fn write_breaks<W: Write>(
     for place in 0..=events.len() {
         write_broken(alloc, text, events, source, place, output)?;
     }
-    output.flush()?;
     Ok(())
 }
 
@@ -59,7 +58,8 @@ fn write_broken<W: Write>(
 }
 
 /// Writes the line of a world in which a link broke at this place of the script: how many messages
-/// of the flow the switch accepted on all connections, and how many all mobiles sent.
+/// of the flow the switch accepted on all connections, and how many all mobiles sent. The line is
+/// flushed, so that it is there before the next one is made.
 fn write_break<W: Write>(world: &World, place: usize, output: &mut W) -> Result<(), Failure>
     ensures ok { OnOk result (Appends (W.contents output.old) (W.contents output.new)
         (break_line place world.now.scene)) }
@@ -68,6 +68,7 @@ fn write_break<W: Write>(world: &World, place: usize, output: &mut W) -> Result<
     let accepted = accepted_by_all(world);
     let sent = sent_by_all(world);
     writeln!(output, "break {place} accepted {accepted} sent {sent}")?;
+    output.flush()?;
     Ok(())
 }
 

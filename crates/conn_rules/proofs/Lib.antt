@@ -1,6 +1,7 @@
 -- SPDX-License-Identifier: MIT OR Apache-2.0
 mod Prelude
 mod AccessRows
+mod AccountRows
 mod ActiveRows
 mod CaseRows
 mod ChangingRows
@@ -26,6 +27,7 @@ pub mod Standing
 pub mod StandingChanges
 pub mod StandingSteps
 pub mod StandingTable
+mod StreamRows
 mod TimerRows
 pub mod UplinkMessages
 pub mod UplinkPlaces

@@ -8,14 +8,12 @@ use lib.ListN.{get_elem?}
 use Rattle.atomic_table.proofs.Lists.{at_set}
 use Rattle.controller_worker.specs.declared.mark.Mark.{Mark}
 use Rattle.controller_worker.specs.declared.limits.TheConstants.{MAX_REFUSALS, TICK_MS}
-use Rattle.controller_worker.specs.Advancing.{Carries, Ends, Finishes, Fits, Advances, Extends, AdvancesPartly, IsSettled, PutsEnd, State, mark_at}
-use Rattle.controller_worker.specs.Links.{AreSent, is_given_up, lines}
-use Rattle.controller_worker.specs.Steps.{frames_to, items_of, over, whats_of}
+use Rattle.controller_worker.specs.Advancing.{Ends, Finishes, Fits, Advances, Extends, AdvancesPartly, IsSettled, PutsEnd, State, mark_at}
+use Rattle.controller_worker.specs.Links.{is_given_up, lines}
+use Rattle.controller_worker.specs.Moves.{IsSent, Part, parts_of, taken_of}
 use Rattle.controller_worker.specs.Taking.{HasTaken}
 use Rattle.controller_worker.proofs.Courses.{on_both, on_still}
-use Rattle.ipa_framing.specs.declared.frame.Frame.{Frame}
 use Rattle.ruled_relay.specs.declared.item.Item.{Item}
-use Rattle.ruled_relay.specs.declared.item.What.{What}
 use Rattle.ruled_relay.specs.declared.outbox.Line.TheVariants as marks
 use Rattle.ruled_relay.specs.Outbox.{PutterView}
 use Rattle.ruled_relay.proofs.Places.{length_set}
@@ -29,57 +27,39 @@ ends_both a b c f g = record {
   count = g.count ∙ f.count;
   links = λ link r here.
       let later = g.links link r here in
-      let before = f.links link later.0 later.1 in (before.0, before.1, on_both a b c link [] [] [] [] [] [] before.0 later.0 r before.2 later.2);
+      let before = f.links link later.0 later.1 in (before.0, before.1, on_both a b c link [] [] before.0 later.0 r before.2 later.2);
   settled = λ h. g.settled (f.settled h);
 }
 
-on_ends : (a b c : State) (link : ℕ) (fs : List Frame) (ss ts : List What) (p q r : PutterView) → Extends a b link fs ss ts p q → Extends b c link [] [] [] q r → Extends a c link fs ss ts p r
-on_ends a b c link fs ss ts p q r f g =
-    let R : List Frame → List What → List What → Type 0 = λ x y z. Extends a c link x y z p r in
-    subst (λ x. R x ss ts) (append-nil fs)
-    (subst (λ y. R (fs ++ []) y ts) (append-nil ss)
-    (subst (λ z. R (fs ++ []) (ss ++ []) z) (append-nil ts) (on_both a b c link fs [] ss [] ts [] p q r f g)))
+on_ends : (a b c : State) (link : ℕ) (parts : List Part) (p q r : PutterView) → Extends a b link parts p q → Extends b c link [] q r → Extends a c link parts p r
+on_ends a b c link parts p q r f g = subst (λ ps. Extends a c link ps p r) (append-nil parts) (on_both a b c link parts [] p q r f g)
 
 pub goes_ends : (last : List Item) (a b c : State) → Advances last a b → Ends b c → Advances last a c
 goes_ends last a b c f g = record {
-  steps = f.steps;
+  moves = f.moves;
   controller = ap (λ s. s.controller) g.kept ∙ f.controller;
-  items = f.items;
-  desk = subst (λ d. HasTaken a.desk (f.items ++ last) d) (sym (ap (λ s. s.desk) g.kept)) f.desk;
+  desk = subst (λ d. HasTaken a.desk (taken_of f.moves ++ last) d) (sym (ap (λ s. s.desk) g.kept)) f.desk;
   time = let t = ap (λ s. s.told) g.kept in let u = ap (λ s. s.gathered) g.kept in let v = f.time in omega arith;
   count = g.count ∙ f.count;
+  of_links = f.of_links;
   down = λ link h. ap (λ s. (mark_at s.marks link).down) g.kept ∙ f.down link h;
   links = λ link r here.
       let later = g.links link r here in
-      let before = f.links link later.0 later.1 in (
-        before.0,
-        before.1,
-        on_ends a b c link (frames_to link (over a.controller f.steps).outs) (whats_of link (items_of f.steps)) (whats_of link f.items) before.0 later.0 r before.2 later.2,
-      );
+      let before = f.links link later.0 later.1 in
+      (before.0, before.1, on_ends a b c link (parts_of link a.controller f.moves) before.0 later.0 r before.2 later.2);
 }
 
 pub ends_part : (a b c : State) → AdvancesPartly a b → Ends b c → AdvancesPartly a c
 ends_part a b c f g = (f.0, f.1, goes_ends f.0 a b c f.2 g)
 
 -- one outbox gets its mark
-marked : (p q : PutterView) (fs : List Frame) → PutsEnd p true q → Carries false p fs → Carries true q fs
-marked p q fs puts c = record {
-  sent = c.sent;
-  put = puts.2 ∙ ap (λ ls. ls ++ marks.End ∷ []) (c.put ∙ append-nil (lines c.sent));
-  first = subst (λ b. AreSent b fs c.sent) (sym (ap (λ n. nat_le MAX_REFUSALS n) puts.1)) c.first;
-}
-
-fits_marked : (p q : PutterView) (m : Mark) (fs : List Frame) (ss ts : List What) → PutsEnd p true q → Fits false p m fs ss ts → Fits true q m (fs ++ []) (ss ++ []) (ts ++ [])
-fits_marked p q m fs ss ts puts f =
-    let R : List Frame → List What → List What → Type 0 = λ x y z. Fits true q m x y z in
-    subst (λ x. R x (ss ++ []) (ts ++ [])) (sym (append-nil fs))
-    (subst (λ y. R fs y (ts ++ [])) (sym (append-nil ss))
-    (subst (λ z. R fs ss z) (sym (append-nil ts)) (record {
-      carries = marked p q fs puts f.carries;
-      items = f.items;
-      given_up = λ h. ap (λ n. nat_le MAX_REFUSALS n) puts.1 ∙ f.given_up h;
-      down = f.down;
-    })))
+fits_marked : (p q : PutterView) (m : Mark) (link : ℕ) (past : List Part) → PutsEnd p true q → Fits false p m link past → Fits true q m link (past ++ [])
+fits_marked p q m link past puts f = subst (λ ps. Fits true q m link ps) (sym (append-nil past)) (record {
+  sent = f.sent;
+  put = puts.2 ∙ ap (λ ls. ls ++ marks.End ∷ []) (f.put ∙ append-nil (lines f.sent));
+  which = subst (λ b. IsSent b m.added link past f.sent) (sym (ap (λ n. nat_le MAX_REFUSALS n) puts.1)) f.which;
+  down = f.down;
+})
 
 pub ends_one : (old : State) (at : ℕ) (p q : PutterView) → at ≡ old.ended → get_elem? old.putters at ≡ some p → PutsEnd p true q
     → Ends old (record old { putters = set old.putters at q; ended = at + 1 })
@@ -96,10 +76,10 @@ ends_one old at p q is here puts =
             subst (λ i. get_elem? old.putters i ≡ some p) (sym h.0) here,
             record {
               queue = ap (λ y. y.queue) (sym h.1) ∙ puts.0;
-              fits = λ fs ss ts f.
-                  subst (λ b. Fits b r (mark_at old.marks link) (fs ++ []) (ss ++ []) (ts ++ [])) (sym now)
-                  (subst (λ y. Fits true y (mark_at old.marks link) (fs ++ []) (ss ++ []) (ts ++ [])) h.1
-                  (fits_marked p q (mark_at old.marks link) fs ss ts puts (subst (λ b. Fits b p (mark_at old.marks link) fs ss ts) was f)));
+              fits = λ past f.
+                  subst (λ b. Fits b r (mark_at old.marks link) link (past ++ [])) (sym now)
+                  (subst (λ y. Fits true y (mark_at old.marks link) link (past ++ [])) h.1
+                  (fits_marked p q (mark_at old.marks link) link past puts (subst (λ b. Fits b p (mark_at old.marks link) link past) was f)));
             },
           ))
           (λ (h : (link ≢ at) × (get_elem? old.putters link ≡ some r)).
@@ -108,7 +88,7 @@ ends_one old at p q is here puts =
             h.1,
             let still = on_still old old link r refl refl in record {
               queue = refl;
-              fits = λ fs ss ts f. subst (λ b. Fits b r (mark_at old.marks link) (fs ++ []) (ss ++ []) (ts ++ [])) (sym same) (still.fits fs ss ts f);
+              fits = λ past f. subst (λ b. Fits b r (mark_at old.marks link) link (past ++ [])) (sym same) (still.fits past f);
             },
           ))
           (at_set old.putters at link q r there);

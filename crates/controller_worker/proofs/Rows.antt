@@ -3,7 +3,8 @@
 use Rattle.std.proofs.Common.{◌≡◌, ℕ, true, false, List, [], ◌∷◌, refl}
 use Rattle.atomic_table.specs.Seated.{TableId}
 use Rattle.controller_worker.specs.declared.limits.TheConstants.{TICK_MS}
-use Rattle.controller_worker.specs.Links.{AreSent, AreStepped, HasDown, is_given_up, lines}
+use Rattle.controller_worker.specs.Links.{HasDown, is_given_up, lines}
+use Rattle.controller_worker.specs.Moves.{IsSent, Move, Part, takes, ticks, adds, steps_of, taken_of}
 use Rattle.controller_worker.specs.Steps.{frames_to, items_of, ticked, whats_of}
 use Rattle.conn_messages.specs.declared.out.Out.{Out}
 use Rattle.controller_model.specs.declared.step.Step.{Step}
@@ -60,18 +61,54 @@ refused_too_seldom queue = refl
 refused_often : (queue : TableId) → is_given_up (refused queue 1000) ≡ true
 refused_often queue = refl
 
--- a Down was added between two items that were taken
-down_added : AreStepped true (whats.Frame (frame 10) ∷ whats.Down ∷ whats.Down ∷ []) (whats.Frame (frame 10) ∷ whats.Down ∷ [])
-down_added = (whats.Frame (frame 10) ∷ [], whats.Down ∷ [], refl, refl)
+-- ---- moves
 
-none_added : AreStepped false (whats.Frame (frame 10) ∷ []) (whats.Frame (frame 10) ∷ [])
-none_added = refl
+abbrev part : Move → List Frame → Part
+part move frames = record { move = move; frames = frames }
 
-first_sent : AreSent true (frame 10 ∷ frame 11 ∷ []) (frame 10 ∷ [])
-first_sent = (frame 11 ∷ [], refl)
+abbrev some_moves : List Move
+some_moves = takes (of_frame 1 10) ∷ ticks 250 ∷ adds 1 ∷ takes (of_down 1) ∷ []
 
-all_sent : AreSent false (frame 10 ∷ frame 11 ∷ []) (frame 10 ∷ frame 11 ∷ [])
-all_sent = refl
+steps_of_moves : steps_of some_moves ≡ Take (of_frame 1 10) ∷ Tick 250 ∷ Take (of_down 1) ∷ Take (of_down 1) ∷ []
+steps_of_moves = refl
+
+taken_of_moves : taken_of some_moves ≡ of_frame 1 10 ∷ of_down 1 ∷ []
+taken_of_moves = refl
+
+all_sent : IsSent false false 1 (part (takes (of_frame 1 10)) (frame 10 ∷ frame 11 ∷ []) ∷ part (ticks 250) (frame 12 ∷ []) ∷ []) (frame 10 ∷ frame 11 ∷ frame 12 ∷ [])
+all_sent = (refl, ((λ e. cc), ((λ e. cc), tt)))
+
+added_without_a_cause : IsSent false true 1 [] [] → ⊥
+added_without_a_cause bad = bad
+
+-- Two frames come of one step: the second is refused until links 1 and 2 are given up, and each
+-- `Down` is added. Link 2's own, which waited behind, is taken later.
+abbrev given_up_at_once : List Part
+given_up_at_once =
+    part (takes (of_frame 1 10)) (frame 10 ∷ frame 11 ∷ []) ∷ part (adds 1) [] ∷ part (adds 2) (frame 12 ∷ []) ∷ part (takes (of_down 2)) [] ∷ []
+
+down_is_next : IsSent true true 2 given_up_at_once (frame 10 ∷ [])
+down_is_next = (
+  part (takes (of_frame 1 10)) (frame 10 ∷ frame 11 ∷ []) ∷ part (adds 1) [] ∷ [],
+  part (adds 2) (frame 12 ∷ []),
+  part (takes (of_down 2)) [] ∷ [],
+  refl,
+  record {
+    earlier = [];
+    last = part (takes (of_frame 1 10)) (frame 10 ∷ frame 11 ∷ []);
+    downs = part (adds 1) [] ∷ [];
+    whole = refl;
+    added = ((1, refl), tt);
+    first = frame 10 ∷ [];
+    refused = frame 11;
+    rest = [];
+    frames = refl;
+    before = refl;
+  },
+  refl,
+  ((λ e. cc), ((λ e. cc), tt)),
+  ((λ e. cc), tt),
+)
 
 down_taken : HasDown (whats.Frame (frame 10) ∷ whats.Down ∷ whats.Frame (frame 11) ∷ [])
 down_taken = (whats.Frame (frame 10) ∷ [], whats.Frame (frame 11) ∷ [], refl)

@@ -8,18 +8,19 @@ use lib.ListN.{get_elem?}
 use Rattle.controller_worker.specs.declared.mark.Mark.{Mark}
 use Rattle.controller_worker.specs.Call.{AreNew, IsNew, Parts, Runs, Serves}
 use Rattle.controller_worker.specs.Advancing.{Ends, Finishes, Fits, Advances, Extends, AdvancesPartly, IsSettled, State, ended_of, mark_at, unmarked}
-use Rattle.controller_worker.specs.Links.{AreSent, is_given_up}
-use Rattle.controller_worker.specs.Steps.{frames_to, items_of, over, whats_of}
+use Rattle.controller_worker.specs.Links.{HasDown, is_given_up}
+use Rattle.controller_worker.specs.Moves.{IsSent, Move, Part, parts_of, taken_of}
+use Rattle.controller_worker.specs.Steps.{whats_of}
+use Rattle.controller_worker.proofs.Histories.{moves_of_parts}
 use Rattle.controller_worker.proofs.Marking.{ends_part, settled_by}
-use Rattle.controller_model.specs.declared.step.Step.{Step}
 use Rattle.ipa_framing.specs.declared.frame.Frame.{Frame}
 use Rattle.link_workers.specs.declared.fault.IoFault.{IoFault}
 use Rattle.ruled_relay.specs.declared.item.Item.{Item}
 use Rattle.ruled_relay.specs.Outbox.{PutterView}
 use Rattle.ruled_relay.proofs.Places.{within}
 
-abbrev pub parts_of : State → Parts
-parts_of s = record { controller = s.controller; desk = s.desk; putters = s.putters; told = s.told }
+abbrev pub parts_given : State → Parts
+parts_given s = record { controller = s.controller; desk = s.desk; putters = s.putters; told = s.told }
 
 -- ---- the beginning
 
@@ -31,11 +32,11 @@ mark_of_new (suc n) (suc link) = mark_of_new n link
 pub settled_new : (s : State) → AreNew s.putters → IsSettled s
 settled_new s new link p here up = absurd (settled_by p (new link p here).2 up)
 
-fits_new : (p : PutterView) → IsNew p → Fits false p unmarked [] [] []
-fits_new p new = record {
-  carries = record { sent = []; put = new.0; first = subst (λ b. AreSent b [] []) (sym (ap (λ n. nat_le 1000 n) new.2)) refl };
-  items = refl;
-  given_up = λ h. absurd (false≢true h);
+fits_new : (link : ℕ) (p : PutterView) → IsNew p → Fits false p unmarked link []
+fits_new link p new = record {
+  sent = [];
+  put = new.0;
+  which = subst (λ b. IsSent b false link [] []) (sym (ap (λ n. nat_le 1000 n) new.2)) (refl, tt);
   down = λ h. absurd (false≢true h);
 }
 
@@ -46,37 +47,41 @@ same_bool true b f g = sym (f refl)
 same_bool false true f g = g refl
 same_bool false false f g = refl
 
-serves : (fault : Option IoFault) (old new : State) (link : ℕ) (steps : List Step) (frames : List Frame) (items : List Item) (p q : PutterView)
+-- a Down was added only where the outbox was given up
+up_where_added : (given_up added : Bool) (link : ℕ) (parts : List Part) (sent : List Frame) → IsSent given_up added link parts sent → added ≡ true → given_up ≡ true
+up_where_added true added link parts sent f h = refl
+up_where_added false true link parts sent f h = absurd f
+up_where_added false false link parts sent f h = absurd (false≢true h)
+
+serves : (fault : Option IoFault) (old new : State) (link : ℕ) (moves : List Move) (p q : PutterView)
     → IsNew p → mark_at old.marks link ≡ unmarked → old.ended ≡ 0 → get_elem? new.putters link ≡ some q → new.ended ≡ length new.putters
-    → (fault ≡ None → Finishes new) → Extends old new link frames (whats_of link (items_of steps)) (whats_of link items) p q
-    → Serves fault steps frames items link p q
-serves fault old new link steps frames items p q is_new none unended here ended finishes goes =
+    → (fault ≡ None → Finishes new) → Extends old new link (parts_of link old.controller moves) p q
+    → Serves fault old.controller moves link p q
+serves fault old new link moves p q is_new none unended here ended finishes goes =
+    let parts : List Part = parts_of link old.controller moves in
     let room : link < length new.putters = within new.putters link q here in
     let no : nat_lt link 0 ≡ false = grind (arith, nat_tests) in
-    let before : Fits (ended_of old link) p (mark_at old.marks link) [] [] [] =
-    subst (λ (n : ℕ). Fits (nat_lt link n) p (mark_at old.marks link) [] [] []) (sym unended)
-    (subst (λ m. Fits (nat_lt link 0) p m [] [] []) (sym none) (subst (λ b. Fits b p unmarked [] [] []) (sym no) (fits_new p is_new))) in
-    let f = goes.fits [] [] [] before in
+    let before : Fits (ended_of old link) p (mark_at old.marks link) link [] =
+    subst (λ (n : ℕ). Fits (nat_lt link n) p (mark_at old.marks link) link []) (sym unended)
+    (subst (λ m. Fits (nat_lt link 0) p m link []) (sym none) (subst (λ b. Fits b p unmarked link []) (sym no) (fits_new link p is_new))) in
+    let f = goes.fits [] before in
     let m : Mark = mark_at new.marks link in
     let all : ended_of new link ≡ true = grind (arith, nat_tests) in
-    let c = subst (λ b. Fits b q m frames (whats_of link (items_of steps)) (whats_of link items)) all f in record {
+    let c = subst (λ b. Fits b q m link parts) all f in record {
       queue = goes.queue;
-      sent = c.carries.sent;
-      put = c.carries.put;
-      first = c.carries.first;
+      sent = c.sent;
+      put = c.put;
       added = m.added;
-      stepped = c.items;
-      given_up = c.given_up;
-      whole = λ no. same_bool m.added (is_given_up q) c.given_up ((finishes no).settled link q here);
-      down = λ no. c.down ((finishes no).down link room);
+      which = c.which;
+      whole = λ no. same_bool m.added (is_given_up q) (up_where_added (is_given_up q) m.added link parts c.sent c.which) ((finishes no).settled link q here);
+      down = λ no. subst (λ ms. HasDown (whats_of link (taken_of ms))) (moves_of_parts link old.controller moves) (c.down ((finishes no).down link room));
     }
 
 pub runs : (fault : Option IoFault) (last : List Item) (old new : State) (n : ℕ) → AreNew old.putters → old.marks ≡ replicate n unmarked → old.ended ≡ 0 → old.gathered ≡ 0 → Advances last old new
-    → new.ended ≡ length new.putters → length last ≤ 1 → (fault ≡ None → last ≡ []) → (fault ≡ None → Finishes new) → Runs fault (parts_of old) (parts_of new)
+    → new.ended ≡ length new.putters → length last ≤ 1 → (fault ≡ None → last ≡ []) → (fault ≡ None → Finishes new) → Runs fault (parts_given old) (parts_given new)
 runs fault last old new n fresh none unended start goes ended one no_last finishes = record {
-  steps = goes.steps;
+  moves = goes.moves;
   controller = goes.controller;
-  items = goes.items;
   last = last;
   desk = goes.desk;
   one = one;
@@ -85,16 +90,17 @@ runs fault last old new n fresh none unended start goes ended one no_last finish
   told = let t = goes.time in omega arith;
   tick = λ no. (finishes no).gathered;
   count = goes.count;
+  of_links = goes.of_links;
   links = λ link q here.
       let p = goes.links link q here in (
         p.0,
         p.1,
-        serves fault old new link goes.steps (frames_to link (over old.controller goes.steps).outs) goes.items p.0 q (fresh link p.0 p.1) (ap (λ ms. mark_at ms link) none ∙ mark_of_new n link) unended here ended finishes p.2,
+        serves fault old new link goes.moves p.0 q (fresh link p.0 p.1) (ap (λ ms. mark_at ms link) none ∙ mark_of_new n link) unended here ended finishes p.2,
       );
 }
 
 pub runs_whole : (old new : State) (n : ℕ) → AreNew old.putters → old.marks ≡ replicate n unmarked → old.ended ≡ 0 → old.gathered ≡ 0 → Advances [] old new → Finishes new → new.ended ≡ length new.putters
-    → Runs None (parts_of old) (parts_of new)
+    → Runs None (parts_given old) (parts_given new)
 runs_whole old new n fresh none unended start goes finishes ended =
     runs None [] old new n fresh none unended start goes ended (omega arith) (λ no. refl) (λ no. finishes)
 
@@ -102,7 +108,7 @@ no_fault : (fault : IoFault) → Some fault ≡ None → ⊥
 no_fault fault e = cc
 
 pub runs_part : (fault : IoFault) (old mid new : State) (n : ℕ) → AreNew old.putters → old.marks ≡ replicate n unmarked → old.ended ≡ 0 → old.gathered ≡ 0 → AdvancesPartly old mid → Ends mid new
-    → new.ended ≡ length new.putters → Runs (Some fault) (parts_of old) (parts_of new)
+    → new.ended ≡ length new.putters → Runs (Some fault) (parts_given old) (parts_given new)
 runs_part fault old mid new n fresh none unended start goes ends ended =
     let p = ends_part old mid new goes ends in
     runs (Some fault) p.0 old new n fresh none unended start p.2 ended p.1 (λ no. absurd (no_fault fault no)) (λ no. absurd (no_fault fault no))

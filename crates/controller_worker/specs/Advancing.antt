@@ -8,8 +8,10 @@ use mathlib.Core.Option.{some}
 use lib.ListN.{get_elem?}
 use Rattle.controller_worker.specs.declared.limits.TheConstants.{TICK_MS}
 use Rattle.controller_worker.specs.declared.mark.Mark.{Mark}
-use Rattle.controller_worker.specs.Links.{AreSent, AreStepped, HasDown, is_given_up, lines}
-use Rattle.controller_worker.specs.Steps.{frames_to, items_of, over, ticked, whats_of}
+use Rattle.controller_worker.specs.Links.{HasDown, is_given_up, lines}
+use Rattle.controller_worker.specs.Moves.{IsSent, Move, Part, parts_of, steps_of, taken_in}
+use Rattle.controller_worker.specs.Moves.{taken_of}
+use Rattle.controller_worker.specs.Steps.{AreOfLinks, frames_to, over, ticked}
 use Rattle.controller_worker.specs.Taking.{HasTaken}
 use Rattle.conn_messages.specs.declared.out.Out.{Out}
 use Rattle.controller_model.specs.declared.step.Step.{Step}
@@ -30,28 +32,28 @@ abbrev pub end_mark : Bool → List Line
 end_mark false = []
 end_mark true = marks.End ∷ []
 
--- what was put of these frames: all, or the first of them; and then End, where that was put
-pub record Carries (ended : Bool) (p : PutterView) (frames : List Frame) : Type 0 where
-  pub sent : List Frame
-  pub put : p.put ≡ lines sent ++ end_mark ended
-  pub first : AreSent (is_given_up p) frames sent
+-- What was sent of these frames, by whether the outbox was given up before and is now: all, those
+-- before the one that was refused so often, or none.
+abbrev pub AreSent : Bool → Bool → List Frame → List Frame → Type 0
+AreSent false false frames sent = sent ≡ frames
+AreSent false true frames sent =
+    (refused : Frame) × (rest : List Frame) × (frames ≡ sent ++ refused ∷ rest)
+AreSent true true frames sent = sent ≡ []
+AreSent true false frames sent = ⊥
 
--- to all that was carried, these frames are added
-pub record Sends (ended : Bool) (old : PutterView) (frames : List Frame)
-    (new : PutterView) : Type 0 where
+-- these frames came to the outbox
+pub record Sends (old : PutterView) (frames : List Frame) (new : PutterView) : Type 0 where
   pub queue : new.queue ≡ old.queue
-  pub stays : is_given_up old ≡ true → is_given_up new ≡ true
-  pub carries : (past : List Frame) → Carries ended old past → Carries ended new (past ++ frames)
+  pub sent : List Frame
+  pub put : new.put ≡ old.put ++ lines sent
+  pub which : AreSent (is_given_up old) (is_given_up new) frames sent
 
--- each output was added to what its link's outbox carries
-pub record SendsAll (ended : ℕ → Bool) (old : List PutterView) (outs : List Out)
+-- each output came to its link's outbox
+pub record SendsAll (old : List PutterView) (outs : List Out)
     (new : List PutterView) : Type 0 where
   pub count : length new ≡ length old
   pub each : EachAt new (λ link p. (before : PutterView) × (get_elem? old link ≡ some before)
-      × Sends (ended link) before (frames_to link outs) p)
-
-abbrev pub not_ended : ℕ → Bool
-not_ended link = false
+      × Sends before (frames_to link outs) p)
 
 -- ---- the whole
 
@@ -83,13 +85,13 @@ abbrev pub with_added : ℕ → List Mark → List Mark
 with_added source ms =
     slice_set ms source (record { added = true; down = (mark_at ms source).down })
 
--- one link over all that came and went
-pub record Fits (ended : Bool) (p : PutterView) (m : Mark) (frames : List Frame)
-    (stepped taken : List What) : Type 0 where
-  pub carries : Carries ended p frames
-  pub items : AreStepped m.added stepped taken
-  pub given_up : m.added ≡ true → is_given_up p ≡ true
-  pub down : m.down ≡ true → HasDown taken
+-- one link over all moves so far
+pub record Fits (ended : Bool) (p : PutterView) (m : Mark) (link : ℕ)
+    (parts : List Part) : Type 0 where
+  pub sent : List Frame
+  pub put : p.put ≡ lines sent ++ end_mark ended
+  pub which : IsSent (is_given_up p) m.added link parts sent
+  pub down : m.down ≡ true → HasDown (taken_in link parts)
 
 -- which outboxes have the mark behind their last frame
 abbrev pub ended_of : State → ℕ → Bool
@@ -97,35 +99,34 @@ ended_of s link = nat_lt link s.ended
 
 -- ---- what calls do
 
--- a step was done, and what it puts was sent
+-- a step was done, and what it puts was sent; that is nothing once an outbox has its mark
 pub record DoesStep (s : Step) (old new : State) : Type 0 where
   pub controller : new.controller ≡ (words.step old.controller s).next
-  pub sent : SendsAll (ended_of old) old.putters (words.step old.controller s).outs new.putters
+  pub sent : SendsAll old.putters (words.step old.controller s).outs new.putters
+  pub quiet : 0 < old.ended → (words.step old.controller s).outs ≡ []
   pub kept : new ≡ record old { controller = new.controller; putters = new.putters }
 
 -- what fitted before fits with this behind it
-pub record Extends (old new : State) (link : ℕ) (frames : List Frame) (stepped taken : List What)
+pub record Extends (old new : State) (link : ℕ) (parts : List Part)
     (before after : PutterView) : Type 0 where
   pub queue : after.queue ≡ before.queue
-  pub fits : (fs : List Frame) (ss ts : List What)
-      → Fits (ended_of old link) before (mark_at old.marks link) fs ss ts
-      → Fits (ended_of new link) after (mark_at new.marks link)
-      (fs ++ frames) (ss ++ stepped) (ts ++ taken)
+  pub fits : (past : List Part)
+      → Fits (ended_of old link) before (mark_at old.marks link) link past
+      → Fits (ended_of new link) after (mark_at new.marks link) link (past ++ parts)
 
 -- from one state to a later one, where the last items taken are not in the steps
 pub record Advances (last : List Item) (old new : State) : Type 0 where
-  pub steps : List Step
-  pub controller : new.controller ≡ (over old.controller steps).next
-  pub items : List Item
-  pub desk : HasTaken old.desk (items ++ last) new.desk
-  pub time : new.told + old.gathered ≡ old.told + ticked steps + new.gathered
+  pub moves : List Move
+  pub controller : new.controller ≡ (over old.controller (steps_of moves)).next
+  pub desk : HasTaken old.desk (taken_of moves ++ last) new.desk
+  pub time : new.told + old.gathered ≡ old.told + ticked (steps_of moves) + new.gathered
   pub count : length new.putters ≡ length old.putters
+  pub of_links : AreOfLinks (length old.putters) (steps_of moves)
   pub down : (link : ℕ)
       → (mark_at old.marks link).down ≡ true → (mark_at new.marks link).down ≡ true
   pub links : EachAt new.putters (λ link p.
       (before : PutterView) × (get_elem? old.putters link ≡ some before)
-      × Extends old new link (frames_to link (over old.controller steps).outs)
-      (whats_of link (items_of steps)) (whats_of link items) before p)
+      × Extends old new link (parts_of link old.controller moves) before p)
 
 -- the same up to a step that ran out of memory
 abbrev pub AdvancesPartly : State → State → Type 0
@@ -174,7 +175,7 @@ pub record Ends (old new : State) : Type 0 where
   pub count : length new.putters ≡ length old.putters
   pub links : EachAt new.putters (λ link p.
       (before : PutterView) × (get_elem? old.putters link ≡ some before)
-      × Extends old new link [] [] [] before p)
+      × Extends old new link [] before p)
   pub settled : IsSettled old → IsSettled new
 
 -- the mark was put behind all that was put, or refused

@@ -9,8 +9,9 @@ use Rattle.controller_worker.specs.declared.call.HasRelayed.{HasRelayed}
 use Rattle.controller_worker.specs.declared.limits.TheConstants.{TICK_MS}
 use Rattle.controller_worker.specs.declared.mark.Marks.{Marks}
 use Rattle.controller_worker.specs.Advancing.{unmarked}
-use Rattle.controller_worker.specs.Links.{AreSent, AreStepped, HasDown, is_given_up, lines}
-use Rattle.controller_worker.specs.Steps.{frames_to, items_of, over, ticked, whats_of}
+use Rattle.controller_worker.specs.Links.{HasDown, is_given_up, lines}
+use Rattle.controller_worker.specs.Moves.{IsSent, Move, parts_of, steps_of, taken_of}
+use Rattle.controller_worker.specs.Steps.{AreOfLinks, over, ticked, whats_of}
 use Rattle.controller_worker.specs.Taking.{HasTaken}
 use Rattle.controller_model.specs.declared.step.Step.{Step}
 use Rattle.controller_model.specs.Controller.{Controller}
@@ -33,21 +34,17 @@ AreNew putters = EachAt putters (λ link p. IsNew p)
 abbrev pub AreUnmarked : ℕ → Marks → Type 0
 AreUnmarked links marks = marks.of_links.items ≡ replicate links unmarked
 
--- One link over these steps and these items taken. What goes to it was put, then End; where its
--- outbox was given up, the first of that, then End. Its items in the steps are what was taken of
--- it, with one more Down where that was added: only where its outbox was given up, and without a
--- fault just there. Without a fault a Down of it was taken.
-pub record Serves (fault : Option IoFault) (steps : List Step) (frames : List Frame)
-    (items : List Item) (link : ℕ) (old new : PutterView) : Type 0 where
+-- One link over these moves. What was sent to it was put, then End. Its Down was added only where
+-- its outbox was given up, and without a fault just there. Without a fault a Down of it was taken.
+pub record Serves (fault : Option IoFault) (start : Controller) (moves : List Move) (link : ℕ)
+    (old new : PutterView) : Type 0 where
   pub queue : new.queue ≡ old.queue
   pub sent : List Frame
   pub put : new.put ≡ lines sent ++ marks.End ∷ []
-  pub first : AreSent (is_given_up new) frames sent
   pub added : Bool
-  pub stepped : AreStepped added (whats_of link (items_of steps)) (whats_of link items)
-  pub given_up : added ≡ true → is_given_up new ≡ true
+  pub which : IsSent (is_given_up new) added link (parts_of link start moves) sent
   pub whole : fault ≡ None → added ≡ is_given_up new
-  pub down : fault ≡ None → HasDown (whats_of link items)
+  pub down : fault ≡ None → HasDown (whats_of link (taken_of moves))
 
 -- what the call worker is given, and gives back
 pub record Parts : Type 0 where
@@ -66,24 +63,25 @@ relayed_parts told r = record {
   told = told r.clock;
 }
 
--- A run of the call worker, which ended with this fault or with none. The items of the steps are
--- those that were taken, but for one at most, the last, whose step ran out of memory. The ticks are
--- what the clock answered; less than a tick is left without a fault.
+-- A run of the call worker, which ended with this fault or with none. The items of the moves are
+-- those that were taken, but for one at most, the last, whose step ran out of memory. The item of
+-- each step is of a link. The ticks are what the clock answered; less than a tick is left without a
+-- fault.
 pub record Runs (fault : Option IoFault) (old new : Parts) : Type 0 where
-  pub steps : List Step
-  pub controller : new.controller ≡ (over old.controller steps).next
-  pub items : List Item
+  pub moves : List Move
+  pub controller : new.controller ≡ (over old.controller (steps_of moves)).next
   pub last : List Item
-  pub desk : HasTaken old.desk (items ++ last) new.desk
+  pub desk : HasTaken old.desk (taken_of moves ++ last) new.desk
   pub one : length last ≤ 1
   pub none : fault ≡ None → last ≡ []
   pub gathered : ℕ
-  pub told : new.told ≡ old.told + ticked steps + gathered
+  pub told : new.told ≡ old.told + ticked (steps_of moves) + gathered
   pub tick : fault ≡ None → gathered < TICK_MS
   pub count : length new.putters ≡ length old.putters
+  pub of_links : AreOfLinks (length old.putters) (steps_of moves)
   pub links : EachAt new.putters (λ link p.
       (before : PutterView) × (get_elem? old.putters link ≡ some before)
-      × Serves fault steps (frames_to link (over old.controller steps).outs) items link before p)
+      × Serves fault old.controller moves link before p)
 
 abbrev pub IsMemory : Option IoFault → Type 0
 IsMemory None = Unit {0}

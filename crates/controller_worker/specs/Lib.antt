@@ -2,6 +2,7 @@
 pub mod Call
 pub mod Advancing
 pub mod Links
+pub mod Moves
 pub mod Seen
 pub mod Steps
 pub mod Taking

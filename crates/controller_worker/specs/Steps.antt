@@ -1,7 +1,7 @@
 -- SPDX-License-Identifier: MIT OR Apache-2.0
 -- Of a list of steps: what each source gave, how much time passed, and what goes to each link.
-use Rattle.std.specs.Prelude.{ℕ, ◌+◌, ◌==◌, List, [], ◌∷◌, map}
-use Rattle.std.specs.List.{filter}
+use Rattle.std.specs.Prelude.{ℕ, ◌+◌, ◌<◌, ◌==◌, List, [], ◌∷◌, map}
+use Rattle.std.specs.List.{AllByRecursion, filter}
 use Rattle.conn_messages.specs.declared.out.Out.{Out}
 use Rattle.controller_model.specs.declared.step.Step.{Step}
 use Rattle.controller_model.specs.declared.step.Step.TheVariants.{Take, Tick}
@@ -15,6 +15,10 @@ abbrev pub items_of : List Step → List Item
 items_of [] = []
 items_of (Take item ∷ steps) = item ∷ items_of steps
 items_of (Tick ms ∷ steps) = items_of steps
+
+-- each item is of one of so many links
+abbrev pub AreOfLinks : ℕ → List Step → Type 0
+AreOfLinks links steps = AllByRecursion (λ item. item.source < links) (items_of steps)
 
 -- in milliseconds
 abbrev pub ticked : List Step → ℕ

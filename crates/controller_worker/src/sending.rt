@@ -1,7 +1,7 @@
 // SPDX-License-Identifier: MIT OR Apache-2.0
 //! The outputs of a step, into the outboxes of their links.
-ghost use Rattle.std.specs.Prelude.{◌≡◌, [], ◌∷◌, false};
-ghost use Rattle.controller_worker.specs.Advancing.{Sends, SendsAll, not_ended};
+ghost use Rattle.std.specs.Prelude.{◌≡◌, [], ◌∷◌};
+ghost use Rattle.controller_worker.specs.Advancing.{Sends, SendsAll};
 ghost use Rattle.controller_worker.specs.Links.{is_given_up as given_up};
 
 use crate::limits::MAX_REFUSALS;
@@ -13,7 +13,7 @@ use std::sync::Wait;
 
 /// Puts each output into its link's outbox, in order. What goes to no link is dropped.
 pub(crate) fn send_all<R: Wait>(rt: &R, putters: &mut Vec<Putter>, outs: Vec<Out>)
-    ensures { SendsAll not_ended putters.old.items outs.items putters.new.items }
+    ensures { SendsAll putters.old.items outs.items putters.new.items }
 {
     for out in outs {
         send_to(rt, putters, out);
@@ -21,7 +21,7 @@ pub(crate) fn send_all<R: Wait>(rt: &R, putters: &mut Vec<Putter>, outs: Vec<Out
 }
 
 fn send_to<R: Wait>(rt: &R, putters: &mut Vec<Putter>, out: Out)
-    ensures { SendsAll not_ended putters.old.items (out ∷ []) putters.new.items }
+    ensures { SendsAll putters.old.items (out ∷ []) putters.new.items }
 {
     if let Some(putter) = putters.get_mut(usize::from(out.to)) {
         send(rt, putter, out.frame);
@@ -30,7 +30,7 @@ fn send_to<R: Wait>(rt: &R, putters: &mut Vec<Putter>, out: Out)
 
 // A full outbox is tried again until it takes the frame or is given up, which it stays.
 fn send<R: Wait>(rt: &R, putter: &mut Putter, frame: Frame)
-    ensures { Sends false putter.old (frame ∷ []) putter.new }
+    ensures { Sends putter.old (frame ∷ []) putter.new }
 {
     let mut line = Line::Frame(frame);
     let mut pauses = Pauses::new();

@@ -6,7 +6,7 @@ ghost use Rattle.std.specs.Prelude.{IsTrue, MatchOption};
 ghost use Rattle.std.specs.Prelude.{OnOk, OnErr, vec_len};
 ghost use Rattle.controller_worker.specs.Advancing.{DoesStep, Advances, GoesOrStops, IsPending};
 ghost use Rattle.controller_worker.specs.Advancing.{IsSettled};
-ghost use Rattle.controller_worker.specs.Advancing.{SendsAll, IsValid, not_ended, noted, pends};
+ghost use Rattle.controller_worker.specs.Advancing.{SendsAll, IsValid, noted, pends};
 ghost use Rattle.controller_worker.specs.Advancing.{with_added};
 ghost use Rattle.controller_worker.specs.Seen.{seen};
 ghost use Rattle.ruled_relay.specs.declared.item.What.TheVariants as whats;
@@ -74,6 +74,7 @@ impl<K: Clock> CallWorker<K> {
     // Passes on as much of what has gathered as a tick can.
     fn tick<R: Wait>(&mut self, rt: &R) -> Result<(), Memory>
         requires stands { IsValid (seen K.told self.old) }
+        requires settled { IsSettled (seen K.told self.old) }
         ensures stands { IsValid (seen K.told self.new) }
         ensures goes { GoesOrStops result (seen K.told self.old) (seen K.told self.new) }
         ensures settled { OnOk result (IsSettled (seen K.told self.new)) }
@@ -180,8 +181,7 @@ impl<K: Clock> CallWorker<K> {
     }
 
     fn send<R: Wait>(&mut self, rt: &R, outputs: Outputs)
-        ensures sent { SendsAll not_ended self.old.putters.items outputs.outs
-            self.new.putters.items }
+        ensures sent { SendsAll self.old.putters.items outputs.outs self.new.putters.items }
         ensures same { seen K.told self.new
             ≡ record (seen K.told self.old) { putters = self.new.putters.items } }
     {

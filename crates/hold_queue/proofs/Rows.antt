@@ -4,6 +4,7 @@ use Rattle.std.proofs.Common.{◌≡◌, ℕ, Vec, List, [], ◌∷◌, ◌++◌
 use Rattle.std.specs.declared.alloc.Global.{Global}
 use Rattle.octets.proofs.Hex.{hex}
 use Rattle.dtap_codec.specs.declared.sapi.Sapi.TheVariants.{Zero, Three}
+use Rattle.hold_queue.specs.declared.chain.TheConstants.{TENURE_LIMIT}
 use Rattle.hold_queue.specs.declared.fault.HoldFault.TheVariants.{Full, Memory}
 use Rattle.hold_queue.specs.ChainState.{Tenure, ChainState, empty_tenure, new_chain, chain_count, messages_in, put_in, first_taken, first_cleared}
 use Rattle.hold_queue.specs.HoldState.{HoldState, new_hold, count, messages, with_messages}
@@ -75,6 +76,11 @@ memory_below_limit back same = (same, omega arith)
 
 no_memory_at_limit : (back : Vec ℕ Global) → HandsBack (limit_of 3) (hex "05 24") (Memory back) → ⊥
 no_memory_at_limit back memory = omega (arith, memory.1)
+
+-- ---- the channels of a connection at one time: three old ones and the one that serves
+
+tenures_at_most : TENURE_LIMIT ≡ 4
+tenures_at_most = refl
 
 -- ---- a chain of three tenures with six messages
 

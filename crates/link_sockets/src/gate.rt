@@ -6,7 +6,11 @@ use link_workers::Gate;
 pub struct OpenGate;
 
 impl Gate for OpenGate {
+    ghost use Rattle.std.specs.Prelude.{None};
+
     ghost refused = { λ _. 0 };
+
+    ghost passed = { λ _. None };
 
     fn pass(&mut self, _source: u16) -> bool {
         true

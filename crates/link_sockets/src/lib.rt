@@ -26,5 +26,7 @@ mod relaying;
 mod run;
 mod runtime;
 mod socket;
+mod stations;
 mod stopwatch;
 mod style;
+mod told_settings;

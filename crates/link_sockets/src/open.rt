@@ -10,6 +10,7 @@ use crate::line::log_line;
 use crate::name::LinkName;
 use crate::other_links::OtherLinks;
 use crate::socket::{ReadingEnd, WritingEnd, ends_of};
+use crate::stations::Stations;
 use log::{Level, Log};
 use settings::{Cell, Settings};
 use station_io::Link;
@@ -22,10 +23,12 @@ use std::time::{Clock, Duration};
 pub type SocketLink<R> = Link<ReadingEnd<R>, WritingEnd<R>, OpenGate>;
 
 /// The links of a relay that begins, and the listeners of its cells, on which nobody more is taken.
+/// Those of the stations end behind that of the switch by `stations`.
 #[derive(Drop)]
 pub struct OpenedLinks<R> {
     pub links: Vec<SocketLink<R>>,
     pub listeners: Vec<TcpListener>,
+    pub(crate) stations: Stations,
 }
 
 /// Opens the links of these settings, the switch's first, then one for each cell, in their order.
@@ -63,25 +66,33 @@ fn links_of<R: Log + Copy + Drop>(
         AreNamed (map (λ link. link.reader.name) opened.links.items)
         × AreNamed (map (λ link. link.writer.name) opened.links.items)) }
 {
-    let others = OtherLinks::new(alloc, ports.len() + 1, patience)?;
+    let others = OtherLinks::new(alloc, ports.len() + 1)?;
+    let mut stations = Stations::new(alloc, others.try_clone()?, patience);
     let mut links = Vec::new(alloc);
     let mut listeners = Vec::new(alloc);
     links.push(link_of(*rt, alloc, LinkName::Switch, switch, others.try_clone()?)?)?;
     for port in ports {
-        let (link, listener) = station_of(rt, alloc, links.len(), port, &others)?;
+        let others = others.try_clone()?;
+        let (link, listener) = station_of(rt, alloc, links.len(), port, others, &mut stations)?;
         links.push(link)?;
         listeners.push(listener)?;
     }
-    Ok(OpenedLinks { links, listeners })
+    Ok(OpenedLinks {
+        links,
+        listeners,
+        stations,
+    })
 }
 
 /// The link over the socket of the station of the cell with this number, and the cell's listener.
+/// The station is added to the others.
 fn station_of<R: Log + Copy + Drop>(
     rt: &R,
     alloc: Global,
     number: usize,
     port: Port,
-    others: &OtherLinks,
+    others: OtherLinks,
+    stations: &mut Stations,
 ) -> Result<(SocketLink<R>, TcpListener), RunFault>
     ensures { IfOk result (λ station.
         (place_of station.0.reader.name ≡ number) × (place_of station.0.writer.name ≡ number)) }
@@ -91,7 +102,8 @@ fn station_of<R: Log + Copy + Drop>(
         return Err(RunFault::Device);
     };
     let name = LinkName::of_link(number, arrived.peer);
-    let link = link_of(*rt, alloc, name, arrived.stream, others.try_clone()?)?;
+    stations.add(&arrived.stream)?;
+    let link = link_of(*rt, alloc, name, arrived.stream, others)?;
     Ok((link, listener))
 }
 

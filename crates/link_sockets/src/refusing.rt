@@ -1,11 +1,14 @@
 // SPDX-License-Identifier: MIT OR Apache-2.0
 // While a relay runs its ports stay open, so that no other program can take its stations, and
-// whoever connects there is shut out at once.
+// whoever connects there is shut out at once. The same thread sees to it that the stations' links
+// end behind that of the switch.
 
 use crate::arrivals::{Arrival, is_passing, refuse};
 use crate::fault::RunFault;
 use crate::readiness::{of_peers, wait_for_any};
+use crate::stations::Stations;
 use libc::net::{SHUT_RDWR, shutdown};
+use libc::types::pollfd;
 use log::Log;
 use std::alloc::Global;
 use std::net::TcpListener;
@@ -13,14 +16,13 @@ use std::os::fd::AsRawFd;
 use std::sync::Arc;
 use std::sync::atomic::{AtomicBool, Ordering};
 use std::thread::{self, JoinHandle, Threads};
+use std::time::Clock;
 
-/// For how many milliseconds the thread waits for a peer, before it looks whether it is to end.
-const LOOK: i32 = 1000;
-
-/// How often it looks, at most: more often than a relay runs.
+/// How often it is looked whether somebody came, at most: more often than a relay runs.
 const MOST_LOOKS: u64 = 1 << 40;
 
-/// The thread that shuts out whoever connects to a port of a relay that runs.
+/// The thread that shuts out whoever connects to a port of a relay that runs, and ends the links of
+/// the stations behind that of the switch.
 #[derive(Drop)]
 pub(crate) struct Doorkeeper {
     thread: JoinHandle<()>,
@@ -35,9 +37,10 @@ impl Doorkeeper {
         rt: R,
         alloc: Global,
         listeners: Vec<TcpListener>,
+        stations: Stations,
     ) -> Result<Doorkeeper, RunFault>
     where
-        R: Log + Threads + Copy + Send + Drop + 'static,
+        R: Log + Clock + Threads + Copy + Send + Drop + 'static,
     {
         let has_ended = Arc::new(alloc, AtomicBool::new(false))?;
         let asked = Arc::try_clone(&has_ended)?;
@@ -45,7 +48,8 @@ impl Doorkeeper {
             Some(listener) => Some(listener.try_clone()?),
             None => None,
         };
-        match thread::spawn(&rt, move || refuse_all(&rt, alloc, &listeners, &asked)) {
+        let doors = Doors::new(alloc, listeners)?;
+        match thread::spawn(&rt, move || keep(&rt, doors, stations, &asked)) {
             Ok(thread) => Ok(Doorkeeper {
                 thread,
                 has_ended,
@@ -65,35 +69,59 @@ impl Doorkeeper {
     }
 }
 
-/// Shuts out whoever connects, until the relay has ended.
-fn refuse_all<R: Log>(rt: &R, alloc: Global, listeners: &[TcpListener], has_ended: &AtomicBool) {
+/// Keeps doors and stations until the relay has ended.
+fn keep<R: Log + Clock>(rt: &R, mut doors: Doors, mut stations: Stations, has_ended: &AtomicBool) {
     for _ in 0..MOST_LOOKS {
-        if has_ended.load(Ordering::SeqCst) || !refuse_next(rt, alloc, listeners) {
+        if has_ended.load(Ordering::SeqCst) {
             return;
         }
+        let milliseconds = stations.end_behind_switch(rt);
+        doors.refuse_next(rt, milliseconds);
     }
 }
 
-/// Waits until somebody connects, and shuts out whoever has. Whether that can go on.
-fn refuse_next<R: Log>(rt: &R, alloc: Global, listeners: &[TcpListener]) -> bool {
-    let mut wishes = Vec::new(alloc);
-    for listener in listeners {
-        if wishes.push(of_peers(listener)).is_err() {
-            return false;
-        }
-    }
-    wait_for_any(&mut wishes, LOOK);
-    refuse_once(rt, listeners)
+/// The listeners of the cells, in their order, and the wish to hear of the next peer of each.
+#[derive(Drop)]
+struct Doors {
+    listeners: Vec<TcpListener>,
+    wishes: Vec<pollfd>,
+    /// Whether nobody could be taken at a port when it was last tried.
+    is_stuck: bool,
 }
 
-/// Shuts out one of those who have connected to each port. Whether that can go on.
-fn refuse_once<R: Log>(rt: &R, listeners: &[TcpListener]) -> bool {
-    for (place, listener) in listeners.iter().enumerate() {
-        match listener.accept() {
-            Ok((stream, peer)) => refuse(rt, place + 1, &Arrival { stream, peer }),
-            Err(error) if is_passing(&error) => {}
-            Err(_) => return false,
+impl Doors {
+    fn new(alloc: Global, listeners: Vec<TcpListener>) -> Result<Doors, RunFault> {
+        let mut wishes = Vec::new(alloc);
+        for listener in &listeners {
+            wishes.push(of_peers(listener))?;
+        }
+        Ok(Doors {
+            listeners,
+            wishes,
+            is_stuck: false,
+        })
+    }
+
+    /// Waits until somebody connects, for so many milliseconds at most, and shuts out whoever has.
+    /// Where nobody could be taken last, as without a free descriptor, only that time is waited.
+    fn refuse_next<R: Log>(&mut self, rt: &R, milliseconds: i32) {
+        if self.is_stuck {
+            wait_for_any(&mut [], milliseconds);
+            self.is_stuck = false;
+        } else if wait_for_any(&mut self.wishes, milliseconds) {
+            self.is_stuck = !self.refuse_once(rt);
         }
     }
-    true
+
+    /// Shuts out one of those who have connected to each port. Whether that could be done.
+    fn refuse_once<R: Log>(&self, rt: &R) -> bool {
+        for (place, listener) in self.listeners.iter().enumerate() {
+            match listener.accept() {
+                Ok((stream, peer)) => refuse(rt, place + 1, &Arrival { stream, peer }),
+                Err(error) if is_passing(&error) => {}
+                Err(_) => return false,
+            }
+        }
+        true
+    }
 }

@@ -4,8 +4,9 @@ use crate::line::log_line;
 use crate::run::run_links;
 use crate::runtime::RelayRuntime;
 use crate::style::{Style, StyledLines};
+use crate::told_settings::{told_settings, warn_of};
 use log::{Level, LevelFilter, Log, Logged};
-use program_base::{Failure, ProgramFault, read_settings, settings_text};
+use program_base::{Failure, ProgramFault};
 use std::env::{self, VarError};
 use std::net::{Net, TcpListener, TcpStream};
 use std::rt::Runtime;
@@ -26,7 +27,7 @@ const STYLE: &str = "BSC_LOG_STYLE";
 struct Unknown;
 
 /// Relays between the links of the settings in this file until all have ended, and gives the status
-/// that the program ends with.
+/// that the program ends with. What is wrong with the settings is told here.
 pub fn relay<R>(rt: &R, file: &str) -> Result<u8, ProgramFault>
 where
     R: Runtime
@@ -38,8 +39,10 @@ where
         + Send
         + 'static,
 {
-    let text = settings_text(rt, file)?;
-    let settings = read_settings(rt.alloc(), text.as_str())?;
+    let settings = match told_settings(rt, file) {
+        Ok(settings) => settings,
+        Err(status) => return Ok(status),
+    };
     let logged = logged(rt);
     let cells = settings.cells().len();
     log_line(
@@ -47,6 +50,7 @@ where
         Level::Info,
         format_args!("bsc {VERSION}: settings {file}, {cells} cells"),
     );
+    warn_of(&logged, &settings);
     match run_links(RelayRuntime::new(*rt, logged), rt.alloc(), settings) {
         Ok(()) => Ok(0),
         Err(RunFault::Memory) => Err(ProgramFault::Failed(Failure::Memory)),

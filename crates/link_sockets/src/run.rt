@@ -32,9 +32,13 @@ where
         + Send
         + 'static,
 {
-    let OpenedLinks { links, listeners } = open_links(&rt, alloc, &settings)?;
+    let OpenedLinks {
+        links,
+        listeners,
+        stations,
+    } = open_links(&rt, alloc, &settings)?;
     let controller = Controller::new(alloc, settings)?;
-    let doorkeeper = Doorkeeper::start(rt, alloc, listeners)?;
+    let doorkeeper = Doorkeeper::start(rt, alloc, listeners, stations)?;
     let clock = Stopwatch::new(rt);
     let served = serve_links(rt, alloc, controller, links, clock, REFUSALS);
     doorkeeper.end(&rt);

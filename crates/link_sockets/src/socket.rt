@@ -14,24 +14,29 @@ use std::io::{self, ErrorKind, Read, Write};
 use std::net::{Shutdown, TcpStream};
 use std::sync::Arc;
 use std::sync::atomic::{AtomicBool, Ordering};
-use std::time::{Clock, Duration};
+use std::time::Duration;
 
 /// For how many seconds a write may wait for a peer that takes nothing.
 const WRITE_TIMEOUT: u64 = 10;
 
-/// After how many milliseconds a station's reader looks up from its socket, to see whether the
-/// switch's link has ended.
-const READ_TIMEOUT: u64 = 500;
-
 /// What an operator has to know where the switch's link ends before those of the stations.
 const NO_CALLS: &str = ": no call can be set up until bsc is started again";
+
+/// Why nothing more is written to a peer from which more could come.
+const GIVEN_UP: &str = ": the outbox stayed full, or memory ran out";
+
+/// Why nothing more comes from a peer that has shut its side.
+const CLOSED: &str = "link closed";
+
+/// Why nothing more is read from a station some time behind the end of the switch's link.
+const BEHIND_SWITCH: &str = "shut: the switch's link has ended";
 
 /// The end of a link's socket that is read. It logs when nothing more comes. Where it is told that
 /// nothing more is read, it logs why and shuts the socket both ways, so that the peer sees it, and
 /// the writer of the same link ends too.
 ///
-/// A station's gives an interruption every half second in which nothing comes. Some time behind the
-/// end of the switch's link it shuts the socket for reading, and gives the end of the octets.
+/// Once the links of the stations are to end behind that of the switch, a station's gives the end of
+/// the octets, whatever still comes.
 #[derive(Drop)]
 pub struct ReadingEnd<R> {
     rt: R,
@@ -68,9 +73,6 @@ pub(crate) fn ends_of<R: Log + Copy>(
     ensures { IfOk result (λ ends. (ends.0.name ≡ name) × (ends.1.name ≡ name)) }
 {
     let other = other_of(&stream)?;
-    if let LinkName::Cell(..) = name {
-        stream.set_read_timeout(Some(Duration::from_millis(READ_TIMEOUT)))?;
-    }
     let (at_end, asked) = shared_flag(alloc)?;
     let reading = ReadingEnd {
         rt,
@@ -130,22 +132,18 @@ impl<R: Log> ReadingEnd<R> {
     }
 }
 
-impl<R: Log + Clock> Read for ReadingEnd<R> {
+impl<R: Log> Read for ReadingEnd<R> {
     fn read(&mut self, buffer: &mut [u8]) -> io::Result<usize> {
-        if self.others.is_over(&self.rt) {
-            self.at_end.store(true, Ordering::SeqCst);
-            let _ = self.stream.shutdown(Shutdown::Read);
-            self.end(Level::Info, "shut: the switch's link has ended");
-            return Ok(0);
-        }
-        let read = self.stream.read(buffer);
+        let read = if self.others.is_over() {
+            Ok(0)
+        } else {
+            self.stream.read(buffer)
+        };
         match &read {
             Ok(0) => {
                 self.at_end.store(true, Ordering::SeqCst);
-                self.end(Level::Info, "link closed");
-            }
-            Err(error) if error.kind() == ErrorKind::WouldBlock => {
-                return Err(io::Error::from(ErrorKind::Interrupted));
+                let is_over = self.others.is_over();
+                self.end(Level::Info, if is_over { BEHIND_SWITCH } else { CLOSED });
             }
             Err(error) if error.kind() != ErrorKind::Interrupted => {
                 self.at_end.store(true, Ordering::SeqCst);
@@ -161,7 +159,7 @@ impl<R: Log + Clock> Read for ReadingEnd<R> {
     }
 }
 
-impl<R: Log + Clock> LinkReader for ReadingEnd<R> {
+impl<R: Log> LinkReader for ReadingEnd<R> {
     ghost told = { λ end. end.broken };
 
     fn break_off(&mut self, fault: IoFault) {
@@ -200,15 +198,15 @@ impl<R: Log> Write for WritingEnd<R> {
 
     fn flush(&mut self) -> io::Result<()> {
         if !self.shut {
-            let level = if self.at_end.load(Ordering::SeqCst) {
-                Level::Info
+            let (level, why) = if self.at_end.load(Ordering::SeqCst) {
+                (Level::Info, "")
             } else {
-                Level::Warn
+                (Level::Warn, GIVEN_UP)
             };
             log_line(
                 &self.rt,
                 level,
-                format_args!("{}: shut: nothing more is written", self.name),
+                format_args!("{}: shut: nothing more is written{why}", self.name),
             );
             self.shut();
         }

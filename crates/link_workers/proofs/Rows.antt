@@ -19,6 +19,7 @@ use Rattle.link_workers.specs.declared.link_reads.LinkReads.{LinkReads}
 use Rattle.link_workers.specs.declared.unread.UnreadLink.TheVariants.{Endless, Refused}
 use Rattle.link_workers.specs.declared.writing.Wrote.TheVariants.{Octets}
 use Rattle.link_workers.specs.Faults.{fault_of_frame, fault_of_reply}
+use Rattle.link_workers.specs.Gates.{HasLet, LetsAll}
 use Rattle.link_workers.specs.Unread.{IsUnread, fault_for}
 use Rattle.link_workers.specs.Reading.{AsksGate, Ends, IsReported, Parts, Serves, after_letting, frames_text, given, having_put, shutting}
 use Rattle.link_workers.specs.Writing.{Delivers, IsWriterFault, WritesOnce, end_if, having_taken, lines}
@@ -43,6 +44,24 @@ given_of_two = refl
 
 a_frame_and_a_rest : Parts (hex "00 01 fe 00 00") (ping ∷ []) (0x00 ∷ [])
 a_frame_and_a_rest = record { whole = refl; each = (omega arith, tt) }
+
+-- a gate that counted 3 items has let 2 more through, and not 1
+two_more_let : HasLet (Some 3) (Some 5) 2
+two_more_let = refl
+
+one_more_let : HasLet (Some 3) (Some 4) 2 → ⊥
+one_more_let bad = omega (arith, bad)
+
+counts_no_more : HasLet (Some 3) None 2
+counts_no_more = tt
+
+-- a frame and `Down` were put, each let through
+each_let : (p : PassView) → LetsAll (Some ReadFailed) (Some 0) (Some 2) p (having_put p (GivenFrame ping ∷ Down ∷ []))
+each_let p = (GivenFrame ping ∷ Down ∷ [], refl, refl)
+
+-- the gate stayed shut at `Down`
+down_unasked : (p : PassView) → LetsAll (Some GateShut) (Some 0) (Some 1) p (having_put p (GivenFrame ping ∷ Down ∷ []))
+down_unasked p = (GivenFrame ping ∷ [], refl, refl)
 
 -- a device learns of every fault but a gate that stayed shut; of a link that came to its end it
 -- learns nothing that is said here

@@ -98,6 +98,13 @@ PutsGated limit refused now old what new (Ok _) =
 PutsGated limit refused now old what new (Err fault) =
     (new ≡ old) × (now ≡ refused + limit) × (fault ≡ GateShut)
 
+-- The gate was asked for `Down`, but not where it had stayed shut; one that stays shut now is the
+-- fault.
+abbrev pub AsksForDown : ℕ → ℕ → ℕ → Option IoFault → Option IoFault → Type 0
+AsksForDown limit refused now (Some GateShut) fault = (now ≡ refused) × (fault ≡ Some GateShut)
+AsksForDown limit refused now before fault =
+    ((now ≡ 0) × (fault ≡ before)) ⊎ ((now ≡ refused + limit) × (fault ≡ Some GateShut))
+
 -- `Down` was put, unasked where the gate had stayed shut; a gate that stays shut now is the fault.
 abbrev pub PutsDown : ℕ → ℕ → ℕ → PassView → PassView → Option IoFault
     → Option IoFault → Type 0

@@ -1,6 +1,7 @@
 // SPDX-License-Identifier: MIT OR Apache-2.0
 ghost use Rattle.std.specs.Prelude.{◌≡◌, ◌+◌, ◌∷◌, [], MatchResult};
 ghost use Rattle.link_workers.specs.declared.fault.IoFault.TheVariants.{GateShut};
+ghost use Rattle.link_workers.specs.Gates.{HasLet, LetsEach};
 ghost use Rattle.link_workers.specs.Reading.{PutsGated, having_put};
 
 use crate::pauses::Pauses;
@@ -20,6 +21,8 @@ const FEW_WAIT: usize = 128;
 pub(crate) struct GatedPass<G> {
     pub gate: G,
     pub pass: SourcePass,
+    /// The source that the gate is asked for.
+    pub source: u16,
     /// How many refusals in a row the gate is granted.
     pub limit: u32,
 }
@@ -31,6 +34,8 @@ impl<G: Gate> GatedPass<G> {
         ensures puts { PutsGated self.old.limit
             (G.refused self.old.gate) (G.refused self.new.gate)
             self.old.pass what self.new.pass result }
+        ensures each { LetsEach (G.passed self.old.gate) (G.passed self.new.gate)
+            self.old.pass self.new.pass }
         ensures same { self.new.limit ≡ self.old.limit }
     {
         self.ask(rt)?;
@@ -39,16 +44,19 @@ impl<G: Gate> GatedPass<G> {
     }
 
     /// Asks the gate until it lets the next item through, `limit` times at most.
+    #[tactic(auto, using(crate::proofs::Letting::let_more, crate::proofs::Letting::let_none, crate::proofs::Letting::let_one))]
     pub fn ask<R: Wait>(&mut self, rt: &R) -> Result<(), IoFault>
         ensures asks { MatchResult result (λ _. G.refused self.new.gate ≡ 0) (λ fault.
             (fault ≡ GateShut)
             × (G.refused self.new.gate ≡ G.refused self.old.gate + self.old.limit)) }
+        ensures passed { MatchResult result
+            (λ _. HasLet (G.passed self.old.gate) (G.passed self.new.gate) 1)
+            (λ _. HasLet (G.passed self.old.gate) (G.passed self.new.gate) 0) }
         ensures same { (self.new.limit ≡ self.old.limit) × (self.new.pass ≡ self.old.pass) }
     {
-        let source = self.pass.source();
         let mut pauses = Pauses::new();
         for _ in 0..self.limit {
-            if self.gate.pass(source) {
+            if self.gate.pass(self.source) {
                 return Ok(());
             }
             pauses.pause(rt);

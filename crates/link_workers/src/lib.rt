@@ -7,7 +7,7 @@ pub use fault::IoFault;
 pub use gate::Gate;
 pub use link_reader::LinkReader;
 pub use pauses::Pauses;
-pub use reader::{HasRead, frames_put_are_the_first, serve_reader};
+pub use reader::{HasRead, frames_put_are_the_first, serve_link_reader, serve_reader};
 pub use switch::{HasAnswered, switch_worker};
 pub use writer::{HasWritten, serve_writer};
 

@@ -4,8 +4,9 @@ ghost use Rattle.std.specs.Prelude.{List, Some};
 ghost use Rattle.ipa_framing.specs.declared.frame.Frame.{Frame as FrameValue};
 ghost use Rattle.ipa_framing.specs.Frame.{IsPartial, IsTooLong, Splits};
 ghost use Rattle.link_workers.specs.declared.fault.IoFault.TheVariants.{ReadFailed};
-ghost use Rattle.link_workers.specs.Reading.{IsReported, Parts, PutsAll, PutsDown, PutsWhole};
-ghost use Rattle.link_workers.specs.Reading.{Serves};
+ghost use Rattle.link_workers.specs.Gates.{LetsAll, LetsDown, LetsEach};
+ghost use Rattle.link_workers.specs.Reading.{AsksForDown, IsReported, Parts, PutsAll, PutsDown};
+ghost use Rattle.link_workers.specs.Reading.{PutsWhole, Serves};
 ghost use Rattle.link_workers.specs.Unread.{IsUnread};
 
 use crate::framing::{BLOCK, read_on};
@@ -28,16 +29,49 @@ pub struct HasRead<I, G> {
     pub fault: Option<IoFault>,
 }
 
-/// Reads the octets of a link to their end and puts the frames that they are cut into, as items of
-/// the pass's source; then puts `Down`. An item that there is no room for is put once there is.
-/// Gives all back, with its fault.
+/// Reads octets to their end and puts the frames that they are cut into, as items of the pass's
+/// source; then puts `Down`. Before each item the gate is asked until it lets that item through. An
+/// item that there is no room for is put once there is. Gives all back, with its fault.
 ///
 /// `ReadFailed`: a read failed, other than by an interruption, or there were 2^40 reads.
 /// `FrameFault`: a frame has a body of more than 2,048 octets. `Memory`: there was none for a
 /// frame. `GateShut`: the gate refused an item `limit` times in a row; where that item was `Down`,
 /// it stands in place of an earlier fault. `Down` is put all the same, and the gate isn't asked
-/// again. The reader is told of the fault at once, before `Down` is put.
-pub fn serve_reader<I: LinkReader, G: Gate, R: Wait>(
+/// again.
+pub fn serve_reader<I: Read, G: Gate, R: Wait>(
+    rt: &R,
+    alloc: Global,
+    mut reader: I,
+    gate: G,
+    pass: SourcePass,
+    source: u16,
+    limit: u32,
+) -> HasRead<I, G>
+    requires { source ≡ pass.source }
+    ensures serves { Serves (I.remaining reader) (I.remaining result.reader) limit
+        (G.refused gate) (G.refused result.gate) pass result.pass result.fault }
+    ensures asked { LetsAll result.fault (G.passed gate) (G.passed result.gate) pass result.pass }
+{
+    let mut gated = GatedPass {
+        gate,
+        pass,
+        source,
+        limit,
+    };
+    let fault = fault_of(put_all(rt, alloc, &mut reader, &mut gated));
+    let fault = put_down(rt, &mut gated, fault);
+    let GatedPass { gate, pass, .. } = gated;
+    HasRead {
+        reader,
+        gate,
+        pass,
+        fault,
+    }
+}
+
+/// Does what `serve_reader` does, over the device of a link: it is told of the fault at once,
+/// before `Down` is put.
+pub fn serve_link_reader<I: LinkReader, G: Gate, R: Wait>(
     rt: &R,
     alloc: Global,
     mut reader: I,
@@ -47,9 +81,16 @@ pub fn serve_reader<I: LinkReader, G: Gate, R: Wait>(
 ) -> HasRead<I, G>
     ensures serves { Serves (I.remaining reader) (I.remaining result.reader) limit
         (G.refused gate) (G.refused result.gate) pass result.pass result.fault }
+    ensures asked { LetsAll result.fault (G.passed gate) (G.passed result.gate) pass result.pass }
     ensures told { IsReported result.fault (I.told result.reader) }
 {
-    let mut gated = GatedPass { gate, pass, limit };
+    let source = pass.source();
+    let mut gated = GatedPass {
+        gate,
+        pass,
+        source,
+        limit,
+    };
     let fault = fault_of(put_all(rt, alloc, &mut reader, &mut gated));
     tell(&mut reader, fault);
     let fault = put_down(rt, &mut gated, fault);
@@ -78,20 +119,37 @@ fn put_down<G: Gate, R: Wait>(
     gated: &mut GatedPass<G>,
     fault: Option<IoFault>,
 ) -> Option<IoFault>
-    ensures { PutsDown gated.old.limit
+    ensures puts { PutsDown gated.old.limit
         (G.refused gated.old.gate) (G.refused gated.new.gate)
         gated.old.pass gated.new.pass fault result }
+    ensures asked { LetsAll result (G.passed gated.old.gate) (G.passed gated.new.gate)
+        gated.old.pass gated.new.pass }
 {
-    let fault = match fault {
+    let fault = ask_for_down(rt, gated, fault);
+    put_once_there_is_room(rt, &mut gated.pass, What::Down);
+    gated.pass.ring();
+    fault
+}
+
+/// Asks the gate for `Down`, if it hasn't stayed shut; gives the fault that the reader ends with.
+#[tactic(auto, using(crate::proofs::Letting::down_kept, crate::proofs::Letting::down_let, crate::proofs::Letting::down_shut))]
+fn ask_for_down<G: Gate, R: Wait>(
+    rt: &R,
+    gated: &mut GatedPass<G>,
+    fault: Option<IoFault>,
+) -> Option<IoFault>
+    ensures asks { AsksForDown gated.old.limit
+        (G.refused gated.old.gate) (G.refused gated.new.gate) fault result }
+    ensures passed { LetsDown result (G.passed gated.old.gate) (G.passed gated.new.gate) }
+    ensures same { (gated.new.limit ≡ gated.old.limit) × (gated.new.pass ≡ gated.old.pass) }
+{
+    match fault {
         Some(IoFault::GateShut) => fault,
         _ => match gated.ask(rt) {
             Ok(()) => fault,
             Err(shut) => Some(shut),
         },
-    };
-    put_once_there_is_room(rt, &mut gated.pass, What::Down);
-    gated.pass.ring();
-    fault
+    }
 }
 
 /// Puts the frames of a link until there are no octets left to be read.
@@ -103,6 +161,8 @@ fn put_all<I: Read, G: Gate, R: Wait>(
 ) -> Result<(), UnreadLink>
     ensures puts { PutsAll (I.remaining reader.old) (I.remaining reader.new) gated.old.limit
         (G.refused gated.old.gate) (G.refused gated.new.gate) gated.old.pass gated.new.pass result }
+    ensures each { LetsEach (G.passed gated.old.gate) (G.passed gated.new.gate)
+        gated.old.pass gated.new.pass }
     ensures why { IfErr result (λ unread. IsUnread unread) }
     ensures same { gated.new.limit ≡ gated.old.limit }
 {
@@ -117,6 +177,7 @@ fn put_all<I: Read, G: Gate, R: Wait>(
 }
 
 /// Puts the frames that the framer holds whole.
+#[tactic(auto, using(crate::proofs::Letting::each_none))]
 fn put_frames<G: Gate, R: Wait>(
     rt: &R,
     framer: &mut Framer,
@@ -124,6 +185,8 @@ fn put_frames<G: Gate, R: Wait>(
 ) -> Result<(), IoFault>
     ensures puts { PutsWhole framer.old framer.new gated.old.limit (G.refused gated.old.gate)
         (G.refused gated.new.gate) gated.old.pass gated.new.pass result }
+    ensures each { LetsEach (G.passed gated.old.gate) (G.passed gated.new.gate)
+        gated.old.pass gated.new.pass }
     ensures unfailed { IfErr result (λ fault. fault ≢ ReadFailed) }
     ensures same { gated.new.limit ≡ gated.old.limit }
 {

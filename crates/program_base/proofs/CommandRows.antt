@@ -1,11 +1,13 @@
 -- SPDX-License-Identifier: MIT OR Apache-2.0
 -- Definitions against literal values. Words of the command line are tried on the built program, by
 -- tests/statuses: the model that `clap` brings with it doesn't compute.
-use Rattle.std.specs.Prelude.{◌≡◌, None, Some, [], codes}
+use Rattle.std.specs.Prelude.{◌≡◌, None, Some, [], ◌∷◌, codes, map}
 use Rattle.std.proofs.Common.{refl}
 use Rattle.program_base.specs.declared.words.Task.TheVariants.{Decode, Replay}
 use Rattle.program_base.specs.declared.words.TaskFault.TheVariants.{Words, Memory}
 use Rattle.program_base.specs.CommandLine.{IsTask}
+use Rattle.program_base.specs.declared.usage.Page.TheVariants as pages
+use Rattle.program_base.specs.Pages.{page_named, page_of}
 use Rattle.program_base.specs.WordStatus.{status_of_words}
 
 wrong_words : status_of_words Words ≡ 2
@@ -21,3 +23,12 @@ decode = refl
 replay_without_options : IsTask (Replay None None) (Some (codes "replay", []))
 unfolding IsTask
 replay_without_options = (refl, refl, refl)
+
+named : map page_named (codes "run" ∷ codes "replay" ∷ codes "trace" ∷ codes "decode" ∷ codes "runs" ∷ codes "" ∷ []) ≡
+    Some pages.Run ∷ Some pages.Replay ∷ Some pages.Trace ∷ Some pages.Decode ∷ None ∷ None ∷ []
+named = refl
+
+-- the first command that the words name
+asked_for : map page_of ([] ∷ (codes "--help" ∷ []) ∷ (codes "help" ∷ codes "decode" ∷ []) ∷ (codes "replay" ∷ codes "-h" ∷ codes "run" ∷ []) ∷ (codes "trace" ∷ codes "--help" ∷ []) ∷ []) ≡
+    pages.Program ∷ pages.Program ∷ pages.Decode ∷ pages.Replay ∷ pages.Trace ∷ []
+asked_for = refl

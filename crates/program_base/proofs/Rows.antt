@@ -15,6 +15,7 @@ use Rattle.program_base.specs.Output.{AppendsBeginning, Puts}
 use Rattle.program_base.specs.declared.failure.Failure.TheVariants.{BadEvent, Memory, Device}
 use Rattle.program_base.specs.declared.fault.ProgramFault.TheVariants as program
 use Rattle.program_base.specs.declared.fault.ProgramFault.TheVariants.{UnreadSettings, Settings, BadBreak}
+use Rattle.program_base.specs.SettingsText.{unread_fault}
 use Rattle.program_base.specs.Status.{failure_of, failure_unread, status_of, status_of_fault}
 
 -- ---- statuses
@@ -27,6 +28,9 @@ fault_statuses = refl
 
 failures : map failure_of (kinds.OutOfMemory ∷ kinds.BrokenPipe ∷ kinds.Other ∷ []) ≡ Memory ∷ Device ∷ Device ∷ []
 failures = refl
+
+files_not_read : map unread_fault (kinds.OutOfMemory ∷ kinds.NotFound ∷ kinds.InvalidData ∷ []) ≡ program.Failed Memory ∷ UnreadSettings ∷ UnreadSettings ∷ []
+files_not_read = refl
 
 reads : MOST_READS ≡ 2 ^ 40
 reads = refl

@@ -1,6 +1,7 @@
 // SPDX-License-Identifier: MIT OR Apache-2.0
 ghost use Rattle.std.specs.Prelude.{◌≡◌, ◌≢◌, Err};
-ghost use Rattle.program_base.specs.SettingsText.{settings_of};
+ghost use Rattle.std.specs.IoError.{error_kind};
+ghost use Rattle.program_base.specs.SettingsText.{settings_of, unread_fault};
 ghost use Rattle.program_base.specs.declared.failure.Failure.TheVariants.{Memory as OutOfMemory};
 ghost use Rattle.program_base.specs.declared.fault.ProgramFault.TheVariants.{Failed};
 
@@ -9,17 +10,24 @@ use crate::fault::ProgramFault;
 use settings::{Settings, SettingsFault};
 use std::alloc::Global;
 use std::fs;
-use std::io::ErrorKind;
+use std::io::{self, ErrorKind};
 use std::rt::Runtime;
 
 /// The text of the settings' file.
 pub fn settings_text<R: Runtime + AllocGlobal>(rt: &R, file: &str) -> Result<String, ProgramFault> {
     match fs::read_to_string(rt, file) {
         Ok(text) => Ok(text),
-        Err(error) if error.kind() == ErrorKind::OutOfMemory => {
-            Err(ProgramFault::Failed(Failure::Memory))
-        }
-        Err(_) => Err(ProgramFault::UnreadSettings),
+        Err(error) => Err(unread_fault(&error)),
+    }
+}
+
+/// The fault of the program where its settings' file isn't read.
+pub fn unread_fault(error: &io::Error) -> ProgramFault
+    ensures { result ≡ unread_fault (error_kind error.now) }
+{
+    match error.kind() {
+        ErrorKind::OutOfMemory => ProgramFault::Failed(Failure::Memory),
+        _ => ProgramFault::UnreadSettings,
     }
 }
 

@@ -1,6 +1,6 @@
 // SPDX-License-Identifier: MIT OR Apache-2.0
 use dtap_codec::{Modulus, Sapi};
-use mobile_end::MobileEnd;
+use mobile_end::{MobileEnd, MobileFault};
 use std::alloc::Global;
 use std::process::Abort;
 use std::test::Fail;
@@ -98,4 +98,23 @@ fn an_unacknowledged_message_is_sent_again(rt: HostRuntime) -> Result<(), Fail> 
     let took = all_take(&rt, &mut mobile);
     assert!(rt; mobile.sent().len() == 3);
     took
+}
+
+/// What a message comes to that is of short messages, which carry no numbers, and has so many octets.
+fn sends(alloc: Global, mobile: &mut MobileEnd, octets: usize) -> Result<bool, Fail> {
+    let message = vec![in alloc; 0x09; octets]?;
+    match mobile.send(Sapi::Three, message) {
+        Ok(()) => Ok(true),
+        Err(MobileFault::BadMessage) => Ok(false),
+        Err(_) => Err(Fail::new("another fault")),
+    }
+}
+
+#[test]
+fn an_unnumbered_message_of_251_octets_is_the_longest(rt: HostRuntime) -> Result<(), Fail> {
+    let alloc = rt.alloc();
+    let mut mobile = connect(alloc, &[0x05, 0x24, 0x71])?;
+    assert!(rt; sends(alloc, &mut mobile, 251)?);
+    assert!(rt; !sends(alloc, &mut mobile, 252)?);
+    Ok(())
 }

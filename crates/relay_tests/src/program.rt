@@ -1,4 +1,5 @@
 // SPDX-License-Identifier: MIT OR Apache-2.0
+use crate::settled_worlds::USUAL;
 use bsc_program::{decode, replay};
 use std::alloc::Global;
 use std::io::{self, ErrorKind, Read, Write};
@@ -118,10 +119,12 @@ impl Read for Pieces<'_> {
 }
 
 /// A writer that takes some octets, and then fails or takes none. It counts how often it was
-/// flushed, and the octets that came behind the last time.
+/// flushed, and the octets that came behind the last time. Its log has the octets in order, and a
+/// bar where a flush found some waiting.
 #[derive(Drop)]
 struct Paper {
     taken: Vec<u8>,
+    log: Vec<u8>,
     room: usize,
     fails: bool,
     flushes: usize,
@@ -132,6 +135,7 @@ impl Paper {
     fn new(alloc: Global, room: usize, fails: bool) -> Paper {
         Paper {
             taken: Vec::new(alloc),
+            log: Vec::new(alloc),
             room,
             fails,
             flushes: 0,
@@ -147,6 +151,7 @@ impl Write for Paper {
             return Err(io::Error::from(ErrorKind::StorageFull));
         }
         self.taken.extend_from_slice(&buf[..count])?;
+        self.log.extend_from_slice(&buf[..count])?;
         self.room -= count;
         self.waiting = self.waiting.saturating_add(count);
         Ok(count)
@@ -154,6 +159,9 @@ impl Write for Paper {
 
     fn flush(&mut self) -> io::Result<()> {
         self.flushes = self.flushes.saturating_add(1);
+        if self.waiting > 0 {
+            self.log.extend_from_slice(b"|")?;
+        }
         self.waiting = 0;
         Ok(())
     }
@@ -284,5 +292,35 @@ fn output_is_flushed_at_the_end_and_by_decode_after_each_read(rt: HostRuntime) {
         assert!(rt; found.status == 0 && found.output.waiting == 0 && found.output.flushes > 0);
         let replays = matches!(command, Command::Replay(..));
         assert!(rt; replays || found.output.flushes >= octets.len());
+    }
+}
+
+/// A command, an input, and the log of its output: the lines of breaks, the names of frames with
+/// those of faults, and the line of a frame that is too long.
+const LOGS: [(Command<'static>, &[u8], &str); 3] = [
+    (
+        Command::Replay(Some(USUAL), Some("1")),
+        b"connect 1 1 052471 y\nbasepush 1\n",
+        "break 0 accepted 0 sent 0\n|break 1 accepted 0 sent 1\n|break 2 accepted 0 sent 1\n|",
+    ),
+    (
+        Command::Decode,
+        FRAMES,
+        "fe PING\n|fe CCM\n|00 DATA INDICATION\n|fd RLC\n|fd fault A1\n|ff OML\n|01 unknown\n|\
+            00 fault S1\n|rest 3\n|",
+    ),
+    (
+        Command::Decode,
+        &[0x00, 0x01, 0xfe, 0x01, 0x08, 0x01, 0x00],
+        "fe PONG\n|fault F1\n|",
+    ),
+];
+
+#[test]
+fn each_line_is_flushed_before_the_next_is_made(rt: HostRuntime) {
+    for (command, octets, log) in LOGS {
+        let output = Paper::new(rt.alloc(), usize::MAX, false);
+        let found = run(rt.alloc(), command, Pieces::new(octets, 1), output);
+        assert!(rt; found.output.log.as_slice() == log.as_bytes());
     }
 }

@@ -2,7 +2,7 @@
 use crate::program::{Command, Row, all_answer};
 
 /// Two cells.
-const USUAL: &str =
+pub(crate) const USUAL: &str =
     "[network]\nmcc = \"001\"\nmnc = \"01\"\n[switch]\naddress = \"127.0.0.1:5000\"\n\
     [[cell]]\nlisten = \"127.0.0.1:3003\"\nlac = 1\nci = 1\narfcn = 20\nbsic = 9\n\
     channels = [0x41, 0x49, 0x0a]\n[[cell]]\nlisten = \"127.0.0.1:3004\"\nlac = 1\nci = 2\n\

@@ -52,8 +52,8 @@ may_join desk passes n row pass queue so_far room one each here is =
     let was = (so_far n e.0 e.1).1 (omega arith) in (e.0, e.1, (is ∙ one n e.0 pass was here, ap (λ (v : Seen What). v.takes) (each n e.0 was)))
 
 pub joins_on : (desk : Row) (passes : List PassView) (n : ℕ) (row new : Row) (pass : PassView) (other : EndView What) → Progress desk passes n row → get_elem? passes n ≡ some pass
-    → other.seen.put ≡ pass.put → JoinsAt n other row new → Progress desk passes (n + 1) new
-joins_on desk passes n row new pass other so_far here same c at d there =
+    → other.seen.put ≡ pass.put → other.capacity ≡ pass.capacity → JoinsAt n other row new → Progress desk passes (n + 1) new
+joins_on desk passes n row new pass other so_far here same holds c at d there =
     let Is : EndView What → Type 0 = λ y. (at < n + 1 → IsJoined desk passes at y) × (n + 1 ≤ at → get_elem? desk at ≡ some y) in
     ⊎_elim
     (λ (h : (at ≡ n) × (c.1 ≡ d)).
@@ -64,7 +64,7 @@ joins_on desk passes n row new pass other so_far here same c at d there =
       was,
       here,
       c.4.0 ∙ ap (λ (p : List What). knowing c.0 (left_over p c.0.seen.taken)) same,
-      (c.4.1.0, sym same ∙ c.4.1.1),
+      (c.4.1.0, sym same ∙ c.4.1.1, subst (λ (m : ℕ). length c.4.1.0 ≤ m) holds c.4.1.2),
     ) in (
       (λ _. subst (λ (y : ℕ × EndView What). IsJoined desk passes y.0 y.1) (λ i. (sym h.0 i, h.1 i)) joined),
       λ beyond. absurd (let k = h.0 in omega arith),

@@ -8,11 +8,11 @@ use Rattle.ipa_framing.specs.declared.frame.Frame.{Frame}
 use Rattle.ruled_relay.specs.declared.item.Item.{Item}
 use Rattle.ruled_relay.specs.declared.item.What.{What}
 use Rattle.ruled_relay.specs.declared.item.What.TheVariants as whats
-use Rattle.ruled_relay.specs.declared.rule.Seen.{Seen}
+use Rattle.ruled_relay.specs.declared.rule.Known.{Known}
 use Rattle.ruled_relay.specs.declared.outbox.Line.{Line}
 use Rattle.ruled_relay.specs.declared.outbox.Line.TheVariants as lines
 use Rattle.ruled_relay.specs.declared.inbox.PutFault.TheVariants as faults
-use Rattle.ruled_relay.specs.Rule.{putting, taking, left_over, Fits, Relayed}
+use Rattle.ruled_relay.specs.Rule.{known, putting, taking, left_over, Fits, IsWithin, Relayed}
 use Rattle.ruled_relay.specs.Ends.{EndView, WasFull}
 use Rattle.ruled_relay.specs.Outbox.{AreNewOutbox, GivesLine, PutterView, PutsLine, TakesLine, refusing}
 use Rattle.ruled_relay.specs.Refusals.{Fate, accepted, refused, Meets, refused_first, most_refused, lines_put}
@@ -22,33 +22,44 @@ use Rattle.ruled_relay.specs.Inbox.{AreJoined, AreNewInbox, GivesItem, IsAllGive
 
 -- ---- the rule of a queue
 
+-- the ends of a queue of at most so many: what one has taken, and the other has put
+abbrev ends_of : ℕ → List ℕ → List ℕ → List (Known ℕ)
+ends_of room taken put = known room (taking taken) ∷ known room (putting put) ∷ []
+
 -- 5 and 7 were put and 5 was taken: the queue holds 7
-one_left : (at : ℕ) (v : Seen ℕ) → get_elem? (taking (5 ∷ []) ∷ putting (5 ∷ 7 ∷ []) ∷ []) at ≡ some v → Fits 1 0 (5 ∷ 7 ∷ []) (5 ∷ []) at v
-one_left zero v e = subst (Fits 1 0 (5 ∷ 7 ∷ []) (5 ∷ []) 0) (some-injective _ _ e) ((λ p. absurd (true≢false (sym p))), λ _. (refl, refl))
-one_left (suc zero) v e = subst (Fits 1 0 (5 ∷ 7 ∷ []) (5 ∷ []) 1) (some-injective _ _ e) ((λ _. (refl, refl)), λ p. absurd (true≢false (sym p)))
+abbrev IsOneLeft : ℕ → Known ℕ → Type 0
+IsOneLeft at v = Fits 1 0 (5 ∷ 7 ∷ []) (5 ∷ []) at v.seen × IsWithin v (7 ∷ [])
+
+one_left : (at : ℕ) (v : Known ℕ) → get_elem? (ends_of 1 (5 ∷ []) (5 ∷ 7 ∷ [])) at ≡ some v → IsOneLeft at v
+one_left zero v e = subst (IsOneLeft 0) (some-injective _ _ e) (((λ p. absurd (true≢false (sym p))), λ _. (refl, refl)), λ p. absurd (true≢false (sym p)))
+one_left (suc zero) v e = subst (IsOneLeft 1) (some-injective _ _ e) (((λ _. (refl, refl)), λ p. absurd (true≢false (sym p))), λ _. omega arith)
 one_left (suc (suc at)) v e = absurd (some-ne-none v (sym e))
 
-holds_what_is_left : Relayed {T = ℕ} (7 ∷ []) (taking (5 ∷ []) ∷ putting (5 ∷ 7 ∷ []) ∷ [])
+holds_what_is_left : Relayed {T = ℕ} (7 ∷ []) (ends_of 1 (5 ∷ []) (5 ∷ 7 ∷ []))
 holds_what_is_left = (1, 0, 5 ∷ 7 ∷ [], 5 ∷ [], refl, one_left)
 
--- what an end that takes and one that puts know, if the rule holds
-told : (items taken put : List ℕ) → Relayed items (taking taken ∷ putting put ∷ []) → put ≡ taken ++ items
-told items taken put h = ((h.5 1 (putting put) refl).0 refl).1 ∙ h.4 ∙ ap (λ t. t ++ items) (sym ((h.5 0 (taking taken) refl).1 refl).1)
+holds_more_than_it_has_room_for : Relayed {T = ℕ} (7 ∷ 9 ∷ []) (ends_of 1 (5 ∷ []) (5 ∷ 7 ∷ 9 ∷ [])) → ⊥
+holds_more_than_it_has_room_for h = let l = (h.5 1 (known 1 (putting (5 ∷ 7 ∷ 9 ∷ []))) refl).1 refl in absurd (omega arith)
 
-nothing_is_lost : Relayed {T = ℕ} [] (taking (5 ∷ []) ∷ putting (5 ∷ 7 ∷ []) ∷ []) → ⊥
+-- what an end that takes and one that puts know, if the rule holds
+told : (items taken put : List ℕ) → Relayed items (ends_of 2 taken put) → put ≡ taken ++ items
+told items taken put h =
+    ((h.5 1 (known 2 (putting put)) refl).0.0 refl).1 ∙ h.4 ∙ ap (λ t. t ++ items) (sym ((h.5 0 (known 2 (taking taken)) refl).0.1 refl).1)
+
+nothing_is_lost : Relayed {T = ℕ} [] (ends_of 2 (5 ∷ []) (5 ∷ 7 ∷ [])) → ⊥
 nothing_is_lost h = let l = ap length (told [] (5 ∷ []) (5 ∷ 7 ∷ []) h) in absurd (omega arith)
 
-nothing_is_given_twice : Relayed {T = ℕ} (5 ∷ []) (taking (5 ∷ []) ∷ putting (5 ∷ []) ∷ []) → ⊥
+nothing_is_given_twice : Relayed {T = ℕ} (5 ∷ []) (ends_of 2 (5 ∷ []) (5 ∷ [])) → ⊥
 nothing_is_given_twice h = let l = ap length (told (5 ∷ []) (5 ∷ []) (5 ∷ []) h) in absurd (omega arith)
 
-nothing_overtakes : Relayed {T = ℕ} (5 ∷ []) (taking (7 ∷ []) ∷ putting (5 ∷ 7 ∷ []) ∷ []) → ⊥
+nothing_overtakes : Relayed {T = ℕ} (5 ∷ []) (ends_of 2 (7 ∷ []) (5 ∷ 7 ∷ [])) → ⊥
 nothing_overtakes h = let l = ap (λ xs. slice_index_or xs 0 0) (told (5 ∷ []) (7 ∷ []) (5 ∷ 7 ∷ []) h) in absurd (omega arith)
 
-one_end_puts : Relayed [] (putting {T = ℕ} [] ∷ putting [] ∷ []) → ⊥
-one_end_puts h = let a = ((h.5 0 (putting []) refl).0 refl).0 in let b = ((h.5 1 (putting []) refl).0 refl).0 in absurd (omega arith)
+one_end_puts : Relayed [] (known 2 (putting {T = ℕ} []) ∷ known 2 (putting []) ∷ []) → ⊥
+one_end_puts h = let a = ((h.5 0 (known 2 (putting [])) refl).0.0 refl).0 in let b = ((h.5 1 (known 2 (putting [])) refl).0.0 refl).0 in absurd (omega arith)
 
-one_end_takes : Relayed [] (taking {T = ℕ} [] ∷ taking [] ∷ []) → ⊥
-one_end_takes h = let a = ((h.5 0 (taking []) refl).1 refl).0 in let b = ((h.5 1 (taking []) refl).1 refl).0 in absurd (omega arith)
+one_end_takes : Relayed [] (known 2 (taking {T = ℕ} []) ∷ known 2 (taking []) ∷ []) → ⊥
+one_end_takes h = let a = ((h.5 0 (known 2 (taking [])) refl).0.1 refl).0 in let b = ((h.5 1 (known 2 (taking [])) refl).0.1 refl).0 in absurd (omega arith)
 
 -- ---- an outbox for one line
 
@@ -248,11 +259,24 @@ joined_at : (q r : TableId)
 unfolding both_of end_of pass_of what
 joined_at q r zero e here =
     subst (IsJoined (end_of q (what 8 ∷ []) ∷ end_of r [] ∷ []) (pass_of q 0 (what 8 ∷ what 9 ∷ []) ∷ pass_of r 1 (whats.Down ∷ []) ∷ []) 0) (some-injective _ _ here)
-    (end_of q (what 8 ∷ []), pass_of q 0 (what 8 ∷ what 9 ∷ []), refl, refl, refl, (what 9 ∷ [], refl))
+    (end_of q (what 8 ∷ []), pass_of q 0 (what 8 ∷ what 9 ∷ []), refl, refl, refl, (what 9 ∷ [], refl, omega arith))
 joined_at q r (suc zero) e here =
     subst (IsJoined (end_of q (what 8 ∷ []) ∷ end_of r [] ∷ []) (pass_of q 0 (what 8 ∷ what 9 ∷ []) ∷ pass_of r 1 (whats.Down ∷ []) ∷ []) 1) (some-injective _ _ here)
-    (end_of r [], pass_of r 1 (whats.Down ∷ []), refl, refl, refl, (whats.Down ∷ [], refl))
+    (end_of r [], pass_of r 1 (whats.Down ∷ []), refl, refl, refl, (whats.Down ∷ [], refl, omega arith))
 joined_at q r (suc (suc at)) e here = absurd (some-ne-none e (sym here))
+
+-- five are left of a queue that holds four
+too_many_are_left : (q : TableId) → IsJoined (end_of q [] ∷ []) (pass_of q 0 (what 1 ∷ what 2 ∷ what 3 ∷ what 4 ∷ what 5 ∷ []) ∷ []) 0 (both_of q (what 1 ∷ what 2 ∷ what 3 ∷ what 4 ∷ what 5 ∷ []) []) → ⊥
+unfolding both_of end_of pass_of what
+too_many_are_left q bad =
+    let is_end : end_of q [] ≡ bad.0 = some-injective _ _ bad.2 in
+    let is_pass : pass_of q 0 (what 1 ∷ what 2 ∷ what 3 ∷ what 4 ∷ what 5 ∷ []) ≡ bad.1 = some-injective _ _ bad.3 in
+    let most : 4 ≡ bad.1.capacity = ap (λ (p : PassView). p.capacity) is_pass in
+    let put : 5 ≡ length bad.1.put = ap (λ (p : PassView). length p.put) is_pass in
+    let taken : 0 ≡ length bad.0.seen.taken = ap (λ (e : EndView What). length e.seen.taken) is_end in
+    let whole = ap length bad.5.1 in
+    let few = bad.5.2 in
+    absurd (omega (arith, length-append bad.0.seen.taken bad.5.0))
 
 come_together : (q r : TableId)
     → AreJoined (end_of q (what 8 ∷ []) ∷ end_of r [] ∷ []) (pass_of q 0 (what 8 ∷ what 9 ∷ []) ∷ pass_of r 1 (whats.Down ∷ []) ∷ [])

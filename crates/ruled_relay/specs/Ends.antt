@@ -1,6 +1,6 @@
 -- SPDX-License-Identifier: MIT OR Apache-2.0
 -- What an end of a queue shows, and what its calls do.
-use Rattle.std.specs.Prelude.{◌≡◌, ℕ, true, List, [], ◌++◌, length}
+use Rattle.std.specs.Prelude.{◌≡◌, ℕ, ◌≤◌, true, List, [], ◌++◌, length}
 use Rattle.atomic_table.specs.Seated.{TableId}
 use Rattle.ruled_relay.specs.declared.rule.Seen.{Seen}
 use Rattle.ruled_relay.specs.Rule.{putting, taking, left_over, AddsLast, EndsWith, TakesFirst}
@@ -41,8 +41,10 @@ module _ {T : Type 0} where
   abbrev pub IsDrained : Seen T → Type 0
   IsDrained v = v.puts ≡ true → v.put ≡ v.taken
 
-  -- the two ends come together: what was put is what was taken, and then a rest
+  -- the two ends come together: what was put is what was taken, and then a rest, of no more than the
+  -- queue holds
   abbrev pub Joins : EndView T → EndView T → EndView T → Type 0
   Joins taker putter both =
       (both ≡ knowing taker (left_over putter.seen.put taker.seen.taken))
-      × ((rest : List T) × (putter.seen.put ≡ taker.seen.taken ++ rest))
+      × ((rest : List T) × (putter.seen.put ≡ taker.seen.taken ++ rest)
+      × (length rest ≤ putter.capacity))

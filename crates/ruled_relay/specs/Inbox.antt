@@ -1,7 +1,7 @@
 -- SPDX-License-Identifier: MIT OR Apache-2.0
 -- What the ends of an inbox show, and what their calls do. An item's source is its place in the row
 -- of queues.
-use Rattle.std.specs.Prelude.{◌≡◌, ◌≢◌, ℕ, ◌<◌, List, [], ◌∷◌, ◌++◌}
+use Rattle.std.specs.Prelude.{◌≡◌, ◌≢◌, ℕ, ◌<◌, ◌≤◌, List, [], ◌∷◌, ◌++◌}
 use Rattle.std.specs.Prelude.{length, Result, Ok, Err, map, slice_set}
 use mathlib.Core.Option.{some}
 use lib.ListN.{get_elem?}
@@ -52,13 +52,14 @@ TakesItem old item new =
 abbrev pub queues_of : Row → List TableId
 queues_of row = map (λ (e : EndView What). e.queue) row
 
--- desk and pass of this place have come together: what was put is what was taken, and then a rest
+-- desk and pass of this place have come together: what was put is what was taken, and then a rest,
+-- of no more than the queue holds
 abbrev pub IsJoined : Row → List PassView → ℕ → EndView What → Type 0
 IsJoined desk passes at joined =
     (e : EndView What) × (p : PassView)
     × (get_elem? desk at ≡ some e) × (get_elem? passes at ≡ some p)
     × (joined ≡ knowing e (left_over p.put e.seen.taken))
-    × ((rest : List What) × (p.put ≡ e.seen.taken ++ rest))
+    × ((rest : List What) × (p.put ≡ e.seen.taken ++ rest) × (length rest ≤ p.capacity))
 
 abbrev pub AreJoined : Row → List PassView → Row → Type 0
 AreJoined desk passes left = (length left ≡ length desk) × EachAt left (IsJoined desk passes)

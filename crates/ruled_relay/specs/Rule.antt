@@ -1,9 +1,10 @@
 -- SPDX-License-Identifier: MIT OR Apache-2.0
 -- The rule of a queue with one end that puts and one that takes: what was put is what was taken,
--- followed by what it holds.
-use Rattle.std.specs.Prelude.{◌≡◌, ℕ, Bool, true, false, List, [], ◌∷◌, ◌++◌}
+-- followed by what it holds, and that is at most what it has room for.
+use Rattle.std.specs.Prelude.{◌≡◌, ℕ, ◌≤◌, Bool, true, false, List, [], ◌∷◌, ◌++◌, length}
 use mathlib.Core.Option.{some}
 use lib.ListN.{get_elem?}
+use Rattle.ruled_relay.specs.declared.rule.Known.{Known}
 use Rattle.ruled_relay.specs.declared.rule.Seen.{Seen}
 
 module _ {T : Type 0} where
@@ -24,6 +25,10 @@ module _ {T : Type 0} where
   abbrev pub spent_end : Seen T
   spent_end = seen false false [] []
 
+  -- an end that knows this, of a queue that holds so many items at most
+  abbrev pub known : ℕ → Seen T → Known T
+  known room v = record { seen = v; room = room }
+
   -- an end that may put is the queue's one such end and knows all that was put; likewise one that
   -- may take
   abbrev pub Fits : ℕ → ℕ → List T → List T → ℕ → Seen T → Type 0
@@ -31,11 +36,16 @@ module _ {T : Type 0} where
       (v.puts ≡ true → (at ≡ writer) × (v.put ≡ put))
       × (v.takes ≡ true → (at ≡ reader) × (v.taken ≡ taken))
 
+  -- these are at most as many as the queue holds, as an end that may put knows
+  abbrev pub IsWithin : Known T → List T → Type 0
+  IsWithin v items = v.seen.puts ≡ true → length items ≤ v.room
+
   -- the rule, of what the queue holds and of what each end knows
-  abbrev pub Relayed : List T → List (Seen T) → Type 0
+  abbrev pub Relayed : List T → List (Known T) → Type 0
   Relayed items ends =
       (writer : ℕ) × (reader : ℕ) × (put : List T) × (taken : List T) × (put ≡ taken ++ items)
-      × ((at : ℕ) (v : Seen T) → get_elem? ends at ≡ some v → Fits writer reader put taken at v)
+      × ((at : ℕ) (v : Known T) → get_elem? ends at ≡ some v
+      → Fits writer reader put taken at v.seen × IsWithin v items)
 
   -- the item is the last of what was put
   abbrev pub AddsLast : Seen T → T → Seen T → Type 0

@@ -1,27 +1,30 @@
 // SPDX-License-Identifier: MIT OR Apache-2.0
-ghost use Rattle.std.specs.Prelude.{◌≡◌, ◌<◌, true, IfOk, MatchOption, MatchResult};
+ghost use Rattle.std.specs.Prelude.{◌≡◌, ◌<◌, true, [], IfOk, MatchOption, MatchResult};
+ghost use Rattle.crossbeam_queue.specs.Passes.{IsPassOf, ruled_capacity, view};
 ghost use Rattle.ruled_relay.specs.Ends.{AreNew, IsDrained, Joins, Puts, Takes, WasFull};
+ghost use Rattle.ruled_relay.specs.Rule.{known, left_over, putting};
 
-use crate::rule::{Ends, InOrder, Putting, Seen, Taking};
+use crate::rule::{Ends, InOrder, Known, Putting, Taking, Wider};
 use crossbeam_queue::{Pass, RuledArrayQueue};
 use octets::Memory;
 use std::alloc::Global;
 use std::marker::Model;
 use std::sync::{Arc, Wait};
 
-type Queue<T> = RuledArrayQueue<T, Seen<T>, InOrder>;
+type Queue<T> = RuledArrayQueue<T, Known<T>, InOrder>;
 
 /// An end of a queue: the one that puts, the one that takes, or what the two become when they come
 /// together.
 #[derive(Drop)]
 pub(crate) struct End<T> {
     queue: Arc<Queue<T>, Global>,
-    pass: Pass<T, Seen<T>>,
+    pass: Pass<T, Known<T>>,
 }
 
 impl<T> Model for End<T> {
     ghost use Rattle.crossbeam_queue.specs.Passes.{view as pass_view, IsPassOf, ruled_capacity};
     ghost use Rattle.std.specs.Arc.{arc_value};
+    ghost use Rattle.std.specs.Prelude.{◌≡◌, false};
     ghost use Rattle.ruled_relay.specs.Ends.{EndView};
 
     ghost Value = { EndView T };
@@ -29,10 +32,12 @@ impl<T> Model for End<T> {
     ghost view = { λ e. record {
       queue = e.pass.table_id;
       capacity = ruled_capacity (arc_value e.queue);
-      seen = pass_view e.pass;
+      seen = (pass_view e.pass).seen;
     } };
 
-    ghost invariant = { λ e. IsPassOf (arc_value e.queue) e.pass };
+    ghost invariant = { λ e. IsPassOf (arc_value e.queue) e.pass
+        × ((pass_view e.pass).seen.takes ≡ false
+        → (pass_view e.pass).room ≡ ruled_capacity (arc_value e.queue)) };
 }
 
 /// A queue of so many items, as its two ends: the one that takes, and the one that puts.
@@ -41,6 +46,7 @@ pub(crate) fn ends<T: Drop>(alloc: Global, capacity: usize) -> Result<(End<T>, E
     ensures { IfOk result (λ r. AreNew capacity r.0 r.1) }
 {
     let (queue, mut pass) = Queue::<T>::ruled(alloc, capacity)?;
+    tell_room(&queue, &mut pass);
     let queue = Arc::new(alloc, queue)?;
     let other = Arc::try_clone(&queue)?;
     let putter = queue.another::<Ends>(&mut pass);
@@ -53,10 +59,23 @@ pub(crate) fn ends<T: Drop>(alloc: Global, capacity: usize) -> Result<(End<T>, E
     ))
 }
 
+/// Tells the first end how many items the queue holds at most. What an end knows changes in steps
+/// that the types give: so it is told of one after the other.
+fn tell_room<T: Drop>(queue: &Queue<T>, pass: &mut Pass<T, Known<T>>)
+    requires queue { IsPassOf queue.now pass.old }
+    requires first { view pass.old ≡ known 0 (left_over [] []) }
+    ensures queue { IsPassOf queue.now pass.new }
+    ensures told { view pass.new ≡ known (ruled_capacity queue.now) (left_over [] []) }
+{
+    for _ in 0..queue.capacity() {
+        queue.another::<Wider>(pass);
+    }
+}
+
 impl<T: Drop> End<T> {
     /// Puts an item last. A full queue hands it back.
     pub(crate) fn put<R: Wait>(&mut self, rt: &R, item: T) -> Result<(), T>
-        requires { self.old.seen.puts ≡ true }
+        requires { self.old.seen ≡ putting self.old.seen.put }
         ensures { MatchResult result (λ _. Puts self.old item self.new)
             (λ x. (x ≡ item) × (self.new ≡ self.old) × WasFull self.old.capacity self.old.seen) }
     {
@@ -83,7 +102,8 @@ impl<T: Drop> End<T> {
     /// Takes in the end that puts.
     pub(crate) fn join(&mut self, other: End<T>)
         requires queue { other.queue ≡ self.old.queue }
-        requires ends { (self.old.seen.takes ≡ true) × (other.seen.puts ≡ true) }
+        requires takes { self.old.seen.takes ≡ true }
+        requires puts { other.seen ≡ putting other.seen.put }
         ensures { Joins self.old other self.new }
     {
         self.queue.absorb::<Ends>(&mut self.pass, other.pass);

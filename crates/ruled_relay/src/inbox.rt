@@ -132,7 +132,8 @@ impl Inbox {
     }
 
     /// Brings the ends of one inbox together, with the passes in the order of their sources. What a
-    /// source has put is what was taken of it, and then what is left.
+    /// source has put is what was taken of it, and then what is left, at most as many items as its
+    /// queue holds.
     pub fn finish(desk: Desk, passes: Vec<SourcePass>) -> Left
         requires { queues_of desk ≡ map (λ p. p.queue) passes.items }
         ensures { AreJoined desk passes.items result }

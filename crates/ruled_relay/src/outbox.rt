@@ -1,6 +1,6 @@
 // SPDX-License-Identifier: MIT OR Apache-2.0
-ghost use Rattle.std.specs.Prelude.{◌≡◌, ℕ, ◌<◌, ◌++◌, List, IfOk, MatchOption};
-ghost use Rattle.std.specs.Prelude.{IfNone, min};
+ghost use Rattle.std.specs.Prelude.{◌≡◌, ℕ, ◌<◌, ◌≤◌, ◌++◌, List, IfOk, MatchOption};
+ghost use Rattle.std.specs.Prelude.{IfNone, length, min};
 ghost use Rattle.ruled_relay.specs.Outbox.{AreNewOutbox, PutsLine, PutterView};
 ghost use Rattle.ruled_relay.specs.Outbox.{TakerView, TakesLine, GivesLine};
 ghost use Rattle.ruled_relay.specs.Refusals.{Fate, Meets, lines_put, most_refused};
@@ -126,11 +126,12 @@ impl Outbox {
     }
 
     /// Brings the two ends of one outbox together: what was put is what was taken, and then what is
-    /// left.
+    /// left, at most as many lines as the outbox holds.
     pub fn finish(putter: Putter, taker: Taker) -> Unsent
         requires { putter.queue ≡ taker.queue }
         ensures lists { result ≡ record { put = putter.put; taken = taker.taken } }
-        ensures rule { (rest : List _) × (putter.put ≡ taker.taken ++ rest) }
+        ensures rule { (rest : List _) × (putter.put ≡ taker.taken ++ rest)
+            × (length rest ≤ putter.capacity) }
     {
         let mut end = taker.end;
         end.join(putter.end);

@@ -2,6 +2,7 @@
 //! A row of queues, one for each source.
 ghost use Rattle.std.specs.Prelude.{◌≡◌, ◌<◌, ◌≤◌, true, vec_len};
 ghost use Rattle.ruled_relay.specs.Row.{EachMayTake, HasAt, JoinsAt, TakesAmong, TakesAt, TakesOne};
+ghost use Rattle.ruled_relay.specs.Rule.{putting};
 
 use crate::end::End;
 use crate::item::{Item, What};
@@ -59,7 +60,7 @@ pub(crate) fn join_at(ends: &mut Vec<End<What>>, at: usize, other: End<What>)
     requires within { at < vec_len ends.old }
     requires queue { HasAt at ends.old.items (λ e.
         (other.queue ≡ e.queue) × (e.seen.takes ≡ true)) }
-    requires puts { other.seen.puts ≡ true }
+    requires puts { other.seen ≡ putting other.seen.put }
     ensures { JoinsAt at other ends.old.items ends.new.items }
 {
     let end = &mut ends[at];

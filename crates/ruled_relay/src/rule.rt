@@ -14,64 +14,84 @@ pub struct Seen<T> {
     pub taken: LinkedList<T>,
 }
 
+/// What an end of a queue knows, and how many items the queue holds at most. No value of it is made.
+pub struct Known<T> {
+    pub seen: Seen<T>,
+    pub room: u64,
+}
+
 /// The rule of a queue.
 pub(crate) struct InOrder;
 
-impl<T> Protocol<T, Seen<T>> for InOrder {
-    ghost use Rattle.ruled_relay.specs.Rule.{Relayed, left_over};
+impl<T> Protocol<T, Known<T>> for InOrder {
+    ghost use Rattle.ruled_relay.specs.Rule.{Relayed, known, left_over};
     ghost use Rattle.std.specs.Prelude.{[]};
 
     ghost holds = { Relayed };
 
-    ghost first = { left_over [] [] };
+    ghost first = { known 0 (left_over [] []) };
+}
+
+/// The first end is told that the queue has room for one item more.
+pub(crate) struct Wider;
+
+impl<T> Split<Known<T>> for Wider {
+    ghost use Rattle.ruled_relay.specs.Rule.{known, spent_end};
+    ghost use Rattle.std.specs.Prelude.{◌+◌};
+
+    ghost left = { λ v. known (v.room + 1) v.seen };
+
+    ghost right = { λ v. known 0 spent_end };
 }
 
 /// The two ends of a queue, which part as it is made and come together when both are done.
 pub(crate) struct Ends;
 
-impl<T> Split<Seen<T>> for Ends {
-    ghost use Rattle.ruled_relay.specs.Rule.{taking, putting};
+impl<T> Split<Known<T>> for Ends {
+    ghost use Rattle.ruled_relay.specs.Rule.{known, taking, putting};
 
-    ghost left = { λ v. taking v.taken };
+    ghost left = { λ v. known v.room (taking v.seen.taken) };
 
-    ghost right = { λ v. putting v.put };
+    ghost right = { λ v. known v.room (putting v.seen.put) };
 }
 
-impl<T> Join<Seen<T>> for Ends {
-    ghost use Rattle.ruled_relay.specs.Rule.{left_over, spent_end};
+impl<T> Join<Known<T>> for Ends {
+    ghost use Rattle.ruled_relay.specs.Rule.{known, left_over, spent_end};
 
-    ghost both = { λ v w. left_over w.put v.taken };
+    ghost both = { λ v w. known w.room (left_over w.seen.put v.seen.taken) };
 
-    ghost spent = { spent_end };
+    ghost spent = { known 0 spent_end };
 }
 
 /// An item is put: it is the last of what was put.
 pub(crate) struct Putting;
 
-impl<T> Outcome<T, Seen<T>> for Putting {
+impl<T> Outcome<T, Known<T>> for Putting {
     ghost use Rattle.ruled_relay.specs.Rule.{AddsLast};
+    ghost use Rattle.std.specs.Prelude.{◌≡◌};
 
-    ghost then = { AddsLast };
+    ghost then = { λ v x w. (w.room ≡ v.room) × AddsLast v.seen x w.seen };
 }
 
-impl<T> Lesson<T, Seen<T>> for Putting {
+impl<T> Lesson<T, Known<T>> for Putting {
     ghost use Rattle.ruled_relay.specs.Rule.{EndsWith};
 
-    ghost fact = { EndsWith };
+    ghost fact = { λ v items. EndsWith v.seen items };
 }
 
 /// An item is taken: it is the last of what was taken, and of an end that knows what was put, the
 /// next of that.
 pub(crate) struct Taking;
 
-impl<T> Outcome<T, Seen<T>> for Taking {
+impl<T> Outcome<T, Known<T>> for Taking {
     ghost use Rattle.ruled_relay.specs.Rule.{TakesFirst};
+    ghost use Rattle.std.specs.Prelude.{◌≡◌};
 
-    ghost then = { TakesFirst };
+    ghost then = { λ v x w. (w.room ≡ v.room) × TakesFirst v.seen x w.seen };
 }
 
-impl<T> Lesson<T, Seen<T>> for Taking {
-    ghost use Rattle.ruled_relay.specs.Rule.{IsFollowedBy};
+impl<T> Lesson<T, Known<T>> for Taking {
+    ghost use Rattle.ruled_relay.specs.Rule.{IsFollowedBy, IsWithin};
 
-    ghost fact = { IsFollowedBy };
+    ghost fact = { λ v items. IsFollowedBy v.seen items × IsWithin v items };
 }

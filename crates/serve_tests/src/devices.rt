@@ -1,6 +1,5 @@
 // SPDX-License-Identifier: MIT OR Apache-2.0
-use controller_worker::Clock;
-use link_workers::{Gate, IoFault, LinkReader};
+use station_io::{Clock, Gate, IoFault, LinkReader};
 use std::alloc::Global;
 use std::io::{self, ErrorKind, Read, Write};
 use std::sync::Arc;
@@ -104,7 +103,11 @@ impl<R> Held<R> {
 }
 
 impl<R: std::time::Clock> Gate for Held<R> {
+    ghost use Rattle.std.specs.Prelude.{None};
+
     ghost refused = { λ gate. gate.refused };
+
+    ghost passed = { λ _. None };
 
     fn pass(&mut self, _source: u16) -> bool {
         if self.is_open() || self.refused == u32::MAX {

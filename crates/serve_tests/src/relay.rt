@@ -1,9 +1,8 @@
 // SPDX-License-Identifier: MIT OR Apache-2.0
 use crate::devices::{Got, Held, Sink, Source, Still};
 use controller::Controller;
-use link_workers::IoFault;
 use settings::Settings;
-use station_io::{Link, serve_links};
+use station_io::{IoFault, Link, serve_links};
 use std::alloc::{AllocError, Global};
 use std::sync::atomic::AtomicU64;
 use std::sync::{Arc, Wait};

@@ -3,6 +3,7 @@
 use Rattle.std.proofs.Common.{◌≡◌, List, [], ◌∷◌, ◌++◌, Option, Some, None, refl, sym, ap, ◌∙◌, subst, append-nil}
 use Rattle.controller_worker.specs.Call.{IsMemory, Parts, Runs as CallRuns}
 use Rattle.controller_worker.specs.Links.{lines}
+use Rattle.controller_worker.specs.Moves.{taken_of}
 use Rattle.controller_worker.specs.Taking.{HasTaken}
 use Rattle.link_workers.specs.declared.fault.IoFault.{IoFault}
 use Rattle.ruled_relay.specs.declared.item.Item.{Item}
@@ -13,10 +14,11 @@ use Rattle.station_io.specs.Done.{IsCalled}
 
 pub calls : (fault : Option IoFault) (old new : Parts) → IsMemory fault → CallRuns fault old new → Calls old.controller old.desk old.putters fault new.desk new.putters
 calls None old new memory runs = record {
-  steps = runs.steps;
-  items = runs.items;
-  taken = subst (λ (is : List Item). HasTaken old.desk is new.desk) (ap (λ last. runs.items ++ last) (runs.none refl) ∙ append-nil runs.items) runs.desk;
+  moves = runs.moves;
+  taken =
+      subst (λ (is : List Item). HasTaken old.desk is new.desk) (ap (λ last. taken_of runs.moves ++ last) (runs.none refl) ∙ append-nil (taken_of runs.moves)) runs.desk;
   count = runs.count;
+  of_links = runs.of_links;
   links = runs.links;
 }
 calls (Some fault) old new memory runs = (memory, runs.count, λ number p here. let serves = (runs.links number p here).2 in (lines serves.sent, serves.put))

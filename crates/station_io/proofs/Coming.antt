@@ -1,27 +1,23 @@
 -- SPDX-License-Identifier: MIT OR Apache-2.0
 -- One link: what its reader, its writer and the call worker promise, together.
 use Rattle.std.proofs.Common.{◌≡◌, ℕ, Bool, true, false, List, [], ◌∷◌, ◌++◌, Option, Some, None, refl, sym, ap, ◌∙◌, subst, append_assoc}
-use Rattle.std.proofs.lemmas.List.Concat.{flat_map-append}
-use Rattle.std.specs.Io.KnownBytes.{Appends}
 use Rattle.controller_worker.specs.Call.{Serves as CallServes}
-use Rattle.controller_worker.specs.Links.{AreSent, AreStepped, HasDown, is_given_up, lines}
-use Rattle.controller_worker.specs.Steps.{frames_to, items_of, whats_of}
-use Rattle.conn_messages.specs.declared.out.Out.{Out}
-use Rattle.controller_model.specs.declared.step.Step.{Step}
+use Rattle.controller_worker.specs.Links.{HasDown, is_given_up, lines}
+use Rattle.controller_worker.specs.Moves.{IsSent, Move, parts_of, taken_of}
+use Rattle.controller_worker.specs.Steps.{whats_of}
+use Rattle.controller_model.specs.Controller.{Controller}
 use Rattle.ipa_framing.specs.declared.frame.Frame.{Frame}
-use Rattle.ipa_framing.specs.Frame.{frame_text}
 use Rattle.link_workers.specs.declared.fault.IoFault.{IoFault}
-use Rattle.link_workers.specs.Reading.{Serves as ReadServes, frames_text, given}
-use Rattle.link_workers.specs.Writing.{AppendsBeginning, Delivers, WritesFrames}
-use Rattle.ruled_relay.specs.declared.item.Item.{Item}
+use Rattle.link_workers.specs.Reading.{Serves as ReadServes, given}
+use Rattle.link_workers.specs.Writing.{Delivers, WritesFrames}
 use Rattle.ruled_relay.specs.declared.item.What.{What}
 use Rattle.ruled_relay.specs.declared.item.What.TheVariants.{Frame as GivenFrame, Down}
 use Rattle.ruled_relay.specs.declared.outbox.Line.{Line}
 use Rattle.ruled_relay.specs.declared.outbox.Line.TheVariants.{Frame as FrameLine, End}
 use Rattle.ruled_relay.specs.Inbox.{PassView}
 use Rattle.ruled_relay.specs.Outbox.{PutterView, TakerView}
-use Rattle.station_io.specs.Links.{HasCarried, LinkView, Writes, fault_of}
-use Rattle.station_io.proofs.Marks.{all_taken, map_apart, same_before}
+use Rattle.station_io.specs.Links.{HasCarried, LinkView, fault_of}
+use Rattle.station_io.proofs.EndMarks.{all_taken, map_apart, same_before}
 
 frame_is_not_down : (f : Frame) → GivenFrame f ≡ Down → ⊥
 frame_is_not_down f e = cc
@@ -42,38 +38,23 @@ got_is_sent sent got put taken rest is_put is_taken is =
 pub taken_is_given : (frames : List Frame) (put taken rest : List What) → put ≡ given frames ++ Down ∷ [] → HasDown taken → put ≡ taken ++ rest → taken ≡ given frames ++ Down ∷ []
 taken_is_given frames put taken rest is_put down is = all_taken GivenFrame Down frame_is_not_down frames put taken down.0 down.1 rest is_put down.2 is ∙ is_put
 
--- the octets of what was sent were written: of what was to be sent, all or a beginning
-pub all_written : (writing : Option IoFault) (given_up : Bool) (frames sent : List Frame) (old new : Option (List ℕ)) → AreSent given_up frames sent → WritesFrames writing sent old new
-    → Writes writing given_up (frames_text frames) old new
-all_written None false frames sent old new same writes = subst (λ fs. Appends old new (frames_text fs)) same writes.1
-all_written None true frames sent old new first writes =
-    (frames_text sent, frames_text first.0, ap frames_text first.1 ∙ flat_map-append frame_text sent first.0, writes.1)
-all_written (Some fault) false frames sent old new same writes = subst (λ fs. AppendsBeginning old new (frames_text fs)) same writes.1
-all_written (Some fault) true frames sent old new first writes =
-    let part = writes.1 in (
-      part.0,
-      part.1 ++ frames_text first.0,
-      ap frames_text first.1 ∙ flat_map-append frame_text sent first.0 ∙ ap (λ t. t ++ frames_text first.0) part.2 ∙ append_assoc part.0 part.1 (frames_text first.0),
-      part.3,
-    )
-
 -- what reader, writer and call worker promise of a link is that it comes to its end
-pub comes : (steps : List Step) (outs : List Out) (items : List Item) (limit number : ℕ) (old new : LinkView)
+pub comes : (start : Controller) (moves : List Move) (limit number : ℕ) (old new : LinkView)
     (pass put : PassView) (taker taken : TakerView) (putter sent : PutterView) (reading writing : Option IoFault)
     → ReadServes old.unread new.unread limit old.refused new.refused pass put reading → pass.put ≡ []
     → Delivers old.written new.written taker taken writing → taker.taken ≡ []
-    → CallServes None steps (frames_to number outs) items number putter sent
-    → ((rest : List What) × (put.put ≡ whats_of number items ++ rest)) → ((rest : List Line) × (sent.put ≡ taken.taken ++ rest))
-    → HasCarried steps outs limit number old new (fault_of reading writing (is_given_up sent))
-comes steps outs items limit number old new pass put taker taken putter sent reading writing reads blank delivers fresh calls inbox outbox =
+    → CallServes None start moves number putter sent
+    → ((rest : List What) × (put.put ≡ whats_of number (taken_of moves) ++ rest)) → ((rest : List Line) × (sent.put ≡ taken.taken ++ rest))
+    → HasCarried start moves limit number old new (fault_of reading writing (is_given_up sent))
+comes start moves limit number old new pass put taker taken putter sent reading writing reads blank delivers fresh calls inbox outbox =
     let is_put : put.put ≡ given reads.frames ++ Down ∷ [] = ap (λ (p : PassView). p.put) reads.put ∙ ap (λ ws. ws ++ (given reads.frames ++ Down ∷ [])) blank in
     let is_taken : taken.taken ≡ lines delivers.frames ++ End ∷ [] = ap (λ (t : TakerView). t.taken) delivers.takes ∙ ap (λ ls. ls ++ (lines delivers.frames ++ End ∷ [])) fresh in
     let got = got_is_sent calls.sent delivers.frames sent.put taken.taken outbox.0 calls.put is_taken outbox.1 in
-    let whats = taken_is_given reads.frames put.put (whats_of number items) inbox.0 is_put (calls.down refl) inbox.1 in
+    let up : Bool = is_given_up sent in
     record {
       reading = reading;
       writing = writing;
-      given_up = is_given_up sent;
+      given_up = up;
       why = refl;
       octets = reads.octets;
       frames = reads.frames;
@@ -82,9 +63,8 @@ comes steps outs items limit number old new pass put taker taken putter sent rea
       parts = reads.parts;
       ends = reads.ends;
       asks = reads.asks;
-      added = calls.added;
-      items = subst (AreStepped calls.added (whats_of number (items_of steps))) whats calls.stepped;
-      only = calls.given_up;
-      writes = all_written writing (is_given_up sent) (frames_to number outs) calls.sent old.written new.written calls.first
-          (subst (λ fs. WritesFrames writing fs old.written new.written) got delivers.writes);
+      items = taken_is_given reads.frames put.put (whats_of number (taken_of moves)) inbox.0 is_put (calls.down refl) inbox.1;
+      sent = calls.sent;
+      which = subst (λ a. IsSent up a number (parts_of number start moves) calls.sent) (calls.whole refl) calls.which;
+      writes = subst (λ fs. WritesFrames writing fs old.written new.written) got delivers.writes;
     }

@@ -1,5 +1,5 @@
 -- SPDX-License-Identifier: MIT OR Apache-2.0
-mod Marks
+mod EndMarks
 mod Coming
 mod Calling
 mod Pairing
@@ -9,6 +9,7 @@ mod Relaying
 mod Rows
 mod Lists
 mod CrewRows
+mod CapacityRows
+mod Moves
 mod Octets
 mod OctetRows
-mod Keeping

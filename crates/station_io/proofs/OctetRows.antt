@@ -1,6 +1,6 @@
 -- SPDX-License-Identifier: MIT OR Apache-2.0
 -- The definitions from octets in to octets out, at literal octets: two links of which the second sends PING.
-use Rattle.std.proofs.Common.{◌≡◌, ℕ, zero, suc, List, [], ◌∷◌, Ok, Some, false, refl, arith, inl}
+use Rattle.std.proofs.Common.{◌≡◌, ℕ, zero, suc, ◌+◌, ◌≤◌, Bool, true, false, List, [], ◌∷◌, ◌++◌, length, Ok, Some, refl, ap, arith, inl, length-append}
 use Rattle.octets.proofs.Hex.{hex}
 use Rattle.controller_model.specs.declared.step.Step.{Step}
 use Rattle.controller_model.specs.declared.step.Step.TheVariants.{Take, Tick}
@@ -10,8 +10,9 @@ use Rattle.controller_model.proofs.OnLiterals.{on_literals}
 use Rattle.ipa_framing.specs.declared.frame.Frame.{Frame}
 use Rattle.ipa_framing.specs.Framer.{FramerState, feed, next, new_framer}
 use Rattle.ipa_framing.specs.Front.{frame}
+use Rattle.ruled_relay.specs.declared.item.What.{What}
 use Rattle.ruled_relay.specs.declared.item.What.TheVariants as whats
-use Rattle.station_io.specs.Octets.{AreFirstOf, Came, Next, TakesWhole, came_in, frames_in, item_of, items_in, merged, octets_put, order_of, time}
+use Rattle.station_io.specs.Octets.{AreFirstOf, AreWithDown, Came, Next, TakesWhole, came_in, ended_behind, frames_in, item_of, items_in, merged, octets_put, order_of, time}
 
 abbrev ping : Frame
 ping = frame 0xfe (hex "00")
@@ -79,5 +80,27 @@ nothing_for_the_switch = refl
 
 -- ---- the first of what came
 
-first_of_two : AreFirstOf (hex "00 01 fe 00 00 01 fe 00") (whats.Frame ping ∷ whats.Down ∷ [])
+abbrev ping_item : What
+ping_item = whats.Frame ping
+
+first_of_two : AreFirstOf (hex "00 01 fe 00 00 01 fe 00") (ping_item ∷ whats.Down ∷ [])
 first_of_two = (ping ∷ [], ping ∷ [], false, refl, refl)
+
+-- its outbox was given up before its frame was taken
+down_came_first : AreFirstOf (hex "00 01 fe 00") (whats.Down ∷ ping_item ∷ whats.Down ∷ [])
+down_came_first = (ping ∷ [], [], true, refl, ([], ping_item ∷ whats.Down ∷ [], refl, refl))
+
+one_more_at_most : (added : Bool) (taken came : List What) → AreWithDown added taken came → length came ≤ length taken + 1
+one_more_at_most false taken came is = omega (arith, ap length is)
+one_more_at_most true taken came is = omega (arith, ap length is.2, ap length is.3, length-append is.0 is.1, length-append is.0 (whats.Down ∷ is.1))
+
+none_of_none : (frames more : List Frame) → [] ≡ frames ++ more → frames ≡ []
+none_of_none [] more is = refl
+none_of_none (f ∷ frames) more is = absurd (cc is)
+
+-- a `Down` is added once
+added_twice : AreFirstOf [] (whats.Down ∷ whats.Down ∷ whats.Down ∷ []) → ⊥
+added_twice bad =
+    let none = none_of_none bad.0 bad.1 bad.3 in
+    let most = one_more_at_most bad.2 (ended_behind bad.0) (whats.Down ∷ whats.Down ∷ whats.Down ∷ []) bad.4 in
+    omega (arith, most, ap (λ (fs : List Frame). length (ended_behind fs)) none)

@@ -1,12 +1,13 @@
 -- SPDX-License-Identifier: MIT OR Apache-2.0
 -- What came of links, merged in the order of the steps, is these steps; and what one link makes of its octets.
 use Rattle.std.proofs.Common.{◌≡◌, ◌≢◌, ◌⊎◌, ℕ, zero, suc, ◌/◌, ◌%◌, ◌==◌, ◌≤◌, if◌then◌else◌, Bool, true, false, List, [], ◌∷◌, ◌++◌, drop, length, map, Option, Some, None, refl, sym, ap, ◌∙◌, subst, append-nil, append_assoc, arith, inl, inr, eqb, ⊎_elim, length-append}
-use Rattle.std.proofs.lemmas.Bool.{eq-eqb, ne_eqb, false≢true}
+use Rattle.std.proofs.lemmas.Bool.{eq-eqb, ne_eqb}
 use Rattle.std.proofs.lemmas.Bool.Decides.{eqb_tells}
 use Rattle.std.specs.List.{AllByRecursion, filter}
 use Rattle.std.specs.Io.KnownBytes.{Appends, IsAtEnd}
-use Rattle.controller_worker.specs.Links.{AreStepped}
-use Rattle.controller_worker.specs.Steps.{frames_to, items_of, over, whats_of}
+use Rattle.controller_worker.specs.Moves.{Move, steps_of}
+use Rattle.controller_worker.specs.Steps.{AreOfLinks, frames_to, items_of, over, whats_of}
+use Rattle.controller.proofs.LifeLaws.{new_keeps_laws}
 use Rattle.controller_model.specs.declared.step.Step.{Step}
 use Rattle.controller_model.specs.declared.step.Step.TheVariants.{Take, Tick}
 use Rattle.controller_model.specs.Controller.{Controller, new_controller}
@@ -21,16 +22,16 @@ use Rattle.ipa_framing.specs.Front.{front_of}
 use Rattle.ipa_framing.proofs.Stream.{front_again, front_long, front_partial, run_splits, splits_some}
 use Rattle.link_workers.specs.declared.fault.IoFault.{IoFault}
 use Rattle.link_workers.specs.Reading.{Ends, Parts, frames_text, given}
-use Rattle.link_workers.specs.Writing.{AppendsBeginning}
+use Rattle.link_workers.specs.Writing.{AppendsBeginning, WritesFrames}
 use Rattle.octets.specs.Element.{AreOctets}
 use Rattle.octets.proofs.Grammar.{octets_back, octets_front}
 use Rattle.ruled_relay.specs.declared.item.Item.{Item}
 use Rattle.ruled_relay.specs.declared.item.What.{What}
 use Rattle.ruled_relay.specs.declared.item.What.TheVariants as whats
 use Rattle.settings.specs.Parameters.{AreAllowed, Parameters}
-use Rattle.station_io.proofs.Keeping.{new_keeps_laws}
-use Rattle.station_io.specs.Links.{Ended, HasCarried, LinkView, Relays, Writes, fault_of}
-use Rattle.station_io.specs.Octets.{Came, Next, Passes, PassesOctets, TakesWhole, behind, came_in, ended_behind, first_frames, first_step, frames_in, from_front, item_of, items_in, merged, octets_put, order_of, time}
+use Rattle.station_io.proofs.Moves.{came_is, no_others, sent_is_all, sent_is_first, whats_others}
+use Rattle.station_io.specs.Links.{Ended, HasCarried, LinkView, Relays, fault_of}
+use Rattle.station_io.specs.Octets.{AreWithDown, Came, Next, Passes, PassesOctets, TakesWhole, behind, came_in, ended_behind, first_frames, first_step, frames_in, from_front, item_of, items_in, merged, octets_put, order_of, time}
 
 -- ---- the frames of octets
 
@@ -76,9 +77,6 @@ given_are_in calls (left, run, stops) =
 whats_first : (link : ℕ) (item : Item) (items : List Item) → item.source ≡ link → whats_of link (item ∷ items) ≡ item.what ∷ whats_of link items
 whats_first link item items e = rw (eq-eqb item.source link e) refl
 
-whats_others : (link : ℕ) (item : Item) (items : List Item) → item.source ≢ link → whats_of link (item ∷ items) ≡ whats_of link items
-whats_others link item items e = rw (ne_eqb item.source link e) refl
-
 same_or : (a b : ℕ) → (a ≡ b) ⊎ (a ≢ b)
 same_or a b = ⊎_elim (λ (h : (eqb a b ≡ true) × (a ≡ b)). inl h.1) (λ (h : (eqb a b ≡ false) × (a ≢ b)). inr h.1) (eqb_tells a b)
 
@@ -109,51 +107,69 @@ no_fault None None true is = absurd (cc is)
 no_fault None (Some fault) given_up is = absurd (cc is)
 no_fault (Some fault) writing given_up is = absurd (cc is)
 
-beginning_of : (writing : Option IoFault) (given_up : Bool) (text : List ℕ) (old new : Option (List ℕ)) → Writes writing given_up text old new → AppendsBeginning old new text
-beginning_of None false text old new all = (text, [], sym (append-nil text), all)
-beginning_of None true text old new part = part
-beginning_of (Some fault) false text old new part = part
-beginning_of (Some fault) true text old new part = part
+-- the octets of first frames begin the octets of all
+text_begins : (all sent more : List Frame) → all ≡ sent ++ more → frames_text all ≡ frames_text sent ++ frames_text more
+text_begins all sent more is = ap (λ (fs : List Frame). frames_text fs) is ∙ text_both sent more
+  where
+    text_both : (xs ys : List Frame) → frames_text (xs ++ ys) ≡ frames_text xs ++ frames_text ys
+    text_both [] ys = refl
+    text_both (x ∷ xs) ys = ap (λ (os : List ℕ). frame_text x ++ os) (text_both xs ys) ∙ sym (append_assoc (frame_text x) (frames_text xs) (frames_text ys))
 
-whole_of : (writing : Option IoFault) (given_up : Bool) (text : List ℕ) (old new : Option (List ℕ)) → writing ≡ None → given_up ≡ false → Writes writing given_up text old new → Appends old new text
-whole_of writing given_up text old new w g writes = subst (λ (b : Bool). Writes None b text old new) g (subst (λ (o : Option IoFault). Writes o given_up text old new) w writes)
+beginning_of : (writing : Option IoFault) (sent : List Frame) (more : List ℕ) (old new : Option (List ℕ)) → WritesFrames writing sent old new
+    → AppendsBeginning old new (frames_text sent ++ more)
+beginning_of None sent more old new all = (frames_text sent, more, refl, all.1)
+beginning_of (Some fault) sent more old new (why, part) =
+    (part.0, part.1 ++ more, ap (λ (os : List ℕ). os ++ more) part.2 ∙ append_assoc part.0 part.1 more, part.3)
+
+whole_of : (writing : Option IoFault) (sent : List Frame) (old new : Option (List ℕ)) → writing ≡ None → WritesFrames writing sent old new → Appends old new (frames_text sent)
+whole_of writing sent old new w writes = (subst (λ (o : Option IoFault). WritesFrames o sent old new) w writes).1
 
 at_end : (reading : Option IoFault) (rest : List ℕ) (now : Option (List ℕ)) → reading ≡ None → Ends reading rest now → IsPartial rest × IsAtEnd now
 at_end reading rest now r ends = subst (λ (o : Option IoFault). Ends o rest now) r ends
 
-not_added : (added given_up : Bool) → (added ≡ true → given_up ≡ true) → given_up ≡ false → added ≡ false
-not_added false given_up only g = refl
-not_added true given_up only g = absurd (false≢true (sym g ∙ only refl))
-
-pub passes : (start : Controller) (steps : List Step) (limit number : ℕ) (old : LinkView) (now : Ended)
-    → HasCarried steps (over start steps).outs limit number old now.link now.fault → Passes start (order_of steps) (came_in steps) number old now
-passes start steps limit number old now c =
-    let text : List Step → List ℕ = λ ss. frames_text (frames_to number (over start ss).outs) in
+pub passes : (start : Controller) (moves : List Move) (limit number : ℕ) (old : LinkView) (now : Ended)
+    → HasCarried start moves limit number old now.link now.fault → Passes start (order_of (steps_of moves)) (came_in (steps_of moves)) number old now
+passes start moves limit number old now c =
+    let steps : List Step = steps_of moves in
+    let outs : List Step → List Frame = λ ss. frames_to number (over start ss).outs in
+    let again : (F : List ℕ → Type 0) → F (frames_text (outs steps)) → F (octets_put start (order_of steps) (came_in steps) number) =
+    λ F h. subst (λ (ss : List Step). F (frames_text (outs ss))) (sym (merged_again steps)) h in
     let all = first_in c.octets c.frames c.rest c.parts in
-    let parts : now.fault ≡ None → (c.reading ≡ None) × (c.writing ≡ None) × (c.given_up ≡ false) = λ none. no_fault c.reading c.writing c.given_up (sym c.why ∙ none) in record {
+    let came : AreWithDown c.given_up (ended_behind c.frames) (came_in steps number) =
+    subst (λ (ws : List What). AreWithDown c.given_up ws (came_in steps number)) c.items (came_is c.given_up number start moves c.sent c.which) in
+    let first = sent_is_first c.given_up number start moves c.sent c.which in
+    let well : now.fault ≡ None → (c.reading ≡ None) × (c.writing ≡ None) × (c.given_up ≡ false) = λ none. no_fault c.reading c.writing c.given_up (sym c.why ∙ none) in record {
       octets = c.octets;
       read = c.read;
-      first = (c.frames, first_frames all.0 c.rest, c.added, all.1, c.items);
-      part = subst (λ (ss : List Step). AppendsBeginning old.written now.link.written (text ss)) (sym (merged_again steps)) (beginning_of c.writing c.given_up (text steps) old.written now.link.written c.writes);
-      end = λ none. (at_end c.reading c.rest now.link.unread (parts none).0 c.ends).1;
+      first = (c.frames, first_frames all.0 c.rest, c.given_up, all.1, came);
+      part = again (λ text. AppendsBeginning old.written now.link.written text)
+          (subst (λ (text : List ℕ). AppendsBeginning old.written now.link.written text) (sym (text_begins (outs steps) c.sent first.0 first.1))
+          (beginning_of c.writing c.sent (frames_text first.0) old.written now.link.written c.writes));
+      end = λ none. (at_end c.reading c.rest now.link.unread (well none).0 c.ends).1;
       items = λ none.
-          let p = parts none in
-          subst (λ (b : Bool). AreStepped b (came_in steps number) (ended_behind c.frames)) (not_added c.added c.given_up c.only p.2) c.items
-          ∙ ap ended_behind (sym (all_in c.octets c.frames c.rest c.parts (inl (at_end c.reading c.rest now.link.unread p.0 c.ends).0)));
+          let w = well none in
+          subst (λ (b : Bool). AreWithDown b (ended_behind c.frames) (came_in steps number)) w.2 came
+          ∙ ap ended_behind (sym (all_in c.octets c.frames c.rest c.parts (inl (at_end c.reading c.rest now.link.unread w.0 c.ends).0)));
       got = λ none.
-          let p = parts none in
-          subst (λ (ss : List Step). Appends old.written now.link.written (text ss)) (sym (merged_again steps)) (whole_of c.writing c.given_up (text steps) old.written now.link.written p.1 p.2 c.writes);
+          let w = well none in
+          let sent = sent_is_all c.given_up number start moves c.sent w.2 c.which in
+          again (λ text. Appends old.written now.link.written text)
+          (subst (λ (fs : List Frame). Appends old.written now.link.written (frames_text fs)) (sym sent)
+          (whole_of c.writing c.sent old.written now.link.written w.1 c.writes));
     }
 
 -- ---- all links
 
 pub octets_pass : (start : Controller) (limit : ℕ) (links : List LinkView) (ended : List Ended) → Relays start limit links ended → PassesOctets start links ended
 octets_pass start limit links ended relays =
-    let steps = relays.1.0 in (
+    let moves : List Move = relays.1.2 in
+    let steps : List Step = steps_of moves in
+    let of_links : AreOfLinks (length links) steps = subst (λ (ss : List Step). AreOfLinks (length links) ss) relays.1.3 relays.1.1 in (
       order_of steps,
       came_in steps,
       λ is. new_keeps_laws start (merged (order_of steps) (came_in steps)) is,
-      λ number old now is_old is_now. passes start steps limit number old now (relays.1.1 number old now is_old is_now),
+      λ number past. no_others (length links) number (items_of steps) of_links past,
+      λ number old now is_old is_now. passes start moves limit number old now (relays.1.4 number old now is_old is_now),
     )
 
 -- ---- the frames that are put can be written

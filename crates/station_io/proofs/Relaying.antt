@@ -1,13 +1,14 @@
 -- SPDX-License-Identifier: MIT OR Apache-2.0
 -- All links: what the threads give back is that all came to their ends over one list of steps.
-use Rattle.std.proofs.Common.{◌≡◌, ℕ, ◌<◌, List, [], ◌∷◌, ◌++◌, Option, length, map, sym, ap, ◌∙◌, subst, arith}
+use Rattle.std.proofs.Common.{◌≡◌, ℕ, ◌<◌, List, [], ◌∷◌, ◌++◌, Option, length, map, refl, sym, ap, ◌∙◌, subst, arith}
 use Rattle.std.proofs.lemmas.List.{length-map}
 use mathlib.Core.Option.{some}
 use lib.ListN.{get_elem?}
 use Rattle.std.specs.declared.alloc.Global.{Global}
 use Rattle.atomic_table.proofs.Lists.{at_map}
 use Rattle.controller_worker.specs.Links.{is_given_up}
-use Rattle.controller_worker.specs.Steps.{over, whats_of}
+use Rattle.controller_worker.specs.Moves.{steps_of, taken_of}
+use Rattle.controller_worker.specs.Steps.{AreOfLinks, whats_of}
 use Rattle.controller_model.specs.Controller.{Controller}
 use Rattle.ruled_relay.specs.declared.item.What.{What}
 use Rattle.ruled_relay.proofs.Places.{same_there, there, within}
@@ -77,7 +78,7 @@ module _ {I O G : Type 0} (remaining : I → Option (List ℕ)) (contents : O �
   link_comes : (left : Row) → EachPair Follows written putters → AreJoined desk (map (λ (r : HasRead I G). r.pass) read) left
       → (number : ℕ) (link : Link I O G) (r : HasRead I G) (w : HasWritten O) (p : PutterView)
       → get_elem? links number ≡ some link → get_elem? read number ≡ some r → get_elem? written number ≡ some w → get_elem? putters number ≡ some p
-      → HasCarried all.runs.steps (over start all.runs.steps).outs limit number (link_view remaining contents refused link) (link_view remaining contents refused (link_of r w))
+      → HasCarried start all.runs.moves limit number (link_view remaining contents refused link) (link_view remaining contents refused (link_of r w))
       (fault_of r.fault w.fault (is_given_up p))
   link_comes left outbox joined number link r w p at_link at_read at_written at_putter =
       let room : number < length links = within links number link at_link in
@@ -90,9 +91,9 @@ module _ {I O G : Type 0} (remaining : I → Option (List ℕ)) (contents : O �
       let end = joined.1 number row.0 row.1 in
       let taken = all.runs.taken.1 number end.0 end.2 in
       let blank = all.inbox.2 number taken.0 taken.1 in
-      let is_taken : end.0.seen.taken ≡ whats_of number all.runs.items = taken.2 ∙ ap (λ (l : List What). l ++ whats_of number all.runs.items) blank in
+      let is_taken : end.0.seen.taken ≡ whats_of number (taken_of all.runs.moves) = taken.2 ∙ ap (λ (l : List What). l ++ whats_of number (taken_of all.runs.moves)) blank in
       let is_pass : r.pass ≡ end.1 = same_there (map (λ (r : HasRead I G). r.pass) read) number r.pass end.1 (at_map (λ (r : HasRead I G). r.pass) read number r at_read) end.3 in
-      comes all.runs.steps (over start all.runs.steps).outs all.runs.items limit number (link_view remaining contents refused link) (link_view remaining contents refused (link_of r w))
+      comes start all.runs.moves limit number (link_view remaining contents refused link) (link_view remaining contents refused (link_of r w))
       pass.0 r.pass taker.0 w.taker served.0 p r.fault w.fault reads (all.inbox.3 number pass.0 pass.1) writes (all.outboxes.3 number taker.0 taker.1) served.2
       (end.5.0, ap (λ (x : PassView). x.put) is_pass ∙ end.5.1 ∙ ap (λ (l : List What). l ++ end.5.0) is_taken) (outbox number w p at_written at_putter)
 
@@ -105,7 +106,10 @@ module _ {I O G : Type 0} (remaining : I → Option (List ℕ)) (contents : O �
       length_paired (λ g putter. g putter) give putters (size_putters ∙ sym size_read ∙ sym sizes_give) ∙ sizes_give ∙ size_read in (
         length-map (all_given read written putters) (ended_view remaining contents refused) ∙ sizes ∙ sym (length-map links (link_view remaining contents refused)),
         (
-          all.runs.steps,
+          steps_of all.runs.moves,
+          subst (λ (n : ℕ). AreOfLinks n (steps_of all.runs.moves)) (all.outboxes.0 ∙ sym (length-map links (link_view remaining contents refused))) all.runs.of_links,
+          all.runs.moves,
+          refl,
           λ number old now is_old is_now.
               let room : number < length links = let h = within (map (link_view remaining contents refused) links) number old is_old in let s = length-map links (link_view remaining contents refused) in omega arith in
               let link = there links number room in
@@ -118,7 +122,7 @@ module _ {I O G : Type 0} (remaining : I → Option (List ℕ)) (contents : O �
               (at_pair given_back read written number r.0 w.0 r.1 w.1) p.1 in
               let now_is : ended_view remaining contents refused (given_back r.0 w.0 p.0) ≡ now = same_there (map (ended_view remaining contents refused) (all_given read written putters)) number
               (ended_view remaining contents refused (given_back r.0 w.0 p.0)) now (at_map (ended_view remaining contents refused) (all_given read written putters) number (given_back r.0 w.0 p.0) given_is) is_now in
-              subst (λ (y : LinkView × Ended). HasCarried all.runs.steps (over start all.runs.steps).outs limit number y.0 y.1.link y.1.fault) (λ i. (old_is i, now_is i))
+              subst (λ (y : LinkView × Ended). HasCarried start all.runs.moves limit number y.0 y.1.link y.1.fault) (λ i. (old_is i, now_is i))
               (link_comes left outbox joined number link.0 r.0 w.0 p.0 link.1 r.1 w.1 p.1),
         ),
       )

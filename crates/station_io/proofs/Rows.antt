@@ -6,9 +6,8 @@ use mathlib.Core.Option.{some, some-injective, some-ne-none}
 use lib.ListN.{get_elem?}
 use Rattle.std.specs.declared.alloc.Global.{Global}
 use Rattle.atomic_table.specs.Seated.{TableId}
-use Rattle.controller_worker.specs.Steps.{over, whats_of}
-use Rattle.controller_worker.specs.Links.{AreStepped}
-use Rattle.conn_messages.specs.declared.out.Out.{Out}
+use Rattle.controller_worker.specs.Moves.{AreOther, IsSent, Move, Part, takes, ticks, adds, frames_in, parts_of, taken_of}
+use Rattle.controller_worker.specs.Steps.{AreOfLinks, whats_of}
 use Rattle.controller_model.specs.declared.step.Step.{Step}
 use Rattle.controller_model.specs.declared.step.Step.TheVariants.{Take, Tick}
 use Rattle.controller_model.specs.Controller.{Controller, new_controller}
@@ -16,8 +15,10 @@ use Rattle.controller_model.proofs.Lives.{usual_settings}
 use Rattle.controller_model.proofs.OnLiterals.{on_literals}
 use Rattle.ipa_framing.specs.declared.frame.Frame.{Frame}
 use Rattle.link_workers.specs.declared.fault.IoFault.{IoFault}
-use Rattle.link_workers.specs.declared.fault.IoFault.TheVariants.{GateShut, GivenUp, Memory, ReadFailed, WriteFailed}
-use Rattle.link_workers.specs.Reading.{Ends, given}
+use Rattle.link_workers.specs.declared.fault.IoFault.TheVariants.{FrameFault, GateShut, GivenUp, Memory, ReadFailed, WriteFailed}
+use Rattle.link_workers.specs.Reading.{Ends, frames_text, given}
+use Rattle.link_workers.specs.Writing.{WritesFrames}
+use Rattle.ruled_relay.specs.declared.item.Item.{Item}
 use Rattle.ruled_relay.specs.declared.item.What.{What}
 use Rattle.ruled_relay.specs.declared.item.What.TheVariants as whats
 use Rattle.ruled_relay.specs.declared.outbox.Line.{Line}
@@ -33,7 +34,7 @@ use Rattle.link_workers.specs.declared.writer.HasWritten.{HasWritten}
 use Rattle.station_io.specs.Calls.{Calls, HasEnd}
 use Rattle.station_io.specs.Done.{AreRead, AreWritten}
 use Rattle.station_io.specs.Given.{Follows, HasRoom, all_given, given_back}
-use Rattle.station_io.specs.Links.{HasCarried, Ended, LinkView, Relays, Writes, ended_view, fault_of, link_view}
+use Rattle.station_io.specs.Links.{HasCarried, Ended, LinkView, Relays, ended_view, fault_of, link_view}
 use Rattle.station_io.specs.Pairs.{EachPair, paired}
 use Rattle.station_io.specs.Work.{AreNewOutboxes, AreNewQueues, readings, writings}
 
@@ -82,41 +83,49 @@ not_each_pair bad = omega (arith, bad 1 2 3 refl refl)
 
 -- ---- what was written
 
-writes_all : Writes None false (hex "07 08") (Some (0x01 ∷ [])) (Some (hex "01 07 08"))
-writes_all = refl
+writes_all : WritesFrames None (pong ∷ []) (Some (0x01 ∷ [])) (Some (hex "01 00 01 fe 01"))
+writes_all = ((omega arith, tt), refl)
 
-appended : (text old new : List ℕ) → Writes None false text (Some old) (Some new) → new ≡ old ++ text
-appended text old new writes = writes
+appended : (frames : List Frame) (old new : List ℕ) → WritesFrames None frames (Some old) (Some new) → new ≡ old ++ frames_text frames
+appended frames old new writes = writes.1
 
-writes_less_without_a_cause : Writes None false (hex "07 08") (Some (0x01 ∷ [])) (Some (hex "01 07")) → ⊥
-writes_less_without_a_cause bad = omega (arith, ap length (appended (hex "07 08") (0x01 ∷ []) (hex "01 07") bad))
+writes_less_without_a_cause : WritesFrames None (pong ∷ []) (Some (0x01 ∷ [])) (Some (hex "01 00")) → ⊥
+writes_less_without_a_cause bad = omega (arith, ap length (appended (pong ∷ []) (0x01 ∷ []) (hex "01 00") bad))
 
-writes_less_after_a_fault : Writes (Some WriteFailed) false (hex "07 08") (Some (0x01 ∷ [])) (Some (hex "01 07"))
-writes_less_after_a_fault = (0x07 ∷ [], 0x08 ∷ [], refl, refl)
+-- a writer ends by its device, for want of memory, or at a frame that is too long
+gate_is_none_of_a_writer : WritesFrames (Some GateShut) (pong ∷ []) (Some []) (Some []) → ⊥
+gate_is_none_of_a_writer bad = bad.0
 
-writes_less_when_given_up : Writes None true (hex "07 08") (Some (0x01 ∷ [])) (Some (hex "01 07"))
-writes_less_when_given_up = (0x07 ∷ [], 0x08 ∷ [], refl, refl)
+no_frame_is_too_long : WritesFrames (Some FrameFault) (pong ∷ []) (Some []) (Some []) → ⊥
+no_frame_is_too_long bad = bad.0 (omega arith, tt)
 
-writes_the_second_alone : Writes None true (hex "07 08") (Some []) (Some (0x08 ∷ [])) → ⊥
+writes_less_after_a_fault : WritesFrames (Some WriteFailed) (pong ∷ []) (Some (0x01 ∷ [])) (Some (hex "01 00 01"))
+writes_less_after_a_fault = (tt, (hex "00 01", hex "fe 01", refl, refl))
+
+writes_the_second_alone : WritesFrames (Some WriteFailed) (pong ∷ []) (Some []) (Some (0x01 ∷ [])) → ⊥
 writes_the_second_alone bad =
-    let first : 0x08 ∷ [] ≡ bad.0 = bad.3 in
-    let whole : hex "07 08" ≡ 0x08 ∷ bad.1 = bad.2 ∙ ap (λ l. l ++ bad.1) (sym first) in
+    let part = bad.1 in
+    let first : 0x01 ∷ [] ≡ part.0 = part.3 in
+    let whole : hex "00 01 fe 01" ≡ 0x01 ∷ part.1 = part.2 ∙ ap (λ l. l ++ part.1) (sym first) in
     absurd (cc whole)
 
--- ---- one link over steps of the controller
+-- ---- one link over moves of the call worker
 
-abbrev of_ping : Step
-of_ping = Take (record { source = 1; what = whats.Frame ping })
+abbrev start : Controller
+start = new_controller usual_settings
 
-abbrev of_down : ℕ → Step
-of_down source = Take (record { source = source; what = whats.Down })
+abbrev ping_item : Item
+ping_item = record { source = 1; what = whats.Frame ping }
+
+abbrev down_item : ℕ → Item
+down_item source = record { source = source; what = whats.Down }
 
 -- the station asks whether somebody is there, and closes its link; then so does the switch
-abbrev steps_of_both : List Step
-steps_of_both = of_ping ∷ Tick 250 ∷ of_down 1 ∷ of_down 0 ∷ []
+abbrev moves_of_both : List Move
+moves_of_both = takes ping_item ∷ ticks 250 ∷ takes (down_item 1) ∷ takes (down_item 0) ∷ []
 
-abbrev pong_to : ℕ → Out
-pong_to link = record { to = link; conn = 0; frame = pong }
+abbrev steps_of_both : List Step
+steps_of_both = Take ping_item ∷ Tick 250 ∷ Take (down_item 1) ∷ Take (down_item 0) ∷ []
 
 abbrev link : List ℕ → List ℕ → ℕ → LinkView
 link unread written refused = record { unread = Some unread; written = Some written; refused = refused }
@@ -131,7 +140,24 @@ view_of_an_ended_link : ended_view {I = List ℕ} {O = List ℕ} {G = ℕ} (λ i
     ≡ ended (link (1 ∷ []) (2 ∷ []) 3) (Some GivenUp)
 view_of_an_ended_link = refl
 
-station_is_answered : HasCarried steps_of_both (pong_to 1 ∷ []) 1 1 (link ping_octets [] 0) (link [] pong_octets 0) None
+pong_for_station : frames_in (parts_of 1 start moves_of_both) ≡ pong ∷ []
+unfolding on_literals
+pong_for_station = refl
+
+none_for_switch : frames_in (parts_of 0 start moves_of_both) ≡ []
+unfolding on_literals
+none_for_switch = refl
+
+taken_not_added : (item : Item) (number : ℕ) → takes item ≡ adds number → ⊥
+taken_not_added item number e = cc
+
+time_not_added : (ms number : ℕ) → ticks ms ≡ adds number → ⊥
+time_not_added ms number e = cc
+
+none_added : (number : ℕ) → AreOther number (parts_of number start moves_of_both)
+none_added number = (taken_not_added ping_item number, (time_not_added 250 number, (taken_not_added (down_item 1) number, (taken_not_added (down_item 0) number, tt))))
+
+station_is_answered : HasCarried start moves_of_both 1 1 (link ping_octets [] 0) (link [] pong_octets 0) None
 station_is_answered = record {
   reading = None;
   writing = None;
@@ -144,13 +170,13 @@ station_is_answered = record {
   parts = record { whole = refl; each = (omega arith, tt) };
   ends = (tt, refl);
   asks = refl;
-  added = false;
   items = refl;
-  only = λ e. e;
-  writes = refl;
+  sent = pong ∷ [];
+  which = (sym pong_for_station, none_added 1);
+  writes = ((omega arith, tt), refl);
 }
 
-switch_closes : HasCarried steps_of_both (pong_to 1 ∷ []) 1 0 (link [] [] 0) (link [] [] 0) None
+switch_closes : HasCarried start moves_of_both 1 0 (link [] [] 0) (link [] [] 0) None
 switch_closes = record {
   reading = None;
   writing = None;
@@ -163,16 +189,40 @@ switch_closes = record {
   parts = record { whole = refl; each = tt };
   ends = (tt, refl);
   asks = refl;
-  added = false;
   items = refl;
-  only = λ e. e;
-  writes = refl;
+  sent = [];
+  which = (sym none_for_switch, none_added 0);
+  writes = (tt, refl);
 }
 
--- its outbox was given up: a `Down` was added before the frame that still came, and half of the
--- answer was written
-given_up_midway : HasCarried (of_down 1 ∷ of_ping ∷ of_down 1 ∷ []) (pong_to 1 ∷ []) 1 1 (link ping_octets [] 0) (link [] (hex "00 01") 0) (Some GivenUp)
-given_up_midway = record {
+-- its outbox refused the answer until it was given up, and the `Down` that was added is the next
+-- move; its own waited behind
+refused_at_once : IsSent true true 1 (parts_of 1 start (takes ping_item ∷ adds 1 ∷ takes (down_item 1) ∷ [])) []
+unfolding on_literals
+refused_at_once = (
+  record { move = takes ping_item; frames = pong ∷ [] } ∷ [],
+  record { move = adds 1; frames = [] },
+  record { move = takes (down_item 1); frames = [] } ∷ [],
+  refl,
+  record {
+    earlier = [];
+    last = record { move = takes ping_item; frames = pong ∷ [] };
+    downs = [];
+    whole = refl;
+    added = tt;
+    first = [];
+    refused = pong;
+    rest = [];
+    frames = refl;
+    before = refl;
+  },
+  refl,
+  (taken_not_added ping_item 1, tt),
+  (taken_not_added (down_item 1) 1, tt),
+)
+
+given_up_at_once : HasCarried start (takes ping_item ∷ adds 1 ∷ takes (down_item 1) ∷ []) 1 1 (link ping_octets [] 0) (link [] [] 0) (Some GivenUp)
+given_up_at_once = record {
   reading = None;
   writing = None;
   given_up = true;
@@ -184,10 +234,10 @@ given_up_midway = record {
   parts = record { whole = refl; each = (omega arith, tt) };
   ends = (tt, refl);
   asks = refl;
-  added = true;
-  items = ([], whats.Frame ping ∷ whats.Down ∷ [], refl, refl);
-  only = λ e. e;
-  writes = (hex "00 01", hex "fe 01", refl, refl);
+  items = refl;
+  sent = [];
+  which = refused_at_once;
+  writes = (tt, refl);
 }
 
 -- where there is no fault there was none of the reader, the writer and the outbox
@@ -200,38 +250,36 @@ is_well None (Some writing) given_up e = absurd (cc e)
 is_well None None true e = absurd (cc e)
 is_well None None false e = (refl, refl, refl)
 
--- what was written at a link without a fault
-well_written : (reading writing : Option IoFault) (given_up : Bool) (text old new : List ℕ) → IsWell reading writing given_up → Writes writing given_up text (Some old) (Some new)
-    → new ≡ old ++ text
-well_written reading (Some writing) given_up text old new well writes = absurd (cc well.1)
-well_written reading None true text old new well writes = absurd (cc well.2)
-well_written reading None false text old new well writes = appended text old new writes
+-- what was sent and written at a link without a fault
+well_sent : (given_up : Bool) (number : ℕ) (parts : List Part) (sent : List Frame) → given_up ≡ false → IsSent given_up given_up number parts sent → sent ≡ frames_in parts
+well_sent false number parts sent well which = which.0
+well_sent true number parts sent well which = absurd (cc well)
+
+well_written : (reading writing : Option IoFault) (given_up : Bool) (sent : List Frame) (old new : List ℕ) → IsWell reading writing given_up
+    → WritesFrames writing sent (Some old) (Some new) → new ≡ old ++ frames_text sent
+well_written reading (Some writing) given_up sent old new well writes = absurd (cc well.1)
+well_written reading None given_up sent old new well writes = appended sent old new writes
 
 -- the answer went to another link
-other_link_is_answered : HasCarried steps_of_both (pong_to 1 ∷ []) 1 0 (link [] [] 0) (link [] pong_octets 0) None → ⊥
+other_link_is_answered : HasCarried start moves_of_both 1 0 (link [] [] 0) (link [] pong_octets 0) None → ⊥
 other_link_is_answered c =
-    let w = well_written c.reading c.writing c.given_up [] [] pong_octets (is_well c.reading c.writing c.given_up c.why) c.writes in omega (arith, ap length w)
+    let well = is_well c.reading c.writing c.given_up c.why in
+    let sent : c.sent ≡ [] = well_sent c.given_up 0 (parts_of 0 start moves_of_both) c.sent well.2 c.which ∙ none_for_switch in
+    let w = well_written c.reading c.writing c.given_up c.sent [] pong_octets well c.writes ∙ ap frames_text sent in
+    omega (arith, ap length w)
 
-station_is_left_alone : HasCarried steps_of_both (pong_to 1 ∷ []) 1 1 (link ping_octets [] 0) (link [] [] 0) None → ⊥
+station_is_left_alone : HasCarried start moves_of_both 1 1 (link ping_octets [] 0) (link [] [] 0) None → ⊥
 station_is_left_alone c =
-    let w = well_written c.reading c.writing c.given_up pong_octets [] [] (is_well c.reading c.writing c.given_up c.why) c.writes in omega (arith, ap length w)
+    let well = is_well c.reading c.writing c.given_up c.why in
+    let sent : c.sent ≡ pong ∷ [] = well_sent c.given_up 1 (parts_of 1 start moves_of_both) c.sent well.2 c.which ∙ pong_for_station in
+    let w = well_written c.reading c.writing c.given_up c.sent [] [] well c.writes ∙ ap frames_text sent in
+    omega (arith, ap length w)
 
--- items that end with `Down` became no steps
-down_became_none : (added : Bool) (items : List What) → AreStepped added [] (items ++ whats.Down ∷ []) → ⊥
-down_became_none false items e = omega (arith, ap length e, length-append items (whats.Down ∷ []))
-down_became_none true items e = omega (arith, ap length e.3, length-append e.0 (whats.Down ∷ e.1))
-
-down_is_left_out : HasCarried (of_down 0 ∷ []) [] 1 1 (link [] [] 0) (link [] [] 0) None → ⊥
-down_is_left_out c = down_became_none c.added (given c.frames) c.items
+-- nothing was taken of the link, not even its `Down`
+down_is_left_out : HasCarried start (takes (down_item 0) ∷ []) 1 1 (link [] [] 0) (link [] [] 0) None → ⊥
+down_is_left_out c = omega (arith, ap length c.items, length-append (given c.frames) (whats.Down ∷ []))
 
 -- ---- all links
-
-abbrev start : Controller
-start = new_controller usual_settings
-
-one_pong : (over start steps_of_both).outs ≡ pong_to 1 ∷ []
-unfolding on_literals
-one_pong = refl
 
 abbrev links_of_both : List LinkView
 links_of_both = link [] [] 0 ∷ link ping_octets [] 0 ∷ []
@@ -239,23 +287,29 @@ links_of_both = link [] [] 0 ∷ link ping_octets [] 0 ∷ []
 abbrev ended_both : List Ended
 ended_both = ended (link [] [] 0) None ∷ ended (link [] pong_octets 0) None ∷ []
 
-abbrev ComesTo : List Out → ℕ → LinkView → Ended → Type 0
-ComesTo outs number old now = HasCarried steps_of_both outs 1 number old now.link now.fault
+abbrev ComesTo : ℕ → LinkView → Ended → Type 0
+ComesTo number old now = HasCarried start moves_of_both 1 number old now.link now.fault
 
-each_comes : (number : ℕ) (old : LinkView) (now : Ended) → get_elem? links_of_both number ≡ some old → get_elem? ended_both number ≡ some now → ComesTo (pong_to 1 ∷ []) number old now
+each_comes : (number : ℕ) (old : LinkView) (now : Ended) → get_elem? links_of_both number ≡ some old → get_elem? ended_both number ≡ some now → ComesTo number old now
 each_comes zero old now e h =
     let a : link [] [] 0 ≡ old = some-injective (link [] [] 0) old e in
     let b : ended (link [] [] 0) None ≡ now = some-injective (ended (link [] [] 0) None) now h in
-    subst (λ (y : LinkView × Ended). ComesTo (pong_to 1 ∷ []) 0 y.0 y.1) (λ i. (a i, b i)) switch_closes
+    subst (λ (y : LinkView × Ended). ComesTo 0 y.0 y.1) (λ i. (a i, b i)) switch_closes
 each_comes (suc zero) old now e h =
     let a : link ping_octets [] 0 ≡ old = some-injective (link ping_octets [] 0) old e in
     let b : ended (link [] pong_octets 0) None ≡ now = some-injective (ended (link [] pong_octets 0) None) now h in
-    subst (λ (y : LinkView × Ended). ComesTo (pong_to 1 ∷ []) 1 y.0 y.1) (λ i. (a i, b i)) station_is_answered
+    subst (λ (y : LinkView × Ended). ComesTo 1 y.0 y.1) (λ i. (a i, b i)) station_is_answered
 each_comes (suc (suc number)) old now e h = absurd (some-ne-none old (sym e))
 
 both_are_relayed : Relays start 1 links_of_both ended_both
-both_are_relayed =
-    (refl, (steps_of_both, λ number old now e h. subst (λ (outs : List Out). ComesTo outs number old now) (sym one_pong) (each_comes number old now e h)))
+both_are_relayed = (refl, (steps_of_both, (omega arith, (omega arith, (omega arith, tt))), moves_of_both, refl, each_comes))
+
+-- the second link's item is in the steps of two links, and not in those of one
+of_two_links : AreOfLinks 2 (Take ping_item ∷ Tick 250 ∷ Take (down_item 0) ∷ [])
+of_two_links = (omega arith, (omega arith, tt))
+
+of_no_link : AreOfLinks 1 (Take (down_item 0) ∷ Tick 250 ∷ Take ping_item ∷ []) → ⊥
+of_no_link bad = omega (arith, bad.1.0)
 
 one_link_is_lost : Relays start 1 links_of_both (ended (link [] [] 0) None ∷ []) → ⊥
 one_link_is_lost bad = omega (arith, bad.0)
@@ -267,7 +321,7 @@ is_unread None rest none ends = omega (arith, ap length ends.1)
 -- octets that nobody has read, and no fault
 octets_are_left : Relays start 1 (link ping_octets [] 0 ∷ []) (ended (link ping_octets [] 0) None ∷ []) → ⊥
 octets_are_left bad =
-    let c = bad.1.1 0 (link ping_octets [] 0) (ended (link ping_octets [] 0) None) refl refl in
+    let c = bad.1.4 0 (link ping_octets [] 0) (ended (link ping_octets [] 0) None) refl refl in
     is_unread c.reading c.rest (is_well c.reading c.writing c.given_up c.why).0 c.ends
 
 -- ---- what the threads are given
@@ -376,7 +430,7 @@ another_fault : Calls start [] [] (Some ReadFailed) [] [] → ⊥
 another_fault bad = let e : ReadFailed ≡ Memory = bad.0 in absurd (cc e)
 
 no_links : Calls start [] [] None [] []
-no_links = record { steps = []; items = []; taken = (refl, λ at e h. absurd (some-ne-none e (sym h))); count = refl; links = λ at p h. absurd (some-ne-none p (sym h)) }
+no_links = record { moves = []; taken = (refl, λ at e h. absurd (some-ne-none e (sym h))); count = refl; of_links = tt; links = λ at p h. absurd (some-ne-none p (sym h)) }
 
 one_outbox_is_lost : (a : TableId) → Calls start [] (putter a [] 0 ∷ []) None [] [] → ⊥
 one_outbox_is_lost a bad = omega (arith, bad.count)
@@ -387,4 +441,4 @@ ends_before_down a b bad =
     let t = bad.taken.1 0 (end_at a []) refl in
     let d : end_at a [] ≡ t.0 = some-injective (end_at a []) t.0 t.1 in
     let down = (bad.links 0 (putter b (marks.End ∷ []) 0) refl).2.down refl in
-    omega (arith, ap length (t.2 ∙ ap (λ (e : EndView What). e.seen.taken ++ whats_of 0 bad.items) (sym d)), ap length down.2, length-append down.0 (whats.Down ∷ down.1))
+    omega (arith, ap length (t.2 ∙ ap (λ (e : EndView What). e.seen.taken ++ whats_of 0 (taken_of bad.moves)) (sym d)), ap length down.2, length-append down.0 (whats.Down ∷ down.1))

@@ -7,4 +7,3 @@ pub mod Pairs
 pub mod Work
 pub mod CrewDone
 pub mod Octets
-pub mod Laws

@@ -3,19 +3,18 @@
 use Rattle.std.specs.Prelude.{◌≡◌, ℕ, Bool, true, false, List, [], ◌∷◌, ◌++◌}
 use Rattle.std.specs.Prelude.{length, Option, Some}
 use Rattle.std.specs.Prelude.{None}
-use Rattle.std.specs.Io.KnownBytes.{Appends, Consumes}
+use Rattle.std.specs.Io.KnownBytes.{Consumes}
 use mathlib.Core.Option.{some}
 use lib.ListN.{get_elem?}
-use Rattle.controller_worker.specs.Links.{AreStepped}
-use Rattle.controller_worker.specs.Steps.{frames_to, items_of, over, whats_of}
-use Rattle.conn_messages.specs.declared.out.Out.{Out}
+use Rattle.controller_worker.specs.Moves.{IsSent, Move, parts_of, steps_of, taken_of}
+use Rattle.controller_worker.specs.Steps.{AreOfLinks, whats_of}
 use Rattle.controller_model.specs.declared.step.Step.{Step}
 use Rattle.controller_model.specs.Controller.{Controller}
 use Rattle.ipa_framing.specs.declared.frame.Frame.{Frame}
 use Rattle.link_workers.specs.declared.fault.IoFault.{IoFault}
 use Rattle.link_workers.specs.declared.fault.IoFault.TheVariants.{GivenUp}
-use Rattle.link_workers.specs.Reading.{AsksGate, Ends, Parts, frames_text, given}
-use Rattle.link_workers.specs.Writing.{AppendsBeginning}
+use Rattle.link_workers.specs.Reading.{AsksGate, Ends, Parts, given}
+use Rattle.link_workers.specs.Writing.{WritesFrames}
 use Rattle.ruled_relay.specs.declared.item.What.TheVariants.{Down}
 use Rattle.station_io.specs.declared.link.Link.{Link}
 
@@ -46,14 +45,9 @@ fault_of None (Some writing) given_up = Some writing
 fault_of None None true = Some GivenUp
 fault_of None None false = None
 
--- the text was written; where the writer had a fault, or the outbox was given up, a beginning of it
-abbrev pub Writes : Option IoFault → Bool → List ℕ → Option (List ℕ) → Option (List ℕ) → Type 0
-Writes None false text old new = Appends old new text
-Writes writing given_up text old new = AppendsBeginning old new text
-
--- One link over these steps and outputs of the controller.
-pub record HasCarried (steps : List Step) (outs : List Out) (limit number : ℕ) (old new : LinkView)
-    (fault : Option IoFault) : Type 0 where
+-- One link over these moves from a controller on.
+pub record HasCarried (start : Controller) (moves : List Move) (limit number : ℕ)
+    (old new : LinkView) (fault : Option IoFault) : Type 0 where
   -- why its reader and its writer ended, and whether its outbox was given up
   pub reading : Option IoFault
   pub writing : Option IoFault
@@ -67,22 +61,26 @@ pub record HasCarried (steps : List Step) (outs : List Out) (limit number : ℕ)
   pub parts : Parts octets frames rest
   pub ends : Ends reading rest new.unread
   pub asks : AsksGate reading limit frames old.refused new.refused
-  -- its items in the steps are these frames and then `Down`; with one more `Down`, where that was
-  -- added
-  pub added : Bool
-  pub items : AreStepped added (whats_of number (items_of steps)) (given frames ++ Down ∷ [])
-  pub only : added ≡ true → given_up ≡ true
-  -- the octets of the frames that the controller put for it were written
-  pub writes : Writes writing given_up (frames_text (frames_to number outs)) old.written new.written
+  -- what was taken of it are these frames and then `Down`
+  pub items : whats_of number (taken_of moves) ≡ given frames ++ Down ∷ []
+  -- all frames that the controller put for it were sent; where its outbox was given up, those before
+  -- the refused one, and its `Down` was added as the next move
+  pub sent : List Frame
+  pub which : IsSent given_up given_up number (parts_of number start moves) sent
+  -- the octets of what was sent were written; with a fault of the writer a beginning of them
+  pub writes : WritesFrames writing sent old.written new.written
 
--- There is one list of steps, over which each link has come to its end.
+-- There is one list of steps, of these links' items and of time. They are the call worker's moves,
+-- over which each link has come to its end.
 abbrev pub Relays : Controller → ℕ → List LinkView → List Ended → Type 0
 Relays start limit links ended =
     (length ended ≡ length links)
     × ((steps : List Step)
+    × AreOfLinks (length links) steps
+    × (moves : List Move) × (steps ≡ steps_of moves)
     × ((number : ℕ) (old : LinkView) (now : Ended)
     → get_elem? links number ≡ some old → get_elem? ended number ≡ some now
-    → HasCarried steps (over start steps).outs limit number old now.link now.fault))
+    → HasCarried start moves limit number old now.link now.fault))
 
 -- a link that was given back
 abbrev pub ended_view : {I O G : Type 0} → (I → Option (List ℕ)) → (O → Option (List ℕ)) → (G → ℕ)

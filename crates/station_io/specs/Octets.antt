@@ -1,13 +1,12 @@
 -- SPDX-License-Identifier: MIT OR Apache-2.0
 -- Octets in, octets out: what the controller puts for each link, by the octets that came of all of
 -- them and the order in which their items and the ticks were merged.
-use Rattle.std.specs.Prelude.{◌≡◌, ◌⊎◌, ℕ, zero, suc, ◌==◌, if◌then◌else◌}
-use Rattle.std.specs.Prelude.{Bool, List, [], ◌∷◌}
+use Rattle.std.specs.Prelude.{◌≡◌, ◌⊎◌, ℕ, zero, suc, ◌≤◌, ◌==◌, if◌then◌else◌}
+use Rattle.std.specs.Prelude.{Bool, true, false, List, [], ◌∷◌}
 use Rattle.std.specs.Prelude.{◌++◌, drop, length, Option, Some, None, Result, Ok}
 use Rattle.std.specs.Io.KnownBytes.{Appends, Consumes, IsAtEnd}
 use mathlib.Core.Option.{some}
 use lib.ListN.{get_elem?}
-use Rattle.controller_worker.specs.Links.{AreStepped}
 use Rattle.controller_worker.specs.Steps.{frames_to, items_of, over, whats_of}
 use Rattle.controller_model.specs.declared.step.Step.{Step}
 use Rattle.controller_model.specs.declared.step.Step.TheVariants.{Take, Tick}
@@ -21,7 +20,7 @@ use Rattle.link_workers.specs.Reading.{frames_text, given}
 use Rattle.link_workers.specs.Writing.{AppendsBeginning}
 use Rattle.ruled_relay.specs.declared.item.What.{What}
 use Rattle.ruled_relay.specs.declared.item.What.TheVariants.{Down}
-use Rattle.station_io.specs.Laws.{IsNew, KeepsLaws}
+use Rattle.controller.specs.Laws.{IsNew, KeepsLaws}
 use Rattle.station_io.specs.Links.{Ended, LinkView}
 
 -- ---- the frames of octets
@@ -99,10 +98,17 @@ abbrev pub octets_put : Controller → List Next → Came → ℕ → List ℕ
 octets_put start order came link =
     frames_text (frames_to link (over start (merged order came)).outs)
 
+-- What came of a link in the steps, by whether its `Down` was added: the items that were taken of
+-- it; or these, with one `Down` more.
+abbrev pub AreWithDown : Bool → List What → List What → Type 0
+AreWithDown false taken came = came ≡ taken
+AreWithDown true taken came = (before : List What) × (rest : List What)
+    × (taken ≡ before ++ rest) × (came ≡ before ++ Down ∷ rest)
+
 -- The first frames of these octets came, then `Down`; with one more `Down`, where that was added.
 abbrev pub AreFirstOf : List ℕ → List What → Type 0
 AreFirstOf octets came = (frames more : List Frame) × (added : Bool)
-    × (frames_in octets ≡ frames ++ more) × AreStepped added came (ended_behind frames)
+    × (frames_in octets ≡ frames ++ more) × AreWithDown added (ended_behind frames) came
 
 -- One link that has ended. These octets were read, and first frames of them came; and it got a
 -- beginning of the octets that are put for it. Where it has no fault, nothing was left to be read,
@@ -118,11 +124,13 @@ pub record Passes (start : Controller) (order : List Next) (came : Came) (number
   pub got : now.fault ≡ None
       → Appends old.written now.link.written (octets_put start order came number)
 
--- There is one order, in which what came of all links is merged with ticks. Where the controller
--- was new, these steps and what it put are a life of it, which keeps the laws of a life.
+-- There is one order, in which what came of all links is merged with ticks; nothing came of other
+-- numbers. Where the controller was new, these steps and what it put are a life of it, which keeps
+-- the laws of a life.
 abbrev pub PassesOctets : Controller → List LinkView → List Ended → Type 0
 PassesOctets start links ended = (order : List Next) × (came : Came)
     × (IsNew start → KeepsLaws start.settings (merged order came) (over start (merged order came)))
+    × ((number : ℕ) → length links ≤ number → came number ≡ [])
     × ((number : ℕ) (old : LinkView) (now : Ended)
     → get_elem? links number ≡ some old → get_elem? ended number ≡ some now
     → Passes start order came number old now)

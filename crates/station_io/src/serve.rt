@@ -26,12 +26,13 @@ use std::thread::Threads;
 /// outbox was full 1,000 times in a row. A gate may refuse an item `limit` times in a row.
 ///
 /// There is one list of steps of the controller. Of each link its items in that list are the frames
-/// that were read, then `Down`, but for a `Down` that was added where the outbox was given up; and
-/// what was written are the octets of the frames that the controller put for it. So what a link
-/// without a fault got is a function of the controller, of what came of the links and of the order
-/// in which that was merged with ticks; of a link without a fault all frames of its octets came. Of
-/// a controller that was new the laws of a life hold over these steps, as `controller::run` has
-/// them.
+/// that were read, then `Down`, but for a `Down` that was added where the outbox was given up, as
+/// the next step; and what was written are the octets of the frames that the controller put for it,
+/// of an outbox that was given up those before the frame that it refused. So what a link without a
+/// fault got is a function of the controller, of what came of the links and of the order in which
+/// that was merged with ticks; of a link without a fault all frames of its octets came, and nothing
+/// came of other numbers. Of a controller that was new the laws of a life hold over these steps, as
+/// `controller::run` has them.
 ///
 /// `Memory`: there was none for a queue or in a step of the controller, or a thread couldn't be
 /// had; in that last case none begins. The links are let go.

@@ -4,7 +4,9 @@
 use crate::worker::Worker;
 use controller::Controller;
 use controller_worker::{Clock, Marks, call_worker};
-use link_workers::{Gate, HasRead, HasWritten, IoFault, LinkReader, serve_reader, serve_writer};
+use link_workers::{
+    Gate, HasRead, HasWritten, IoFault, LinkReader, serve_link_reader, serve_writer,
+};
 use ruled_relay::{Desk, Putter, SourcePass, Taker};
 use std::alloc::Global;
 use std::io::Write;
@@ -32,7 +34,7 @@ impl<I: LinkReader + Drop, G: Gate + Drop> Worker for Reading<I, G> {
         (G.refused w.gate) (G.refused d.gate) w.pass d.pass d.fault };
 
     fn work<R: Wait>(self, rt: &R) -> HasRead<I, G> {
-        serve_reader(
+        serve_link_reader(
             rt,
             self.alloc,
             self.reader,

@@ -1,4 +1,6 @@
 // SPDX-License-Identifier: MIT OR Apache-2.0
+ghost use Rattle.link_workers.specs.Gates.{HasLet};
+
 use link_workers::{Gate, IoFault, LinkReader};
 use octets::Memory;
 use std::alloc::Global;
@@ -114,20 +116,35 @@ pub(crate) struct Shut {
     pub left: u32,
     pub refused: u32,
     pub asked: u32,
+    /// How many items it has let through, as long as there is a number for them.
+    pub passed: Option<u32>,
 }
 
 impl Gate for Shut {
     ghost refused = { λ gate. gate.refused };
 
+    ghost passed = { λ gate. gate.passed };
+
     fn pass(&mut self, _source: u16) -> bool {
         self.asked = self.asked.saturating_add(1);
         if self.left == 0 || self.refused == u32::MAX {
             self.refused = 0;
+            self.passed = one_more(self.passed);
             return true;
         }
         self.left -= 1;
         self.refused += 1;
         false
+    }
+}
+
+/// One more than this.
+fn one_more(count: Option<u32>) -> Option<u32>
+    ensures { HasLet count result 1 }
+{
+    match count {
+        Some(count) => count.checked_add(1),
+        None => None,
     }
 }
 
@@ -138,7 +155,11 @@ pub(crate) struct Counts {
 }
 
 impl Gate for Counts {
+    ghost use Rattle.std.specs.Prelude.{None};
+
     ghost refused = { λ _. 0 };
+
+    ghost passed = { λ _. None };
 
     fn pass(&mut self, _source: u16) -> bool {
         self.asked.fetch_add(1, Ordering::SeqCst);

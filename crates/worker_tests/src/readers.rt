@@ -3,7 +3,7 @@ ghost use Rattle.std.specs.Prelude.{◌<◌};
 
 use crate::devices::{Call, Counts, PING, Shut, Source, ended, is_fault};
 use ipa_framing::CCM_STREAM;
-use link_workers::{Gate, IoFault, serve_reader};
+use link_workers::{Gate, IoFault, serve_link_reader, serve_reader};
 use ruled_relay::{Desk, Inbox, Item, SourcePass, What};
 use std::alloc::{AllocError, Global};
 use std::sync::atomic::{AtomicU64, Ordering};
@@ -16,6 +16,7 @@ const OPEN: Shut = Shut {
     left: 0,
     refused: 0,
     asked: 0,
+    passed: Some(0),
 };
 
 /// The desk of an inbox with one source, and the source's pass.
@@ -75,7 +76,7 @@ fn read<R: Wait>(
         left: refused,
         ..OPEN
     };
-    let read = serve_reader(rt, alloc, Source::new(calls), gate, pass, limit);
+    let read = serve_link_reader(rt, alloc, Source::new(calls), gate, pass, limit);
     Ok(Ended {
         desk,
         told: read.reader.told,
@@ -232,7 +233,8 @@ fn count_frames<R: Wait>(rt: &R, desk: &mut Desk) -> u32 {
 /// Reads 100 frames into an inbox of one item.
 fn flood<R: Wait>(rt: &R, alloc: Global, pass: SourcePass) -> Option<IoFault> {
     let calls = [Call::Octets(PING); 100];
-    serve_reader(rt, alloc, Source::new(&calls), OPEN, pass, 10_000).fault
+    let source = pass.source();
+    serve_reader(rt, alloc, Source::new(&calls), OPEN, pass, source, 10_000).fault
 }
 
 #[test]
@@ -262,7 +264,7 @@ fn flood_with<R: Wait>(
     pass: SourcePass,
 ) -> Option<IoFault> {
     let calls = [Call::Octets(frame); 400];
-    serve_reader(rt, alloc, Source::new(&calls), counts, pass, 1).fault
+    serve_link_reader(rt, alloc, Source::new(&calls), counts, pass, 1).fault
 }
 
 /// How often a gate was asked, once that was more than 128 times and some time has passed.

@@ -8,24 +8,26 @@ use std::sync::atomic::{AtomicU64, Ordering};
 /// How often a clock was asked.
 pub(crate) type Asked = Arc<AtomicU64, Global>;
 
-/// A clock that answers 0 each time but the second, and counts how often it was asked.
+/// A clock that answers 0 each time but once, and counts how often it was asked.
 #[derive(Drop)]
 pub(crate) struct Script {
     asked: Asked,
-    /// Its second answer, in milliseconds.
-    second: u32,
+    /// How often it answers 0 before it answers so many milliseconds.
+    before: u64,
+    ms: u32,
     told: u64,
 }
 
 impl Script {
-    /// A clock with this second answer, and how often it was asked.
-    pub fn counted<R: Abort>(rt: &R, alloc: Global, second: u32) -> (Script, Asked) {
+    /// A clock that answers 0 so often and then this, and how often it was asked.
+    pub fn counted<R: Abort>(rt: &R, alloc: Global, before: u64, ms: u32) -> (Script, Asked) {
         let counts = Arc::new(alloc, AtomicU64::new(0)).expect(rt, "a count");
         let asked = Arc::try_clone(&counts).expect(rt, "a share of it");
         let told = 0;
         let clock = Script {
             asked: counts,
-            second,
+            before,
+            ms,
             told,
         };
         (clock, asked)
@@ -36,8 +38,8 @@ impl Clock for Script {
     ghost told = { λ s. s.told };
 
     fn elapsed(&mut self) -> u32 {
-        let before = self.asked.fetch_add(1, Ordering::SeqCst);
-        let answer = if before == 1 { self.second } else { 0 };
+        let asked = self.asked.fetch_add(1, Ordering::SeqCst);
+        let answer = if asked == self.before { self.ms } else { 0 };
         let Some(told) = self.told.checked_add(u64::from(answer)) else {
             return 0;
         };

@@ -3,6 +3,7 @@ use crate::devices::{Call, Sink, Source, ended};
 use dtap_codec::Modulus;
 use link_workers::switch_worker;
 use msc_end::MscEnd;
+use std::alloc::{AllocError, Global};
 use std::test::Fail;
 
 /// A connection request in a frame.
@@ -48,4 +49,44 @@ fn a_switch_that_wants_memory_writes_a_first_part(rt: HostRuntime) -> Result<(),
     assert!(rt; CONFIRM.starts_with(got));
     assert!(rt; got == CONFIRM || answered.fault.is_some());
     ended(answered.fault)
+}
+
+/// The frame of a message of the mobile, of so many octets and without a number.
+fn message_of(alloc: Global, octets: u8) -> Result<Vec<u8>, AllocError> {
+    let (length, data) = (octets.wrapping_add(10), octets.wrapping_add(3));
+    let head = [
+        0x01, length, 0xfd, 0x06, 0x80, 0x00, 0x01, 0x00, 0x01, data, 0x01, 0x80, octets,
+    ];
+    let mut text = head.to_vec(alloc)?;
+    let message = vec![in alloc; 0x06; usize::from(octets)]?;
+    text.extend_from_slice(message.as_slice())?;
+    Ok(text)
+}
+
+/// How many octets the unnumbered messages have that the switch takes of these.
+fn unnumbered(alloc: Global, text: &[u8]) -> Option<usize> {
+    let calls = [Call::Octets(REQUEST), Call::Octets(text)];
+    let switch = MscEnd::new(alloc, Modulus::Four);
+    let answered = switch_worker(alloc, Source::new(&calls), Sink::new(alloc), switch);
+    if answered.fault.is_some() {
+        return None;
+    }
+    match answered.switch.unnumbered(1)? {
+        [] => Some(0),
+        [message] => Some(message.as_slice().len()),
+        _ => None,
+    }
+}
+
+#[test]
+fn the_longest_unnumbered_message_has_251_octets(rt: HostRuntime) -> Result<(), Fail> {
+    let alloc = rt.alloc();
+    for (octets, taken) in [(251, 251), (252, 0)] {
+        let text = message_of(alloc, octets)?;
+        assert!(rt;
+            unnumbered(alloc, text.as_slice()) == Some(taken),
+            "{octets} octets"
+        );
+    }
+    Ok(())
 }

@@ -14,7 +14,7 @@ use std::alloc::Global;
 use std::process::Abort;
 use std::sync::Wait;
 use std::sync::atomic::{AtomicU64, Ordering};
-use std::thread;
+use std::thread::{self, Threads};
 use std::time::{Clock, Duration};
 
 const ONE_CELL: &str =
@@ -33,6 +33,13 @@ const ACTIVATION: Text<'_> = (
     RSL_STREAM,
     &[
         0x08, 0x21, 0x01, 0x41, 0x03, 0x00, 0x06, 0x04, 0x00, 0x03, 0x01, 0x00,
+    ],
+);
+
+const SECOND_ACTIVATION: Text<'_> = (
+    RSL_STREAM,
+    &[
+        0x08, 0x21, 0x01, 0x49, 0x03, 0x00, 0x06, 0x04, 0x00, 0x03, 0x01, 0x00,
     ],
 );
 
@@ -59,10 +66,10 @@ struct Link {
     taker: Taker,
 }
 
-/// New queues, of which the station's outbox has room for so many lines; with the link of the
-/// switch, and the station's.
-fn queues<R: Abort>(rt: &R, alloc: Global, room: usize) -> (Ends, Link, Link)
-    requires { 0 < room }
+/// New queues, whose outboxes have room for so many lines, the switch's and the station's; with the
+/// link of the switch, and the station's.
+fn queues<R: Abort>(rt: &R, alloc: Global, rooms: (usize, usize)) -> (Ends, Link, Link)
+    requires { (0 < rooms.0) × (0 < rooms.1) }
     ensures new { AreNew result.0.putters.items }
     ensures sources { length result.0.desk ≡ vec_len result.0.putters }
     ensures marks { AreUnmarked (vec_len result.0.putters) result.0.marks }
@@ -70,8 +77,8 @@ fn queues<R: Abort>(rt: &R, alloc: Global, room: usize) -> (Ends, Link, Link)
     let (desk, mut passes) = Inbox::new(alloc, 2, 8).expect(rt, "an inbox");
     let station_pass = passes.pop().expect(rt, "the station's pass");
     let switch_pass = passes.pop().expect(rt, "the switch's pass");
-    let (switch, switch_taker) = Outbox::new(alloc, 8).expect(rt, "an outbox");
-    let (station, station_taker) = Outbox::new(alloc, room).expect(rt, "an outbox");
+    let (switch, switch_taker) = Outbox::new(alloc, rooms.0).expect(rt, "an outbox");
+    let (station, station_taker) = Outbox::new(alloc, rooms.1).expect(rt, "an outbox");
     let mut putters = Vec::with_capacity(alloc, 2).expect(rt, "room for two");
     putters.push(switch).expect(rt, "room for the switch's");
     putters.push(station).expect(rt, "room for the station's");
@@ -187,9 +194,9 @@ fn gives<R: Wait>(rt: &R, taker: &mut Taker, texts: &[Text]) -> bool {
 #[test]
 fn a_timer_expires_between_two_items(rt: HostRuntime) {
     let alloc = rt.alloc();
-    let (ends, mut switch, mut station) = queues(&rt, alloc, 8);
+    let (ends, mut switch, mut station) = queues(&rt, alloc, (8, 8));
     put_all(&rt, alloc, &mut station.pass, &[CHANNEL_REQUIRED]);
-    let (clock, asked) = Script::counted(&rt, alloc, 3000);
+    let (clock, asked) = Script::counted(&rt, alloc, 1, 3000);
     let ender = thread::spawn(&rt, move || {
         await_asked(&rt, &asked, 3);
         put_all(&rt, alloc, &mut switch.pass, &[]);
@@ -202,29 +209,107 @@ fn a_timer_expires_between_two_items(rt: HostRuntime) {
     assert!(rt; ender.join(&rt));
 }
 
-#[test]
-fn an_outbox_that_nobody_empties_is_given_up(rt: HostRuntime) {
-    let alloc = rt.alloc();
-    let (ends, mut switch, mut station) = queues(&rt, alloc, 1);
-    put_all(
-        &rt,
-        alloc,
-        &mut station.pass,
-        &[CHANNEL_REQUIRED, ACTIVATION_ACK],
-    );
-    let (clock, asked) = Script::counted(&rt, alloc, 0);
-    let other = thread::spawn(&rt, move || {
+/// A link whose outbox nobody empties until it was given up.
+#[derive(Clone, Copy)]
+struct Full<'a> {
+    /// Whether it is the switch's link, and not the station's.
+    is_switch: bool,
+    /// What it gives before it is down.
+    gives: &'a [Text<'a>],
+    /// What the clock answers at the third time.
+    ms: u32,
+    /// What its outbox has room for.
+    gets: &'a [Text<'a>],
+    /// How many of its items are ignored, since they wait behind the `Down` that is added.
+    ignored: u64,
+}
+
+/// Its own `Down` waits behind, and what was put before that. In the last row two frames are for it
+/// in one step, and the second isn't tried any more.
+const FULL: [Full<'_>; 4] = [
+    Full {
+        is_switch: false,
+        gives: &[CHANNEL_REQUIRED, ACTIVATION_ACK],
+        ms: 0,
+        gets: &[ACTIVATION],
+        ignored: 1,
+    },
+    Full {
+        is_switch: false,
+        gives: &[CHANNEL_REQUIRED, ACTIVATION_ACK, CHANNEL_REQUIRED],
+        ms: 0,
+        gets: &[ACTIVATION],
+        ignored: 2,
+    },
+    Full {
+        is_switch: true,
+        gives: &[PING, PING, PING],
+        ms: 0,
+        gets: &[PONG],
+        ignored: 2,
+    },
+    Full {
+        is_switch: false,
+        gives: &[CHANNEL_REQUIRED, CHANNEL_REQUIRED],
+        ms: 3000,
+        gets: &[ACTIVATION, SECOND_ACTIVATION],
+        ignored: 1,
+    },
+];
+
+/// Room for these, and for one line at least.
+fn room_for(texts: &[Text]) -> usize
+    ensures { 0 < result }
+{
+    if texts.is_empty() { 1 } else { texts.len() }
+}
+
+/// Whether the outbox of this row was given up, and gives what it had room for.
+fn gives_first<R: Wait>(rt: &R, taker: &mut Taker, number: usize) -> bool {
+    let rows = FULL;
+    match rows.get(number) {
+        Some(row) => taker.was_given_up() && gives(rt, taker, row.gets),
+        None => false,
+    }
+}
+
+/// Whether the link's outbox is given up at the 1,000th refusal, and all else is as in this row.
+fn is_given_up<R>(rt: R, alloc: Global, number: usize, row: &Full<'_>) -> bool
+where
+    R: Abort + Clock + Threads + Wait + Copy + Drop + Send + 'static,
+{
+    let room = room_for(row.gets);
+    let rooms = if row.is_switch { (room, 8) } else { (8, room) };
+    let (ends, switch, station) = queues(&rt, alloc, rooms);
+    let (mut full, mut other) = if row.is_switch {
+        (switch, station)
+    } else {
+        (station, switch)
+    };
+    put_all(&rt, alloc, &mut full.pass, row.gives);
+    let (clock, asked) = Script::counted(&rt, alloc, 2, row.ms);
+    let others = thread::spawn(&rt, move || {
         await_asked(&rt, &asked, 5);
-        put_all(&rt, alloc, &mut switch.pass, &[PING]);
+        put_all(&rt, alloc, &mut other.pass, &[PING]);
         await_asked(&rt, &asked, 10);
-        station.taker.was_given_up()
-            && gives(&rt, &mut station.taker, &[ACTIVATION])
-            && gives(&rt, &mut switch.taker, &[PONG])
+        gives_first(&rt, &mut full.taker, number) && gives(&rt, &mut other.taker, &[PONG])
     })
     .expect(&rt, "a thread");
     let ended = run(&rt, alloc, ends, clock);
-    assert!(rt; ended.fault.is_none());
-    assert!(rt; ended.ignored == 1);
-    assert!(rt; ended.refusals == (0, 1_000));
-    assert!(rt; other.join(&rt));
+    let refusals = if row.is_switch {
+        (1_000, 0)
+    } else {
+        (0, 1_000)
+    };
+    ended.fault.is_none()
+        && ended.ignored == row.ignored
+        && ended.refusals == refusals
+        && others.join(&rt)
+}
+
+#[test]
+fn an_outbox_that_nobody_empties_is_given_up_and_its_down_is_next(rt: HostRuntime) {
+    for (number, row) in FULL.iter().enumerate() {
+        assert!(rt; is_given_up(rt, rt.alloc(), number, row), "row {number}");
+    }
 }

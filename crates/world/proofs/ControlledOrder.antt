@@ -18,6 +18,7 @@ use Rattle.world_laws.specs.Order.Order.{IsInOrderFor}
 use Rattle.world_laws.proofs.Order.Fairly.{ComeInOctets-new}
 use Rattle.world_laws.proofs.Order.LineUps.{all_numbers_stand_new, all_places_rise_new}
 use Rattle.world_laws.proofs.Order.Whole.{runs_are_in_order}
+use Rattle.world_openers.proofs.Openers.{openers_messages_are_first_new}
 use Rattle.world.specs.declared.world.Scene.{Scene}
 use Rattle.world.specs.declared.world.Scene.TheVariants.{Controlled}
 use Rattle.world.specs.Handing.{IsHandedInOrder}
@@ -46,6 +47,7 @@ IsInOrder-controlled settings events allowed octets =
       accepted = λ connection list is.
           let first = order.in_order connection list is in
           record { mobile = first.mobile; opened = first.opened; sent = first.sent_list; is_sent = first.is_sent; is_prefix = first.is_prefix };
+      opened = openers_messages_are_first_new settings events allowed octets;
       no_gap = order.no_gap;
       line_up = record {
         numbers = λ number from_one. all_numbers_stand_new settings events number allowed octets from_one;

@@ -2,17 +2,22 @@
 -- The world with a controller against literal events: what is seen of it, its queues, its events
 -- with a break.
 use Rattle.std.proofs.Common.{◌≡◌, ℕ, ◌∷◌, Bool, true, false, List, [], ◌++◌, length, map, Option, Some, None, refl}
+use Rattle.std.proofs.lemmas.Option.{none-some}
 use Rattle.octets.proofs.Hex.{hex}
 use Rattle.controller_model.proofs.Lives.{eager_settings, usual_settings}
 use Rattle.dtap_codec.specs.declared.sapi.Sapi.TheVariants.{Zero}
+use Rattle.msc_end.specs.declared.connection.Stage.TheVariants.{Open}
 use Rattle.ruled_relay.specs.declared.item.What.{What}
 use Rattle.ruled_relay.specs.declared.item.What.TheVariants as whats
 use Rattle.settings.specs.Parameters.{Parameters}
 use Rattle.world_model.specs.declared.event.Event.{Event}
 use Rattle.world_model.specs.declared.event.Event.TheVariants.{Upper, Connect, AirUp, AirAck, AirDown, Move, Touch, Arrive, BaseTakes, BasePush, Handle, SwitchTakes, SwitchDoes, Tick, BaseDown, Report}
 use Rattle.world_model.specs.declared.event.SwitchAction.TheVariants.{Clear, Dtap}
+use Rattle.world_model.specs.World.{new_actors}
 use Rattle.world_model.proofs.Worlds.{on_literals}
-use Rattle.world.specs.Openers.{opener_in}
+use Rattle.world.specs.declared.world.Scene.{Scene}
+use Rattle.world.specs.declared.world.Scene.TheVariants.{Controlled}
+use Rattle.world.specs.Openers.{IsOpenedByMessage, opener_in}
 use Rattle.world.specs.Queues.{Queue, Queued, outbox, inbox, message, entry, item, all_messages_put, all_messages_taken, messages_left, is_kept, messages_of, switch_of}
 use Rattle.world.specs.Views.{accepted_list, progress_in, received_list, sent_list, taken_list, unnumbered_list}
 use Rattle.world.specs.World.{after_all, broken, controlled_world, fixed_world}
@@ -127,6 +132,27 @@ opener_of_cleared = refl
 
 opener_in_fixed : map (opener_in (fixed_world 4).scene []) (0 ∷ 1 ∷ 2 ∷ []) ≡ None ∷ Some 1 ∷ None ∷ []
 opener_in_fixed = refl
+
+-- ---- with which message it begins
+
+-- in the fixed world nothing is said of it
+opened_in_fixed : IsOpenedByMessage (fixed_world 4).scene (Connect 1 1 (hex "05 24 71") true ∷ [])
+opened_in_fixed = tt
+
+-- a connection of the switch that no mobile opened
+abbrev unopened : Scene
+unopened =
+    Controlled (record (new_actors usual_settings) {
+      switch =
+          record {
+            modulus = 4;
+            connections =
+                record { peer = 1; stage = Open; reception = record { modulus = 4; taken = (hex "05 24 71") ∷ [] }; number = 8388609 } ∷ [];
+          };
+    })
+
+opened_by_none : IsOpenedByMessage unopened [] → ⊥
+opened_by_none all = let begins = all 1 ((hex "05 24 71") ∷ []) refl in none-some begins.mobile begins.opened
 
 -- ---- a handover
 

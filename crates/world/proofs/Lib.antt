@@ -8,4 +8,5 @@ pub mod ControlledOrder
 pub mod Breaking
 pub mod Made
 mod Rows
+mod HeadlineRows
 mod ControlledRows

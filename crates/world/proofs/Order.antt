@@ -90,6 +90,7 @@ IsInOrder-fixed m two events =
             is_sent = refl;
             is_prefix = subst (λ (list : List (List ℕ)). IsPrefix list world.mobile.sent) found.1 (accepted_is_prefix world kept);
           };
+      opened = tt;
       no_gap = λ connection p is. progress_is_some world kept p (cond_some (nat_eq connection FIXED_CONNECTION) _ _ is).1;
       line_up = lined_up world kept;
       handed = tt;

@@ -1,8 +1,9 @@
 -- SPDX-License-Identifier: MIT OR Apache-2.0
 -- The order of messages, end to end: for every list of events, what the switch accepts of the flow
--- of a connection is the beginning of what its mobile sent, once and in order; what the switch
--- sends is handed to the serving channel at most once, in order, never while the mobile changes its
--- channel; and each relay queue gives what was put there, in order.
+-- of a connection is the beginning of what its mobile sent, once and in order; what it took begins
+-- with the message that its mobile connected with; what the switch sends is handed to the serving
+-- channel at most once, in order, never while the mobile changes its channel; and each relay queue
+-- gives what was put there, in order.
 use Rattle.std.specs.Prelude.{◌≡◌, ℕ, ◌≤◌, true, Option, Some, IsSome, List, ◌++◌}
 use Rattle.octets.specs.Lists.{IsPrefix}
 use Rattle.settings.specs.Parameters.{AreAllowed, Parameters}
@@ -12,7 +13,7 @@ use Rattle.world.specs.declared.world.Scene.{Scene}
 use Rattle.world.specs.declared.world.Scene.TheVariants.{Fixed, Controlled}
 use Rattle.world.specs.Handing.{HandsInOrder}
 use Rattle.world.specs.LineUp.{LinesUp}
-use Rattle.world.specs.Openers.{opener_in}
+use Rattle.world.specs.Openers.{IsOpenedByMessage, opener_in}
 use Rattle.world.specs.Queues.{Queue, outbox, all_messages_put, all_messages_taken}
 use Rattle.world.specs.Queues.{messages_left, is_kept, IsTakenBySwitch}
 use Rattle.world.specs.Views.{sent_list, accepted_list, progress_in}
@@ -63,6 +64,8 @@ pub record IsInOrder (begin : Scene) (events : List Event) (scene : Scene) : Typ
   pub accepted : (connection : ℕ) (list : List (List ℕ))
       → accepted_list scene connection ≡ Some list
       → IsBeginningOfSent begin events scene connection list
+  -- what the switch took of a connection begins with the message that its opener connected with
+  pub opened : IsOpenedByMessage begin events
   -- no gap is ever judged
   pub no_gap : (connection : ℕ) (progress : Option ℕ)
       → progress_in scene connection ≡ Some progress → IsSome progress

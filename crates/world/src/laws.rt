@@ -9,9 +9,10 @@ ghost use Rattle.world.specs.World.{after_all, controlled_world};
 ghost use Rattle.world.specs.Headline.{AreEventsFor, Begins, IsInOrder, QueuesKeepOrder};
 
 /// The order of messages, over every list of events from a beginning: what the switch accepts of a
-/// connection's flow is the beginning of what its mobile's upper layers sent, once and in order; no
-/// gap is ever judged; and each relay queue gives what was put there, in order. With a controller,
-/// events are of octets. It is a law on the definitions that `World::run` cites.
+/// connection's flow is the beginning of what its mobile's upper layers sent, once and in order;
+/// what it took begins with the message that its mobile connected with; no gap is ever judged; and
+/// each relay queue gives what was put there, in order. With a controller, events are of octets. It
+/// is a law on the definitions that `World::run` cites.
 pub fn keeps_order()
     ensures { (begin : WorldState) (events : List Event)
         → Begins begin → AreEventsFor begin.scene events

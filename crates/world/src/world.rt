@@ -167,8 +167,9 @@ impl World {
 
         // Whatever events made the world of a beginning, with these it is made of it too, since
         // events of the code are of octets. What the switch accepts in a connection is the
-        // beginning of what its mobile sent, no filter ever finds a gap, and each queue gives what
-        // was put there, in order.
+        // beginning of what its mobile sent, what it took begins with the message that the mobile
+        // connected with, no filter ever finds a gap, and each queue gives what was put there, in
+        // order.
         ensures made { OnOk result ((begin : WorldState) (before : List WorldEvent)
             → IsMadeBy begin before self.old → IsMadeBy begin (before ++ events.now) self.new) }
         ensures in_order { OnOk result ((begin : WorldState) (before : List WorldEvent)

@@ -2,3 +2,4 @@
 pub mod Crosses
 pub mod Noting
 mod Rows
+mod CauseRows

@@ -6,14 +6,14 @@ use Rattle.controller_worker.specs.declared.worker.CallWorker.{CallWorker}
 use Rattle.controller_worker.specs.Call.{Runs}
 use Rattle.controller_worker.specs.Advancing.{State}
 use Rattle.controller_worker.specs.Seen.{seen}
-use Rattle.controller_worker.proofs.Runs.{parts_of, runs_part, runs_whole}
+use Rattle.controller_worker.proofs.Runs.{parts_given, runs_part, runs_whole}
 use Rattle.controller_worker.proofs.call.call_worker.Goals as goal
 use Rattle.controller_worker.proofs.call.call_worker.Goals.{in-Ok, in-Err}
 
-same_run : {K : Type 0} (told : K → ℕ) (start : State) (fault f : Option IoFault) (worker w : CallWorker K) → fault ≡ f → worker ≡ w → Runs f (parts_of start) (parts_of (seen told w))
-    → Runs fault (parts_of start) (parts_of (seen told worker))
+same_run : {K : Type 0} (told : K → ℕ) (start : State) (fault f : Option IoFault) (worker w : CallWorker K) → fault ≡ f → worker ≡ w → Runs f (parts_given start) (parts_given (seen told w))
+    → Runs fault (parts_given start) (parts_given (seen told worker))
 same_run told start fault f worker w is same run =
-    subst (λ x. Runs x (parts_of start) (parts_of (seen told worker))) (sym is) (subst (λ v. Runs f (parts_of start) (parts_of (seen told v))) (sym same) run)
+    subst (λ x. Runs x (parts_given start) (parts_given (seen told worker))) (sym is) (subst (λ v. Runs f (parts_given start) (parts_given (seen told v))) (sym same) run)
 
 pub returns-clause-runs : goal.returns-clause-runs
 returns-clause-runs g c =

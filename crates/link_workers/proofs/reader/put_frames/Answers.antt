@@ -1,8 +1,12 @@
 -- SPDX-License-Identifier: MIT OR Apache-2.0
 use Rattle.std.proofs.Common.{Ok, subst, ◌∙◌, ◌++◌, ◌∷◌, []}
 use Rattle.ipa_framing.specs.Framer.{Takes}
+use Rattle.link_workers.proofs.Letting.{each_both}
 use Rattle.link_workers.proofs.Reading.{puts_more}
 use Rattle.link_workers.proofs.reader.put_frames.Goals as goal
+
+pub returns-in_err-put-clause-each : goal.returns-in_err-put-clause-each
+returns-in_err-put-clause-each g c = each_both _ _ _ c.args.gated.now.pass c.loop-frame.gated.pass c.put.new.self.pass c.loop-frame.invariant.3 c.put.ensures.each
 
 pub loop-frame-preserved : goal.loop-frame-preserved
 loop-frame-preserved g c =
@@ -15,4 +19,5 @@ loop-frame-preserved g c =
       ),
       takes.1 ∙ c.loop-frame.invariant.1,
       c.in_ok-put.ensures.same ∙ c.loop-frame.invariant.2,
+      each_both _ _ _ c.args.gated.now.pass c.loop-frame.gated.pass c.put.new.self.pass c.loop-frame.invariant.3 c.put.ensures.each,
     )

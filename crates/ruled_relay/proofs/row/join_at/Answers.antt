@@ -9,12 +9,10 @@ join-requires-clause-queue c =
     (has_here c.args.ends.now.items c.args.at c.index_mut-end.result.now (λ e. (c.args.other.queue ≡ e.queue) × (e.seen.takes ≡ true))
     (at_index c.args.ends.now.items c.args.at c.index_mut-end.result.now (omega arith) c.index_mut-end.ensures.value) c.requires.queue).0
 
-pub join-requires-clause-ends : goal.join-requires-clause-ends
-join-requires-clause-ends c = (
-  (has_here c.args.ends.now.items c.args.at c.index_mut-end.result.now (λ e. (c.args.other.queue ≡ e.queue) × (e.seen.takes ≡ true))
-      (at_index c.args.ends.now.items c.args.at c.index_mut-end.result.now (omega arith) c.index_mut-end.ensures.value) c.requires.queue).1,
-  c.requires.puts,
-)
+pub join-requires-clause-takes : goal.join-requires-clause-takes
+join-requires-clause-takes c =
+    (has_here c.args.ends.now.items c.args.at c.index_mut-end.result.now (λ e. (c.args.other.queue ≡ e.queue) × (e.seen.takes ≡ true))
+    (at_index c.args.ends.now.items c.args.at c.index_mut-end.result.now (omega arith) c.index_mut-end.ensures.value) c.requires.queue).1
 
 pub returns : goal.returns
 returns c =

@@ -27,11 +27,11 @@ pub returns-in_err-add_downs-clause-goes : goal.returns-in_err-add_downs-clause-
 returns-in_err-add_downs-clause-goes g c =
     by_err c.from_residual-in_err-add_downs.result (seen g.K.Clock.told c.args.self.now) (seen g.K.Clock.told c.add_downs.new.self) c.from_residual-in_err-add_downs.ensures.0
     (goes_both_part (seen g.K.Clock.told c.args.self.now) _ (seen g.K.Clock.told c.add_downs.new.self)
-    (code_taken (seen g.K.Clock.told c.args.self.now) c.take.new.self (seen g.K.Clock.told c.do_step.new.self) c.in-Some.item c.is_down-is_down.result c.from-source.result c.note.new.marks.items
+    (code_taken (seen g.K.Clock.told c.args.self.now) c.take.new.self (seen g.K.Clock.told c.do_step.new.self) c.in-Some.item c.is_down-is_down.result c.from-source.result c.note.new.marks.items c.requires.settled
     c.in-Some.ensures.same c.in-Some.ensures.takes c.in_ok-do_step.ensures.ok c.is_down-is_down.ensures.0 c.requires.stands c.from-source.ensures c.note.ensures) c.in_err-add_downs.ensures.goes)
 
 pub returns-clause-goes : goal.returns-clause-goes
 returns-clause-goes g c =
     goes_both [] (seen g.K.Clock.told c.args.self.now) _ (seen g.K.Clock.told c.add_downs.new.self)
-    (code_taken (seen g.K.Clock.told c.args.self.now) c.take.new.self (seen g.K.Clock.told c.do_step.new.self) c.in-Some.item c.is_down-is_down.result c.from-source.result c.note.new.marks.items
+    (code_taken (seen g.K.Clock.told c.args.self.now) c.take.new.self (seen g.K.Clock.told c.do_step.new.self) c.in-Some.item c.is_down-is_down.result c.from-source.result c.note.new.marks.items c.requires.settled
     c.in-Some.ensures.same c.in-Some.ensures.takes c.in_ok-do_step.ensures.ok c.is_down-is_down.ensures.0 c.requires.stands c.from-source.ensures c.note.ensures) c.in_ok-add_downs.ensures.goes

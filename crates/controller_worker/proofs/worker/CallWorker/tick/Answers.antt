@@ -18,5 +18,5 @@ returns-clause-goes g c =
     let f = c.from.ensures in
     let k = ap (λ s. s.gathered) c.in_ok-do_step.ensures.ok.kept in
     by_both c.add_downs.result (seen g.K.Clock.told c.args.self.now) _ (seen g.K.Clock.told c.add_downs.new.self)
-    (step_ticked (seen g.K.Clock.told c.args.self.now) (seen g.K.Clock.told c.do_step.new.self) c.largest_tick-ms.result (c.do_step.new.self.gathered - c.from.result) c.in_ok-do_step.ensures.ok
+    (step_ticked (seen g.K.Clock.told c.args.self.now) (seen g.K.Clock.told c.do_step.new.self) c.largest_tick-ms.result (c.do_step.new.self.gathered - c.from.result) c.requires.settled c.in_ok-do_step.ensures.ok
     (omega arith)) c.add_downs.ensures.goes

@@ -4,4 +4,4 @@ use Rattle.ruled_relay.proofs.Moves.{puts, learns_end}
 use Rattle.ruled_relay.proofs.end.End.put.Goals as goal
 
 pub push_as-requires-clause-rule : goal.push_as-requires-clause-rule
-push_as-requires-clause-rule g c = (puts _ _ _ _ (search rules), learns_end _ _ (search rules))
+push_as-requires-clause-rule g c = (puts _ _ _ _ (search rules) (search rules), learns_end _ _ (search rules))

@@ -27,7 +27,7 @@ loop-pass-preserved c =
       omega arith,
       join_length c.loop-pass.at c.pass.inside.end c.loop-pass.ends.items c.join_at.new.ends.items c.join_at.ensures ∙ so_far.4,
       joins_on c.args.desk c.args.passes.items c.loop-pass.at c.loop-pass.ends.items c.join_at.new.ends.items c.in-Some.pass c.pass.inside.end so_far.5 next.0
-          (ap (λ (y : PassView). y.put) c.pass.view_is) c.join_at.ensures,
+          (ap (λ (y : PassView). y.put) c.pass.view_is) (ap (λ (y : PassView). y.capacity) c.pass.view_is) c.join_at.ensures,
     )
 
 pub invariant_of-result : goal.invariant_of-result

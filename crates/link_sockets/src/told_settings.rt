@@ -1,0 +1,80 @@
+// SPDX-License-Identifier: MIT OR Apache-2.0
+// The settings of a relay, and what is told of them.
+
+use crate::line::log_line;
+use log::{Level, Log};
+use program_base::{ProgramFault, read_settings, unread_fault};
+use settings::{Cell, Settings};
+use settings_hint::{earlier_twin, has_port_zero, hint_of};
+use std::fs;
+use std::rt::Runtime;
+
+/// The settings in this file. A fault of them is told in two lines, the second of which has the
+/// reason or the place; that memory ran out, in one. Then the status comes that the program ends
+/// with.
+pub(crate) fn told_settings<R: Runtime + AllocGlobal>(rt: &R, file: &str) -> Result<Settings, u8> {
+    let text = match fs::read_to_string(rt, file) {
+        Ok(text) => text,
+        Err(error) => {
+            let fault = unread_fault(&error);
+            tell(rt, &fault);
+            if let ProgramFault::UnreadSettings = fault {
+                let _ = eprintln!(rt; "bsc: settings: {file}: {error}");
+            }
+            return Err(fault.status());
+        }
+    };
+    match read_settings(rt.alloc(), text.as_str()) {
+        Ok(settings) => Ok(settings),
+        Err(fault) => {
+            tell(rt, &fault);
+            tell_hint(rt, file, text.as_str(), &fault);
+            Err(fault.status())
+        }
+    }
+}
+
+/// Tells a fault of the program.
+fn tell<R: Runtime>(rt: &R, fault: &ProgramFault) {
+    let _ = eprintln!(rt; "bsc: {fault}");
+}
+
+/// Tells where in this text the settings have their fault.
+fn tell_hint<R: Runtime + AllocGlobal>(rt: &R, file: &str, text: &str, fault: &ProgramFault) {
+    let ProgramFault::Settings(fault) = fault else {
+        return;
+    };
+    if let Some(hint) = hint_of(rt.alloc(), text, fault) {
+        let _ = eprintln!(rt; "bsc: settings: {file}{hint}");
+    }
+}
+
+/// Warns of what settings without a fault can hardly mean.
+pub(crate) fn warn_of<R: Log>(rt: &R, settings: &Settings) {
+    let address = settings.switch_address();
+    if has_port_zero(address) {
+        log_line(
+            rt,
+            Level::Warn,
+            format_args!("switch: nobody can listen at port 0: {address}"),
+        );
+    }
+    warn_of_twins(rt, settings.cells());
+}
+
+/// Warns of each cell that has LAC and CI of an earlier one.
+fn warn_of_twins<R: Log>(rt: &R, cells: &[Cell]) {
+    for place in 0..cells.len() {
+        if let Some(earlier) = earlier_twin(cells, place) {
+            log_line(
+                rt,
+                Level::Warn,
+                format_args!(
+                    "cells {} and {} have one LAC and one CI: the switch cannot tell them apart",
+                    earlier + 1,
+                    place + 1
+                ),
+            );
+        }
+    }
+}

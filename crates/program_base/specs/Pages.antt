@@ -1,0 +1,20 @@
+-- SPDX-License-Identifier: MIT OR Apache-2.0
+-- Which page of help words ask for.
+use Rattle.std.specs.Prelude.{ℕ, List, [], ◌∷◌, Option, Some, None, codes, if◌then◌else◌}
+use Rattle.std.specs.Prelude.{unwrap_or}
+use Rattle.std.specs.Str.{bytes_eq}
+use Rattle.program_base.specs.declared.usage.Page.{Page}
+use Rattle.program_base.specs.declared.usage.Page.TheVariants.{Program, Run, Replay, Trace, Decode}
+
+-- the page of the command with this name
+abbrev pub page_named : List ℕ → Option Page
+page_named name =
+    if bytes_eq name (codes "run") then Some Run
+    else (if bytes_eq name (codes "replay") then Some Replay
+    else (if bytes_eq name (codes "trace") then Some Trace
+    else (if bytes_eq name (codes "decode") then Some Decode else None)))
+
+-- that of the first command that the words name, else that of the program
+abbrev pub page_of : List (List ℕ) → Page
+page_of [] = Program
+page_of (word ∷ words) = unwrap_or (page_named word) (page_of words)

@@ -1,0 +1,145 @@
+// SPDX-License-Identifier: MIT OR Apache-2.0
+// What is told of the words that the program takes.
+ghost use Rattle.std.specs.Prelude.{◌≡◌, ◌∷◌, ◌↔◌, [], codes, IsTrue};
+ghost use Rattle.program_base.specs.CommandLine.{texts};
+ghost use Rattle.program_base.specs.Pages.{page_of, page_named};
+
+/// A page of help.
+#[derive(Clone, Copy)]
+pub(crate) enum Page {
+    /// That of the whole program.
+    Program,
+    Run,
+    Replay,
+    Trace,
+    Decode,
+}
+
+const PROGRAM: &str = "\
+usage: bsc COMMAND
+
+  run --config FILE
+      relays between the switch and the base stations that the settings in FILE
+      name, until every link has ended; standard error tells of each link
+  replay [--config FILE] [--break N]
+      reads a script on standard input, an event a line, and prints what each
+      end sent, took and accepted: in a world with one mobile on one channel, or
+      in the world of the settings in FILE; with --break, for each place of the
+      script how many messages were accepted and sent if the link of source N
+      broke there
+  trace --config FILE [--strict]
+      reads a script as replay does, and prints each event and the frames that
+      crossed a link at it; with --strict it ends with 4 where an event wasn't
+      taken
+  decode
+      reads the octets of an IPA link on standard input, and prints the name of
+      each frame
+
+'bsc COMMAND --help' tells more of a command, 'bsc --version' the version.";
+
+const RUN: &str = "\
+usage: bsc run --config FILE
+
+  relays between the switch and the base stations that the settings in FILE
+  name, until every link has ended
+
+  --config FILE
+      the settings, a text in TOML
+
+  Standard error tells of each link. BSC_LOG says from which level on: error,
+  warn, info (the default) or off. BSC_LOG_STYLE says what a line begins with:
+  plain (the default) for nothing, journal for its severity, time for the time.
+
+  status 0: every link has ended. 1: the settings have a fault, which is told in
+  two lines. 2: the words have one. 3: memory ran out, or a link couldn't be
+  opened.";
+
+const REPLAY: &str = "\
+usage: bsc replay [--config FILE] [--break N]
+
+  reads a script on standard input, an event a line, and prints what each end
+  sent, took and accepted
+
+  --config FILE
+      in the world of these settings, a text in TOML; else in a world with one
+      mobile on one channel
+  --break N
+      for each place of the script how many messages were accepted and sent if
+      the link of source N broke there: 0 is the switch, a number from 1 on the
+      cell's station; wants --config
+
+  status 0: done. 1: the settings have a fault. 2: the words, N or a line of the
+  script have one. 3: memory ran out, or a device failed.";
+
+const TRACE: &str = "\
+usage: bsc trace --config FILE [--strict]
+
+  reads a script as replay does, and prints each event and the frames that
+  crossed a link at it
+
+  --config FILE
+      in the world of these settings, a text in TOML
+  --strict
+      ends with status 4 where an event wasn't taken
+
+  status 0: done. 1: the settings have a fault. 2: the words or a line of the
+  script have one. 3: memory ran out, or a device failed. 4: an event wasn't
+  taken.";
+
+const DECODE: &str = "\
+usage: bsc decode
+
+  reads the octets of an IPA link on standard input, and prints the name of each
+  frame
+
+  status 0: done. 2: the words have a fault. 3: memory ran out, a device failed,
+  or the octets are no frames.";
+
+impl Page {
+    /// The page that these words ask for, of those that `clap` takes for a request for help: that
+    /// of the first command that they name.
+    pub(crate) fn of(words: &[&str]) -> Page
+        ensures { result ≡ page_of (texts words.now) }
+    {
+        for word in words {
+            if let Some(page) = Page::named(word) {
+                return page;
+            }
+        }
+        Page::Program
+    }
+
+    /// The page of the command with this name.
+    fn named(name: &str) -> Option<Page>
+        ensures { result ≡ page_named name.now }
+    {
+        match name {
+            "run" => Some(Page::Run),
+            "replay" => Some(Page::Replay),
+            "trace" => Some(Page::Trace),
+            "decode" => Some(Page::Decode),
+            _ => None,
+        }
+    }
+
+    /// What it says.
+    pub(crate) fn text(self) -> &'static str {
+        match self {
+            Page::Program => PROGRAM,
+            Page::Run => RUN,
+            Page::Replay => REPLAY,
+            Page::Trace => TRACE,
+            Page::Decode => DECODE,
+        }
+    }
+}
+
+/// Whether these words ask for the version.
+pub(crate) fn is_version(words: &[&str]) -> bool
+    ensures { IsTrue result ↔ (texts words.now ≡ codes "--version" ∷ []) }
+{
+    match words {
+        [word] => *word == "--version",
+        _ => false,
+    }
+}
