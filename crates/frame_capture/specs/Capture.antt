@@ -43,12 +43,18 @@ record_header ms size =
     four_octets (ms / 1000 % 4294967296) ++ four_octets (ms % 1000 * 1000)
     ++ four_octets size ++ four_octets size
 
+-- the record of a frame, with the sequence number of its first octet, and that of the next octet
+-- the other way
+abbrev pub record_of : ℕ → ℕ → LinkFrame → List ℕ
+record_of sequence acknowledged this =
+    record_header this.ms (packet_size this.frame % 4294967296)
+    ++ packet sequence acknowledged this.from this.to this.frame
+
 -- the record of a frame behind these
 abbrev pub record_behind : List LinkFrame → LinkFrame → List ℕ
 record_behind before this =
-    record_header this.ms (packet_size this.frame % 4294967296)
-    ++ packet (next_number (way this.from this.to) before)
-    (next_number (way this.to this.from) before) this.from this.to this.frame
+    record_of (next_number (way this.from this.to) before)
+    (next_number (way this.to this.from) before) this
 
 abbrev pub records_behind : List LinkFrame → List LinkFrame → List ℕ
 records_behind before [] = []

@@ -109,6 +109,13 @@ fn segment_header(sequence: u32, acknowledged: u32, from: End, to: End) -> [u8; 
     ]
 }
 
+/// How many octets a frame has on its link.
+pub(crate) fn framed_size(frame: &Frame) -> usize
+    ensures { result ≡ length (framed frame.now) }
+{
+    3 + frame.body.as_slice().len()
+}
+
 /// How many octets a packet with a frame has.
 pub(crate) fn packet_size(frame: &Frame) -> usize
     ensures { result ≡ packet_size frame.now }
