@@ -4,9 +4,11 @@
 #![tactic(auto)]
 
 pub use file::capture;
+pub use laws::packets_are_those_of_the_link;
 pub use link_frame::{End, LinkFrame};
 
 mod file;
+mod laws;
 mod link_frame;
 mod next_numbers;
 mod packet;
