@@ -1,14 +1,13 @@
 -- SPDX-License-Identifier: MIT OR Apache-2.0
 -- Definitions against literal octets, by RFC 791, RFC 1071, RFC 9293 and the form of pcap.
-use Rattle.std.proofs.Common.{◌≡◌, ℕ, List, [], ◌∷◌, ◌++◌, map, length, refl}
+use Rattle.std.proofs.Common.{◌≡◌, [], ◌∷◌, ◌++◌, map, refl}
 use Rattle.octets.proofs.Hex.{hex}
 use Rattle.ipa_framing.specs.Front.{frame}
-use Rattle.frame_capture.specs.declared.link_frame.End.{End}
 use Rattle.frame_capture.specs.declared.link_frame.End.TheVariants.{Switch, Station, Controller}
 use Rattle.frame_capture.specs.declared.link_frame.LinkFrame.{LinkFrame}
-use Rattle.frame_capture.specs.Capture.{capture_of, file_header, next_number, record_header, sent_on, way}
+use Rattle.frame_capture.specs.Capture.{capture_of, file_header, next_number, record_header, way}
 use Rattle.frame_capture.specs.NextNumbers.{number_at}
-use Rattle.frame_capture.specs.Packet.{address, checksum, folded, framed, internet_header, port, segment_header}
+use Rattle.frame_capture.specs.Packet.{address, checksum, framed, internet_header, port, segment_header}
 
 -- ---- checksums
 

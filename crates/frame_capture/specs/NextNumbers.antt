@@ -1,6 +1,6 @@
 -- SPDX-License-Identifier: MIT OR Apache-2.0
 -- The sequence numbers of the next octets, as a list by ways; each way behind it is at 1.
-use Rattle.std.specs.Prelude.{◌≡◌, ℕ, ◌+◌, ◌%◌, ◌==◌, if◌then◌else◌, List, ◌++◌, slice_get}
+use Rattle.std.specs.Prelude.{◌≡◌, ℕ, ◌+◌, ◌%◌, ◌==◌, if◌then◌else◌, List, slice_get}
 use Rattle.std.specs.Prelude.{unwrap_or}
 use Rattle.frame_capture.specs.Capture.{next_number}
 use Rattle.frame_capture.specs.declared.link_frame.LinkFrame.{LinkFrame}

@@ -39,7 +39,14 @@ fn write_record(numbers: &[u32], this: &LinkFrame, file: &mut Vec<u8>) -> Result
     let sequence = number_at(numbers, way(this.from, this.to));
     let acknowledged = number_at(numbers, way(this.to, this.from));
     write_record_header(this.ms, packet_size(&this.frame), file)?;
-    write_packet(sequence, acknowledged, this.from, this.to, &this.frame, file)
+    write_packet(
+        sequence,
+        acknowledged,
+        this.from,
+        this.to,
+        &this.frame,
+        file,
+    )
 }
 
 /// Appends the time of a packet and its length, twice.

@@ -17,6 +17,6 @@ loop-frame-preserved c =
     let kept : AreNext before c.as_slice.result.now = rw c.as_slice.ensures.value c.loop-frame.invariant.numbers in
     record {
       goes_on = record_more frames place this c.loop-frame.file.items c.write_record.new.file.items (capture_of frames) got c.loop-frame.invariant.goes_on
-        (record_is before this c.as_slice.result.now c.loop-frame.file.items c.write_record.new.file.items kept c.in_ok-write_record.ensures);
+          (record_is before this c.as_slice.result.now c.loop-frame.file.items c.write_record.new.file.items kept c.in_ok-write_record.ensures);
       numbers = place_more frames place this c.loop-frame.numbers.items c.count.new.numbers.items got c.loop-frame.invariant.numbers c.in_ok-count.ensures;
     }

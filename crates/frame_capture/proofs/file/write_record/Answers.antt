@@ -1,5 +1,5 @@
 -- SPDX-License-Identifier: MIT OR Apache-2.0
-use Rattle.std.proofs.Common.{◌≡◌, ◌++◌, ◌%◌, ◌∙◌, ap, OnOk}
+use Rattle.std.proofs.Common.{◌++◌, ◌%◌, ◌∙◌, ap}
 use Rattle.frame_capture.specs.Capture.{record_header, way}
 use Rattle.frame_capture.specs.NextNumbers.{number_at}
 use Rattle.frame_capture.specs.Packet.{packet, packet_size}
