@@ -11,6 +11,7 @@ use std::alloc::Global;
 const STYLE: &str = "<style>\n\
     .ground{fill:#ffffff}\n\
     text{fill:#1f2328;white-space:pre}\n\
+    .label,.name{text-anchor:middle}\n\
     .label{font-weight:bold}\n\
     .words,.number{fill:#4b535d}\n\
     .refused{fill:#b3261e}\n\
@@ -61,7 +62,7 @@ fn put_beginning(
     let height = down(rows);
     let begin = format!(
         in alloc;
-        "<svg xmlns=\"http://www.w3.org/2000/svg\" width=\"{width}\" height=\"{height}\" viewBox=\"0 0 {width} {height}\" font-family=\"monospace\" font-size=\"12\">\n"
+        "<svg xmlns=\"http://www.w3.org/2000/svg\" width=\"{width}\" height=\"{height}\" viewBox=\"0 0 {width} {height}\" font-family=\"monospace\" font-size=\"11.5\">\n"
     )?;
     put(out, begin.as_str())?;
     put(out, STYLE)?;

@@ -43,8 +43,7 @@ pub(crate) fn put_stroke(
     put(out, line.as_str())
 }
 
-/// Appends a text that begins at a point, on the ground of the picture, with the width that its
-/// characters have here.
+/// Appends a text that begins at a point.
 pub(crate) fn put_text(
     alloc: Global,
     class: &str,
@@ -53,22 +52,12 @@ pub(crate) fn put_text(
     text: &[u8],
     out: &mut Vec<u8>,
 ) -> Result<(), Memory> {
-    if text.is_empty() {
-        return Ok(());
-    }
     let width = text.len().saturating_mul(CHARACTER);
     put_ground(alloc, x, y, width, out)?;
-    let base = y.saturating_add(4);
-    let begin = format!(
-        in alloc;
-        "<text class=\"{class}\" x=\"{x}\" y=\"{base}\" textLength=\"{width}\">"
-    )?;
-    put(out, begin.as_str())?;
-    put_escaped(text, out)?;
-    put(out, "</text>\n")
+    put_characters(alloc, class, x, y, text, out)
 }
 
-/// Appends a text with its middle at a point.
+/// Appends a text with its middle at a point, by a class that has it so.
 pub(crate) fn put_middle_text(
     alloc: Global,
     class: &str,
@@ -77,8 +66,29 @@ pub(crate) fn put_middle_text(
     text: &[u8],
     out: &mut Vec<u8>,
 ) -> Result<(), Memory> {
-    let half = text.len().saturating_mul(CHARACTER) / 2;
-    put_text(alloc, class, x.saturating_sub(half), y, text, out)
+    let width = text.len().saturating_mul(CHARACTER);
+    put_ground(alloc, x.saturating_sub(width / 2), y, width, out)?;
+    put_characters(alloc, class, x, y, text, out)
+}
+
+/// Appends the characters of a text, which are as wide as their columns say.
+fn put_characters(
+    alloc: Global,
+    class: &str,
+    x: usize,
+    y: usize,
+    text: &[u8],
+    out: &mut Vec<u8>,
+) -> Result<(), Memory> {
+    let width = text.len().saturating_mul(CHARACTER);
+    let base = y.saturating_add(4);
+    let begin = format!(
+        in alloc;
+        "<text class=\"{class}\" x=\"{x}\" y=\"{base}\" textLength=\"{width}\">"
+    )?;
+    put(out, begin.as_str())?;
+    put_escaped(text, out)?;
+    put(out, "</text>\n")
 }
 
 /// Appends the ground behind a text, so that no line is seen through it.

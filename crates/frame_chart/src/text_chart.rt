@@ -128,8 +128,8 @@ fn write_arrow(
 
 /// Writes a name with a blank on either side in the middle between two columns.
 fn write_name(left: usize, right: usize, name: &[u8], line: &mut Vec<u8>) {
-    let middle = left.saturating_add(right.saturating_sub(left) / 2);
-    let first = middle.saturating_sub(name.len() / 2);
+    let around = right.saturating_sub(left).saturating_sub(name.len());
+    let first = left.saturating_add(around.saturating_add(1) / 2);
     set(line, first.saturating_sub(1), b' ');
     write_at(line, first, name);
     set(line, first.saturating_add(name.len()), b' ');
