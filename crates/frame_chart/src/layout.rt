@@ -72,7 +72,12 @@ fn place_event(alloc: Global, event: &ChartEvent, columns: &mut Vec<usize>) -> R
     for arrow in event.arrows.as_slice() {
         let name = arrow.words(alloc)?;
         let room = name.len().saturating_add(AROUND_NAME);
-        place_arrow(arrow.from.min(arrow.to), arrow.from.max(arrow.to), room, columns);
+        place_arrow(
+            arrow.from.min(arrow.to),
+            arrow.from.max(arrow.to),
+            room,
+            columns,
+        );
     }
     Ok(())
 }

@@ -11,6 +11,6 @@ mod chart;
 mod layout;
 mod svg_chart;
 mod svg_shapes;
-mod text_chart;
 #[cfg(test)]
 mod tests;
+mod text_chart;

@@ -1,8 +1,9 @@
 // SPDX-License-Identifier: MIT OR Apache-2.0
 use crate::chart::{Arrow, Chart, ChartEvent, Fate};
 use crate::layout::{Layout, NUMBER_WIDTH};
-use crate::svg_shapes::{across, down, put, put_cross, put_dot, put_middle_text, put_point};
-use crate::svg_shapes::{put_stroke, put_text};
+use crate::svg_shapes::{
+    across, down, put, put_cross, put_dot, put_middle_text, put_point, put_stroke, put_text,
+};
 use octets::Memory;
 use std::alloc::Global;
 
@@ -60,13 +61,15 @@ fn put_beginning(
 ) -> Result<(), Memory> {
     let width = across(layout.width());
     let height = down(rows);
-    let begin = format!(
-        in alloc;
+    let begin = format!(in alloc;
         "<svg xmlns=\"http://www.w3.org/2000/svg\" width=\"{width}\" height=\"{height}\" viewBox=\"0 0 {width} {height}\" font-family=\"monospace\" font-size=\"11.5\">\n"
     )?;
     put(out, begin.as_str())?;
     put(out, STYLE)?;
-    put(out, "<rect class=\"ground\" width=\"100%\" height=\"100%\"/>\n")
+    put(
+        out,
+        "<rect class=\"ground\" width=\"100%\" height=\"100%\"/>\n",
+    )
 }
 
 fn put_lifelines(
@@ -90,7 +93,14 @@ fn put_labels(
     out: &mut Vec<u8>,
 ) -> Result<(), Memory> {
     for (column, label) in layout.columns.iter().zip(labels.iter()) {
-        put_middle_text(alloc, "label", across(*column), down(0), label.as_slice(), out)?;
+        put_middle_text(
+            alloc,
+            "label",
+            across(*column),
+            down(0),
+            label.as_slice(),
+            out,
+        )?;
     }
     Ok(())
 }
@@ -120,10 +130,23 @@ fn put_event(
 ) -> Result<(), Memory> {
     let y = down(row);
     let above = y.saturating_sub(11);
-    put_stroke(alloc, "rule", (0, above), (across(layout.width()), above), out)?;
+    put_stroke(
+        alloc,
+        "rule",
+        (0, above),
+        (across(layout.width()), above),
+        out,
+    )?;
     put_number(alloc, event.number, y, out)?;
     let words = event.words(alloc)?;
-    put_text(alloc, "words", across(NUMBER_WIDTH), y, words.as_slice(), out)?;
+    put_text(
+        alloc,
+        "words",
+        across(NUMBER_WIDTH),
+        y,
+        words.as_slice(),
+        out,
+    )?;
     put_actor(alloc, layout, event, y, out)
 }
 

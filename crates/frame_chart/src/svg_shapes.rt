@@ -36,8 +36,7 @@ pub(crate) fn put_stroke(
 ) -> Result<(), Memory> {
     let (x, y) = from;
     let (end_x, end_y) = to;
-    let line = format!(
-        in alloc;
+    let line = format!(in alloc;
         "<line class=\"{class}\" x1=\"{x}\" y1=\"{y}\" x2=\"{end_x}\" y2=\"{end_y}\"/>\n"
     )?;
     put(out, line.as_str())
@@ -82,8 +81,7 @@ fn put_characters(
 ) -> Result<(), Memory> {
     let width = text.len().saturating_mul(CHARACTER);
     let base = y.saturating_add(4);
-    let begin = format!(
-        in alloc;
+    let begin = format!(in alloc;
         "<text class=\"{class}\" x=\"{x}\" y=\"{base}\" textLength=\"{width}\">"
     )?;
     put(out, begin.as_str())?;
@@ -102,8 +100,7 @@ fn put_ground(
     let left = x.saturating_sub(3);
     let top = y.saturating_sub(8);
     let wide = width.saturating_add(6);
-    let ground = format!(
-        in alloc;
+    let ground = format!(in alloc;
         "<rect class=\"ground\" x=\"{left}\" y=\"{top}\" width=\"{wide}\" height=\"16\"/>\n"
     )?;
     put(out, ground.as_str())
@@ -139,12 +136,7 @@ pub(crate) fn put_point(
 }
 
 /// Appends a dot.
-pub(crate) fn put_dot(
-    alloc: Global,
-    x: usize,
-    y: usize,
-    out: &mut Vec<u8>,
-) -> Result<(), Memory> {
+pub(crate) fn put_dot(alloc: Global, x: usize, y: usize, out: &mut Vec<u8>) -> Result<(), Memory> {
     let dot = format!(in alloc; "<circle class=\"point\" cx=\"{x}\" cy=\"{y}\" r=\"4\"/>\n")?;
     put(out, dot.as_str())
 }
@@ -158,8 +150,7 @@ pub(crate) fn put_cross(
 ) -> Result<(), Memory> {
     let left = x.saturating_sub(5);
     let top = y.saturating_sub(5);
-    let cross = format!(
-        in alloc;
+    let cross = format!(in alloc;
         "<path class=\"cross\" d=\"M{left} {top}l10 10m-10 0l10 -10\"/>\n"
     )?;
     put(out, cross.as_str())
