@@ -7,6 +7,10 @@ use crate::svg_shapes::{
 use octets::Memory;
 use std::alloc::Global;
 
+/// The beginning of the picture.
+const ROOT: &str =
+    "<svg xmlns=\"http://www.w3.org/2000/svg\" font-family=\"monospace\" font-size=\"11.5\"";
+
 /// The classes of what is drawn. The ground is drawn too, so that the picture is as readable on a
 /// dark page as on a light one.
 const STYLE: &str = "<style>\n\
@@ -61,10 +65,11 @@ fn put_beginning(
 ) -> Result<(), Memory> {
     let width = across(layout.width());
     let height = down(rows);
-    let begin = format!(in alloc;
-        "<svg xmlns=\"http://www.w3.org/2000/svg\" width=\"{width}\" height=\"{height}\" viewBox=\"0 0 {width} {height}\" font-family=\"monospace\" font-size=\"11.5\">\n"
+    put(out, ROOT)?;
+    let size = format!(in alloc;
+        " width=\"{width}\" height=\"{height}\" viewBox=\"0 0 {width} {height}\">\n"
     )?;
-    put(out, begin.as_str())?;
+    put(out, size.as_str())?;
     put(out, STYLE)?;
     put(
         out,

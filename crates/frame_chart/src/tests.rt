@@ -34,7 +34,9 @@ fn one_cell(alloc: Global) -> Result<Chart, Fail> {
     labels.push(text(alloc, "bsc")?)?;
     labels.push(text(alloc, "switch")?)?;
     let mut first = event(alloc, 1, "basepush 1", 0)?;
-    first.arrows.push(arrow(alloc, 0, 1, "DATA INDICATION CC")?)?;
+    first
+        .arrows
+        .push(arrow(alloc, 0, 1, "DATA INDICATION CC")?)?;
     let mut second = event(alloc, 2, "handle", 1)?;
     second.arrows.push(arrow(alloc, 1, 2, "DT1 DTAP SAPI 0")?)?;
     let mut dropped = arrow(alloc, 1, 0, "ACK")?;
@@ -51,19 +53,54 @@ fn one_cell(alloc: Global) -> Result<Chart, Fail> {
     Ok(Chart { labels, events })
 }
 
-const LINES: &str = concat!(
+const LINES: &[&str] = &[
     "                             station 1                bsc                switch\n",
     "     1 basepush 1                *- DATA INDICATION CC >|                   |\n",
     "     2 handle                    |                      *- DT1 DTAP SAPI 0 >|\n",
     "                                 |<--- ACK (dropped) ---|                   |\n",
     "     3 switchtakes               |                      |                   x not taken\n",
     "   104 upper 1 0 052471030405..  *                      |                   |\n",
-);
+];
+
+fn joined(alloc: Global, lines: &[&str]) -> Result<Vec<u8>, Fail> {
+    let mut text = Vec::new(alloc);
+    for line in lines {
+        text.extend_from_slice(line.as_bytes())?;
+    }
+    Ok(text)
+}
 
 #[test]
 fn a_chart_is_lines_of_text(rt: HostRuntime) -> Result<(), Fail> {
     let chart = one_cell(rt.alloc())?;
     let lines = text_of(rt.alloc(), &chart)?;
-    assert!(rt; lines.as_slice() == LINES.as_bytes());
+    let expected = joined(rt.alloc(), LINES)?;
+    assert!(rt; lines.as_slice() == expected.as_slice());
+    Ok(())
+}
+
+/// Whether the octets contain a text.
+fn contains(octets: &[u8], text: &str) -> bool {
+    octets
+        .windows(text.len().max(1))
+        .any(|window| window == text.as_bytes())
+}
+
+#[test]
+fn a_chart_is_a_picture(rt: HostRuntime) -> Result<(), Fail> {
+    let chart = one_cell(rt.alloc())?;
+    let picture = svg_of(rt.alloc(), &chart)?;
+    let parts: [&str; 6] = [
+        "<svg xmlns=",
+        ">DATA INDICATION CC</text>",
+        ">ACK (dropped)</text>",
+        "<line class=\"dropped\" x1=\"",
+        ">not taken</text>",
+        "</svg>\n",
+    ];
+    for part in parts {
+        assert!(rt; contains(picture.as_slice(), part));
+    }
+    assert!(rt; !contains(picture.as_slice(), "<script"));
     Ok(())
 }
