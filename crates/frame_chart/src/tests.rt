@@ -54,12 +54,12 @@ fn one_cell(alloc: Global) -> Result<Chart, Fail> {
 }
 
 const LINES: &[&str] = &[
-    "                             station 1                bsc                switch\n",
-    "     1 basepush 1                *- DATA INDICATION CC >|                   |\n",
-    "     2 handle                    |                      *- DT1 DTAP SAPI 0 >|\n",
-    "                                 |<--- ACK (dropped) ---|                   |\n",
-    "     3 switchtakes               |                      |                   x not taken\n",
-    "   104 upper 1 0 052471030405..  *                      |                   |\n",
+    "                                 station 1                 bsc               switch\n",
+    "     1 basepush 1                    *- DATA INDICATION CC >|                   |\n",
+    "     2 handle                        |                      *- DT1 DTAP SAPI 0 >|\n",
+    "                                     |<--- ACK (dropped) ---|                   |\n",
+    "     3 switchtakes                   |                      |                   x not taken\n",
+    "   104 upper 1 0 052471030405..      *                      |                   |\n",
 ];
 
 fn joined(alloc: Global, lines: &[&str]) -> Result<Vec<u8>, Fail> {
