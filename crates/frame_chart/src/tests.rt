@@ -57,7 +57,7 @@ const LINES: &[&str] = &[
     "                                 station 1                 bsc               switch\n",
     "     1 basepush 1                    *- DATA INDICATION CC >|                   |\n",
     "     2 handle                        |                      *- DT1 DTAP SAPI 0 >|\n",
-    "                                     |<--- ACK (dropped) ---|                   |\n",
+    "                                     |<-- ACK (dropped) ----|                   |\n",
     "     3 switchtakes                   |                      |                   x not taken\n",
     "   104 upper 1 0 052471030405..      *                      |                   |\n",
 ];
