@@ -1,6 +1,5 @@
 -- SPDX-License-Identifier: MIT OR Apache-2.0
 pub mod Reporting
-pub mod Scripts
 pub mod ScriptOrder
 pub mod Replaying
 pub mod Counting

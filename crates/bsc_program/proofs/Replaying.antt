@@ -16,7 +16,7 @@ use Rattle.program_base.specs.SettingsText.{settings_of, settings_or_fault}
 use Rattle.bsc_program.specs.Breaks.{break_lines}
 use Rattle.bsc_program.specs.Replayed.{Fails, HasBadLine, IsPrinted, Replays}
 use Rattle.bsc_program.specs.Report.{IsReport}
-use Rattle.bsc_program.specs.Script.{IsBadScript, IsScript}
+use Rattle.program_base.specs.WholeScript.{IsBadScript, IsScript}
 use Rattle.program_base.specs.Status.{status_of_fault}
 use Rattle.program_base.specs.declared.failure.Failure.{Failure}
 use Rattle.program_base.specs.declared.failure.Failure.TheVariants.{BadEvent, Device, Memory}

@@ -9,7 +9,7 @@ use Rattle.world_model.specs.declared.event.Event.TheVariants.{Upper, AirUp, Air
 use Rattle.world.specs.World.{after_all, fixed_world}
 use Rattle.world.specs.WorldState.{WorldState}
 use Rattle.bsc_program.specs.Report.{connection_text, mobile_text, not_taken_line}
-use Rattle.bsc_program.specs.Script.{line_count, lines_text}
+use Rattle.program_base.specs.WholeScript.{line_count, lines_text}
 
 -- ---- scripts
 

@@ -8,7 +8,7 @@ use Rattle.world.specs.Headline.Begins.{controlled}
 use Rattle.world.specs.World.{controlled_world}
 use Rattle.bsc_program.proofs.LineOctets.{line_is_of_octets}
 use Rattle.world.proofs.Order.{IsInOrder-reached}
-use Rattle.bsc_program.specs.Script.{AreTexts}
+use Rattle.program_base.specs.WholeScript.{AreTexts}
 use Rattle.bsc_program.specs.ScriptOrder.{ScriptsRunInOrder}
 
 of_octets : (settings : Parameters) (cells : ℕ) (events : List Event) (lines : List (List ℕ)) → AreTexts cells events lines → AreEventsFor (controlled_world settings).scene events

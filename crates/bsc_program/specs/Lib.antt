@@ -1,8 +1,6 @@
 -- SPDX-License-Identifier: MIT OR Apache-2.0
 pub mod Report
-pub mod Script
 pub mod ScriptOrder
 pub mod Breaks
 pub mod Asked
 pub mod Replayed
-pub mod ScriptLaws

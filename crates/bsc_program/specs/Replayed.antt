@@ -8,7 +8,7 @@ use Rattle.world.specs.World.{after_all, controlled_world, fixed_world}
 use Rattle.bsc_program.specs.Asked.{Asked, fixed, controlled, breaking, cells_of}
 use Rattle.bsc_program.specs.Breaks.{break_lines}
 use Rattle.bsc_program.specs.Report.{IsReport}
-use Rattle.bsc_program.specs.Script.{HasBadLineAt, IsBadScript, IsScript}
+use Rattle.program_base.specs.WholeScript.{HasBadLineAt, IsBadScript, IsScript}
 use Rattle.program_base.specs.declared.fault.ProgramFault.{ProgramFault}
 use Rattle.program_base.specs.declared.fault.ProgramFault.TheVariants.{Failed}
 use Rattle.program_base.specs.declared.failure.Failure.TheVariants.{BadEvent, Memory, Device}

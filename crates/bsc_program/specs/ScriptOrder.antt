@@ -5,7 +5,7 @@ use Rattle.settings.specs.Parameters.{AreAllowed, Parameters}
 use Rattle.world_model.specs.declared.event.Event.{Event}
 use Rattle.world.specs.Headline.{IsInOrder}
 use Rattle.world.specs.World.{after_all, controlled_world}
-use Rattle.bsc_program.specs.Script.{IsScript}
+use Rattle.program_base.specs.WholeScript.{IsScript}
 
 -- A script for a network of allowed settings: the world that its events make is in order.
 abbrev pub ScriptsRunInOrder : Parameters → List ℕ → List Event → Type 0

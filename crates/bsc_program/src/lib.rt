@@ -11,4 +11,3 @@ mod breaks;
 mod laws;
 mod replay_command;
 mod report;
-mod script;

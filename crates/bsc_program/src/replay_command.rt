@@ -8,7 +8,7 @@ ghost use Rattle.program_base.specs.Words.{source_in};
 ghost use Rattle.bsc_program.specs.Asked.{asked_for, asked_of_text, breaking, controlled, fixed};
 ghost use Rattle.bsc_program.specs.Replayed.{Fails, HasBadLine, Replays, UnwrittenOnErr};
 ghost use Rattle.bsc_program.specs.Report.{IsReport};
-ghost use Rattle.bsc_program.specs.Script.{HasBadLineAt};
+ghost use Rattle.program_base.specs.WholeScript.{HasBadLineAt};
 ghost use Rattle.program_base.specs.SettingsText.{settings_of};
 ghost use Rattle.program_base.specs.Status.{status_of, status_of_fault};
 ghost use Rattle.program_base.specs.declared.failure.Failure.TheVariants.{BadEvent};
@@ -16,9 +16,8 @@ ghost use Rattle.program_base.specs.declared.fault.ProgramFault.TheVariants.{Bad
 
 use crate::breaks::write_breaks;
 use crate::report::write_report;
-use crate::script::read_script;
 use dtap_codec::Modulus;
-use program_base::{Failure, ProgramFault, read_settings, read_source};
+use program_base::{Failure, ProgramFault, read_script, read_settings, read_source};
 use settings::Settings;
 use std::alloc::Global;
 use std::io::{Read, Write};

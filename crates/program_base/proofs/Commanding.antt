@@ -5,6 +5,7 @@ use Rattle.std.specs.Borrow.{Bor}
 use Rattle.std.specs.Prelude.{◌||◌, Bool}
 use Rattle.clap.specs.Words.{AddsArg, AddsSubcommand, App, Rule, app_of, rule_of, with_rule, with_subcommand}
 use Rattle.clap.specs.Simple.{app_of_fields}
+use Rattle.clap.specs.declared.builder.action.ArgAction.{ArgAction}
 use Rattle.clap.specs.declared.builder.arg.Arg.{Arg}
 use Rattle.clap.specs.declared.builder.command.Command.{Command}
 use Rattle.clap.specs.declared.builder.command.Command.TheOpen.{Command-F}
@@ -50,3 +51,10 @@ with_long name rule = record rule { long = Some name }
 
 pub rule_with_long : (arg : Arg) (name : Bor (List ℕ)) (rule : Rule) → rule_of arg ≡ rule → rule_of (record arg { long = Some name }) ≡ with_long name.now rule
 rule_with_long arg name rule is = ap (with_long name.now) is
+
+-- what is done with an option
+abbrev pub with_action : ArgAction → Rule → Rule
+with_action action rule = record rule { action = Some action }
+
+pub rule_with_action : (arg : Arg) (action : ArgAction) (rule : Rule) → rule_of arg ≡ rule → rule_of (record arg { action = Some action }) ≡ with_action action rule
+rule_with_action arg action rule is = ap (with_action action) is

@@ -16,4 +16,5 @@ pub mod HexadecimalLemmas
 pub mod Reading
 pub mod Saying
 pub mod Lines
+pub mod Scripts
 mod LineRows

@@ -2,11 +2,13 @@
 -- What `clap` says of a command is said of any command with the same rules.
 use Rattle.std.proofs.Common.{◌≡◌, ◌≢◌, ℕ, true, Option, Some, None, List, [], ◌∷◌, refl, sym, ap, ◌∙◌, subst, option_map, unwrap_or, inl, inr}
 use Rattle.std.specs.Cmp.{first_so}
-use Rattle.clap.specs.Words.{App, Text, Row, HasMatchesOf, HasKind, Kinds, is_simple_and_free, fault_of, first_of, kind_of, subcommand_of, subcommand_rows_of, subcommand_name_of}
+use Rattle.clap.specs.Words.{App, Text, Row, HasMatchesOf, HasKind, Kinds, is_simple_and_free, fault_of, first_of, found_of, kind_of, matches_of, rows_of, subcommand_of, subcommand_rows_of, subcommand_name_of}
 use Rattle.std.specs.Borrow.{Bor}
-use Rattle.std.specs.Prelude.{String, codes, string_bytes}
+use Rattle.std.specs.Prelude.{Bool, String, codes, string_bytes}
 use Rattle.std.specs.declared.alloc.Global.{Global}
 use Rattle.program_base.specs.CommandLine.{IsTask}
+use Rattle.program_base.specs.ToolLine.{IsTrace}
+use Rattle.program_base.specs.declared.words.Tool.TheVariants.{Trace}
 use Rattle.program_base.specs.declared.words.Task.{Task}
 use Rattle.program_base.specs.declared.words.Task.TheVariants.{Run, Replay, Decode}
 use Rattle.clap.specs.declared.error.Error.{Error}
@@ -19,6 +21,12 @@ pub taken_by : (a b : App) (words : List Text) (m : ArgMatches) → a ≡ b → 
 taken_by a b words m same simple faults matches =
     let here : is_simple_and_free a ≡ true = ap is_simple_and_free same ∙ simple in
     (ap (λ (app : App). fault_of app words) (sym same) ∙ faults here, (matches (first_so _ _ here)).1 ∙ ap (λ (app : App). subcommand_of app words) same)
+
+-- the same of a command without subcommands
+pub taken_rows_by : (a b : App) (words : List Text) (m : ArgMatches) → a ≡ b → is_simple_and_free b ≡ true → (is_simple_and_free a ≡ true → fault_of a words ≡ []) → HasMatchesOf a words m → (fault_of b words ≡ []) × (rows_of (found_of m) ≡ matches_of b words)
+taken_rows_by a b words m same simple faults matches =
+    let here : is_simple_and_free a ≡ true = ap is_simple_and_free same ∙ simple in
+    (ap (λ (app : App). fault_of app words) (sym same) ∙ faults here, (matches (first_so _ _ here)).0 ∙ ap (λ (app : App). matches_of app words) same)
 
 some_kind : (kinds : Kinds) (e : Error) → HasKind kinds e → kind_of e ≢ OutOfMemory → kinds ≢ []
 some_kind kinds e (inl memory) other none = other memory
@@ -71,3 +79,9 @@ is_decode rows = refl
 pub unwrap_or-now : (o : Option (Bor (List ℕ))) (d : Bor (List ℕ)) → d.now ≡ [] → (unwrap_or o d).now ≡ unwrap_or (option_map (λ t. t.now) o) []
 unwrap_or-now None d empty = empty
 unwrap_or-now (Some t) d empty = refl
+
+-- what `trace` shows, by its rows
+pub is_trace : (settings : String Global) (strict : Bool) (rows : List Row) → string_bytes settings ≡ unwrap_or (first_of (codes "config") rows) []
+    → (strict ≡ true → first_of (codes "strict") rows ≡ Some (codes "true")) → (first_of (codes "strict") rows ≡ Some (codes "true") → strict ≡ true) → IsTrace (Trace settings strict) rows
+unfolding IsTrace
+is_trace settings strict rows is given only = (is, given, only)

@@ -10,7 +10,10 @@ pub mod Decoded
 pub mod NamingLaws
 pub mod WordStatus
 pub mod CommandLine
+pub mod ToolLine
 pub mod WordsLeft
 pub mod Words
 pub mod Script
 pub mod ScriptReading
+pub mod WholeScript
+pub mod WholeScriptLaws

@@ -1,8 +1,8 @@
 // SPDX-License-Identifier: MIT OR Apache-2.0
 //! What the commands of the program share: how they read settings and an input to its end and write
 //! an output, and why they end with a status above 0. With it the words of the command line, and
-//! the task that `clap` finds in them; and `bsc decode`: the frames of a link are named; and the
-//! lines of scripts, which name the events of a world.
+//! the task or the tool that `clap` finds in them; and `bsc decode`: the frames of a link are
+//! named; and scripts, whose lines name the events of a world.
 #![tactic(auto)]
 
 pub use arguments::asked;
@@ -10,14 +10,18 @@ pub use decode_command::decode;
 pub use failure::Failure;
 pub use fault::ProgramFault;
 pub use input::{MOST_READS, Sink, Unread, read_all, room_for};
+pub use kept_script::{KeptScript, read_kept_script};
 pub use line_fault::LineFault;
+pub use names::frame_name;
 pub use output::put;
 pub use parsing::task;
 pub use read_count::ReadCount;
 pub use script::read_line;
 pub use settings_file::{read_settings, settings_text};
+pub use tools::tool;
 pub use value::read_source;
-pub use words::{Task, TaskFault};
+pub use whole_script::read_script;
+pub use words::{Task, TaskFault, Tool};
 
 mod arguments;
 mod decode_command;
@@ -25,6 +29,7 @@ mod failure;
 mod fault;
 mod hexadecimal;
 mod input;
+mod kept_script;
 mod line_fault;
 mod line_words;
 mod names;
@@ -34,5 +39,7 @@ mod parsing;
 mod read_count;
 mod script;
 mod settings_file;
+mod tools;
 mod value;
+mod whole_script;
 mod words;

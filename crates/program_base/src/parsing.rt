@@ -61,7 +61,7 @@ fn replay<'a>(alloc: Global) -> Result<Command<'a>, AllocError>
 }
 
 /// An option with this name, and a value behind it.
-fn option<'a>(alloc: Global, name: &'a str) -> Arg<'a>
+pub(crate) fn option<'a>(alloc: Global, name: &'a str) -> Arg<'a>
     ensures rule { rule_of result
         ≡ record (new_rule name.entry.now) { long = Some name.entry.now } }
     ensures local { result.global ≡ false }

@@ -17,6 +17,14 @@ pub enum Task {
     Decode,
 }
 
+/// What the program is asked to show.
+#[derive(Drop)]
+pub enum Tool {
+    /// `trace --config FILE [--strict]`: to show what crosses the links at each event of a script,
+    /// and with `true` to end with a status of its own where an event wasn't taken.
+    Trace(String, bool),
+}
+
 /// Why the words weren't read.
 #[derive(Clone, Copy, Debug, Error)]
 pub enum TaskFault {

@@ -1,0 +1,166 @@
+// SPDX-License-Identifier: MIT OR Apache-2.0
+ghost use Rattle.std.specs.Prelude.{◌≡◌, ◌∷◌, [], IfErr, IfOk, OnOk};
+ghost use Rattle.std.specs.Io.KnownBytes.{Appends};
+ghost use Rattle.program_base.specs.Status.{status_of};
+ghost use Rattle.bssmap_codec.specs.Reference.{reference_text};
+ghost use Rattle.bssmap_codec.specs.SccpReading.{sccp_reading};
+ghost use Rattle.rsl_codec.specs.RslReading.{rsl_reading};
+ghost use Rattle.frame_words.specs.Fields.{channel_by, channel_field, channel_of, fields_text};
+ghost use Rattle.frame_words.specs.Fields.{destination_of, reference_field, references_by};
+ghost use Rattle.frame_words.specs.Fields.{references_text, source_of};
+
+use crate::digits::write_digits;
+use bssmap_codec::{InterfaceFault, Reference, Sccp, read_sccp};
+use ipa_framing::{Frame, RSL_STREAM, SCCP_STREAM};
+use octets::Memory;
+use program_base::{Failure, put};
+use rsl_codec::{Rsl, RslFault};
+use std::alloc::Global;
+use std::io::Write;
+
+/// Writes what a frame says beside its name: of a message of a station's link the octet of its
+/// channel number, ` channel 41`; of one of the switch's the references that it has, that of its
+/// receiver and that of its sender, ` to 800001 from 000001`.
+pub fn write_fields<W: Write>(alloc: Global, frame: &Frame, output: &mut W) -> Result<(), Failure>
+    ensures text { OnOk result (Appends (W.contents output.old) (W.contents output.new)
+        (fields_text frame.now)) }
+    ensures err { IfErr result (λ failure. status_of failure ≡ 3) }
+{
+    match frame.stream {
+        RSL_STREAM => {
+            let channel = channel_in(alloc, frame.body.as_slice())?;
+            write_channel(alloc, channel, output)
+        }
+        SCCP_STREAM => write_references(alloc, frame.body.as_slice(), output),
+        _ => Ok(()),
+    }
+}
+
+/// The channel of a message of a station's link.
+fn channel_in(alloc: Global, body: &[u8]) -> Result<Option<u8>, Memory>
+    ensures { IfOk result (λ channel. channel ≡ channel_by (rsl_reading body.now)) }
+{
+    match Rsl::read(alloc, body) {
+        Ok(message) => Ok(Some(channel_of(&message))),
+        Err(RslFault::Memory) => Err(Memory),
+        Err(_) => Ok(None),
+    }
+}
+
+fn channel_of(message: &Rsl) -> u8
+    ensures { result ≡ channel_of message.now }
+{
+    match message {
+        Rsl::DataRequest(message) => message.channel.octet(),
+        Rsl::DataIndication(message) => message.channel.octet(),
+        Rsl::ErrorIndication(message) => message.channel.octet(),
+        Rsl::EstablishRequest(message) => message.channel.octet(),
+        Rsl::EstablishConfirm(message) => message.channel.octet(),
+        Rsl::EstablishIndication(message) => message.channel.octet(),
+        Rsl::ReleaseRequest(message) => message.channel.octet(),
+        Rsl::ReleaseConfirm(message) => message.channel.octet(),
+        Rsl::ReleaseIndication(message) => message.channel.octet(),
+        Rsl::ChannelRequired(message) => message.channel.octet(),
+        Rsl::ImmediateAssignCommand(message) => message.channel.octet(),
+        Rsl::ChannelActivation(message) => message.channel.octet(),
+        Rsl::ChannelActivationAck(message) => message.channel.octet(),
+        Rsl::ChannelActivationNack(message) => message.channel.octet(),
+        Rsl::ConnectionFailure(message) => message.channel.octet(),
+        Rsl::HandoverDetection(message) => message.channel.octet(),
+        Rsl::MeasurementResult(message) => message.channel.octet(),
+        Rsl::RfChannelRelease(channel) => channel.octet(),
+        Rsl::RfChannelReleaseAck(channel) => channel.octet(),
+    }
+}
+
+fn write_channel<W: Write>(
+    alloc: Global,
+    channel: Option<u8>,
+    output: &mut W,
+) -> Result<(), Failure>
+    ensures text { OnOk result (Appends (W.contents output.old) (W.contents output.new)
+        (channel_field channel)) }
+    ensures err { IfErr result (λ failure. status_of failure ≡ 3) }
+{
+    let Some(octet) = channel else {
+        return Ok(());
+    };
+    put(output, b" channel ")?;
+    write_digits(alloc, &[octet], output)
+}
+
+/// Writes the references of a message of the switch's link.
+fn write_references<W: Write>(alloc: Global, body: &[u8], output: &mut W) -> Result<(), Failure>
+    ensures text { OnOk result (Appends (W.contents output.old) (W.contents output.new)
+        (references_by (sccp_reading body.now))) }
+    ensures err { IfErr result (λ failure. status_of failure ≡ 3) }
+{
+    match read_sccp(alloc, body) {
+        Ok(message) => write_both(alloc, &message, output),
+        Err(InterfaceFault::Memory) => Err(Failure::Memory),
+        Err(_) => Ok(()),
+    }
+}
+
+fn write_both<W: Write>(alloc: Global, message: &Sccp, output: &mut W) -> Result<(), Failure>
+    ensures text { OnOk result (Appends (W.contents output.old) (W.contents output.new)
+        (references_text message.now)) }
+    ensures err { IfErr result (λ failure. status_of failure ≡ 3) }
+{
+    write_reference(alloc, " to ", destination_of(message), output)?;
+    write_reference(alloc, " from ", source_of(message), output)
+}
+
+/// What the receiver of a message calls the connection.
+fn destination_of(message: &Sccp) -> Option<[u8; 3]>
+    ensures { result ≡ destination_of message.now }
+{
+    match message {
+        Sccp::ConnectionRequest { .. } => None,
+        Sccp::ConnectionConfirm { destination, .. } => Some(octets_of(destination)),
+        Sccp::ConnectionRefused { destination } => Some(octets_of(destination)),
+        Sccp::Released { destination, .. } => Some(octets_of(destination)),
+        Sccp::ReleaseComplete { destination, .. } => Some(octets_of(destination)),
+        Sccp::DataForm1 { destination, .. } => Some(octets_of(destination)),
+    }
+}
+
+/// What its sender calls it.
+fn source_of(message: &Sccp) -> Option<[u8; 3]>
+    ensures { result ≡ source_of message.now }
+{
+    match message {
+        Sccp::ConnectionRequest { source, .. } => Some(octets_of(source)),
+        Sccp::ConnectionConfirm { source, .. } => Some(octets_of(source)),
+        Sccp::ConnectionRefused { .. } => None,
+        Sccp::Released { source, .. } => Some(octets_of(source)),
+        Sccp::ReleaseComplete { source, .. } => Some(octets_of(source)),
+        Sccp::DataForm1 { .. } => None,
+    }
+}
+
+/// The octets of a reference.
+fn octets_of(reference: &Reference) -> [u8; 3]
+    ensures { result ≡ reference_text reference.now }
+{
+    let [_, high, middle, low] = reference.number().to_be_bytes();
+    [high, middle, low]
+}
+
+/// Writes a reference behind a word, where there is one.
+fn write_reference<W: Write>(
+    alloc: Global,
+    word: &str,
+    reference: Option<[u8; 3]>,
+    output: &mut W,
+) -> Result<(), Failure>
+    ensures text { OnOk result (Appends (W.contents output.old) (W.contents output.new)
+        (reference_field word.now reference)) }
+    ensures err { IfErr result (λ failure. status_of failure ≡ 3) }
+{
+    let Some(octets) = reference else {
+        return Ok(());
+    };
+    put(output, word.as_bytes())?;
+    write_digits(alloc, &octets, output)
+}

@@ -1,0 +1,114 @@
+// SPDX-License-Identifier: MIT OR Apache-2.0
+//! The words of the tools, which the program has beside its tasks.
+ghost use Rattle.std.specs.Prelude.{◌≡◌, ◌≢◌, [], Err, IfOk, Some, false, option_map, true};
+ghost use Rattle.std.specs.Prelude.{codes};
+ghost use Rattle.clap.specs.Words.{app_of, fault_of, found_of, matches_of};
+ghost use Rattle.clap.specs.Words.{rows_of, rule_of};
+ghost use Rattle.clap.specs.declared.builder.command.Command.TheViews.{out-Command as fields_of};
+ghost use Rattle.clap.specs.declared.error.Error.{Error as Complaint};
+ghost use Rattle.program_base.specs.CommandLine.{texts};
+ghost use Rattle.program_base.specs.ToolLine.{AreNoTool, IsTool, IsTrace, behind_trace};
+ghost use Rattle.program_base.specs.ToolLine.{strict_flag, trace_command, trace_program};
+ghost use Rattle.program_base.specs.declared.no_task.NoTask.TheVariants.{Refused};
+ghost use Rattle.program_base.specs.declared.words.TaskFault.TheVariants.{Words};
+
+use crate::no_task::NoTask;
+use crate::parsing::option;
+use crate::words::{TaskFault, Tool};
+use clap::{Arg, ArgAction, ArgMatches, Command};
+use std::alloc::{AllocError, Global};
+
+/// The options of `trace`.
+fn trace_command<'a>(alloc: Global) -> Result<Command<'a>, AllocError>
+    ensures { IfOk result (λ command. app_of command ≡ trace_command) }
+{
+    trace_program(alloc)
+        .arg(option(alloc, "config").required(true))?
+        .arg(strict_flag(alloc))
+}
+
+/// `trace` without its options.
+fn trace_program<'a>(alloc: Global) -> Command<'a>
+    ensures app { app_of result ≡ trace_program }
+    ensures local { (fields_of result).has_globals ≡ false }
+{
+    Command::new(alloc, "bsc trace").no_binary_name(true)
+}
+
+/// `--strict`.
+fn strict_flag<'a>(alloc: Global) -> Arg<'a>
+    ensures rule { rule_of result ≡ strict_flag }
+    ensures local { result.global ≡ false }
+{
+    option(alloc, "strict").action(ArgAction::SetTrue)
+}
+
+/// The matches of the words behind `trace`, where `clap` takes them.
+fn trace_matches<'a>(alloc: Global, options: &'a [&'a str]) -> Result<ArgMatches<'a>, NoTask>
+    ensures taken { IfOk result (λ _. fault_of trace_command (texts options.entry.now) ≡ []) }
+    ensures found { IfOk result (λ matches.
+        rows_of (found_of matches) ≡ matches_of trace_command (texts options.entry.now)) }
+    ensures refused { (complaint : Complaint) → result ≡ Err (Refused complaint)
+        → fault_of trace_command (texts options.entry.now) ≢ [] }
+{
+    let command = trace_command(alloc)?;
+    match command.try_get_matches_from(options) {
+        Ok(matches) => Ok(matches),
+        Err(error) => Err(NoTask::from(error)),
+    }
+}
+
+/// What the words behind `trace` ask for, or `clap`'s complaint.
+pub(crate) fn found_trace<'a>(alloc: Global, options: &'a [&'a str]) -> Result<Tool, NoTask>
+    ensures taken { IfOk result (λ _. fault_of trace_command (texts options.entry.now) ≡ []) }
+    ensures found { IfOk result (λ tool.
+        IsTrace tool (matches_of trace_command (texts options.entry.now))) }
+    ensures refused { (complaint : Complaint) → result ≡ Err (Refused complaint)
+        → fault_of trace_command (texts options.entry.now) ≢ [] }
+{
+    let matches = trace_matches(alloc, options)?;
+    let settings = matches.get_str("config").unwrap_or("");
+    let strict = is_true(matches.get_str("strict"));
+    Ok(Tool::Trace(String::from_str(alloc, settings)?, strict))
+}
+
+/// Whether a flag was given, by its value.
+fn is_true(value: Option<&str>) -> bool
+    ensures given { result ≡ true
+        → option_map (λ text. text.now) value.entry ≡ Some (codes "true") }
+    ensures only { option_map (λ text. text.now) value.entry ≡ Some (codes "true")
+        → result ≡ true }
+{
+    match value {
+        Some("true") => true,
+        _ => false,
+    }
+}
+
+/// The words behind `trace`, where that is the first one.
+pub(crate) fn behind_trace<'a>(words: &'a [&'a str]) -> Option<&'a [&'a str]>
+    ensures { option_map (λ options. texts options.now) result
+        ≡ behind_trace (texts words.entry.now) }
+{
+    let (name, options) = words.split_first()?;
+    if *name == "trace" {
+        Some(options)
+    } else {
+        None
+    }
+}
+
+/// Reads the words behind the program's name as those of a tool. They are `Words` only where they
+/// don't begin with the name of one, or where `clap` refuses the others.
+pub fn tool<'a>(alloc: Global, words: &'a [&'a str]) -> Result<Tool, TaskFault>
+    ensures found { IfOk result (λ tool. IsTool tool (texts words.entry.now)) }
+    ensures words { result ≡ Err Words → AreNoTool (texts words.entry.now) }
+{
+    let Some(options) = behind_trace(words) else {
+        return Err(TaskFault::Words);
+    };
+    match found_trace(alloc, options) {
+        Ok(tool) => Ok(tool),
+        Err(none) => Err(none.fault()),
+    }
+}
