@@ -7,10 +7,11 @@ pub use bsc_program::{decode, replay};
 use bsc_program::{Failure, ProgramFault};
 use link_sockets::relay;
 pub use link_sockets::{RunFault, run_links};
-pub use program_base::{Task, TaskFault, task};
-use program_base::{asked, settings_text};
+pub use program_base::{Task, TaskFault, Tool, task, tool};
+use program_base::{Asked, asked, settings_text};
 use std::io::BufWriter;
 use std::process::ExitCode;
+use trace_program::trace;
 
 const USAGE: &str = "\
 usage: bsc COMMAND
@@ -24,15 +25,20 @@ usage: bsc COMMAND
       in the world of the settings in FILE; with --break, for each place of the
       script how many messages were accepted and sent if the link of source N
       broke there
+  trace --config FILE [--strict]
+      reads a script as replay does, and prints each event and the frames that
+      crossed a link at it; with --strict it ends with 4 where an event wasn't
+      taken
   decode
       reads the octets of an IPA link on standard input, and prints the name of
       each frame";
 
 fn main(rt: HostRuntime) -> ExitCode {
     let ended = match asked(&rt) {
-        Ok(Task::Run(file)) => relay(&rt, file.as_str()),
-        Ok(Task::Replay(file, breaks)) => replayed(&rt, file, breaks),
-        Ok(Task::Decode) => decoded(&rt),
+        Ok(Asked::Task(Task::Run(file))) => relay(&rt, file.as_str()),
+        Ok(Asked::Task(Task::Replay(file, breaks))) => replayed(&rt, file, breaks),
+        Ok(Asked::Task(Task::Decode)) => decoded(&rt),
+        Ok(Asked::Tool(Tool::Trace(file, strict))) => traced(&rt, file.as_str(), strict),
         Err(fault) => {
             let _ = match fault {
                 TaskFault::Words => eprintln!(rt; "{USAGE}"),
@@ -82,4 +88,21 @@ fn decoded(rt: &HostRuntime) -> Result<u8, ProgramFault> {
         return Err(ProgramFault::Failed(Failure::Memory));
     };
     Ok(decode(rt.alloc(), &mut rt.stdin(), &mut output, &mut rt.stderr()))
+}
+
+/// Traces the script on standard input in the world of the settings in this file, and gives the
+/// status that the program ends with. What it prints is buffered.
+fn traced(rt: &HostRuntime, file: &str, strict: bool) -> Result<u8, ProgramFault> {
+    let settings = settings_text(rt, file)?;
+    let Ok(mut output) = BufWriter::new(rt.alloc(), rt.stdout()) else {
+        return Err(ProgramFault::Failed(Failure::Memory));
+    };
+    Ok(trace(
+        rt.alloc(),
+        settings.as_str(),
+        strict,
+        &mut rt.stdin(),
+        &mut output,
+        &mut rt.stderr(),
+    ))
 }

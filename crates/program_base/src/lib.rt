@@ -21,7 +21,7 @@ pub use settings_file::{read_settings, settings_text};
 pub use tools::tool;
 pub use value::read_source;
 pub use whole_script::read_script;
-pub use words::{Task, TaskFault, Tool};
+pub use words::{Asked, Task, TaskFault, Tool};
 
 mod arguments;
 mod decode_command;

@@ -1,0 +1,89 @@
+-- SPDX-License-Identifier: MIT OR Apache-2.0
+-- Lines of a trace against literal frames and events.
+use Rattle.std.proofs.Common.{◌≡◌, ℕ, List, [], ◌∷◌, ◌++◌, Option, Some, None, refl}
+use Rattle.std.specs.Fmt.{digits}
+use Rattle.std.specs.Prelude.{codes, decimal}
+use Rattle.octets.proofs.Hex.{hex}
+use Rattle.hex.proofs.OnLiterals.{hex_on_literals}
+use Rattle.world_model.proofs.Worlds.{on_literals}
+use Rattle.world_trace.specs.declared.cause.Cause.TheVariants as causes
+use Rattle.world_trace.specs.declared.crossing.End.TheVariants.{Switch, Station, Controller}
+use Rattle.world_trace.specs.declared.crossing.Passage.TheVariants.{Sent, Got}
+use Rattle.frame_words.specs.Carried.{carried_by}
+use Rattle.trace_program.specs.TraceLines.{crossing_line, event_line}
+use Rattle.trace_program.specs.Traced.{behind_line, line_of}
+
+first_line : line_of (codes "basepush 1\nhandle\n") ≡ codes "basepush 1"
+first_line = refl
+
+others : behind_line (codes "basepush 1\nhandle\n") ≡ codes "handle\n"
+others = refl
+
+last_without_feed : line_of (codes "handle") ++ codes "|" ++ behind_line (codes "handle") ≡ codes "handle|"
+last_without_feed = refl
+
+taken : event_line 3 (codes "handle") None ≡ codes "3\tscript\tworld\thandle\ttaken\t\n"
+unfolding digits
+taken = refl
+
+not_taken : event_line 12 (codes "handle") (Some causes.InboxEmpty) ≡ codes "12\tscript\tworld\thandle\tnot taken: the inbox is empty\t\n"
+unfolding digits
+not_taken = refl
+
+required : crossing_line 4 2 (record {
+  passage = Sent;
+  from = Station 1;
+  to = Controller;
+  frame = record
+      { stream = 0; body = hex "0c 13 01 88 13 01 00 00 11 00" };
+})
+    ≡ codes "2\tstation 1\tbsc\tCHANNEL REQUIRED\tsent channel 88\t0c130188130100001100\n"
+unfolding digits hex_on_literals on_literals
+required = refl
+
+dt1 : crossing_line 4 20 (record {
+  passage = Got;
+  from = Controller;
+  to = Switch;
+  frame = record
+      { stream = 253; body = hex "06 80 00 01 00 01 05 01 00 02 03 45" };
+})
+    ≡ codes "20\tbsc\tswitch\tDT1 DTAP SAPI 0\tgot to 800001 N(SD) 1\t068000010001050100020345\n"
+unfolding digits hex_on_literals on_literals
+dt1 = refl
+
+-- ---- the message inside a frame (TS 48.058, TS 44.018, Q.713, TS 48.008)
+
+abbrev on_station : List ℕ → Option (List ℕ)
+on_station body = carried_by (record { stream = 0; body = body })
+
+abbrev on_switch : List ℕ → Option (List ℕ)
+on_switch body = carried_by (record { stream = 253; body = body })
+
+handover_complete : on_station (hex "03 02 01 41 02 00 0b 00 03 06 2c 00") ≡ Some (codes "RR HANDOVER COMPLETE")
+unfolding hex_on_literals on_literals
+handover_complete = refl
+
+call_control : on_station (hex "03 02 01 41 02 00 0b 00 02 03 45") ≡ Some (codes "CC")
+unfolding hex_on_literals on_literals
+call_control = refl
+
+other_rr : on_station (hex "03 01 01 41 02 00 0b 00 02 06 35") ≡ Some (codes "RR")
+unfolding hex_on_literals on_literals
+other_rr = refl
+
+clear_command : on_switch (hex "06 00 00 01 00 01 06 00 04 20 04 01 09") ≡ Some (codes "CLEAR COMMAND")
+unfolding hex_on_literals on_literals
+clear_command = refl
+
+short_message : on_switch (hex "06 00 00 01 00 01 05 01 c3 02 09 01") ≡ Some (codes "DTAP SAPI 3")
+unfolding hex_on_literals on_literals
+short_message = refl
+
+no_bssap : on_switch (hex "06 00 00 01 00 01 01 02") ≡ Some (codes "fault A2")
+unfolding hex_on_literals on_literals
+no_bssap = refl
+
+released : on_switch (hex "04 00 00 01 80 00 01 00 00") ≡ None
+unfolding hex_on_literals on_literals
+released = refl

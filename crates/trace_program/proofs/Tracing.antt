@@ -1,0 +1,159 @@
+-- SPDX-License-Identifier: MIT OR Apache-2.0
+-- What is written of a trace so far, and how a frame and an event carry it on.
+use Rattle.std.proofs.Common.{◌≡◌, ◌≢◌, ℕ, zero, suc, ◌+◌, ◌<◌, ◌≤◌, ◌==◌, Bool, true, false, if◌then◌else◌, cond, List, [], ◌∷◌, ◌++◌}
+use Rattle.std.proofs.Common.{get_or, length, take, drop, Option, Some, None, refl, sym, ap, subst, ◌∙◌, append_assoc, append-nil, arith}
+use Rattle.std.proofs.Common.{eq-eqb}
+use Rattle.std.proofs.lemmas.Bool.{eqb-true}
+use Rattle.std.specs.List.{flat_map}
+use Rattle.std.specs.Io.KnownBytes.{Appends}
+use Rattle.std.proofs.KnownBytes.{Appends-nil, Appends-trans}
+use Rattle.std.proofs.lemmas.List.{drop_more, flat_map_more, take_all, take_more}
+use Rattle.std.proofs.Math.ListN.{drop_of_length-le}
+use Rattle.memchr.specs.Find.{IsFirstByte, is_byte}
+use Rattle.world_model.specs.declared.event.Event.{Event}
+use Rattle.world_model.specs.Life.{actors_after}
+use Rattle.world_model.specs.World.{Actors}
+use Rattle.world_trace.specs.declared.cause.Cause.{Cause}
+use Rattle.world_trace.specs.declared.crossing.Crossing.{Crossing}
+use Rattle.world_trace.specs.Causes.{refusal}
+use Rattle.world_trace.specs.Crossings.{crossings}
+use Rattle.trace_program.specs.declared.run.Tally.{Tally}
+use Rattle.std.specs.Prelude.{codes, decimal}
+use Rattle.trace_program.specs.TraceLines.{crossing_line, ends_text, event_lines, frame_text}
+use Rattle.trace_program.specs.Traced.{behind_line, counted, line_of, tally_of, trace_text}
+
+-- ---- the frames of an event
+
+pub crossings_more : (m number next : ℕ) (xs : List Crossing) (x : Crossing) (old mid new : Option (List ℕ))
+    → Appends old mid (flat_map (crossing_line m number) (take next xs)) → next < length xs → x ≡ get_or xs next x
+    → Appends mid new (crossing_line m number x) → Appends old new (flat_map (crossing_line m number) (take (next + 1) xs))
+crossings_more m number next xs x old mid new some less is line =
+    let front : List Crossing = take next xs in
+    let longer : front ++ x ∷ [] ≡ take (next + 1) xs = ap (λ (y : Crossing). front ++ y ∷ []) is ∙ sym (take_more xs next x less) in
+    subst (Appends old new) (flat_map_more (crossing_line m number) [] front x ∙ ap (flat_map (crossing_line m number)) longer)
+    (Appends-trans old mid new (flat_map (crossing_line m number) front) (crossing_line m number x) some line)
+
+pub crossings_all : (m number next : ℕ) (xs : List Crossing) (old new : Option (List ℕ))
+    → Appends old new (flat_map (crossing_line m number) (take next xs)) → length xs ≤ next
+    → Appends old new (flat_map (crossing_line m number) xs)
+crossings_all m number next xs old new some all = subst (λ (ys : List Crossing). Appends old new (flat_map (crossing_line m number) ys))
+    (take_all next xs all) some
+
+-- the line of a frame, from its three parts
+pub line_written : (m number : ℕ) (crossing : Crossing) (old one two new : Option (List ℕ)) → Appends old one (decimal number ++ codes "\t")
+    → Appends one two (ends_text crossing.from crossing.to) → Appends two new (frame_text m crossing)
+    → Appends old new (crossing_line m number crossing)
+line_written m number crossing old one two new first ends frame =
+    Appends-trans old two new (decimal number ++ codes "\t" ++ ends_text crossing.from crossing.to) (frame_text m crossing)
+    (Appends-trans old one two (decimal number ++ codes "\t") (ends_text crossing.from crossing.to) first ends) frame
+
+-- ---- a line
+
+line_by : (xs : List ℕ) (n : ℕ) → n < length xs → ((k : ℕ) → k < n → get_or xs k 0 ≢ 10) → get_or xs n 0 ≡ 10
+    → (take n xs ≡ line_of xs) × (drop (suc n) xs ≡ behind_line xs)
+line_by [] n less none feed = absurd (omega arith)
+line_by (x ∷ xs) zero less none feed = (
+  ap (λ (b : Bool). if b then [] else x ∷ line_of xs) (sym (eq-eqb x 10 feed)),
+  ap (λ (b : Bool). if b then xs else behind_line xs) (sym (eq-eqb x 10 feed)),
+)
+line_by (x ∷ xs) (suc n) less none feed =
+    let others = line_by xs n (omega arith) (λ k lt. none (suc k) (omega (arith, lt))) feed in
+    by_test (x == 10) refl others
+  where
+    by_test : (b : Bool) → (x == 10) ≡ b → (take n xs ≡ line_of xs) × (drop (suc n) xs ≡ behind_line xs)
+        → (x ∷ take n xs ≡ (if b then [] else x ∷ line_of xs)) × (drop (suc n) xs ≡ (if b then xs else behind_line xs))
+    by_test true is others = absurd (none 0 (omega arith) (eqb-true x 10 is))
+    by_test false is others = (ap (λ (ys : List ℕ). x ∷ ys) others.0, others.1)
+
+pub line_found : (xs : List ℕ) (n : ℕ) → IsFirstByte (is_byte 10) xs (Some n)
+    → (take n xs ≡ line_of xs) × (drop (n + 1) xs ≡ behind_line xs)
+line_found xs n found =
+    let is = line_by xs n found.0.high (λ k lt feed. found.0.before k (omega arith) lt (eq-eqb (get_or xs k 0) 10 feed))
+    (eqb-true (get_or xs n 0) 10 found.1) in
+    let next : suc n ≡ n + 1 = omega arith in
+    (is.0, subst (λ (k : ℕ). drop k xs ≡ behind_line xs) next is.1)
+
+no_line_by : (xs : List ℕ) → ((k : ℕ) → k < length xs → get_or xs k 0 ≢ 10) → (xs ≡ line_of xs) × ([] ≡ behind_line xs)
+no_line_by [] none = (refl, refl)
+no_line_by (x ∷ xs) none =
+    let others = no_line_by xs (λ k lt. none (suc k) (omega (arith, lt))) in
+    by_test (x == 10) refl others
+  where
+    by_test : (b : Bool) → (x == 10) ≡ b → (xs ≡ line_of xs) × ([] ≡ behind_line xs)
+        → (x ∷ xs ≡ (if b then [] else x ∷ line_of xs)) × ([] ≡ (if b then xs else behind_line xs))
+    by_test true is others = absurd (none 0 (omega arith) (eqb-true x 10 is))
+    by_test false is others = (ap (λ (ys : List ℕ). x ∷ ys) others.0, others.1)
+
+pub no_line : (xs : List ℕ) → IsFirstByte (is_byte 10) xs None → (xs ≡ line_of xs) × ([] ≡ behind_line xs)
+no_line xs none = no_line_by xs (λ k lt feed. none k (omega arith) lt (eq-eqb (get_or xs k 0) 10 feed))
+
+-- ---- the events so far
+
+-- what is written, with what the events that are left give, is the whole trace
+pub record Traces (m : ℕ) (start : Actors) (script : List ℕ) (events : List Event) (w : Actors) (number : ℕ) (rest : List ℕ)
+    (left : List Event) (old new : Option (List ℕ)) : Type 0 where
+  pub text : List ℕ
+  pub written : Appends old new text
+  pub whole : text ++ trace_text m w number rest left ≡ trace_text m start 1 script events
+
+pub traces_none : (m : ℕ) (start : Actors) (script : List ℕ) (events : List Event) (old : Option (List ℕ))
+    → Traces m start script events start 1 script events old old
+traces_none m start script events old = record { text = []; written = Appends-nil old; whole = refl }
+
+pub traces_more : (m : ℕ) (start : Actors) (script : List ℕ) (events : List Event) (w v : Actors) (number : ℕ) (rest behind line : List ℕ)
+    (event : Event) (left others : List Event) (why : Option Cause) (frames : List Crossing) (old mid new : Option (List ℕ))
+    → Traces m start script events w number rest left old mid → left ≡ event ∷ others → line ≡ line_of rest → behind ≡ behind_line rest
+    → v ≡ actors_after w event → why ≡ refusal w event → frames ≡ crossings w event
+    → Appends mid new (event_lines m number line why frames) → Traces m start script events v (number + 1) behind others old new
+traces_more m start script events w v number rest behind line event left others why frames old mid new some is lines parts after refused
+    crossed written =
+    let more : List ℕ = event_lines m number (line_of rest) (refusal w event) (crossings w event) in
+    let here : Appends mid new more =
+    subst (λ (l : List ℕ). Appends mid new (event_lines m number l (refusal w event) (crossings w event))) lines
+    (subst (λ (o : Option Cause). Appends mid new (event_lines m number line o (crossings w event))) refused
+    (subst (λ (cs : List Crossing). Appends mid new (event_lines m number line why cs)) crossed written)) in
+    record {
+      text = some.text ++ more;
+      written = Appends-trans old mid new some.text more some.written here;
+      whole =
+          ap (λ (u : Actors). (some.text ++ more) ++ trace_text m u (number + 1) behind others) after
+          ∙ ap (λ (xs : List ℕ). (some.text ++ more) ++ trace_text m (actors_after w event) (number + 1) xs others) parts
+          ∙ append_assoc some.text more (trace_text m (actors_after w event) (number + 1) (behind_line rest) others)
+          ∙ ap (λ (es : List Event). some.text ++ trace_text m w number rest es) (sym is)
+          ∙ some.whole;
+    }
+
+pub traces_all : (m : ℕ) (start : Actors) (script : List ℕ) (events : List Event) (w : Actors) (number : ℕ) (rest : List ℕ)
+    (left : List Event) (old new : Option (List ℕ)) → Traces m start script events w number rest left old new → left ≡ []
+    → Appends old new (trace_text m start 1 script events)
+traces_all m start script events w number rest left old new some none =
+    subst (Appends old new) (sym (append-nil some.text) ∙ ap (λ (es : List Event). some.text ++ trace_text m w number rest es) (sym none) ∙
+    some.whole) some.written
+
+-- the events that are left
+pub left_more : (events : List Event) (n : ℕ) (event : Event) → n < length events → event ≡ get_or events n event
+    → drop n events ≡ event ∷ drop (n + 1) events
+left_more events n event less is = drop_more events n event less ∙ ap (λ (e : Event). e ∷ drop (n + 1) events) (sym is)
+
+pub left_none : (events : List Event) (n : ℕ) → length events ≤ n → drop n events ≡ []
+left_none events n all = drop_of_length-le events all
+
+-- ---- the tally
+
+pub tally_more : (w v : Actors) (number : ℕ) (event : Event) (left others : List Event) (why : Option Cause) (tally now whole : Tally)
+    → tally_of w number left tally ≡ whole → left ≡ event ∷ others → v ≡ actors_after w event → why ≡ refusal w event
+    → now ≡ counted why number tally
+    → tally_of v (number + 1) others now ≡ whole
+tally_more w v number event left others why tally now whole some is after refused counts =
+    ap (λ (u : Actors). tally_of u (number + 1) others now) after
+    ∙ ap (λ (t : Tally). tally_of (actors_after w event) (number + 1) others t)
+    (counts ∙ ap (λ (o : Option Cause). counted o number tally) refused)
+    ∙ ap (λ (es : List Event). tally_of w number es tally) (sym is)
+    ∙ some
+
+pub counted_below : (why : Option Cause) (number : ℕ) (tally now : Tally) → tally.not_taken < number → now ≡ counted why number tally
+    → now.not_taken < number + 1
+counted_below None number tally now below is = let same : now.not_taken ≡ tally.not_taken = ap (λ (t : Tally). t.not_taken) is in omega
+    (arith, below, same)
+counted_below (Some cause) number tally now below is = let same : now.not_taken ≡ tally.not_taken + 1 = ap (λ (t : Tally). t.not_taken) is
+    in omega (arith, below, same)

@@ -1,0 +1,17 @@
+-- SPDX-License-Identifier: MIT OR Apache-2.0
+use Rattle.std.proofs.Common.{rules, ◌++◌, codes, decimal}
+use Rattle.std.proofs.lemmas.Result.{on_ok_weaker}
+use Rattle.std.specs.Io.KnownBytes.{Appends}
+use Rattle.dtap_codec.specs.Number.{count_of}
+use Rattle.trace_program.proofs.Tracing.{line_written}
+use Rattle.trace_program.proofs.lines.write_crossing.Goals as goal
+
+pub returns-clause-text : goal.returns-clause-text
+returns-clause-text g c =
+    let first : Appends (g.W.Write.contents c.args.output.now) (g.W.Write.contents c.write.new.self) (decimal c.args.number ++ codes "\t") =
+    search rules in
+    on_ok_weaker c.write_frame.result
+    (line_written (count_of c.args.modulus) c.args.number c.args.crossing.now (g.W.Write.contents c.args.output.now)
+    (g.W.Write.contents c.write.new.self) (g.W.Write.contents c.write_ends.new.output) (g.W.Write.contents c.write_frame.new.output)
+    first c.in_ok-write_ends.ensures.text)
+    c.write_frame.ensures.text

@@ -1,0 +1,93 @@
+-- SPDX-License-Identifier: MIT OR Apache-2.0
+-- The lines of a trace. Each has six columns, which a tab parts: the number of the event, from
+-- whom, to whom, the name, what else is said, and octets in hexadecimal digits.
+use Rattle.std.specs.Prelude.{ℕ, Bool, true, false, if◌then◌else◌, List, [], ◌++◌}
+use Rattle.std.specs.Prelude.{Option, Some, None, codes, decimal}
+use Rattle.std.specs.List.{flat_map}
+use Rattle.hex.specs.Hex.{encode_lower}
+use Rattle.world_trace.specs.declared.cause.Cause.{Cause}
+use Rattle.world_trace.specs.declared.cause.Cause.TheVariants as causes
+use Rattle.world_trace.specs.declared.crossing.Crossing.{Crossing}
+use Rattle.world_trace.specs.declared.crossing.End.{End}
+use Rattle.world_trace.specs.declared.crossing.End.TheVariants.{Switch, Station, Controller}
+use Rattle.world_trace.specs.declared.crossing.Passage.{Passage}
+use Rattle.world_trace.specs.declared.crossing.Passage.TheVariants.{Sent, Got}
+use Rattle.frame_words.specs.Fields.{fields_text}
+use Rattle.frame_words.specs.MessageName.{message_name}
+use Rattle.frame_words.specs.Numbered.{number_field, number_in_frame}
+
+abbrev pub end_text : End → List ℕ
+end_text Switch = codes "switch"
+end_text (Station number) = codes "station " ++ decimal number
+end_text Controller = codes "bsc"
+
+abbrev pub passage_text : Passage → List ℕ
+passage_text Sent = codes "sent"
+passage_text Got = codes "got"
+
+abbrev pub cause_text : Cause → List ℕ
+cause_text causes.NoMobile = codes "no such mobile"
+cause_text causes.MobileKnown = codes "the mobile connected before"
+cause_text causes.NotOnChannel = codes "the mobile isn't on a channel"
+cause_text causes.NotBetween = codes "the mobile isn't between two channels"
+cause_text causes.ChannelGone = codes "the channel was released"
+cause_text causes.LinkDown = codes "the link is down"
+cause_text causes.NothingInAir = codes "nothing new in the air"
+cause_text causes.FrameNotTaken = codes "the station hasn't taken the frame"
+cause_text causes.NoCommand = codes "no command to change the channel"
+cause_text causes.NoHandover = codes "the command is no handover"
+cause_text causes.BadMessage = codes "no lawful message"
+cause_text causes.OutboxEmpty = codes "the outbox is empty"
+cause_text causes.TenuresSpent = codes "the channel had its last tenure"
+cause_text causes.NothingMade = codes "nothing was made"
+cause_text causes.InboxEmpty = codes "the inbox is empty"
+cause_text causes.NoConnection = codes "no such connection"
+cause_text causes.ConnectionClosed = codes "the connection is clearing or ended"
+
+-- an event: its line in the script, and whether it was taken
+abbrev pub outcome_text : Option Cause → List ℕ
+outcome_text None = codes "taken"
+outcome_text (Some cause) = codes "not taken: " ++ cause_text cause
+
+abbrev pub event_line : ℕ → List ℕ → Option Cause → List ℕ
+event_line number line refusal =
+    decimal number ++ codes "\tscript\tworld\t" ++ line ++ codes "\t" ++ outcome_text refusal
+    ++ codes "\t\n"
+
+-- the columns of the ends of a link, from which to which
+abbrev pub ends_text : End → End → List ℕ
+ends_text from to = end_text from ++ codes "\t" ++ end_text to ++ codes "\t"
+
+-- up, from the side of the mobiles to that of the switch
+abbrev pub is_uplink : End → End → Bool
+is_uplink (Station number) to = true
+is_uplink from Switch = true
+is_uplink from to = false
+
+-- the number N(SD), of m, of what goes up
+abbrev pub number_said : ℕ → Crossing → List ℕ
+number_said m crossing =
+    if is_uplink crossing.from crossing.to
+    then number_field (number_in_frame m crossing.frame) else []
+
+-- the column of what else is said of a frame
+abbrev pub said_column : ℕ → Crossing → List ℕ
+said_column m crossing =
+    codes "\t" ++ passage_text crossing.passage ++ fields_text crossing.frame
+    ++ number_said m crossing ++ codes "\t"
+
+-- a frame: its name, what else is said of it, and the octets of its body
+abbrev pub frame_text : ℕ → Crossing → List ℕ
+frame_text m crossing =
+    message_name crossing.frame ++ said_column m crossing ++ encode_lower crossing.frame.body
+    ++ codes "\n"
+
+-- its line, where messages have m numbers
+abbrev pub crossing_line : ℕ → ℕ → Crossing → List ℕ
+crossing_line m number crossing =
+    decimal number ++ codes "\t" ++ ends_text crossing.from crossing.to ++ frame_text m crossing
+
+-- an event and the frames that crossed a link at it
+abbrev pub event_lines : ℕ → ℕ → List ℕ → Option Cause → List Crossing → List ℕ
+event_lines m number line refusal crossings =
+    event_line number line refusal ++ flat_map (crossing_line m number) crossings

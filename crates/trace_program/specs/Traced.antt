@@ -1,0 +1,79 @@
+-- SPDX-License-Identifier: MIT OR Apache-2.0
+-- The trace of a script.
+use Rattle.std.specs.Prelude.{◌≡◌, ◌⊎◌, ℕ, ◌+◌, ◌==◌, ◌&&◌, Bool, not, if◌then◌else◌}
+use Rattle.std.specs.Prelude.{IfSome, length, Result, Ok, Err}
+use Rattle.std.specs.Prelude.{List, [], ◌∷◌, ◌++◌, Option, Some, None}
+use Rattle.std.specs.Io.KnownBytes.{Appends}
+use Rattle.program_base.specs.WholeScript.{HasBadLineAt, IsBadScript, IsScript}
+use Rattle.program_base.specs.declared.failure.Failure.TheVariants.{BadEvent, Device, Memory}
+use Rattle.program_base.specs.declared.fault.ProgramFault.{ProgramFault}
+use Rattle.program_base.specs.declared.fault.ProgramFault.TheVariants.{Failed}
+use Rattle.settings.specs.Parameters.{Parameters}
+use Rattle.world_model.specs.declared.event.Event.{Event}
+use Rattle.world_model.specs.Life.{actors_after}
+use Rattle.world_model.specs.World.{Actors, modulus_in, new_actors}
+use Rattle.world_trace.specs.declared.cause.Cause.{Cause}
+use Rattle.world_trace.specs.Causes.{refusal}
+use Rattle.world_trace.specs.Crossings.{crossings}
+use Rattle.trace_program.specs.TraceLines.{event_lines}
+use Rattle.trace_program.specs.declared.run.Tally.{Tally}
+
+-- the octets before the first line feed, and those behind it
+abbrev pub line_of : List ℕ → List ℕ
+line_of [] = []
+line_of (octet ∷ octets) = if octet == 10 then [] else octet ∷ line_of octets
+
+abbrev pub behind_line : List ℕ → List ℕ
+behind_line [] = []
+behind_line (octet ∷ octets) = if octet == 10 then octets else behind_line octets
+
+-- the lines of these events, whose texts the octets have, from this number on; messages have m
+-- numbers
+abbrev pub trace_text : ℕ → Actors → ℕ → List ℕ → List Event → List ℕ
+trace_text m w number octets [] = []
+trace_text m w number octets (event ∷ events) =
+    event_lines m number (line_of octets) (refusal w event) (crossings w event)
+    ++ trace_text m (actors_after w event) (number + 1) (behind_line octets) events
+
+-- how many events weren't taken, and the number of the first of them
+abbrev pub no_tally : Tally
+no_tally = record { not_taken = 0; first = 0 }
+
+abbrev pub counted : Option Cause → ℕ → Tally → Tally
+counted None number tally = tally
+counted (Some cause) number tally = record {
+  not_taken = tally.not_taken + 1;
+  first = if tally.not_taken == 0 then number else tally.first;
+}
+
+abbrev pub tally_of : Actors → ℕ → List Event → Tally → Tally
+tally_of w number [] tally = tally
+tally_of w number (event ∷ events) tally =
+    tally_of (actors_after w event) (number + 1) events (counted (refusal w event) number tally)
+
+-- 4 where an event wasn't taken and each is to be
+abbrev pub status_of_tally : Bool → Tally → ℕ
+status_of_tally strict tally = if strict && not (tally.not_taken == 0) then 4 else 0
+
+-- Known contents grew by the trace of a known script in the world of these settings, of whose
+-- events the tally says how many weren't taken.
+abbrev pub Traces : Parameters → Tally → Option (List ℕ) → Option (List ℕ)
+    → Option (List ℕ) → Type 0
+Traces settings tally start old new = IfSome start (λ octets.
+    (events : List Event) × IsScript (length settings.cells) octets events
+    × Appends old new (trace_text (modulus_in settings) (new_actors settings) 1 octets events)
+    × (tally ≡ tally_of (new_actors settings) 1 events no_tally))
+
+-- Why not all is traced: the settings have a fault, where memory isn't wanted before that is known;
+-- or a known script has a bad line, with this number; or memory or a device failed.
+abbrev pub Fails : Result Parameters ProgramFault → Option (List ℕ) → ProgramFault → Type 0
+Fails (Err found) start fault = (fault ≡ found) ⊎ (fault ≡ Failed Memory)
+Fails (Ok settings) start (Failed (BadEvent number)) =
+    HasBadLineAt (length settings.cells) start number
+Fails (Ok settings) start (Failed Memory) = Unit {0}
+Fails (Ok settings) start (Failed Device) = Unit {0}
+Fails (Ok settings) start _ = ⊥
+
+-- a known script has a bad line
+abbrev pub HasBadLine : ℕ → Option (List ℕ) → Type 0
+HasBadLine cells start = IfSome start (λ octets. (number : ℕ) × IsBadScript cells octets number)

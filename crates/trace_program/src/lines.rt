@@ -1,0 +1,188 @@
+// SPDX-License-Identifier: MIT OR Apache-2.0
+ghost use Rattle.std.specs.Prelude.{◌≡◌, ◌++◌, IfErr, OnOk, codes, decimal};
+ghost use Rattle.std.specs.List.{flat_map};
+ghost use Rattle.std.specs.Io.KnownBytes.{Appends};
+ghost use Rattle.program_base.specs.Status.{status_of};
+ghost use Rattle.dtap_codec.specs.Number.{count_of};
+ghost use Rattle.trace_program.specs.TraceLines.{crossing_line, end_text, ends_text, event_line};
+ghost use Rattle.trace_program.specs.TraceLines.{event_lines, frame_text, outcome_text};
+ghost use Rattle.trace_program.specs.TraceLines.{is_uplink, number_said, said_column};
+
+use crate::words::{cause_text, passage_text};
+use dtap_codec::Modulus;
+use frame_words::{write_digits, write_fields, write_message_name, write_number};
+use program_base::{Failure, put};
+use std::alloc::Global;
+use std::io::Write;
+use world_trace::{Cause, Crossing, End, EventTrace, Passage};
+
+/// Writes the line of an event, and a line for each frame that crossed a link at it.
+pub(crate) fn write_event<W: Write>(
+    alloc: Global,
+    modulus: Modulus,
+    number: u64,
+    line: &[u8],
+    trace: &EventTrace,
+    output: &mut W,
+) -> Result<(), Failure>
+    ensures text { OnOk result (Appends (W.contents output.old) (W.contents output.new)
+        (event_lines (count_of modulus) number line.now
+        trace.now.refusal trace.now.crossings.items)) }
+    ensures err { IfErr result (λ failure. status_of failure ≡ 3) }
+{
+    write_event_line(number, line, trace.refusal, output)?;
+    write_crossings(alloc, modulus, number, trace.crossings.as_slice(), output)
+}
+
+fn write_event_line<W: Write>(
+    number: u64,
+    line: &[u8],
+    refusal: Option<Cause>,
+    output: &mut W,
+) -> Result<(), Failure>
+    ensures text { OnOk result (Appends (W.contents output.old) (W.contents output.new)
+        (event_line number line.now refusal)) }
+    ensures err { IfErr result (λ failure. status_of failure ≡ 3) }
+{
+    write!(output, "{number}\tscript\tworld\t")?;
+    put(output, line)?;
+    write_outcome(refusal, output)
+}
+
+/// Writes whether an event was taken, behind its line.
+fn write_outcome<W: Write>(refusal: Option<Cause>, output: &mut W) -> Result<(), Failure>
+    ensures text { OnOk result (Appends (W.contents output.old) (W.contents output.new)
+        (codes "\t" ++ outcome_text refusal ++ codes "\t\n")) }
+    ensures err { IfErr result (λ failure. status_of failure ≡ 3) }
+{
+    match refusal {
+        None => writeln!(output, "\ttaken\t")?,
+        Some(cause) => writeln!(output, "\tnot taken: {}\t", cause_text(cause))?,
+    }
+    Ok(())
+}
+
+fn write_crossings<W: Write>(
+    alloc: Global,
+    modulus: Modulus,
+    number: u64,
+    crossings: &[Crossing],
+    output: &mut W,
+) -> Result<(), Failure>
+    ensures text { OnOk result (Appends (W.contents output.old) (W.contents output.new)
+        (flat_map (crossing_line (count_of modulus) number) crossings.now)) }
+    ensures err { IfErr result (λ failure. status_of failure ≡ 3) }
+{
+    for crossing in crossings {
+        write_crossing(alloc, modulus, number, crossing, output)?;
+    }
+    Ok(())
+}
+
+fn write_crossing<W: Write>(
+    alloc: Global,
+    modulus: Modulus,
+    number: u64,
+    crossing: &Crossing,
+    output: &mut W,
+) -> Result<(), Failure>
+    ensures text { OnOk result (Appends (W.contents output.old) (W.contents output.new)
+        (crossing_line (count_of modulus) number crossing.now)) }
+    ensures err { IfErr result (λ failure. status_of failure ≡ 3) }
+{
+    write!(output, "{number}\t")?;
+    write_ends(crossing.from, crossing.to, output)?;
+    write_frame(alloc, modulus, crossing, output)
+}
+
+/// Writes the columns of the ends of a link, from which to which.
+fn write_ends<W: Write>(from: End, to: End, output: &mut W) -> Result<(), Failure>
+    ensures text { OnOk result (Appends (W.contents output.old) (W.contents output.new)
+        (ends_text from to)) }
+    ensures err { IfErr result (λ failure. status_of failure ≡ 3) }
+{
+    write_end(from, output)?;
+    put(output, b"\t")?;
+    write_end(to, output)?;
+    put(output, b"\t")?;
+    Ok(())
+}
+
+/// Writes the name of a frame, what else is said of it, and the octets of its body.
+fn write_frame<W: Write>(
+    alloc: Global,
+    modulus: Modulus,
+    crossing: &Crossing,
+    output: &mut W,
+) -> Result<(), Failure>
+    ensures text { OnOk result (Appends (W.contents output.old) (W.contents output.new)
+        (frame_text (count_of modulus) crossing.now)) }
+    ensures err { IfErr result (λ failure. status_of failure ≡ 3) }
+{
+    write_message_name(alloc, &crossing.frame, output)?;
+    write_said(alloc, modulus, crossing, output)?;
+    write_digits(alloc, crossing.frame.body.as_slice(), output)?;
+    put(output, b"\n")?;
+    Ok(())
+}
+
+/// Writes the column of what else is said of a frame.
+fn write_said<W: Write>(
+    alloc: Global,
+    modulus: Modulus,
+    crossing: &Crossing,
+    output: &mut W,
+) -> Result<(), Failure>
+    ensures text { OnOk result (Appends (W.contents output.old) (W.contents output.new)
+        (said_column (count_of modulus) crossing.now)) }
+    ensures err { IfErr result (λ failure. status_of failure ≡ 3) }
+{
+    let word = passage_text(crossing.passage);
+    write!(output, "\t{word}")?;
+    write_fields(alloc, &crossing.frame, output)?;
+    write_number_said(alloc, modulus, crossing, output)?;
+    put(output, b"\t")?;
+    Ok(())
+}
+
+/// Writes the number N(SD) of what goes up.
+fn write_number_said<W: Write>(
+    alloc: Global,
+    modulus: Modulus,
+    crossing: &Crossing,
+    output: &mut W,
+) -> Result<(), Failure>
+    ensures text { OnOk result (Appends (W.contents output.old) (W.contents output.new)
+        (number_said (count_of modulus) crossing.now)) }
+    ensures err { IfErr result (λ failure. status_of failure ≡ 3) }
+{
+    if is_uplink(crossing.from, crossing.to) {
+        write_number(alloc, modulus, &crossing.frame, output)
+    } else {
+        Ok(())
+    }
+}
+
+/// Whether a frame goes from the side of the mobiles to that of the switch.
+fn is_uplink(from: End, to: End) -> bool
+    ensures { result ≡ is_uplink from to }
+{
+    match (from, to) {
+        (End::Station(_), _) => true,
+        (_, End::Switch) => true,
+        _ => false,
+    }
+}
+
+fn write_end<W: Write>(end: End, output: &mut W) -> Result<(), Failure>
+    ensures text { OnOk result (Appends (W.contents output.old) (W.contents output.new)
+        (end_text end)) }
+    ensures err { IfErr result (λ failure. status_of failure ≡ 3) }
+{
+    match end {
+        End::Switch => write!(output, "switch")?,
+        End::Station(number) => write!(output, "station {number}")?,
+        End::Controller => write!(output, "bsc")?,
+    }
+    Ok(())
+}

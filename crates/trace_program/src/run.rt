@@ -1,0 +1,88 @@
+// SPDX-License-Identifier: MIT OR Apache-2.0
+ghost use Rattle.std.specs.Prelude.{◌≡◌, ◌+◌, ◌<◌, ◌^◌, length};
+ghost use Rattle.std.specs.Prelude.{IfErr, IfOk, OnOk};
+ghost use Rattle.std.specs.Io.KnownBytes.{Appends};
+ghost use Rattle.dtap_codec.specs.Number.{count_of};
+ghost use Rattle.program_base.specs.Status.{status_of};
+ghost use Rattle.trace_program.specs.Traced.{behind_line, counted, line_of, no_tally, tally_of};
+ghost use Rattle.trace_program.specs.Traced.{trace_text};
+
+use crate::lines::write_event;
+use dtap_codec::Modulus;
+use memchr::memchr;
+use program_base::Failure;
+use std::alloc::Global;
+use std::io::Write;
+use world_actors::Network;
+use world_model::Event;
+use world_trace::{Cause, step};
+
+/// How many events weren't taken, and the number of the first of them, 0 where there is none.
+#[derive(Clone, Copy)]
+pub struct Tally {
+    pub not_taken: u64,
+    pub first: u64,
+}
+
+/// Lets these events happen, and writes the trace of each. `script` has their lines. What is
+/// counted of those that weren't taken is the tally. Messages of the flow have as many numbers as
+/// the modulus says.
+pub fn write_trace<W: Write>(
+    alloc: Global,
+    modulus: Modulus,
+    network: &mut Network,
+    events: &[Event],
+    script: &[u8],
+    output: &mut W,
+) -> Result<Tally, Failure>
+    ensures text { OnOk result (Appends (W.contents output.old) (W.contents output.new)
+        (trace_text (count_of modulus) network.old 1 script.now events.now)) }
+    ensures tally { IfOk result (λ tally.
+        tally ≡ tally_of network.old 1 events.now no_tally) }
+    ensures err { IfErr result (λ failure. status_of failure ≡ 3) }
+{
+    let mut tally = Tally {
+        not_taken: 0,
+        first: 0,
+    };
+    let mut number = 1;
+    let mut rest = script;
+    for event in events {
+        let (line, others) = split_line(rest);
+        let trace = step(alloc, network, event)?;
+        write_event(alloc, modulus, number, line, &trace, output)?;
+        tally = count(trace.refusal, number, tally);
+        rest = others;
+        number += 1;
+    }
+    Ok(tally)
+}
+
+/// The first line of a script, and the lines behind it.
+fn split_line(script: &[u8]) -> (&[u8], &[u8])
+    ensures line { result.0.now ≡ line_of script.now }
+    ensures others { result.1.now ≡ behind_line script.now }
+{
+    match memchr(b'\n', script) {
+        Some(end) => (&script[..end], &script[end + 1..]),
+        None => (script, &[]),
+    }
+}
+
+/// Counts an event that wasn't taken.
+fn count(refusal: Option<Cause>, number: u64, tally: Tally) -> Tally
+    requires { tally.not_taken < number }
+    ensures { result ≡ counted refusal number tally }
+{
+    match refusal {
+        None => tally,
+        Some(_) => Tally {
+            not_taken: tally.not_taken + 1,
+            first: if tally.not_taken == 0 {
+                number
+            } else {
+                tally.first
+            },
+        },
+    }
+}

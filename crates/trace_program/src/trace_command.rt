@@ -1,0 +1,162 @@
+// SPDX-License-Identifier: MIT OR Apache-2.0
+ghost use Rattle.std.specs.Prelude.{◌≡◌, ◌≢◌, ◌⊎◌, ℕ, Err, IfErr, IfOk};
+ghost use Rattle.std.specs.Prelude.{IsErrAnd, IsOkAnd, OnOk, length};
+ghost use Rattle.std.specs.Io.KnownBytes.{Appends, IsAtEnd};
+ghost use Rattle.program_base.specs.WholeScript.{HasBadLineAt};
+ghost use Rattle.dtap_codec.specs.Number.{count_of};
+ghost use Rattle.world_model.specs.World.{modulus_in};
+ghost use Rattle.program_base.specs.SettingsText.{settings_of};
+ghost use Rattle.program_base.specs.Status.{status_of, status_of_fault};
+ghost use Rattle.program_base.specs.declared.failure.Failure.TheVariants.{BadEvent};
+ghost use Rattle.trace_program.specs.Traced.{Fails, HasBadLine, Traces, no_tally};
+ghost use Rattle.trace_program.specs.Traced.{status_of_tally, tally_of};
+ghost use Rattle.trace_program.specs.Traced.{trace_text};
+
+use crate::run::{Tally, write_trace};
+use dtap_codec::Modulus;
+use program_base::{Failure, KeptScript, ProgramFault, read_kept_script, read_settings};
+use settings::Settings;
+use std::alloc::Global;
+use std::io::{Read, Write};
+use world_actors::Network;
+
+/// The status where an event wasn't taken, and each is to be taken.
+const NOT_TAKEN: u8 = 4;
+
+/// Traces the script on `input` in the world of the settings in this text: the lines of what
+/// crosses the links go to `output`. It gives the status that the program ends with: 0; 1, 2 or 3
+/// for what `replay` ends with it, with the causes in the same order; and with `strict` 4 where an
+/// event wasn't taken. The whole script is read before any event is run. The text of a status above
+/// 0 goes to `errors`.
+pub fn trace<R: Read, W: Write, E: Write>(
+    alloc: Global,
+    settings: &str,
+    strict: bool,
+    input: &mut R,
+    output: &mut W,
+    errors: &mut E,
+) -> u8
+    ensures status { (result ≡ 0) ⊎ (result ≡ 1) ⊎ (result ≡ 2) ⊎ (result ≡ 3)
+        ⊎ (result ≡ 4) }
+    // Settings with a fault give its status, unless memory runs out.
+    ensures asked { IfErr (settings_of settings.now)
+        (λ fault. (result ≡ status_of_fault fault) ⊎ (result ≡ 3)) }
+    ensures settings { result ≡ 1 → IsErrAnd (settings_of settings.now)
+        (λ fault. status_of_fault fault ≡ 1) }
+    // It ends with 0 or 4 only where the whole script was read, if its octets are known.
+    ensures read { (result ≡ 0) ⊎ (result ≡ 4) → IsAtEnd (R.remaining input.new) }
+    // What is printed then is the trace of the script's events, if it is known what an output
+    // holds; and it is 4 only where one wasn't taken and each is to be.
+    ensures printed { (result ≡ 0) ⊎ (result ≡ 4) → IsOkAnd (settings_of settings.now)
+        (λ parameters. (tally : Tally) × (result ≡ status_of_tally strict tally)
+        × Traces parameters tally (R.remaining input.old)
+        (W.contents output.old) (W.contents output.new)) }
+    // It ends with 2 only where a line of the script is bad.
+    ensures bad { result ≡ 2 → IsOkAnd (settings_of settings.now)
+        (λ parameters. HasBadLine (length parameters.cells) (R.remaining input.old)) }
+    // Where it ends with 1 or 2 nothing is printed.
+    ensures kept { (result ≡ 1) ⊎ (result ≡ 2) → output.new ≡ output.old }
+{
+    match try_trace(alloc, settings, input, output) {
+        Ok(tally) => ended(strict, tally, errors),
+        Err(fault) => {
+            let _ = writeln!(errors, "bsc: {fault}");
+            fault.status()
+        }
+    }
+}
+
+fn try_trace<R: Read, W: Write>(
+    alloc: Global,
+    settings: &str,
+    input: &mut R,
+    output: &mut W,
+) -> Result<Tally, ProgramFault>
+    ensures read { OnOk result (IsAtEnd (R.remaining input.new)) }
+    ensures printed { IfOk result (λ tally. IsOkAnd (settings_of settings.now)
+        (λ parameters. Traces parameters tally (R.remaining input.old)
+        (W.contents output.old) (W.contents output.new))) }
+    ensures fails { IfErr result (λ fault. Fails (settings_of settings.now)
+        (R.remaining input.old) fault) }
+    ensures kept { IfErr result (λ fault. status_of_fault fault ≢ 3 → output.new ≡ output.old) }
+{
+    let settings = read_settings(alloc, settings)?;
+    Ok(trace_script(alloc, settings, input, output)?)
+}
+
+/// Traces the script in the world of these settings.
+fn trace_script<R: Read, W: Write>(
+    alloc: Global,
+    settings: Settings,
+    input: &mut R,
+    output: &mut W,
+) -> Result<Tally, Failure>
+    ensures read { OnOk result (IsAtEnd (R.remaining input.new)) }
+    ensures printed { IfOk result (λ tally. Traces settings tally (R.remaining input.old)
+        (W.contents output.old) (W.contents output.new)) }
+    ensures bad { (n : ℕ) → result ≡ Err (BadEvent n)
+        → HasBadLineAt (length settings.cells) (R.remaining input.old) n }
+    ensures kept { IfErr result (λ failure. status_of failure ≢ 3 → output.new ≡ output.old) }
+{
+    let cells = u16::from(settings.cell_count());
+    let script = read_kept_script(alloc, cells, input)?;
+    let modulus = modulus_of(&settings);
+    let network = Network::new(alloc, settings)?;
+    trace_events(alloc, modulus, network, &script, output)
+}
+
+/// How many numbers the messages have, by the settings' network.
+fn modulus_of(settings: &Settings) -> Modulus
+    ensures { count_of result ≡ modulus_in settings.now }
+{
+    if settings.release98() {
+        Modulus::Two
+    } else {
+        Modulus::Four
+    }
+}
+
+/// Lets the events of a script happen in this network, and writes the trace of each.
+fn trace_events<W: Write>(
+    alloc: Global,
+    modulus: Modulus,
+    mut network: Network,
+    script: &KeptScript,
+    output: &mut W,
+) -> Result<Tally, Failure>
+    ensures ok { IfOk result (λ tally. Appends (W.contents output.old) (W.contents output.new)
+        (trace_text (count_of modulus) network 1
+        script.now.octets.items script.now.events.items)
+        × (tally ≡ tally_of network 1 script.now.events.items no_tally)) }
+    ensures err { IfErr result (λ failure. status_of failure ≡ 3) }
+{
+    let events = script.events.as_slice();
+    let octets = script.octets.as_slice();
+    let tally = write_trace(alloc, modulus, &mut network, events, octets, output)?;
+    output.flush()?;
+    Ok(tally)
+}
+
+/// The status where all was traced, and what is told of events that weren't taken.
+fn ended<E: Write>(strict: bool, tally: Tally, errors: &mut E) -> u8
+    ensures { result ≡ status_of_tally strict tally }
+{
+    if !strict {
+        return 0;
+    }
+    let first = tally.first;
+    match tally.not_taken {
+        0 => 0,
+        1 => {
+            let _ = writeln!(errors, "bsc: 1 event not taken, in line {first}");
+            NOT_TAKEN
+        }
+        count => {
+            let _ = writeln!(
+                errors,
+                "bsc: {count} events not taken, the first in line {first}"
+            );
+            NOT_TAKEN
+        }
+    }
+}
