@@ -38,7 +38,18 @@ fn main(rt: HostRuntime) -> ExitCode {
         Ok(Asked::Task(Task::Run(file))) => relay(&rt, file.as_str()),
         Ok(Asked::Task(Task::Replay(file, breaks))) => replayed(&rt, file, breaks),
         Ok(Asked::Task(Task::Decode)) => decoded(&rt),
-        Ok(Asked::Tool(Tool::Trace(file, strict))) => traced(&rt, file.as_str(), strict),
+        Ok(Asked::Tool(Tool::Trace {
+            settings,
+            strict,
+            chart,
+            capture,
+        })) => match pictures_of(chart, capture) {
+            Some(pictures) => traced(&rt, settings.as_str(), strict, &pictures),
+            None => {
+                let _ = eprintln!(rt; "{USAGE}");
+                Ok(TaskFault::Words.status())
+            }
+        },
         Err(fault) => {
             let _ = match fault {
                 TaskFault::Words => eprintln!(rt; "{USAGE}"),
@@ -90,18 +101,62 @@ fn decoded(rt: &HostRuntime) -> Result<u8, ProgramFault> {
     Ok(decode(rt.alloc(), &mut rt.stdin(), &mut output, &mut rt.stderr()))
 }
 
+/// What `trace` draws beside its lines, or in place of them.
+struct Pictures {
+    chart: Option<Form>,
+    /// The file of a capture.
+    capture: Option<String>,
+}
+
+/// The pictures that these words ask for; none where there is no such form of a chart.
+fn pictures_of(chart: Option<String>, capture: Option<String>) -> Option<Pictures> {
+    let chart = match chart {
+        Some(word) => Some(form_of(word.as_str())?),
+        None => None,
+    };
+    Some(Pictures { chart, capture })
+}
+
 /// Traces the script on standard input in the world of the settings in this file, and gives the
 /// status that the program ends with. What it prints is buffered.
-fn traced(rt: &HostRuntime, file: &str, strict: bool) -> Result<u8, ProgramFault> {
+fn traced(
+    rt: &HostRuntime,
+    file: &str,
+    strict: bool,
+    pictures: &Pictures,
+) -> Result<u8, ProgramFault> {
     let settings = settings_text(rt, file)?;
+    if pictures.chart.is_none() && pictures.capture.is_none() {
+        return lines_traced(rt, settings.as_str(), strict, &mut rt.stdin());
+    }
+    let script = whole_script(rt.alloc(), settings.as_str(), &mut rt.stdin())?;
+    if let Some(name) = &pictures.capture {
+        if !is_captured(rt, settings.as_str(), &script, name.as_str())? {
+            let _ = eprintln!(rt; "bsc: cannot write {name}");
+            return Ok(Failure::Device.status());
+        }
+    }
+    match pictures.chart {
+        Some(form) => charted(rt, settings.as_str(), strict, &script, form),
+        None => lines_traced(rt, settings.as_str(), strict, &mut script.octets.as_slice()),
+    }
+}
+
+/// Prints the lines of a trace.
+fn lines_traced<R: Read>(
+    rt: &HostRuntime,
+    settings: &str,
+    strict: bool,
+    input: &mut R,
+) -> Result<u8, ProgramFault> {
     let Ok(mut output) = BufWriter::new(rt.alloc(), rt.stdout()) else {
         return Err(ProgramFault::Failed(Failure::Memory));
     };
     Ok(trace(
         rt.alloc(),
-        settings.as_str(),
+        settings,
         strict,
-        &mut rt.stdin(),
+        input,
         &mut output,
         &mut rt.stderr(),
     ))
