@@ -8,9 +8,11 @@ use bsc_program::{Failure, ProgramFault};
 use link_sockets::relay;
 pub use link_sockets::{RunFault, run_links};
 pub use program_base::{Task, TaskFault, Tool, task, tool};
-use program_base::{Asked, asked, settings_text};
-use std::io::BufWriter;
+use program_base::{Asked, KeptScript, asked, put, settings_text};
+use std::fs;
+use std::io::{self, BufWriter, Read};
 use std::process::ExitCode;
+use trace_pictures::{Form, captured, drawn, form_of, whole_script};
 use trace_program::trace;
 
 const USAGE: &str = "\
@@ -25,10 +27,12 @@ usage: bsc COMMAND
       in the world of the settings in FILE; with --break, for each place of the
       script how many messages were accepted and sent if the link of source N
       broke there
-  trace --config FILE [--strict]
+  trace --config FILE [--strict] [--chart[=text|svg]] [--capture FILE]
       reads a script as replay does, and prints each event and the frames that
       crossed a link at it; with --strict it ends with 4 where an event wasn't
-      taken
+      taken; with --chart it draws a chart in place of these lines, as text or
+      in the form of SVG; with --capture it also writes the frames into a file
+      that Wireshark opens
   decode
       reads the octets of an IPA link on standard input, and prints the name of
       each frame";
@@ -38,12 +42,16 @@ fn main(rt: HostRuntime) -> ExitCode {
         Ok(Asked::Task(Task::Run(file))) => relay(&rt, file.as_str()),
         Ok(Asked::Task(Task::Replay(file, breaks))) => replayed(&rt, file, breaks),
         Ok(Asked::Task(Task::Decode)) => decoded(&rt),
-        Ok(Asked::Tool(Tool::Trace {
-            settings,
-            strict,
-            chart,
-            capture,
-        })) => match pictures_of(chart, capture) {
+        Ok(
+            Asked::Tool(
+                Tool::Trace {
+                    settings,
+                    strict,
+                    chart,
+                    capture,
+                },
+            ),
+        ) => match pictures_of(chart, capture) {
             Some(pictures) => traced(&rt, settings.as_str(), strict, &pictures),
             None => {
                 let _ = eprintln!(rt; "{USAGE}");
@@ -158,6 +166,43 @@ fn lines_traced<R: Read>(
         strict,
         input,
         &mut output,
+        &mut rt.stderr(),
+    ))
+}
+
+/// Writes the capture of a script into this file, which is made before its first event; and tells
+/// whether the file could be written.
+fn is_captured(
+    rt: &HostRuntime,
+    settings: &str,
+    script: &KeptScript,
+    name: &str,
+) -> Result<bool, ProgramFault> {
+    let Ok(mut file) = fs::create(rt, name) else {
+        return Ok(false);
+    };
+    let octets = captured(rt.alloc(), settings, script.events.as_slice())?;
+    Ok(put(&mut file, octets.as_slice()).is_ok())
+}
+
+/// Prints a chart in place of the lines of a trace.
+fn charted(
+    rt: &HostRuntime,
+    settings: &str,
+    strict: bool,
+    script: &KeptScript,
+    form: Form,
+) -> Result<u8, ProgramFault> {
+    let octets = drawn(rt.alloc(), settings, script, form)?;
+    if let Err(error) = put(&mut rt.stdout(), octets.as_slice()) {
+        return Err(ProgramFault::Failed(Failure::from(error)));
+    }
+    Ok(trace(
+        rt.alloc(),
+        settings,
+        strict,
+        &mut script.octets.as_slice(),
+        &mut io::sink(),
         &mut rt.stderr(),
     ))
 }
