@@ -110,6 +110,7 @@ fn decoded(rt: &HostRuntime) -> Result<u8, ProgramFault> {
 }
 
 /// What `trace` draws beside its lines, or in place of them.
+#[derive(Drop)]
 struct Pictures {
     chart: Option<Form>,
     /// The file of a capture.
