@@ -41,13 +41,6 @@ pub enum Asked {
     Tool(Tool),
 }
 
-/// What the words behind the program's name ask for.
-#[derive(Drop)]
-pub enum Asked {
-    Task(Task),
-    Tool(Tool),
-}
-
 /// Why the words weren't read.
 #[derive(Clone, Copy, Debug, Error)]
 pub enum TaskFault {
