@@ -39,13 +39,6 @@ pub enum Tool {
 pub enum Asked {
     Task(Task),
     Tool(Tool),
-}
-
-/// What the words behind the program's name ask for.
-#[derive(Drop)]
-pub enum Asked {
-    Task(Task),
-    Tool(Tool),
     /// The version of the program.
     Version,
 }
