@@ -1,13 +1,15 @@
 -- SPDX-License-Identifier: MIT OR Apache-2.0
 -- What a setting, an argument or a subcommand makes of a command, as `clap` sees it.
-use Rattle.std.proofs.Common.{◌≡◌, ℕ, List, Some, true, false, ap, ◌∙◌}
+use Rattle.std.proofs.Common.{◌≡◌, ℕ, List, [], ◌∷◌, Option, Some, None, true, false, ap, ◌∙◌}
 use Rattle.std.specs.Borrow.{Bor}
-use Rattle.std.specs.Prelude.{◌||◌, Bool}
-use Rattle.clap.specs.Words.{AddsArg, AddsSubcommand, App, Rule, app_of, rule_of, with_rule, with_subcommand}
+use Rattle.std.specs.Prelude.{◌||◌, Bool, IsSomeAnd, max}
+use Rattle.clap.specs.Words.{AddsArg, AddsSubcommand, App, Rule, Text, app_of, rule_of, with_rule, with_subcommand}
 use Rattle.clap.specs.Simple.{app_of_fields}
 use Rattle.clap.specs.declared.builder.action.ArgAction.{ArgAction}
 use Rattle.clap.specs.declared.builder.arg.Arg.{Arg}
 use Rattle.clap.specs.declared.builder.command.Command.{Command}
+use Rattle.clap.specs.declared.builder.range.ValueRange.{ValueRange}
+use Rattle.clap.specs.declared.builder.texts.Texts.TheVariants.{One}
 use Rattle.clap.specs.declared.builder.command.Command.TheOpen.{Command-F}
 use Rattle.clap.specs.declared.builder.command.Command.TheViews.{out-Command}
 
@@ -58,3 +60,29 @@ with_action action rule = record rule { action = Some action }
 
 pub rule_with_action : (arg : Arg) (action : ArgAction) (rule : Rule) → rule_of arg ≡ rule → rule_of (record arg { action = Some action }) ≡ with_action action rule
 rule_with_action arg action rule is = ap (with_action action) is
+
+-- how many values a use has, and its values where it has none
+abbrev pub with_range : Option ValueRange → Rule → Rule
+with_range range rule = record rule { range = range }
+
+abbrev pub with_missing : Text → Rule → Rule
+with_missing value rule = record rule { missing = value ∷ [] }
+
+abbrev range_of : ℕ → ℕ → ValueRange
+range_of start end = record { start_inclusive = start; end_inclusive = end }
+
+pub none_or_one : (start end : ℕ) → start ≡ 0 → end ≡ 1 → range_of start (max end start) ≡ range_of 0 1
+none_or_one start end is was = ap (λ (n : ℕ). range_of n (max end n)) is ∙ ap (λ (n : ℕ). range_of 0 (max n 0)) was
+
+pub rule_with_missing : (plain ranged full : Arg) (range : ValueRange) (value : Bor (List ℕ)) (rule : Rule) → ranged ≡ record plain { num_vals = ranged.num_vals }
+    → IsSomeAnd ranged.num_vals (λ r. r ≡ range) → full ≡ record ranged { default_missing_vals = One value } → rule_of plain ≡ rule
+    → rule_of full ≡ with_missing value.now (with_range (Some range) rule)
+rule_with_missing plain ranged full range value rule counted given said was =
+    ap rule_of said
+    ∙ ap (λ (r : Rule). with_missing value.now r) (ap rule_of counted)
+    ∙ ap (λ (o : Option ValueRange). with_missing value.now (with_range o (rule_of plain))) (some_range ranged.num_vals given)
+    ∙ ap (λ (r : Rule). with_missing value.now (with_range (Some range) r)) was
+  where
+    some_range : (o : Option ValueRange) → IsSomeAnd o (λ r. r ≡ range) → o ≡ Some range
+    some_range None is = absurd is
+    some_range (Some r) is = ap Some is

@@ -81,7 +81,10 @@ unwrap_or-now None d empty = empty
 unwrap_or-now (Some t) d empty = refl
 
 -- what `trace` shows, by its rows
-pub is_trace : (settings : String Global) (strict : Bool) (rows : List Row) → string_bytes settings ≡ unwrap_or (first_of (codes "config") rows) []
-    → (strict ≡ true → first_of (codes "strict") rows ≡ Some (codes "true")) → (first_of (codes "strict") rows ≡ Some (codes "true") → strict ≡ true) → IsTrace (Trace settings strict) rows
+pub is_trace : (settings : String Global) (strict : Bool) (chart capture : Option (String Global)) (rows : List Row)
+    → string_bytes settings ≡ unwrap_or (first_of (codes "config") rows) []
+    → (strict ≡ true → first_of (codes "strict") rows ≡ Some (codes "true")) → (first_of (codes "strict") rows ≡ Some (codes "true") → strict ≡ true)
+    → option_map (λ s. string_bytes s) chart ≡ first_of (codes "chart") rows → option_map (λ s. string_bytes s) capture ≡ first_of (codes "capture") rows
+    → IsTrace (Trace settings strict chart capture) rows
 unfolding IsTrace
-is_trace settings strict rows is given only = (is, given, only)
+is_trace settings strict chart capture rows is given only drawn kept = (is, given, only, drawn, kept)

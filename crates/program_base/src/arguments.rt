@@ -57,6 +57,11 @@ fn complain<R: Runtime>(rt: &R, complaint: &Error, words: &[&str]) {
     }
 }
 
+/// Prints how the words of the program are to be.
+pub fn print_usage<R: Runtime>(rt: &R) {
+    print_page(rt, Page::Program);
+}
+
 /// Prints a page of help.
 fn print_page<R: Runtime>(rt: &R, page: Page) {
     let text = page.text();

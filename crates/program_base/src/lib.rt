@@ -5,7 +5,7 @@
 //! named; and scripts, whose lines name the events of a world.
 #![tactic(auto)]
 
-pub use arguments::asked;
+pub use arguments::{asked, print_usage};
 pub use decode_command::decode;
 pub use failure::Failure;
 pub use fault::ProgramFault;

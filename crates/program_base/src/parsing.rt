@@ -124,7 +124,7 @@ pub(crate) fn found_task<'a>(alloc: Global, words: &'a [&'a str]) -> Result<Task
 }
 
 /// A copy of a text, if there is one.
-fn copy_of(alloc: Global, text: Option<&str>) -> Result<Option<String>, AllocError>
+pub(crate) fn copy_of(alloc: Global, text: Option<&str>) -> Result<Option<String>, AllocError>
     ensures { IfOk result (λ copy.
         option_map (λ copy. string_bytes copy) copy ≡ option_map (λ text. text.now) text.entry) }
 {

@@ -8,12 +8,12 @@ ghost use Rattle.clap.specs.declared.builder.command.Command.TheViews.{out-Comma
 ghost use Rattle.clap.specs.declared.error.Error.{Error as Complaint};
 ghost use Rattle.program_base.specs.CommandLine.{texts};
 ghost use Rattle.program_base.specs.ToolLine.{AreNoTool, IsTool, IsTrace, behind_trace};
-ghost use Rattle.program_base.specs.ToolLine.{strict_flag, trace_command, trace_program};
+ghost use Rattle.program_base.specs.ToolLine.{chart_option, strict_flag, trace_command, trace_program};
 ghost use Rattle.program_base.specs.declared.no_task.NoTask.TheVariants.{Refused};
 ghost use Rattle.program_base.specs.declared.words.TaskFault.TheVariants.{Words};
 
 use crate::no_task::NoTask;
-use crate::parsing::option;
+use crate::parsing::{copy_of, option};
 use crate::words::{TaskFault, Tool};
 use clap::{Arg, ArgAction, ArgMatches, Command};
 use std::alloc::{AllocError, Global};
@@ -24,7 +24,9 @@ fn trace_command<'a>(alloc: Global) -> Result<Command<'a>, AllocError>
 {
     trace_program(alloc)
         .arg(option(alloc, "config").required(true))?
-        .arg(strict_flag(alloc))
+        .arg(strict_flag(alloc))?
+        .arg(chart_option(alloc))?
+        .arg(option(alloc, "capture"))
 }
 
 /// `trace` without its options.
@@ -41,6 +43,16 @@ fn strict_flag<'a>(alloc: Global) -> Arg<'a>
     ensures local { result.global ≡ false }
 {
     option(alloc, "strict").action(ArgAction::SetTrue)
+}
+
+/// `--chart[=FORM]`, of a text where there is no form.
+fn chart_option<'a>(alloc: Global) -> Arg<'a>
+    ensures rule { rule_of result ≡ chart_option }
+    ensures local { result.global ≡ false }
+{
+    option(alloc, "chart")
+        .num_args(0..=1)
+        .default_missing_value("text")
 }
 
 /// The matches of the words behind `trace`, where `clap` takes them.
@@ -69,7 +81,12 @@ pub(crate) fn found_trace<'a>(alloc: Global, options: &'a [&'a str]) -> Result<T
     let matches = trace_matches(alloc, options)?;
     let settings = matches.get_str("config").unwrap_or("");
     let strict = is_true(matches.get_str("strict"));
-    Ok(Tool::Trace(String::from_str(alloc, settings)?, strict))
+    Ok(Tool::Trace {
+        settings: String::from_str(alloc, settings)?,
+        strict,
+        chart: copy_of(alloc, matches.get_str("chart"))?,
+        capture: copy_of(alloc, matches.get_str("capture"))?,
+    })
 }
 
 /// Whether a flag was given, by its value.

@@ -27,10 +27,12 @@ usage: bsc COMMAND
       in the world of the settings in FILE; with --break, for each place of the
       script how many messages were accepted and sent if the link of source N
       broke there
-  trace --config FILE [--strict]
+  trace --config FILE [--strict] [--chart[=text|svg]] [--capture FILE]
       reads a script as replay does, and prints each event and the frames that
       crossed a link at it; with --strict it ends with 4 where an event wasn't
-      taken
+      taken; with --chart it draws a chart in place of these lines, as text or
+      in the form of SVG; with --capture it also writes the frames into a file
+      that Wireshark opens
   decode
       reads the octets of an IPA link on standard input, and prints the name of
       each frame
@@ -72,7 +74,7 @@ usage: bsc replay [--config FILE] [--break N]
   script have one. 3: memory ran out, or a device failed.";
 
 const TRACE: &str = "\
-usage: bsc trace --config FILE [--strict]
+usage: bsc trace --config FILE [--strict] [--chart[=text|svg]] [--capture FILE]
 
   reads a script as replay does, and prints each event and the frames that
   crossed a link at it
@@ -81,6 +83,11 @@ usage: bsc trace --config FILE [--strict]
       in the world of these settings, a text in TOML
   --strict
       ends with status 4 where an event wasn't taken
+  --chart[=text|svg]
+      draws a chart in place of these lines, as text or in the form of SVG
+  --capture FILE
+      also writes the frames that were put on a link into this file, in the form
+      of pcap, which Wireshark opens
 
   status 0: done. 1: the settings have a fault. 2: the words or a line of the
   script have one. 3: memory ran out, or a device failed. 4: an event wasn't

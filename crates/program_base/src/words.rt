@@ -20,9 +20,18 @@ pub enum Task {
 /// What the program is asked to show.
 #[derive(Drop)]
 pub enum Tool {
-    /// `trace --config FILE [--strict]`: to show what crosses the links at each event of a script,
-    /// and with `true` to end with a status of its own where an event wasn't taken.
-    Trace(String, bool),
+    /// `trace --config FILE [--strict] [--chart[=FORM]] [--capture FILE]`: to show what crosses the
+    /// links at each event of a script.
+    Trace {
+        /// The settings' file.
+        settings: String,
+        /// Whether it ends with a status of its own where an event wasn't taken.
+        strict: bool,
+        /// The form of a chart in place of lines.
+        chart: Option<String>,
+        /// The file of a capture.
+        capture: Option<String>,
+    },
 }
 
 /// What the words behind the program's name ask for.

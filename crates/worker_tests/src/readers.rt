@@ -247,10 +247,11 @@ fn a_reader_that_finds_the_inbox_full_gets_on(rt: HostRuntime) -> Result<(), Fai
     Ok(())
 }
 
-/// The octets of a frame with the longest body.
+/// The octets of a frame with the shortest body that is long: 321 octets.
 fn long_frame(alloc: Global) -> Result<Vec<u8>, AllocError> {
-    let mut text = vec![in alloc; 0; 2051]?;
-    text[0] = 0x08;
+    let mut text = vec![in alloc; 0; 324]?;
+    text[0] = 0x01;
+    text[1] = 0x41;
     text[2] = 0xfe;
     Ok(text)
 }

@@ -15,6 +15,8 @@ returns-clause-found c =
     ∙ unwrap_or-now c.get_str.result _ refl
     ∙ ap (λ (o : Option (List ℕ)). unwrap_or o []) (c.get_str.ensures ∙ first_value-rows found (codes "config")) in
     let flag = c.get_str-2.ensures ∙ first_value-rows found (codes "strict") in
-    subst (IsTrace (Trace c.in_ok-from_str.field-0 c.is_true-strict.result)) c.in_ok-matches.ensures.found
-    (is_trace c.in_ok-from_str.field-0 _ (rows_of found) settings (λ is. sym flag ∙ c.is_true-strict.ensures.given is)
-    (λ is. c.is_true-strict.ensures.only (flag ∙ is)))
+    let chart = c.in_ok-copy_of.ensures ∙ c.get_str-3.ensures ∙ first_value-rows found (codes "chart") in
+    let capture = c.in_ok-copy_of-2.ensures ∙ c.get_str-4.ensures ∙ first_value-rows found (codes "capture") in
+    subst (IsTrace (Trace c.in_ok-from_str.field-0 c.is_true-strict.result c.in_ok-copy_of.field-0 c.in_ok-copy_of-2.field-0)) c.in_ok-matches.ensures.found
+    (is_trace c.in_ok-from_str.field-0 _ _ _ (rows_of found) settings (λ is. sym flag ∙ c.is_true-strict.ensures.given is)
+    (λ is. c.is_true-strict.ensures.only (flag ∙ is)) chart capture)

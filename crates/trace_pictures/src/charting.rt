@@ -1,0 +1,112 @@
+// SPDX-License-Identifier: MIT OR Apache-2.0
+ghost use Rattle.std.specs.Prelude.{◌≡◌, IfErr};
+ghost use Rattle.program_base.specs.Status.{status_of};
+
+use crate::lifelines::Lifelines;
+use frame_chart::{Arrow, Chart, ChartEvent, Fate};
+use frame_words::write_message_name;
+use memchr::memchr;
+use octets::Memory;
+use program_base::Failure;
+use std::alloc::Global;
+use world_actors::Network;
+use world_model::Event;
+use world_trace::{Crossing, Passage, step};
+
+/// Lets these events happen in a world with so many cells, and gives the chart of them. `script`
+/// has their lines.
+pub fn chart_of(
+    alloc: Global,
+    cells: u16,
+    network: &mut Network,
+    events: &[Event],
+    script: &[u8],
+) -> Result<Chart, Failure>
+    ensures err { IfErr result (λ failure. status_of failure ≡ 3) }
+{
+    let lifelines = Lifelines::of(alloc, cells, events)?;
+    let mut charted = Vec::new(alloc);
+    let mut number = 0_u64;
+    let mut rest = script;
+    for event in events {
+        let (line, others) = split_line(rest);
+        number = number.saturating_add(1);
+        let drawn = chart_event(alloc, &lifelines, network, event, number, line)?;
+        charted.push(drawn).map_err(Memory::from)?;
+        rest = others;
+    }
+    let labels = lifelines.labels(alloc)?;
+    Ok(Chart {
+        labels,
+        events: charted,
+    })
+}
+
+/// The first line of a script, and the lines behind it.
+fn split_line(script: &[u8]) -> (&[u8], &[u8]) {
+    match memchr(b'\n', script) {
+        Some(end) => (&script[..end], &script[end + 1..]),
+        None => (script, &[]),
+    }
+}
+
+/// Lets an event happen, and charts it.
+fn chart_event(
+    alloc: Global,
+    lifelines: &Lifelines,
+    network: &mut Network,
+    event: &Event,
+    number: u64,
+    line: &[u8],
+) -> Result<ChartEvent, Failure>
+    ensures err { IfErr result (λ failure. status_of failure ≡ 3) }
+{
+    let trace = step(alloc, network, event)?;
+    let text = Vec::from_slice(alloc, line).map_err(Memory::from)?;
+    let arrows = arrows_of(alloc, lifelines, trace.crossings.as_slice())?;
+    Ok(ChartEvent {
+        number,
+        text,
+        actor: lifelines.actor(event),
+        is_taken: trace.refusal.is_none(),
+        arrows,
+    })
+}
+
+/// An arrow for each frame that was put on a link.
+fn arrows_of(
+    alloc: Global,
+    lifelines: &Lifelines,
+    crossings: &[Crossing],
+) -> Result<Vec<Arrow>, Failure>
+    ensures err { IfErr result (λ failure. status_of failure ≡ 3) }
+{
+    let mut arrows = Vec::new(alloc);
+    for crossing in crossings {
+        if is_sent(crossing.passage) {
+            let drawn = arrow_of(alloc, lifelines, crossing)?;
+            arrows.push(drawn).map_err(Memory::from)?;
+        }
+    }
+    Ok(arrows)
+}
+
+fn is_sent(passage: Passage) -> bool {
+    match passage {
+        Passage::Sent => true,
+        Passage::Got => false,
+    }
+}
+
+fn arrow_of(alloc: Global, lifelines: &Lifelines, crossing: &Crossing) -> Result<Arrow, Failure>
+    ensures err { IfErr result (λ failure. status_of failure ≡ 3) }
+{
+    let mut name = Vec::new(alloc);
+    write_message_name(alloc, &crossing.frame, &mut name)?;
+    Ok(Arrow {
+        from: lifelines.end(crossing.from),
+        to: lifelines.end(crossing.to),
+        name,
+        fate: Fate::Passed,
+    })
+}

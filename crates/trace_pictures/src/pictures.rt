@@ -1,0 +1,96 @@
+// SPDX-License-Identifier: MIT OR Apache-2.0
+ghost use Rattle.std.specs.Prelude.{◌≡◌, IfOk, IsOkAnd, OnOk, IfSome, length};
+ghost use Rattle.std.specs.Io.KnownBytes.{IsAtEnd};
+ghost use Rattle.frame_capture.specs.Capture.{capture_of};
+ghost use Rattle.program_base.specs.SettingsText.{settings_of};
+ghost use Rattle.program_base.specs.WholeScript.{IsScript};
+ghost use Rattle.trace_capture.specs.FramesSent.{frames_sent};
+ghost use Rattle.world_model.specs.World.{new_actors};
+
+use crate::charting::chart_of;
+use frame_chart::{svg_of, text_of};
+use program_base::{Failure, KeptScript, ProgramFault, read_kept_script, read_settings};
+use settings::Settings;
+use std::alloc::Global;
+use std::io::Read;
+use trace_capture::capture_events;
+use world_actors::Network;
+use world_model::Event;
+
+/// The form of a chart.
+#[derive(Clone, Copy)]
+pub enum Form {
+    Text,
+    Svg,
+}
+
+/// The form of a chart that a word names.
+pub fn form_of(word: &str) -> Option<Form> {
+    match word {
+        "text" => Some(Form::Text),
+        "svg" => Some(Form::Svg),
+        _ => None,
+    }
+}
+
+/// Reads a script for the world of the settings in this text to its end, or to its first bad line.
+pub fn whole_script<R: Read>(
+    alloc: Global,
+    settings: &str,
+    input: &mut R,
+) -> Result<KeptScript, ProgramFault>
+    ensures read { OnOk result (IsAtEnd (R.remaining input.new)) }
+    ensures events { IfOk result (λ kept. IsOkAnd (settings_of settings.now) (λ parameters.
+        IfSome (R.remaining input.old) (λ octets.
+        IsScript (length parameters.cells) octets kept.events.items))) }
+{
+    let settings = read_settings(alloc, settings)?;
+    let cells = u16::from(settings.cell_count());
+    Ok(read_kept_script(alloc, cells, input)?)
+}
+
+/// Lets these events happen in the world of the settings in this text, and gives the file of the
+/// frames that they put on links.
+pub fn captured(alloc: Global, settings: &str, events: &[Event]) -> Result<Vec<u8>, ProgramFault>
+    ensures { IfOk result (λ file. IsOkAnd (settings_of settings.now) (λ parameters.
+        file.items ≡ capture_of (frames_sent (new_actors parameters) 0 events.now))) }
+{
+    let settings = read_settings(alloc, settings)?;
+    Ok(capture_in(alloc, settings, events)?)
+}
+
+fn capture_in(alloc: Global, settings: Settings, events: &[Event]) -> Result<Vec<u8>, Failure>
+    ensures { IfOk result (λ file.
+        file.items ≡ capture_of (frames_sent (new_actors settings) 0 events.now)) }
+{
+    let mut network = Network::new(alloc, settings)?;
+    Ok(capture_events(alloc, &mut network, events)?)
+}
+
+/// Lets the events of a script happen in the world of the settings in this text, and draws a chart
+/// of them.
+pub fn drawn(
+    alloc: Global,
+    settings: &str,
+    script: &KeptScript,
+    form: Form,
+) -> Result<Vec<u8>, ProgramFault> {
+    let settings = read_settings(alloc, settings)?;
+    Ok(draw_in(alloc, settings, script, form)?)
+}
+
+fn draw_in(
+    alloc: Global,
+    settings: Settings,
+    script: &KeptScript,
+    form: Form,
+) -> Result<Vec<u8>, Failure> {
+    let cells = u16::from(settings.cell_count());
+    let mut network = Network::new(alloc, settings)?;
+    let events = script.events.as_slice();
+    let chart = chart_of(alloc, cells, &mut network, events, script.octets.as_slice())?;
+    match form {
+        Form::Text => Ok(text_of(alloc, &chart)?),
+        Form::Svg => Ok(svg_of(alloc, &chart)?),
+    }
+}
