@@ -9,8 +9,8 @@ ghost use Rattle.program_base.specs.Script.{IsLine};
 ghost use Rattle.bsc_program.specs.ScriptOrder.{ScriptsRunInOrder};
 
 /// Law: whatever script `replay` reads, with settings that are allowed, the world that its events
-/// make is in order: what the switch accepts in a connection is the beginning of what its mobile
-/// sent, no gap is ever judged, and each queue gives what was put there.
+/// make is in order. What the switch accepts in a connection is the beginning of what its mobile
+/// sent, no gap is ever judged, and each relay queue is first in, first out.
 pub fn scripts_run_in_order()
     ensures { (settings : Parameters) (octets : List ℕ) (events : List Event)
         → ScriptsRunInOrder settings octets events }

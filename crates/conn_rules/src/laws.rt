@@ -15,7 +15,7 @@ ghost use Rattle.conn_rules.specs.Streams.{AreApart, IsFinal, IsOpen, IsSilent, 
 ghost use Rattle.conn_rules.specs.Streams.{OfRow, used_channels};
 ghost use Rattle.conn_rules.specs.Table.{row_of};
 
-/// What holds of every connection (`Stands`) holds of a new one, and of the next where a row fits.
+/// What holds of every connection (`IsValid`) holds of a new one, and of the next where a row fits.
 /// It is a law on the table.
 pub fn invariant_is_kept()
     ensures at_first { (number : ℕ) (channel : Channel) (request : RequestReference) (delay : ℕ)
@@ -24,9 +24,9 @@ pub fn invariant_is_kept()
         → IsCarried input → OfRow (λ r. IsValid r.next) (row_of s input offer) }
 {}
 
-/// Of each SAPI, what a row hands and then what is held is what was held and then what came,
-/// without what was rejected, until the connection closes; and what is handed goes to the channel
-/// that serves after the row.
+/// The downlink is kept in order, per SAPI, until the connection closes. What a row hands, then
+/// what is held after it, is what was held before, then what came, without what was rejected. What
+/// is handed goes to the channel that serves after the row.
 pub fn downlink_is_kept()
     ensures { (sapi : Sapi) (s : Connection) (input : Input) (offer : Option Channel) → IsValid s
         → OfRow (KeepsDownlink sapi s input) (row_of s input offer) }
@@ -45,15 +45,15 @@ pub fn closing_is_final()
         → OfRow (IsFinal s) (row_of s input offer) }
 {}
 
-/// What a row does to the roles of channels: the step that its input brings (the mobile is
-/// commanded, the change completes or goes back, old channels leave), and then perhaps a change
-/// begins; or the connection ends. It is said what is ordered of stations, and that the mobile gets
-/// nothing else but what the switch sent. Where no row fits, the input brings no step. From it
-/// follows the account: a channel in use that isn't any more was put its RF CHANNEL RELEASE, or its
-/// station broke, or its activation was refused; a new one is the offer, with its CHANNEL
-/// ACTIVATION put; an old channel was the serving one, with its RF CHANNEL RELEASE put, and remains
-/// until that is acknowledged. And no two channels of a connection are the same, where the offer is
-/// none of them.
+/// What a row does to the roles of channels is the step that its input brings, and then perhaps a
+/// change begins; or the connection ends. The steps are: the mobile is commanded, the change
+/// completes or fails, old channels leave. It is said what is ordered of stations, and that the
+/// mobile gets nothing else but what the switch sent. Where no row fits, the input brings no step.
+/// From it follows the account of channels. A channel that leaves use was put its RF CHANNEL
+/// RELEASE, or its station broke, or its activation was refused. A new one is the offer, with its
+/// CHANNEL ACTIVATION put. An old channel was the serving one, with its RF CHANNEL RELEASE put, and
+/// remains until that is acknowledged. And no two channels of a connection are the same, where the
+/// offer is none of them.
 pub fn roles_change()
     ensures steps { (s : Connection) (input : Input) (offer : Option Channel) → IsValid s
         → ChangesRolesBy s input offer (row_of s input offer) }

@@ -52,31 +52,34 @@ pub fn silence_is_kept()
         → IsSilentThrough number (life p steps).next rest }
 {}
 
-/// The same told by what came and what was put, step by step. From the step that puts ASSIGNMENT
-/// COMMAND or HANDOVER COMMAND on nothing is handed, until the step that takes the mobile's
-/// COMPLETE or FAILURE or that clears; what a step hands goes to the channel that serves after it,
-/// the first of the service list; once CLEAR COMPLETE was put only RLC is put. What a step hands is
-/// what is read from its frames, with settings that are allowed and where what came was octets.
+/// Where messages are handed, by what came and what was put, step by step. From the step that puts
+/// ASSIGNMENT COMMAND or HANDOVER COMMAND on nothing is handed, until the step that takes the
+/// mobile's COMPLETE or FAILURE or that clears. What a step hands goes to the channel that serves
+/// after it, the first of the service list. Once CLEAR COMPLETE was put only RLC is put. What a
+/// step hands is what is read from its frames, with settings that are allowed and where what came
+/// was octets.
 pub fn messages_are_handed_in_place()
     ensures { (p : Parameters) (steps : List Step) (number : ℕ) → 1 ≤ number
         → HandsInPlace number p steps (life p steps) }
 {}
 
-/// Of each SAPI, what was handed to the mobile of a connection, then what is held for it, is what
-/// the switch sent from CC on, without what was rejected and without messages of radio resource
-/// management, as long as the connection is open. Always, what was handed is some of what came,
-/// each message at most once and in its order. What was handed is what is read from the frames to
-/// stations, with settings that are allowed and where what came was octets.
+/// The downlink of a connection is conserved in order, per SAPI, as long as the connection is open.
+/// What was handed to the mobile, then what is held for it, is what the switch sent from CC on,
+/// without what was rejected and without messages of radio resource management. Always, what was
+/// handed is some of what came, each message at most once and in its order. What was handed is what
+/// is read from the frames to stations, with settings that are allowed and where what came was
+/// octets.
 pub fn downlink_is_conserved()
     ensures { (p : Parameters) (steps : List Step) (number : ℕ) → 1 ≤ number
         → DownlinkIsConserved number p steps (life p steps) }
 {}
 
-/// Of each SAPI, what was relayed of a connection to the switch, the initial message first, then
-/// what is held of it, is what came on its channels: of the first channel from the initial message
-/// on, of each next one from its COMPLETE on, until its release is acknowledged, channel after
-/// channel in the order in which they came to serve; as long as the connection is open. What was
-/// relayed is what is read from the frames to the switch, where what came was octets.
+/// The uplink of a connection is conserved in order, per SAPI, as long as the connection is open.
+/// What was relayed to the switch, the initial message first, then what is held, is what came on
+/// its channels, channel after channel in the order in which they came to serve. Of the first
+/// channel that is what came from the initial message on, of each next one from its COMPLETE on,
+/// until its release is acknowledged. What was relayed is what is read from the frames to the
+/// switch, where what came was octets.
 pub fn uplink_is_conserved()
     ensures { (p : Parameters) (steps : List Step) (number : ℕ) → AreAllowed p → 1 ≤ number
         → UplinkIsConserved number p steps (life p steps) }

@@ -127,9 +127,9 @@ impl Framer {
     }
 }
 
-/// Law: a stream is one list of frames and one rest, and however its octets were cut into pieces,
-/// the frames given, those still to be given and the rest are those of the octets fed; where a
-/// frame was refused as too long, one stands next.
+/// Law: a stream is one list of frames and one rest. However its octets were cut into pieces, the
+/// frames given, those still to be given and the rest are those of the octets fed. Where a frame
+/// was refused as too long, it is the next one of the stream.
 pub fn stream_is_its_frames()
     ensures split { (stream : List ℕ) → AreOctets stream →
         (frames : List FrameValue) × (rest : List ℕ) × Splits stream frames rest }

@@ -7,11 +7,10 @@ ghost use Rattle.link_model.specs.Base.{is_active, new_base};
 ghost use Rattle.link_model.specs.BaseCalls.{BaseCall, after_calls, messages_made, messages_given};
 ghost use Rattle.link_model.specs.Tenures.{Tenures};
 
-/// What a base station end keeps of an honest station, whatever is called and in whatever order up
-/// to a `take_down`: in what it makes, no ESTABLISH INDICATION and no DTAP of a channel stands
-/// outside the stretch from an activation acknowledgement to the release acknowledgement after it,
-/// and within a tenure the release acknowledgement comes last. It is a law on the definitions that
-/// the calls' contracts cite.
+/// A base station end is honest, whatever is called and in whatever order up to a `take_down`. It
+/// makes ESTABLISH INDICATION and DTAP of a channel only from an activation acknowledgement to the
+/// release acknowledgement after it. Within a tenure the release acknowledgement comes last. It is
+/// a law on the definitions that the calls' contracts cite.
 pub fn keeps_tenures()
     ensures made { (base : BaseState) (channel : ℕ) (calls : List BaseCall) →
         Tenures channel (is_active base.active channel) (messages_made base calls) (is_active (after_calls base calls).active channel) }

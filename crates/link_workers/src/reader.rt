@@ -196,9 +196,9 @@ fn put_frames<G: Gate, R: Wait>(
     Ok(())
 }
 
-/// Law: frames that stand at the front of octets are the first of the frames that the octets are,
-/// and all of them where only the beginning of a frame stands behind them, or one that is too long.
-/// So what a reader puts are the first frames of the octets that it read, and all of them unless
+/// Law: whole frames at the front of octets are the first of the frames that the octets are. They
+/// are all of them where only the beginning of a frame follows them, or one that is too long. So
+/// what a reader puts are the first frames of the octets that it read, and all of them unless
 /// memory ran out or its gate stayed shut.
 pub fn frames_put_are_the_first()
     ensures first { (octets : List ℕ) (frames : List FrameValue) (rest : List ℕ)

@@ -219,8 +219,8 @@ impl Unsent {
 }
 
 /// Law: over any calls of `put`, from the first on, `refusals` is the greatest number of frames
-/// that came back with no line put between them, at most 2^32 - 1, and what was put are the lines
-/// that didn't come back, in order.
+/// that came back with no line put between them, at most 2^32 - 1. What was put are the lines that
+/// didn't come back, in order.
 pub fn refusals_are_those_of_all_puts()
     ensures refusals { (capacity : ℕ)
         (putter now : PutterView) (taker : TakerView) (fates : List Fate)

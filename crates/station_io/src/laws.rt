@@ -15,9 +15,9 @@ ghost use Rattle.settings.specs.Parameters.{AreAllowed, Parameters};
 ghost use Rattle.station_io.specs.Octets.{Next, TakesWhole, came_in, ended_behind, items_in};
 ghost use Rattle.station_io.specs.Octets.{merged, octets_put, order_of};
 
-/// Octets in, octets out. In whatever pieces the octets of each link come, and in whatever order
-/// its frames are merged with those of the other links and with ticks: the octets put for a link
-/// are the octets of the frames that the controller's life over the merged steps puts for it. They
+/// Octets in, octets out. The octets of each link come in whatever pieces, and its frames are
+/// merged with those of the other links and with ticks in whatever order. The octets put for a link
+/// are then those of the frames that the controller's life over the merged steps puts for it. They
 /// are a function of the octets that came and of the order (`octets_put`), so other pieces of the
 /// same octets give the same. With settings that are allowed, and where octets came, `write_frame`
 /// writes each of these frames. And any list of steps is what came in it, merged in its order.

@@ -8,20 +8,21 @@ ghost use Rattle.world.specs.WorldState.{WorldState};
 ghost use Rattle.world.specs.World.{after_all, controlled_world};
 ghost use Rattle.world.specs.Headline.{AreEventsFor, Begins, IsInOrder, QueuesKeepOrder};
 
-/// The order of messages, over every list of events from a beginning: what the switch accepts of a
-/// connection's flow is the beginning of what its mobile's upper layers sent, once and in order;
-/// what it took begins with the message that its mobile connected with; no gap is ever judged; and
-/// each relay queue gives what was put there, in order. With a controller, events are of octets. It
-/// is a law on the definitions that `World::run` cites.
+/// The order of messages, over every list of events from a beginning. What the switch accepts of a
+/// connection's flow is the beginning of what its mobile's upper layers sent, once and in order.
+/// With a controller, what the switch took of it begins with the message that its mobile connected
+/// with. No gap is ever judged. Each relay queue is first in, first out and loses nothing, unless
+/// its link broke. With a controller, events are of octets. It is a law on the definitions that
+/// `World::run` cites.
 pub fn keeps_order()
     ensures { (begin : WorldState) (events : List Event)
         → Begins begin → AreEventsFor begin.scene events
         → IsInOrder begin.scene events (after_all begin events).scene }
 {}
 
-/// Law: in a world with a controller, whatever events happen, each relay queue gives what was put
-/// there, in order, and what stands there is the rest, unless its link broke; and the switch has
-/// what was taken out of its outbox.
+/// Law: in a world with a controller, whatever events happen, each relay queue is first in, first
+/// out and loses nothing, unless its link broke. And the switch has what was taken out of its
+/// outbox.
 pub fn queues_keep_order()
     ensures { (settings : Parameters) (events : List Event)
         → QueuesKeepOrder (controlled_world settings).scene events

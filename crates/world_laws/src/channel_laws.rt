@@ -8,39 +8,40 @@ ghost use Rattle.world_laws.specs.Channels.Roles.{OldChannelsEnd};
 ghost use Rattle.world_laws.specs.Runs.{OfRuns};
 
 /// Law: whatever events happened, the acknowledgements on their way agree with the roles of the
-/// channels of each connection that is open: an RF CHANNEL RELEASE ACK is the last acknowledgement
+/// channels of each connection that is open. An RF CHANNEL RELEASE ACK is the last acknowledgement
 /// of an old channel, and there is none of the serving channel or of a target. So it is with
 /// settings that are allowed, where what came was octets.
 pub fn acknowledgements_agree()
     ensures { OfRuns AcknowledgementsAgree }
 {}
 
-/// Law: and no acknowledgement is on its way of a channel that the controller has as free, unless
-/// the link of its station broke.
+/// Law: no acknowledgement is on its way of a channel that the controller has as free, unless the
+/// link of its station broke.
 pub fn free_channels_are_silent()
     ensures { OfRuns FreeAreSilent }
 {}
 
-/// Law: so nothing comes behind the RF CHANNEL RELEASE ACK of an old channel, and what comes of the
-/// serving channel, or of a target, doesn't end.
+/// Law: nothing comes behind the RF CHANNEL RELEASE ACK of an old channel, and no release ends what
+/// the serving channel or a target brings.
 pub fn old_channels_end()
     ensures { OfRuns OldChannelsEnd }
 {}
 
-/// Law: the connection took the ACTIVATION ACKs of its serving channel, once it waits for it no
-/// more, and of the target to which its mobile was commanded: none of their acknowledgements is on
-/// its way, nor due for what waits.
+/// Law: a connection took the ACTIVATION ACKs of its serving channel, once it waits for it no more,
+/// and of the target to which its mobile was commanded. None of their acknowledgements is on its
+/// way, nor due for what waits.
 pub fn begun_channels_are_taken()
     ensures { OfRuns BegunIsTaken }
 {}
 
-/// Law: so these channels are active at a station whose link is up.
+/// Law: the serving channel of a connection, and the target to which its mobile was commanded, are
+/// active at a station whose link is up.
 pub fn served_channels_are_active()
     ensures { OfRuns ServedAreActive }
 {}
 
-/// Law: and so is the serving channel of a connection that is established, and hasn't asked the
-/// switch yet.
+/// Law: the serving channel of a connection that is established, and hasn't asked the switch yet,
+/// is active at a station whose link is up.
 pub fn established_channels_are_active()
     ensures { OfRuns EstablishedAreActive }
 {}

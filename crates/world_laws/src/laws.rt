@@ -35,70 +35,72 @@ ghost use Rattle.conn_messages.specs.declared.channel.Place.{Place as ChannelPla
 ghost use Rattle.world_laws.specs.Runs.{AtEvents, OfNumbers, OfRuns};
 
 /// Law: whatever events happened, a connection that is lined up with its mobile, and whose channels
-/// no other mobile is on, stays lined up at what mobiles do, at what stations take from them and
-/// give to the inbox, and at what the switch does of its own.
+/// no other mobile is on, stays lined up at what others do. These are: what mobiles do, what
+/// stations take from them and give to the inbox, and what the switch does of its own.
 pub fn mobiles_keep_line_ups()
     ensures { AtEvents MobilesKeepLineUps }
 {}
 
-/// Law: and it stays lined up when a station takes the first entry of its outbox: when a message
-/// goes into the air or is lost, when a channel is activated or released, and when a mobile is
-/// assigned, where its own channels of that station are active.
+/// Law: a connection that is lined up stays so when a station takes the first entry of its outbox.
+/// A message goes into the air or is lost then, a channel is activated or released, or a mobile is
+/// assigned. The connection's own channels of that station have to be active.
 pub fn stations_keep_line_ups()
     ensures { OfNumbers StationsKeepLineUps }
 {}
 
-/// Law: and it stays lined up when the switch takes what waits for it, where the first entry is
-/// taken as it was put.
+/// Law: a connection that is lined up stays so when the switch takes what waits for it, where the
+/// first entry is taken as it was put.
 pub fn switch_keeps_line_ups()
     ensures { OfRuns SwitchKeepsLineUps }
 {}
 
-/// Law: and it stays lined up when the link of a station breaks, up to where something of it is
-/// missing, where nothing comes behind the RF CHANNEL RELEASE ACKs of its old channels.
+/// Law: a connection that is lined up stays so when the link of a station breaks, up to where
+/// something of it is missing, where nothing comes behind the RF CHANNEL RELEASE ACKs of its old
+/// channels.
 pub fn station_breaks_keep_line_ups()
     ensures { OfNumbers StationBreaksKeepLineUps }
 {}
 
-/// Law: and it stays lined up when the controller handles an item, or time passes for it, where
-/// neither what came nor what is put is the connection's.
+/// Law: a connection that is lined up stays so when the controller handles an item, or time passes
+/// for it, where neither what came nor what is put is the connection's.
 pub fn relay_leaves_others()
     ensures handled { OfRuns RelayLeavesOthers }
     ensures passed { OfNumbers TimeLeavesOthers }
 {}
 
 /// Law: whatever events happened, what the controller puts by a frame that concerns another
-/// connection isn't the connection's: it carries none of its messages to the switch, and no command
-/// goes to its serving channel or to the target of its mobile. So it is with settings that are
-/// allowed, where what came was octets.
+/// connection isn't this connection's. It carries none of its messages to the switch, and no
+/// command goes to its serving channel or to the target of its mobile. So it is with settings that
+/// are allowed, where what came was octets.
 pub fn frames_are_for_others()
     ensures { OfRuns FramesAreForOthers }
 {}
 
-/// Law: and it stays lined up when the controller handles an item for the connection itself, by the
-/// row that fits the input that the item brings, while the connection stays open: where the row
-/// isn't the one that puts CR, what is on its way on its channels is in order, the link of the
-/// switch is up, and what the row puts is read as it was put. And it stays so when time passes and
-/// none of its timers expires.
+/// Law: a connection that is lined up stays so when the controller handles an item for it, by the
+/// row that fits the input that the item brings, while the connection stays open. The premises are
+/// four. The row isn't the one that puts CR, and what it puts is read as it was put. What is on its
+/// way on the connection's channels is in order, and the link of the switch is up. It also stays so
+/// when time passes and none of its timers expires.
 pub fn handle_keeps_line_ups()
     ensures handled { OfRuns HandleKeepsLineUps }
     ensures passed { OfNumbers TimeAgesLineUps }
 {}
 
-/// Law: where the first item of the inbox is a frame of a link that is up, and says an input to a
-/// connection that asked the switch for its connection, the controller puts what the row that fits
-/// puts, and nothing else; and of the connection's channels the frame brings what the input says.
+/// Law: let the first item of the inbox be a frame of a link that is up, and say an input to a
+/// connection that asked the switch for its connection. Then the controller puts what the row that
+/// fits puts, and nothing else. And of the connection's channels the frame brings what the input
+/// says.
 pub fn frames_are_handled()
     ensures { (w : Actors) (item : ItemValue) (s : Connection) (input : Input)
         (offer : Option Channel) (r : Row) → FrameIsHandled w item s input offer r }
 {}
 
-/// Law: so a connection stays lined up when the controller handles a frame that says an input to
-/// it, while the connection stays open: where the link of the switch is up, an RF CHANNEL RELEASE
-/// ACK is the last acknowledgement on its way on an old channel and none is on its way on another,
-/// a target is silent before its COMMAND, and what the row puts is read as it was put. That the
-/// connection stands, that all on its way is whole, and what acknowledgements tell are laws, and no
-/// premises.
+/// Law: a connection that is lined up stays so when the controller handles a frame that says an
+/// input to it, while the connection stays open. The premises are four. The link of the switch is
+/// up, and what the row puts is read as it was put. An RF CHANNEL RELEASE ACK is the last
+/// acknowledgement on its way on an old channel and none is on its way on another. A target is
+/// silent before its COMMAND. That the table leaves such connections, that all on its way is whole,
+/// and what acknowledgements show are laws, and no premises.
 pub fn frames_keep_line_ups()
     ensures { OfRuns FramesKeepLineUps }
 {}
@@ -111,18 +113,19 @@ pub fn rows_keep_line_ups()
         → RowKeepsLineUp m s input offer r }
 {}
 
-/// Law: the row that fits an input keeps its connection lined up, where what the input brings came
-/// first on its channel, an RF CHANNEL RELEASE ACK comes last on an old channel and on no other,
-/// nothing comes of a target before the COMMAND or of one from which the mobile came back, no
-/// COMMAND but the row's joins those on their way, and the row isn't the one that puts CR. It is
-/// told from the step that the input brings to the roles of channels: so COMPLETE, FAILURE,
-/// releases and DTAP are all of it.
+/// Law: the row that fits an input keeps its connection lined up. The premises are about what the
+/// input brings: it came first on its channel. An RF CHANNEL RELEASE ACK comes last on an old
+/// channel and on no other. Nothing comes on a target before the COMMAND, or on one from which the
+/// mobile came back. No COMMAND but the row's joins those on their way, and the row isn't the one
+/// that puts CR. It is derived from the step that the input brings to the roles of channels: so
+/// COMPLETE, FAILURE, releases and DTAP are all of it.
 pub fn inputs_keep_line_ups()
     ensures { (m : ℕ) (s : Connection) (input : Input) (offer : Option Channel) (r : Row)
         → InputKeepsLineUp m s input offer r }
 {}
 
-/// Law: whatever events happened, each connection of the controller stands.
+/// Law: whatever events happened, each connection of the controller is one that the table leaves
+/// (`IsValid`).
 pub fn connections_stand()
     ensures { OfRuns ConnectionsStand }
 {}
@@ -133,10 +136,11 @@ pub fn messages_are_whole()
     ensures { OfRuns MessagesAreWhole }
 {}
 
-/// Law: whatever events happened, the acknowledgements of a channel that are on their way up tell
-/// whether it ends. Where an RF CHANNEL RELEASE ACK is the last of them, nothing comes behind it;
-/// where there is none, what comes of the channel doesn't end. And while the link is up, those that
-/// the controller took, those on their way and those still due are what is due for all that it put.
+/// Law: whatever events happened, the acknowledgements of a channel that are on their way up show
+/// whether the channel ends. Where an RF CHANNEL RELEASE ACK is the last of them, nothing comes
+/// behind it; where there is none, no release ends what the channel brings. And while the link is
+/// up, those that the controller took, those on their way and those still due are what is due for
+/// all that it put.
 pub fn acknowledgements_tell()
     ensures ends { OfRuns AllAcksTell }
     ensures flow { OfRuns AcksFlow }
@@ -153,10 +157,10 @@ pub fn line_ups_are_in_order()
     ensures { (m : ℕ) (w : Actors) (mobile : ℕ) (s : Connection) → LineUpsAreInOrder m w mobile s }
 {}
 
-/// Law: a connection that is lined up may close or go. What the switch took of it, and what waits
-/// for it, is then in order, and stays so whatever happens, where the switch takes entries as they
-/// were put and no more of it is put. Of it, too, the switch accepted the first messages that its
-/// mobile's upper layers sent, once and in order, and judged no gap.
+/// Law: a connection that is lined up may close or be removed. What the switch took of it, and what
+/// waits for it, is then in order, and stays so whatever happens, where the switch takes entries as
+/// they were put and no more of it is put. Of it, too, the switch accepted the first messages that
+/// its mobile's upper layers sent, once and in order, and judged no gap.
 pub fn ended_connections_stay_in_order()
     ensures ends { (m : ℕ) (w : Actors) (mobile : ℕ) (s : Connection) → LineUpsMayEnd m w mobile s }
     ensures stays { AtEvents EndedStayInOrder }
@@ -180,17 +184,17 @@ pub fn frames_are_put_as_read()
     ensures { OfRuns FramesArePutAsRead }
 {}
 
-/// Law: so a connection stays lined up when the controller handles a frame that says an input to
-/// it, while the connection stays open, whatever events happened: where the link of the switch is
-/// up, the acknowledgements on their way tell of no other end, and a target is silent before its
-/// COMMAND. What the row puts is read as it was put, and no premise.
+/// Law: a connection that is lined up stays so when the controller handles a frame that says an
+/// input to it, while the connection stays open, whatever events happened. The premises are: the
+/// link of the switch is up, the acknowledgements on their way show no other end, and a target is
+/// silent before its COMMAND. That what the row puts is read as it was put is no premise.
 pub fn allowed_frames_keep_line_ups()
     ensures { OfRuns AllowedFramesKeepLineUps }
 {}
 
-/// Law: whatever events happened, whether the link of a station is up or broke, the
-/// acknowledgements of a channel that the controller took, and then those on their way up, are the
-/// first of those due for all that it put.
+/// Law: whatever events happened, whether the link of a station is up or broke: take the
+/// acknowledgements of a channel that the controller took, and then those on their way up. They are
+/// the first of those due for all that it put.
 pub fn acknowledgements_begin()
     ensures { OfRuns AcksBegin }
 {}
@@ -201,19 +205,19 @@ pub fn stations_refuse_nothing()
     ensures { OfRuns NoneRefuse }
 {}
 
-/// Law: what a step of the controller orders of a channel takes turns, while the link of its
-/// station is up: a free channel is activated, one in use is released. An RF CHANNEL RELEASE ACK
-/// frees the channel first, where it is releasing. So it is with settings that are allowed, where
-/// what came was octets and stations refuse nothing.
+/// Law: the controller activates and releases a channel alternately, while the link of its station
+/// is up: a free channel is activated, one in use is released. An RF CHANNEL RELEASE ACK frees the
+/// channel first, where it is releasing. So it is with settings that are allowed, where what came
+/// was octets and stations refuse nothing.
 pub fn orders_take_turns()
     ensures { (settings : Parameters) (steps : List ControllerStep) (step : ControllerStep)
         → OrdersTakeTurns settings steps step }
 {}
 
 /// Law: whatever events happen, each tenure of a channel is one mobile's: that of the connection
-/// for which its channel was activated. What stations take agrees with it; a mobile is on a tenure,
-/// or told to change to one, only where that was for it; and in each tenure one mobile sends at
-/// most. So it is with settings that are allowed, where what came was octets.
+/// for which its channel was activated. What stations take agrees with it. A mobile is on a tenure,
+/// or commanded to one, only where that was for it; and in each tenure one mobile sends at most. So
+/// it is with settings that are allowed, where what came was octets.
 pub fn tenures_are_mobiles()
     ensures takes { OfRuns TenuresAreOwned }
     ensures seats { OfRuns MobilesSitOnTheirs }

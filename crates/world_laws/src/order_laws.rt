@@ -13,38 +13,38 @@ ghost use Rattle.world_laws.specs.Order.Targets.{TargetsAreFresh};
 ghost use Rattle.world_laws.specs.Order.Unanswered.{UnansweredMobilesAsk};
 ghost use Rattle.world_laws.specs.Runs.{AtEvents, OfRuns};
 
-/// Law: whatever events happened, a mobile to which no connection was ever the answer is as it
-/// connected: it asks for a channel, and sent nothing. And no IMMEDIATE ASSIGNMENT that waits for a
-/// station names it. So it is with settings that are allowed, where what came was octets.
+/// Law: whatever events happened, a mobile without a connection is still requesting one and has
+/// sent nothing, as when it connected. And no IMMEDIATE ASSIGNMENT that waits for a station names
+/// it. So it is with settings that are allowed, where what came was octets.
 pub fn unanswered_mobiles_ask()
     ensures { OfRuns UnansweredMobilesAsk }
 {}
 
 /// Law: whatever events happened before, a connection that begins at an event is in its first
-/// state, the mobile that asked for it is as it connected, nothing is on its way on its channel,
-/// and no one told the mobile a channel.
+/// state. The mobile that requested it is as it connected, nothing is on its way on its channel,
+/// and no IMMEDIATE ASSIGNMENT names the mobile yet.
 pub fn connections_begin()
     ensures { AtEvents ConnectionsBegin }
 {}
 
-/// Law: so it is coming to its mobile, whatever message the mobile begins with.
+/// Law: a connection that begins is coming to its mobile, whatever message the mobile begins with.
 pub fn connections_begin_coming()
     ensures { AtEvents ConnectionsBeginComing }
 {}
 
 /// Law: whatever events happened, the serving channel of a connection that begins at an event is
-/// quiet, and that of one that hasn't asked the switch for its connection yet stays so at an event:
-/// its activation waits, and it isn't active, or nothing is in its air and no DATA REQUEST for it
-/// waits. So no CHANNEL RELEASE is in the air there.
+/// quiet. That of a connection that hasn't asked the switch yet stays quiet at an event. Quiet
+/// means: its activation waits, and it isn't active; or nothing is in its air and no DATA REQUEST
+/// for it waits. So no CHANNEL RELEASE is in the air there.
 pub fn channel_of_a_coming_one_is_quiet_down()
     ensures begins { AtEvents ChannelsBeginQuiet }
     ensures stays { AtEvents ChannelsStayQuiet }
     ensures none_go { OfRuns QuietLetsNoneGo }
 {}
 
-/// Law: once the link of the switch is down, a number stays as it stands, whatever happens: the
-/// switch has no connection for it and nothing of it waits, or what it took of it is in order, of
-/// the mobile that was first served.
+/// Law: once the link of the switch is down, the stage of a connection's number stays, whatever
+/// happens. The switch has no connection for it and nothing of it waits; or what it took of it is
+/// in order, of the mobile that was first served.
 pub fn cut_numbers_stay()
     ensures { AtEvents CutNumbersStay }
 {}
@@ -72,31 +72,31 @@ pub fn octets_come()
     ensures { OfRuns ComeInOctets }
 {}
 
-/// Law: the line-up. Whatever events happened, each connection number stands. It is still to be
-/// given; or the connection is coming to its mobile; or it lives, lined up with the mobile that it
-/// first served; or it ended in order; or the switch never hears of it. Once the link of the switch
-/// is down nothing of it waits for the switch, and what the switch took is in order. While a
-/// connection lives, and the link of the switch is up, line up the numbered messages of its mobile.
-/// First come those that wait for the switch. Then, channel by channel in the order in which they
-/// serve, come those that the controller holds, and those on their way up in the inbox and at the
-/// station. Last come those of the mobile's link, the one in the air first. Their places in what
-/// the mobile sent begin behind what the switch accepted, or one below, and rise by 1 or 0, up to
-/// the first loss. Where nothing is lost they go on to the last message sent. So it is with
-/// settings that are allowed, where events are of octets.
+/// Law: the line-up. Whatever events happened, each connection number has one of these stages. It
+/// is still to be given; or the connection is coming to its mobile; or it lives, lined up with the
+/// mobile that it first served. Or it ended in order, or the switch never hears of it. Once the
+/// link of the switch is down nothing of it waits for the switch, and what the switch took is in
+/// order. While a connection lives, and the link of the switch is up, line up the numbered messages
+/// of its mobile. First come those that wait for the switch. Then, channel by channel in the order
+/// in which they serve, come those that the controller holds, and those on their way up in the
+/// inbox and at the station. Last come those of the mobile's link, the one in the air first. Their
+/// places in what the mobile sent begin behind what the switch accepted, or one below, and rise by
+/// 1 or 0, up to the first loss. Where nothing is lost they reach to the last message sent. So it
+/// is with settings that are allowed, where events are of octets.
 pub fn line_ups_stand()
     ensures stands { OfRuns AllNumbersStand }
     ensures rise { OfRuns AllPlacesRise }
 {}
 
 /// Law: the order of a run. Whatever events happened, what the switch accepts of each connection is
-/// a prefix of what its mobile's upper layers sent, once and in order, and no gap is ever judged:
-/// with settings that are allowed, where events are of octets.
+/// a prefix of what its mobile's upper layers sent, once and in order, and no gap is ever judged.
+/// So it is with settings that are allowed, where events are of octets.
 pub fn runs_are_in_order()
     ensures { OfRuns AllRunsAreInOrder }
 {}
 
 /// Law: while the link of the switch is up, whatever events happened, the target of a change of
-/// channel is fresh: no layer 3 message of SAPI 0 comes of it before the mobile is commanded there,
+/// channel is fresh. It brings no layer 3 message of SAPI 0 before the mobile is commanded there,
 /// and from then on COMPLETE is the first. So it is for each connection that the switch confirmed,
 /// with settings that are allowed, where events are of octets.
 pub fn targets_are_fresh()

@@ -20,8 +20,8 @@ pub fn connections_are_alone()
     ensures mobiles { OfRuns ConnectionsAreAlone }
 {}
 
-/// Law: whatever events happened, a mobile has one connection at most: it asks once, and a
-/// connection is of a mobile that is there, whose request isn't on its way any more. Where a
+/// Law: whatever events happened, a mobile has one connection at most. It requests a channel once,
+/// and a connection is of a mobile that is there, whose request isn't on its way any more. Where a
 /// request is on its way, it is the only one of its mobile, and no connection is the answer to it,
 /// or ever was. A connection of a mobile that had one is that one.
 pub fn connections_are_one_each()
@@ -40,9 +40,9 @@ pub fn links_of_channels_are_up()
     ensures { OfRuns LinksOfChannelsAreUp }
 {}
 
-/// Law: whatever events happened, nothing of a source stands in the inbox behind the end of its
-/// link; of a link that is down nothing is made; and once the controller learned of it, nothing of
-/// the source comes.
+/// Law: whatever events happened, the inbox has nothing of a source behind the end of its link. A
+/// link that is down makes nothing. And once the controller learned of it, the source brings
+/// nothing.
 pub fn frames_come_before_their_down()
     ensures { OfRuns LinksEndOnce }
 {}

@@ -7,24 +7,24 @@ ghost use Rattle.world_laws.specs.References.Taken.{PeersDiffer, SwitchDeliversO
 ghost use Rattle.world_laws.specs.References.Taken.{UnaskedAreUnknown, UnknownStayUnknown};
 ghost use Rattle.world_laws.specs.Runs.{AtEvents, OfRuns};
 
-/// Law: whatever events happened, with settings that are allowed and where what came was octets,
-/// the controller's connections, what is on its way to the switch and back, and the switch's
-/// connections agree by references: each has asked once at most, CC on its way to it names the
-/// switch's connection of its number, what it puts goes there, and nothing goes there behind its
-/// CLEAR COMPLETE.
+/// Law: whatever events happened, the controller's connections, what is on its way to the switch
+/// and back, and the switch's connections agree by references. Each has asked once at most. CC on
+/// its way to it names the switch's connection of its number. What it puts goes there, and nothing
+/// goes there behind its CLEAR COMPLETE. So it is with settings that are allowed, where what came
+/// was octets.
 pub fn names_agree()
     ensures { OfRuns NamesAlwaysAgree }
 {}
 
-/// Law: and each connection of the switch is the one of its peer: no other has this peer, which is
-/// one of the controller's numbers.
+/// Law: each connection of the switch is the one of its peer: no other has this peer, which is one
+/// of the controller's numbers.
 pub fn peers_differ()
     ensures { OfRuns PeersDiffer }
 {}
 
-/// Law: so the first entry that waits for the switch is taken as it was put, for each connection;
-/// or it asks for a connection that the switch refuses, since it has no more to give, and the
-/// switch never hears of that connection.
+/// Law: the first entry that waits for the switch is taken as it was put, for each connection. Or
+/// it asks for a connection that the switch refuses, since it has no more to give, and the switch
+/// never hears of that connection.
 pub fn switch_delivers_or_refuses()
     ensures { OfRuns SwitchDeliversOrRefuses }
 {}
@@ -40,13 +40,13 @@ pub fn unasked_are_unheard_of()
     ensures { OfRuns UnaskedAreUnknown }
 {}
 
-/// Law: a connection that was there, and is closed or gone, puts no more of its mobile's messages
-/// for the switch, and stays closed or gone.
+/// Law: a connection that was there, and is closed or removed, puts no more of its mobile's
+/// messages for the switch, and stays closed or removed.
 pub fn over_puts_no_more()
     ensures { AtEvents OverPutsNoMore }
 {}
 
-/// Law: a connection that hasn't asked the switch, and is closed or gone after an event, is one
+/// Law: a connection that hasn't asked the switch, and is closed or removed after an event, is one
 /// that the switch never hears of.
 pub fn dropped_are_unheard()
     ensures { AtEvents DroppedAreUnknown }

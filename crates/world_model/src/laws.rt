@@ -14,15 +14,15 @@ ghost use Rattle.world_model.specs.Steps.{FollowsTable, RunsByTable};
 ghost use Rattle.world_model.specs.Tickets.{AllAreBy, AllSitBy, OneMobileEach, senders};
 ghost use Rattle.world_model.specs.World.{new_actors};
 
-/// Law: whatever events happen, each queue of the relay gives what was put there, in order.
+/// Law: whatever events happen, each relay queue is first in, first out and loses nothing; an
+/// outbox, while its link is up.
 pub fn queues_keep_order()
     ensures { (settings : Parameters) (events : List WorldEvent)
         → KeepsQueues (new_actors settings) events }
 {}
 
-/// Law: whatever events happen, stations are honest. Of what a station gives of a channel, no
-/// ESTABLISH INDICATION and no DTAP stands outside the stretch from an activation acknowledgement
-/// to the release acknowledgement after it.
+/// Law: whatever events happen, stations are honest. A station gives ESTABLISH INDICATION and DTAP
+/// of a channel only from an activation acknowledgement to the release acknowledgement after it.
 pub fn stations_are_honest()
     ensures { (settings : Parameters) (events : List WorldEvent)
         → AreHonest (new_actors settings) events }
@@ -38,9 +38,9 @@ pub fn controller_lives_by_its_table()
 {}
 
 /// Law: whatever events happen, the acknowledgements of a station on a channel follow what the
-/// controller put for it, in order: to each activation of a channel that isn't active, and to each
-/// release, one was given, or is made, or is due for what stands in the outbox, until the link
-/// breaks.
+/// controller put for it, in order, until the link breaks. To each activation of a channel that
+/// isn't active, and to each release, one was given, or is made, or is due for what waits in the
+/// outbox.
 pub fn channels_are_pipes()
     ensures { (settings : Parameters) (events : List WorldEvent) → ArePipes settings events }
 {}
