@@ -1,5 +1,5 @@
 # SPDX-License-Identifier: MIT OR Apache-2.0
-"""The entries of docs/LAWS.md, drawn from the sources: each law in words, with the definitions that it names, the laws that its
+"""The laws of docs/PROOFS.md, drawn from the sources: each law in words, with the definitions that it names, the laws that its
 proof uses, and the must-fail edits of those definitions."""
 import functools
 import itertools
@@ -170,7 +170,7 @@ def named_claims(law):
 
 def entry(law):
     """The lines of a law."""
-    yield from ("", f"### {heading(law.crate, law.name)}", "", sentence_of(law), "")
+    yield from ("", f"#### {heading(law.crate, law.name)}", "", sentence_of(law), "")
     named = named_claims(law)
     says = "; it claims " + ", ".join(f"[`{claim[0]}`](#{claim_anchor(claim)})" for claim in named) if named else ""
     yield f"- Law: {link(f'`{law.name}`', law.path)}{says}"
@@ -228,7 +228,7 @@ def other_edits():
     for path, those in sorted(edits().items()):
         if path not in shown:
             found.setdefault(path.parts[1], {}).update(dict.fromkeys(those))
-    yield from ("", "## Other must-fail edits", "", "These are of definitions further down, and of code, which its contract has to refuse.", "")
+    yield from ("", "### Other must-fail edits", "", "These are of definitions further down, and of code, which its contract has to refuse.", "")
     for crate, those in found.items():
         yield f"- `{crate}`: " + ", ".join(link(f"`{edit.stem}`", edit) for edit in those)
 
@@ -239,6 +239,6 @@ def drawn():
     for law in in_order():
         if (law.crate, room(law)) != place:
             place = law.crate, room(law)
-            lines += ["", f"## `{law.crate}`" + (f", room `{room(law)}`" if room(law) else "")]
+            lines += ["", f"### Laws of `{law.crate}`" + (f", room `{room(law)}`" if room(law) else "")]
         lines += entry(law)
     return "\n".join([*lines, *other_edits(), *claim_lines()]) + "\n"
