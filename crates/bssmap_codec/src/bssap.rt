@@ -160,8 +160,8 @@ fn text_of(alloc: Global, message: &Bssap) -> Result<Vec<u8>, Memory>
 }
 
 /// Law: what is written of a message of BSSAP is a text of it, and is read as that message,
-/// whatever follows; and the size by which a message of BSSMAP is found too long is that of its
-/// text.
+/// whatever follows; of DTAP, where its SAPI is 0 or 3. The size by which a message of BSSMAP is
+/// found too long is that of its text.
 pub fn bssap_text_is_read()
     ensures text { (message : BssapValue) (more : List ℕ) → HasDlci message →
         bssap_write_fault message ≡ None → IsBssap (bssap_text message ++ more) message }

@@ -365,8 +365,8 @@ fn put_options(text: &mut Vec<u8>, user: &Option<Octets>) -> Result<(), Memory>
     Ok(())
 }
 
-/// Law: what is written of a message of SCCP is a text of it, and is read as that message, whatever
-/// follows.
+/// Law: what is written of a message of SCCP whose references have three octets is a text of it,
+/// and is read as that message, whatever follows.
 pub fn sccp_text_is_read()
     ensures text { (message : SccpValue) (more : List ℕ) → HasReferences message →
         sccp_write_fault message ≡ None → IsSccp (sccp_text message ++ more) message }

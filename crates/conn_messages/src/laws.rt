@@ -4,7 +4,7 @@ ghost use Rattle.conn_messages.specs.declared.message.Message.{Message as Messag
 ghost use Rattle.conn_messages.specs.Out.{IsLawfulMessage, IsReadOf, IsWritable, out_of};
 ghost use Rattle.conn_messages.specs.OutputsState.{IsSendable};
 
-/// Law: a link carries the frame of each message that can be written.
+/// Law: a link carries the frame of each message that can be written: it has 2,048 octets at most.
 pub fn message_fits_its_frame()
     ensures { (number : ℕ) (message : MessageValue) →
         IsWritable message → IsSendable (out_of number message) }

@@ -54,10 +54,11 @@ pub fn silence_is_kept()
 
 /// Where messages are handed, by what came and what was put, step by step. From the step that puts
 /// ASSIGNMENT COMMAND or HANDOVER COMMAND on nothing is handed, until the step that takes the
-/// mobile's COMPLETE or FAILURE or that clears. What a step hands goes to the channel that serves
-/// after it, the first of the service list. Once CLEAR COMPLETE was put only RLC is put. What a
-/// step hands is what is read from its frames, with settings that are allowed and where what came
-/// was octets.
+/// mobile's COMPLETE or FAILURE or that clears. An answer upon which nothing is put isn't taken.
+/// CLEAR REQUEST, CLEAR COMPLETE or RLC clears, or the break of the switch's link. What a step
+/// hands goes to the channel that serves after it, the first of the service list; before there is
+/// one nothing is handed. Once CLEAR COMPLETE was put only RLC is put. What a step hands is what is
+/// read from its frames, with settings that are allowed and where what came was octets.
 pub fn messages_are_handed_in_place()
     ensures { (p : Parameters) (steps : List Step) (number : ℕ) → 1 ≤ number
         → HandsInPlace number p steps (life p steps) }
@@ -79,15 +80,16 @@ pub fn downlink_is_conserved()
 /// its channels, channel after channel in the order in which they came to serve. Of the first
 /// channel that is what came from the initial message on, of each next one from its COMPLETE on,
 /// until its release is acknowledged. What was relayed is what is read from the frames to the
-/// switch, where what came was octets.
+/// switch, where what came was octets. So it is with settings that are allowed.
 pub fn uplink_is_conserved()
     ensures { (p : Parameters) (steps : List Step) (number : ℕ) → AreAllowed p → 1 ≤ number
         → UplinkIsConserved number p steps (life p steps) }
 {}
 
-/// A connection that is open has its serving channel and its target in use, its old channels
-/// releasing, all different, and the links of their stations and of the switch up: so a channel is
-/// one connection's at most.
+/// With settings that are allowed, a connection that is open has its serving channel and its target
+/// in use, its old channels releasing, all different, and the links of their stations up: so a
+/// channel is one connection's at most. A connection is there only while the link of the switch is
+/// up.
 pub fn channels_are_owned()
     ensures channels { (p : Parameters) (steps : List Step) (number : ℕ) → AreAllowed p
         → OwnsOpen (life p steps).next.channels (life p steps).next.links number
@@ -100,20 +102,22 @@ pub fn channels_are_owned()
 /// A channel is in use by a connection exactly where it is the serving channel or the target of the
 /// connection, which is open: so by one at most. One that is releasing was a connection's, which
 /// may be gone. Of a link that is down, or isn't there, and of the switch's, all channels are free.
+/// So it is with settings that are allowed.
 pub fn channels_are_used()
     ensures { (p : Parameters) (steps : List Step) → AreAllowed p
         → AreUsed (life p steps).next }
 {}
 
 /// Each frame that a step puts goes to a link that is there and is up after the step: none to the
-/// link that it breaks.
+/// link that it breaks. So it is with settings that are allowed.
 pub fn frames_go_to_links_that_are_up()
     ensures { (p : Parameters) (steps : List Step) (s : Step) → AreAllowed p
         → PutsOnUpLinks (life p steps).next s }
 {}
 
 /// Each frame that a step puts has 2,048 octets at most, so none is refused; and whoever gets it
-/// reads the message that was put, or it is PONG. The octets of a frame that came are below 256.
+/// reads the message that was put, or it is PONG. The octets of a frame that came are below 256. So
+/// it is with settings that are allowed, where what came was octets.
 pub fn frames_are_read_as_put()
     ensures { (p : Parameters) (steps : List Step) (s : Step) → AreAllowed p
         → AllByRecursion IsOctetStep steps → IsOctetStep s
@@ -122,7 +126,7 @@ pub fn frames_are_read_as_put()
 
 /// A frame concerns one connection at most: that of its channel or its reference, or the next one.
 /// Of any other the connection and its averages stay as they were, no frame is put for it, and its
-/// channels stay as they were, in use or releasing.
+/// channels stay as they were, in use or releasing. So it is with settings that are allowed.
 pub fn others_are_left_alone()
     ensures { (p : Parameters) (steps : List Step) (number source : ℕ) (frame : FrameValue)
         → AreAllowed p → 1 ≤ number
@@ -131,7 +135,7 @@ pub fn others_are_left_alone()
 
 /// What a step puts for a connection on a dedicated channel goes to one that is in use by it at
 /// that moment: one that it used before the step, or activated in it, and didn't release since. So
-/// it isn't another connection's.
+/// it isn't another connection's. So it is with settings that are allowed.
 pub fn messages_keep_to_channels()
     ensures { (p : Parameters) (steps : List Step) (s : Step) (number : ℕ) → AreAllowed p
         → 1 ≤ number → KeepsToChannels number (life p steps).next s }

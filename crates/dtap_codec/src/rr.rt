@@ -445,8 +445,8 @@ fn put_channel(text: &mut Vec<u8>, channel: ChannelDescription) -> Result<(), Me
     Ok(())
 }
 
-/// Law: what is written of a message of radio resource management is a text of it, and is read as
-/// that message.
+/// Law: what is written of a message of radio resource management whose numbers fit their bits is a
+/// text of it, and is read as that message.
 pub fn rr_text_is_read()
     ensures text { (message : RrValue) → RrFits message → IsRr (rr_text message) message }
     ensures read { (message : RrValue) → RrFits message →

@@ -168,7 +168,8 @@ pub fn elements_are_one()
 {}
 
 /// Law: the elements of fields, written one behind the other, are elements that carry these fields,
-/// whatever follows that begins with no identifier of the table.
+/// where each value fits its format and no identifier is there twice, whatever follows that begins
+/// with no identifier of the table.
 pub fn written_fields_are_carried()
     ensures { (table : List Entry) (fields : List Field) (more : List ℕ) →
         AllFit table fields → are_distinct fields ≡ true → Stops table more →

@@ -9,7 +9,7 @@ ghost use Rattle.world_laws.specs.Runs.{AtEvents, OfRuns};
 
 /// Law: a connection that is coming and hasn't asked the switch for its connection yet stays so,
 /// whatever mobiles, stations, links and the switch do. Its mobile requests a channel, or came onto
-/// the serving channel and is lined up there.
+/// the serving channel and is lined up there. So it is with settings that are allowed.
 pub fn others_keep_coming()
     ensures { AtEvents OthersKeepComing }
 {}
@@ -30,7 +30,8 @@ pub fn coming_connections_come()
 
 /// Law: a connection that begins when the controller handles an item is coming. The premises are
 /// four: the mobile that it answers requests a channel, no assignment for it waits for a station,
-/// it has no other connection, and its channel was quiet.
+/// it has no other connection, and its channel was quiet. So it is with settings that are allowed,
+/// where what came was octets.
 pub fn connections_begin_for_their_mobile()
     ensures { OfRuns ConnectionsBeginForTheirMobile }
 {}

@@ -16,32 +16,36 @@ pub fn acknowledgements_agree()
 {}
 
 /// Law: no acknowledgement is on its way of a channel that the controller has as free, unless the
-/// link of its station broke.
+/// link of its station broke. So it is with settings that are allowed, where what came was octets.
 pub fn free_channels_are_silent()
     ensures { OfRuns FreeAreSilent }
 {}
 
 /// Law: nothing comes behind the RF CHANNEL RELEASE ACK of an old channel, and no release ends what
-/// the serving channel or a target brings.
+/// the serving channel or a target brings. So it is with settings that are allowed, where what came
+/// was octets.
 pub fn old_channels_end()
     ensures { OfRuns OldChannelsEnd }
 {}
 
 /// Law: a connection took the ACTIVATION ACKs of its serving channel, once it waits for it no more,
 /// and of the target to which its mobile was commanded. None of their acknowledgements is on its
-/// way, nor due for what waits.
+/// way, nor due for what waits. So it is with settings that are allowed, where what came was
+/// octets.
 pub fn begun_channels_are_taken()
     ensures { OfRuns BegunIsTaken }
 {}
 
 /// Law: the serving channel of a connection, and the target to which its mobile was commanded, are
-/// active at a station whose link is up.
+/// active at a station whose link is up. So it is with settings that are allowed, where what came
+/// was octets.
 pub fn served_channels_are_active()
     ensures { OfRuns ServedAreActive }
 {}
 
 /// Law: the serving channel of a connection that is established, and hasn't asked the switch yet,
-/// is active at a station whose link is up.
+/// is active at a station whose link is up. So it is with settings that are allowed, where what
+/// came was octets.
 pub fn established_channels_are_active()
     ensures { OfRuns EstablishedAreActive }
 {}

@@ -169,8 +169,8 @@ pub fn ended_connections_stay_in_order()
 {}
 
 /// Law: whatever events happened, no message of the flow came to the controller on SAPI 3, none
-/// waits in the inbox there, and none is held there of a connection that is open. So SAPI 0 alone
-/// carries the flow.
+/// waits in the inbox there, and, with settings that are allowed, none is held there of a
+/// connection that is open. So SAPI 0 alone carries the flow.
 pub fn flow_comes_on_sapi_zero()
     ensures { OfRuns FlowIsOnSapiZero }
 {}
@@ -187,7 +187,8 @@ pub fn frames_are_put_as_read()
 /// Law: a connection that is lined up stays so when the controller handles a frame that says an
 /// input to it, while the connection stays open, whatever events happened. The premises are: the
 /// link of the switch is up, the acknowledgements on their way show no other end, and a target is
-/// silent before its COMMAND. That what the row puts is read as it was put is no premise.
+/// silent before its COMMAND. That what the row puts is read as it was put is no premise. So it is
+/// with settings that are allowed, where what came was octets.
 pub fn allowed_frames_keep_line_ups()
     ensures { OfRuns AllowedFramesKeepLineUps }
 {}

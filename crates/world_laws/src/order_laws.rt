@@ -22,12 +22,14 @@ pub fn unanswered_mobiles_ask()
 
 /// Law: whatever events happened before, a connection that begins at an event is in its first
 /// state. The mobile that requested it is as it connected, nothing is on its way on its channel,
-/// and no IMMEDIATE ASSIGNMENT names the mobile yet.
+/// and no IMMEDIATE ASSIGNMENT names the mobile yet. So it is with settings that are allowed, where
+/// what came was octets.
 pub fn connections_begin()
     ensures { AtEvents ConnectionsBegin }
 {}
 
 /// Law: a connection that begins is coming to its mobile, whatever message the mobile begins with.
+/// So it is with settings that are allowed, where what came was octets.
 pub fn connections_begin_coming()
     ensures { AtEvents ConnectionsBeginComing }
 {}
@@ -35,7 +37,8 @@ pub fn connections_begin_coming()
 /// Law: whatever events happened, the serving channel of a connection that begins at an event is
 /// quiet. That of a connection that hasn't asked the switch yet stays quiet at an event. Quiet
 /// means: its activation waits, and it isn't active; or nothing is in its air and no DATA REQUEST
-/// for it waits. So no CHANNEL RELEASE is in the air there.
+/// for it waits. So no CHANNEL RELEASE is in the air there. So it is with settings that are
+/// allowed, where what came was octets.
 pub fn channel_of_a_coming_one_is_quiet_down()
     ensures begins { AtEvents ChannelsBeginQuiet }
     ensures stays { AtEvents ChannelsStayQuiet }
@@ -81,8 +84,9 @@ pub fn octets_come()
 /// in which they serve, come those that the controller holds, and those on their way up in the
 /// inbox and at the station. Last come those of the mobile's link, the one in the air first. Their
 /// places in what the mobile sent begin behind what the switch accepted, or one below, and rise by
-/// 1 or 0, up to the first loss. Where nothing is lost they reach to the last message sent. So it
-/// is with settings that are allowed, where events are of octets.
+/// 1 or 0, up to the first loss, and without the link of a mobile that was released. Where nothing
+/// is lost they reach to the last message sent. So it is with settings that are allowed, where
+/// events are of octets.
 pub fn line_ups_stand()
     ensures stands { OfRuns AllNumbersStand }
     ensures rise { OfRuns AllPlacesRise }

@@ -79,7 +79,8 @@ pub fn stations_are_read()
 /// Law: let each tenure be one mobile's. As long as all that stations take agrees with it, whatever
 /// else happens, no mobile is on another's tenure, and in each tenure one mobile at most sends.
 /// What a station takes agrees where an IMMEDIATE ASSIGNMENT names the mobile of its channel's
-/// present tenure, and a command leads to a tenure of the mobile to which it is handed.
+/// present tenure, and a command leads to a tenure of the mobile to which it is handed. That it
+/// agrees is a law of `world_laws`.
 pub fn mobiles_keep_to_their_tenures()
     ensures seats { (settings : Parameters) (events : List WorldEvent) (owner : TenureValue → ℕ)
         → AllAreBy owner (new_actors settings) events
