@@ -32,8 +32,8 @@ def prose(document):
 
 
 def sentences(document):
-    """Each sentence with the number of the line in which it begins, but those that are drawn from definitions."""
-    text, place = prose(document).partition("<!-- drawn from the definitions")[0], 0
+    """Each sentence with the number of the line in which it begins."""
+    text, place = prose(document), 0
     for end in [*END.finditer(text), None]:
         sentence = text[place:end.start() if end else len(text)]
         if sentence.strip():

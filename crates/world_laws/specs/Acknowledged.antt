@@ -66,8 +66,8 @@ AllAcksTell settings events =
 
 -- ---- which they are
 
--- While the link of the station is up, the acknowledgements due for all that the controller put are
--- those that it took, those on their way up, and those due for what stands in the outbox.
+-- While the link of the station is up, the acknowledgements due for all that the controller put
+-- are those that it took, those on their way up, and those due for what waits in the outbox.
 abbrev pub AcksFlow : Parameters → List Event → Type 0
 AcksFlow settings events =
     (at : Place) → 1 ≤ at.station → at.station ≤ length settings.cells

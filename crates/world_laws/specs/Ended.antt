@@ -1,6 +1,6 @@
 -- SPDX-License-Identifier: MIT OR Apache-2.0
--- A connection that closed or went: what of it can still come to the switch stands in the outbox
--- there.
+-- A connection that closed or was removed: what of it can still come to the switch waits in the
+-- outbox there.
 use Rattle.std.specs.Prelude.{◌≡◌, ℕ, ◌≤◌, List, [], Some}
 use Rattle.std.specs.List.{AllByRecursion}
 use Rattle.world_laws.specs.Prelude.{SWITCH_LINK, Connection, Parameters, Event, SwitchTakes}

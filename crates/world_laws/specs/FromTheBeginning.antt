@@ -7,7 +7,7 @@ use Rattle.world_laws.specs.LineUp.Places.{messages_in}
 use Rattle.world_laws.specs.ComingUp.{coming_up}
 use Rattle.world_laws.specs.ToCome.{AreLayer3}
 
--- Each connection of the controller stands: it is as the table leaves connections.
+-- Each connection of the controller is as the table leaves connections.
 abbrev pub ConnectionsStand : Parameters → List Event → Type 0
 ConnectionsStand settings events =
     (number : ℕ) (s : Connection) → connection_of (world settings events).controller number ≡ Some s

@@ -13,7 +13,7 @@ TenuresAreOwned settings events =
     AreAllowed settings → TookOctets settings events
     → AllAreBy (owner_in (new_actors settings) events) (new_actors settings) events
 
--- a mobile is on a tenure, or told to change to one, only where its channel was activated for it
+-- a mobile is on a tenure, or commanded to one, only where its channel was activated for it
 abbrev pub MobilesSitOnTheirs : Parameters → List Event → Type 0
 MobilesSitOnTheirs settings events =
     AreAllowed settings → TookOctets settings events

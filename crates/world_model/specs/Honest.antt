@@ -1,5 +1,5 @@
 -- SPDX-License-Identifier: MIT OR Apache-2.0
--- Stations are honest: what a station makes of a channel stands in its tenures.
+-- Stations are honest: what a station makes of a channel is in its tenures.
 use Rattle.std.specs.Prelude.{◌≢◌, ℕ, ◌==◌, Bool, false, if◌then◌else◌, List, []}
 use Rattle.std.specs.Prelude.{◌∷◌, ◌++◌}
 use Rattle.std.specs.Prelude.{option_to_list}

@@ -98,10 +98,10 @@ IsPart [] ys = Unit {0}
 IsPart (x ∷ xs) [] = ⊥
 IsPart (x ∷ xs) (y ∷ ys) = ((x ≡ y) × IsPart xs ys) ⊎ IsPart (x ∷ xs) ys
 
--- There are messages, step by step, of which the connection's frames are, and over them, per SAPI,
--- what was handed, then what is held, is what came and wasn't rejected, as long as it is open; and
--- always what was handed is some of what came, in its order. What was handed is what is read from
--- the frames to stations, where what came was octets.
+-- There are messages, step by step, of which the connection's frames are. Over them, per SAPI,
+-- what was handed, then what is held, is what came and wasn't rejected, as long as it is open.
+-- Always what was handed is some of what came, in its order. What was handed is what is read from
+-- the frames to stations, where settings are allowed and what came was octets.
 pub record DownlinkIsConserved (number : ℕ) (p : Parameters) (steps : List Step)
     (life : Turn) : Type 0 where
   pub moments : List Moment

@@ -107,7 +107,7 @@ joined sapi (serving ∷ old) = joined sapi old ++ of_sapi sapi serving
 
 -- ---- the law
 
--- There are messages, step by step, of which the connection's frames are, and while it is open, per
+-- There are messages, step by step, of which the connection's frames are. While it is open, per
 -- SAPI, what was relayed, then what is held, is what came on its tenures, in the order in which
 -- they came to serve. What was relayed is what is read from the frames to the switch, where what
 -- came was octets.

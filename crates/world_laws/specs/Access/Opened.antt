@@ -9,7 +9,7 @@ use Rattle.world_laws.specs.Seated.{IsAlone}
 use Rattle.world_laws.specs.Staying.{AreLinedUp}
 
 -- Whatever happened before: of a connection that lives, no initial message is on its way on its
--- channels after an event either, where nothing came of a target that is new.
+-- channels after an event either, where a new target brought nothing.
 abbrev pub OpenedStayOpened : Parameters → List Event → Event → Type 0
 OpenedStayOpened settings events event =
     (mobile : ℕ) (s next : Connection)

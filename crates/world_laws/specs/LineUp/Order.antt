@@ -6,8 +6,8 @@ use Rattle.world_model.specs.AcceptedList.{accepted_list, progress}
 use Rattle.world_laws.specs.LineUp.Places.{LineUp, flow, parts_of}
 
 -- The switch accepted the first messages that the mobile's upper layers sent, once and in order,
--- and judged no gap. What may still come goes on there: its first message of the flow is the next
--- one sent, or the last accepted once more, and so on, by steps of 1 or 0.
+-- and judged no gap. What may still come continues there: its first message of the flow is the
+-- next one sent, or the last accepted once more, and so on, by steps of 1 or 0.
 pub record IsInOrder (m : ℕ) (sent taken coming : List (List ℕ)) : Type 0 where
   pub count : ℕ
   pub accepted : accepted_list m taken ≡ take count sent
