@@ -237,7 +237,7 @@ class DataLink:
         """RR, RNR or REJ (clauses 5.5.3 to 5.5.5)."""
         if self.state is not State.ESTABLISHED:
             return
-        if frame.command_bit and final:  # a command of the network with P: it asks how things stand
+        if frame.command_bit and final:  # a command of the network with P: it asks for the state
             self._response(RR | POLL_FINAL | self.receive_number << 5)
         self._acknowledged(frame.control >> 5)
         if frame.control & 0x0F == REJ and self.in_flight:

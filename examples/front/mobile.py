@@ -20,7 +20,7 @@ the last one is done. All but wait and pause are done at once.
     hang-up                                    ends the call
     short-message NUMBER TEXT                  sends a short message; one that comes is acknowledged by itself
     levels SERVING [ARFCN[/BSIC]=LEVEL ..]     what MEASUREMENT REPORTs say from now on: RXLEV, 0 (-110 dBm) to 63. A
-                                               neighbour has to stand in the cell's list (SYSTEM INFORMATION 5) and its
+                                               neighbour has to be in the cell's list (SYSTEM INFORMATION 5) and its
                                                BSIC to be known (the virtual radio doesn't carry it: say it once)
     forget                                     at the next change of channel the last numbered message of SAPI 0 counts
                                                as not acknowledged: it is sent again on the new channel, its number kept

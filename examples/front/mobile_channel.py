@@ -82,7 +82,7 @@ class DedicatedChannel:
                 and frame.channel_type & ~gsmtap.SACCH_FLAG == self.channel_type and frame.sub_slot == self.sub_slot)
 
     def take(self, frame: gsmtap.Frame) -> None:
-        """Takes a block: on the SACCH two octets of layer 1 stand before the frame (TS 44.004 clause 7)."""
+        """Takes a block: on the SACCH two octets of layer 1 are before the frame (TS 44.004 clause 7)."""
         self.frame_number = frame.frame_number
         if len(frame.payload) != gsmtap.BLOCK_LENGTH:
             return  # speech

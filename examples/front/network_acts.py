@@ -182,7 +182,7 @@ class Acts:
         return len(sent) - len(self.caller.saying("<- START DTMF", "<- STOP DTMF"))
 
     def play(self) -> str:
-        """Plays all acts with bsc; gives what came of the last one."""
+        """Plays all acts with bsc; gives the outcome of the last one."""
         print("==== bsc between the stations and the switch", flush=True)
         self.begin()
         self.location_update()
@@ -199,7 +199,7 @@ class Acts:
         return line
 
     def play_plainly(self) -> str:
-        """Plays the last act alone, with a relay that passes on what comes; gives what came of it."""
+        """Plays the last act alone, with a relay that passes on what comes; gives its outcome."""
         print("==== in bsc's place, a relay that passes on what comes", flush=True)
         self.begin()
         self.location_update()
