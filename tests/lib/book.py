@@ -151,7 +151,7 @@ def link(text, path):
 
 def proofs_of(law):
     """Links to the lemmas that are the law, or else to the answers to its goals."""
-    if found := own_lemmas(law.crate, law.name):
+    if found := dict.fromkeys(own_lemmas(law.crate, law.name)):
         return [link(f"`{name}`", f"crates/{crate}/proofs/{place.replace('.', '/')}.antt") for crate, place, name in found]
     module = answers(law)
     return [link("its answers", f"crates/{law.crate}/proofs/{module.replace('.', '/')}.antt")] if module else []

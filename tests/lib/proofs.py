@@ -7,6 +7,7 @@ from lib.common import TOP
 
 NAME = re.compile(r"[^\W\d][\w'-]*")
 USE = re.compile(r"^(?:pub )?use Rattle\.(\w+)\.proofs\.([\w.]+?)(?:\.\{([^}]*)\}| as (\w+))$", re.MULTILINE)
+GIVEN_OUT = re.compile(r"^pub use Rattle\.(\w+)\.proofs\.([\w.]+)$", re.MULTILINE)
 HEAD = re.compile(r"^( ?(?: )?)(?:abbrev |unfoldable )?(?:pub )?([^\W\d][\w'-]*) (?:: |.*= )")
 
 
@@ -53,11 +54,17 @@ def proof_file(path):
 
 
 @functools.cache
+def given_out(crate):
+    """The files of crates below that the proofs of a crate give out whole, by their names there."""
+    return {module.rpartition(".")[2]: (other, module) for other, module in GIVEN_OUT.findall(proof_path(crate, "Lib").read_text())}
+
+
+@functools.cache
 def lemma_of(crate, module, name):
     """The crate, module and name of the lemma that a file gives out under this name, itself or of another file."""
     path = proof_path(crate, module)
     if not path.is_file():
-        return None
+        return lemma_of(*given_out(crate)[module], name) if module in given_out(crate) else None
     file = proof_file(path)
     if name in file.mentions:
         return crate, module, name
