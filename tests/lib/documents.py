@@ -48,11 +48,11 @@ def links(document):
             yield number, target
 
 
+@functools.cache
 def anchors(document):
     """The anchors of a document's headings, as the host of a repository makes them."""
-    for line in prose(document).splitlines():
-        if line.startswith("#"):
-            yield re.sub(r"[^\w\- ]", "", line.lstrip("# ").lower()).replace(" ", "-")
+    headings = (line.lstrip("# ").lower() for line in prose(document).splitlines() if line.startswith("#"))
+    return [re.sub(r"[^\w\- ]", "", heading).replace(" ", "-") for heading in headings]
 
 
 def names(document):
