@@ -57,6 +57,7 @@ pub record IsCarried (message : Bssap) : Type 0 where
   pub written : bssap_write_fault message ≡ None
   pub short : length (bssap_text message) ≤ LENGTH_LIMIT
 
+-- nothing refuses to write the message
 abbrev pub IsWritable : Message → Type 0
 IsWritable (Station station message) = rsl_write_fault message ≡ None
 IsWritable (Request message) = IsCarried message

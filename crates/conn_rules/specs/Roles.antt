@@ -85,6 +85,7 @@ abbrev pub still_draining : List Drain → List Drain
 still_draining [] = []
 still_draining (d ∷ ds) = if d.is_done then still_draining ds else d ∷ ds
 
+-- the roles after it
 abbrev pub after_step : RoleStep → Roles → Roles
 after_step stays roles = roles
 after_step commands roles = record roles { target = commanded roles.target }
@@ -119,6 +120,7 @@ abbrev pub leaves_at : Option ℕ → RoleStep
 leaves_at (Some place) = leaves place
 leaves_at None = stays
 
+-- the step that an input brings to the roles
 abbrev pub step_by : Input → Roles → RoleStep
 step_by (inputs.ActivationAck at) roles = if awaits_at at roles.target then commands else stays
 step_by (inputs.ActivationNack at) roles = if awaits_at at roles.target then goes_back else stays

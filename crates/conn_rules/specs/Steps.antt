@@ -54,6 +54,7 @@ abbrev pub end_outs : State → Channel → ℕ → List Message
 end_outs state serving cause =
     channel_release serving cause ∷ rf_channel_release serving ∷ target_release state
 
+-- the mobile is dismissed, channels are released, and the connection is emptied in its last state
 abbrev pub ending : State → Connection → ℕ → State → Row
 ending state s cause last = row (end_outs state s.serving cause) (emptied last s)
 
@@ -97,6 +98,7 @@ after_begin reference change (Some channel) s =
     enter (Live reference (Preparing (record { change = change; channel = channel }))) s
 after_begin reference change None s = s
 
+-- a change begins on the channel that is offered; without an offer it can't be had
 abbrev pub begin : ℕ → Change → Option Channel → Connection → Row
 begin reference change offer s =
     row (begin_outs reference change offer) (after_begin reference change offer s)
@@ -111,6 +113,7 @@ after_waiting true reference offer s =
     after_begin reference Assignment offer (record s { waits = false })
 after_waiting false reference offer s = s
 
+-- the request that waits begins, where it may by now
 abbrev pub begin_waiting : Stage → ℕ → Option Channel → Connection → Row
 begin_waiting stage reference offer s =
     row (waiting_outs (s.waits && may_begin stage s.draining) reference offer)
@@ -122,6 +125,7 @@ abbrev pub resting_stage : List Drain → Stage
 resting_stage [] = Active
 resting_stage (d ∷ ds) = Draining
 
+-- no change is under way: Active, or Draining while an old channel drains
 abbrev pub resting : ℕ → Connection → Connection
 resting reference s = enter (Live reference (resting_stage s.draining)) s
 

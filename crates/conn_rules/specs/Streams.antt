@@ -59,6 +59,7 @@ relayed_by sapi (Data reference (Transfer dlci message)) =
 relayed_by Zero (Request (Management (CompleteLayer3Information cell initial))) = initial ∷ []
 relayed_by sapi _ = []
 
+-- the mobile's messages of a SAPI that these messages relay to the switch
 abbrev pub relayed : Sapi → List Message → List (List ℕ)
 relayed sapi outs = flat_map (relayed_by sapi) outs
 
@@ -99,6 +100,7 @@ abbrev pub of_target : Future → State → List (List ℕ)
 of_target future (Live reference (Changing target)) = on_channel future target.channel
 of_target future _ = []
 
+-- what is held and what may still come, tenure by tenure; the target's from the COMMAND on
 abbrev pub still_to_relay : Sapi → Future → Connection → List (List ℕ)
 still_to_relay sapi future s =
     still_of sapi future s.serving s.draining s.up.tenures ++ of_target future s.state

@@ -226,6 +226,7 @@ on_what true source (whats.Frame frame) c = on_word source (word_of source frame
 on_what true source whats.Down c = on_break source c
 on_what false source what c = ignoring c
 
+-- what an item puts, and what it makes of the controller
 unfoldable pub take : Item → Controller → Turn
 take item c = on_what (is_up c item.source) item.source item.what c
 
@@ -276,5 +277,6 @@ abbrev pub step : Controller → Step → Turn
 step c (Take item) = take item c
 step c (Tick ms) = tick ms c
 
+-- all that these steps put, one after the other, and what they make of a new controller
 unfoldable pub life : Parameters → List Step → Turn
 life settings steps = each step (new_controller settings) steps

@@ -26,6 +26,7 @@ pub record IsSum (reports : List Report) (sum : RunningSum) : Type 0 where
   pub total : sum.total ≡ total_over sum.of.measure sum.of.window reports
   pub octets : All (λ r. value_of sum.of.measure r ≤ 255) reports
 
+-- each sum that is kept is that of its value over its window
 pub record AreSums (reports : List Report) (sums : Sums) : Type 0 where
   pub serving_level : IsSum reports sums.serving_level
   pub serving_quality : IsSum reports sums.serving_quality

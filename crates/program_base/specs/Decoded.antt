@@ -18,6 +18,7 @@ use Rattle.program_base.specs.Output.{AppendsBeginning}
 abbrev pub line_of : ℕ → List ℕ → List ℕ
 line_of stream name = encode_lower (stream ∷ []) ++ codes " " ++ name ++ codes "\n"
 
+-- that of a frame that was read
 abbrev pub frame_line : Frame → List ℕ
 frame_line frame = line_of frame.stream (name_of frame)
 

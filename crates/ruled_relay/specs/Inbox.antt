@@ -61,6 +61,7 @@ IsJoined desk passes at joined =
     × (joined ≡ knowing e (left_over p.put e.seen.taken))
     × ((rest : List What) × (p.put ≡ e.seen.taken ++ rest) × (length rest ≤ p.capacity))
 
+-- the desk and its passes came together: of each source what is left
 abbrev pub AreJoined : Row → List PassView → Row → Type 0
 AreJoined desk passes left = (length left ≡ length desk) × EachAt left (IsJoined desk passes)
 

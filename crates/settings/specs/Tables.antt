@@ -102,6 +102,7 @@ abbrev pub cells_of : Items → List CellParameters
 cells_of no_items = []
 cells_of (item d ds) = cell_of (members_in (Some d)) ∷ cells_of ds
 
+-- the settings of a table without a fault, with defaults
 abbrev pub parameters_of : Members → Parameters
 parameters_of ms = record {
   network = network_of (members_in (at_key keys.Network ms));

@@ -25,6 +25,7 @@ step_at w Handle = first_taken w.inbox
 step_at w (Tick ms) = steps.Tick ms ∷ []
 step_at w _ = []
 
+-- all that the controller took and all time that passed for it, in order
 abbrev pub all_steps : Actors → List Event → List Step
 all_steps w [] = []
 all_steps w (event ∷ events) = step_at w event ++ all_steps (actors_after w event) events

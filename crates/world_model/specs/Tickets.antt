@@ -66,6 +66,7 @@ IsBy owner w (BaseTakes station) =
     is_station_up w station ≡ true → TakesFirstBy owner w station (outbox_of w station)
 IsBy owner w _ = Unit {0}
 
+-- all that stations take at these events agrees with an ownership of tenures
 abbrev pub AllAreBy : (Tenure → ℕ) → Actors → List Event → Type 0
 AllAreBy owner w [] = Unit {0}
 AllAreBy owner w (event ∷ events) =
@@ -91,6 +92,7 @@ sender_at w (AirUp number sapi) =
     if is_some (event_after w (AirUp number sapi)) then sender_of (mobile_of w number) else []
 sender_at w _ = []
 
+-- who sends in which tenure, in order
 abbrev pub senders : Actors → List Event → List Sender
 senders w [] = []
 senders w (event ∷ events) = sender_at w event ++ senders (actors_after w event) events

@@ -82,6 +82,7 @@ with_moment number sapi a m = record {
   handed = a.handed ++ handed sapi m.messages;
 }
 
+-- what the switch sent and what was handed, over a history
 abbrev pub switched : ℕ → Sapi → List Moment → Switched
 switched number sapi moments = fold (with_moment number sapi) nothing_switched moments
 

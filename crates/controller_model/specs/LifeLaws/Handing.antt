@@ -88,6 +88,7 @@ abbrev pub with_change : Bool → Moment → Bool
 with_change changes m =
     on_channel begins_by (word_in m.taken) m.messages || (changes && not (ends_change m))
 
+-- whether the mobile was commanded to another channel, hasn't answered and wasn't cleared
 abbrev pub changes_after : List Moment → Bool
 changes_after moments = fold with_change false moments
 

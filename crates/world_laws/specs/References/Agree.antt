@@ -164,6 +164,7 @@ pub record IsRight (out : Out) : Type 0 where
       → carried_for out.conn out ≡ carried (reads out)
   pub beside : out.conn ≡ 0 → reads out ≡ nothing
 
+-- the references agree for each number, and what waits for the switch is right
 pub record NamesAgree (w : Actors) : Type 0 where
   pub each : (number : ℕ) → 1 ≤ number → Agrees w number
   pub right : AllByRecursion (λ entry. IsRight entry.out) (outbox_of w SWITCH_LINK)
