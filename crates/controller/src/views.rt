@@ -1,9 +1,14 @@
 // SPDX-License-Identifier: MIT OR Apache-2.0
-ghost use Rattle.std.specs.Prelude.{◌≡◌, IfOk, filter};
+ghost use Rattle.std.specs.Prelude.{◌≡◌, IfOk, filter, length, option_map, slice_get};
+ghost use Rattle.std.specs.Option.{option_and_then};
 ghost use Rattle.conn_rules.specs.Streams.{is_dtap as dtap};
+ghost use Rattle.conn_rules.specs.Timers.{after_pass};
+ghost use Rattle.controller_model.specs.Life.{expiry};
 ghost use Rattle.controller_model.specs.Views as words;
 
 use crate::controller::Controller;
+use crate::time::expiry_after;
+use conn_fsm::{Conn, Input};
 use controller_parts::is_dtap;
 use dtap_codec::Sapi;
 use octets::{Memory, Octets};
@@ -55,6 +60,37 @@ impl Controller {
         match self.connections.get(conn) {
             Some(entry) => entry.connection().held_up(sapi),
             None => Ok(Vec::new(self.alloc)),
+        }
+    }
+
+    /// How many connections there are.
+    pub fn connection_count(&self) -> usize
+        ensures { result ≡ length self.now.entries }
+    {
+        self.connections.len()
+    }
+
+    /// The connection at this place, by rising number, from 0.
+    pub fn connection_at(&self, place: usize) -> Option<&Conn>
+        ensures { option_map (λ c. c.now) result
+            ≡ option_map (λ e. e.connection) (slice_get self.now.entries place) }
+    {
+        match self.connections.at(place) {
+            Some(entry) => Some(entry.connection()),
+            None => None,
+        }
+    }
+
+    /// What expires for the connection at this place once so many milliseconds more have passed:
+    /// the state's timer, which comes first, or the drain time.
+    pub fn expiry_at(&self, place: usize, ms: u32) -> Option<Input>
+        ensures { result ≡ option_and_then
+            (λ e. expiry self.now.settings.timers (after_pass ms e.connection))
+            (slice_get self.now.entries place) }
+    {
+        match self.connections.at(place) {
+            Some(entry) => expiry_after(&self.settings, entry.connection(), ms),
+            None => None,
         }
     }
 }

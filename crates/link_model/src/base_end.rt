@@ -1,7 +1,7 @@
 // SPDX-License-Identifier: MIT OR Apache-2.0
 ghost use Rattle.std.specs.Prelude.{◌≡◌, ◌≤◌, true, None, [], OnOk, OnErr, option_map};
 ghost use Rattle.std.specs.Prelude.{filter, not};
-ghost use Rattle.std.specs.Prelude.{◌==◌};
+ghost use Rattle.std.specs.Prelude.{◌==◌, length, slice_get};
 ghost use Rattle.octets.specs.Refusal.{RefusesBy};
 ghost use Rattle.link_model.specs.Message.{link_on};
 ghost use Rattle.link_model.specs.Base.{is_active, new_base, after_activate, refusal_of_activate};
@@ -157,6 +157,20 @@ impl BaseEnd {
         ensures after { self.new ≡ after_next self.old }
     {
         self.messages.pop_front()
+    }
+
+    /// How many messages it made and didn't give out yet.
+    pub fn made_count(&self) -> usize
+        ensures { result ≡ length self.now.messages }
+    {
+        self.messages.len()
+    }
+
+    /// The one at this place of them, from 0.
+    pub fn made_at(&self, place: usize) -> Option<&Rsl>
+        ensures { option_map (λ m. m.now) result ≡ slice_get self.now.messages place }
+    {
+        self.messages.get(place)
     }
 
     /// The link to the controller broke: what was made and not given out is dropped.

@@ -1,9 +1,10 @@
 -- SPDX-License-Identifier: MIT OR Apache-2.0
 -- What the switch end does with a message, as functions of the connections that it has, the first
 -- one first.
-use Rattle.std.specs.Prelude.{ℕ, ◌+◌, ◌-◌, nat_le, ◌==◌, if◌then◌else◌, List}
+use Rattle.std.specs.Prelude.{ℕ, ◌+◌, ◌-◌, nat_le, ◌==◌, Bool, if◌then◌else◌, List}
 use Rattle.std.specs.Prelude.{[], ◌∷◌, ◌++◌, length}
 use Rattle.std.specs.Prelude.{slice_get, slice_set, Option, Some, None, option_map, option_to_list}
+use Rattle.std.specs.Option.{is_none}
 use Rattle.std.specs.Result.{result_ok}
 use Rattle.bssmap_codec.specs.declared.bssap.Bssap.{Bssap}
 use Rattle.bssmap_codec.specs.declared.bssap.Bssap.TheVariants.{Management, Transfer}
@@ -17,7 +18,7 @@ use Rattle.bssmap_codec.specs.declared.sccp.Sccp.TheVariants.{ConnectionRefused,
 use Rattle.bssmap_codec.specs.declared.sccp.Sccp.TheVariants.{DataForm1}
 use Rattle.bssmap_codec.specs.BssapReading.{bssap_reading, cause_of, channel_of}
 use Rattle.bssmap_codec.specs.BssapText.{bssap_text, bssap_write_fault}
-use Rattle.nsd_filter.specs.AcceptedList.{accepted_list, not_of_the_flow}
+use Rattle.nsd_filter.specs.AcceptedList.{accepted_list, not_of_the_flow, progress}
 use Rattle.dtap_codec.specs.declared.sapi.Sapi.{Sapi}
 use Rattle.dtap_codec.specs.declared.sapi.Sapi.TheVariants.{Zero, Three}
 use Rattle.msc_end.specs.declared.connection.Connection.{Connection}
@@ -99,6 +100,12 @@ accepted_on switch n =
 abbrev pub unnumbered_on : SwitchState → ℕ → Option (List (List ℕ))
 unnumbered_on switch n =
     option_map (λ c. not_of_the_flow c.reception.taken) (connection_in switch n)
+
+-- whether a gap was found in its flow
+abbrev pub has_gap_on : SwitchState → ℕ → Option Bool
+has_gap_on switch n =
+    option_map (λ c. is_none (progress c.reception.modulus c.reception.taken))
+    (connection_in switch n)
 
 -- the initial message that a message carries
 abbrev pub initial_message_of : Option Bssap → List (List ℕ)

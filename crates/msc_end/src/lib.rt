@@ -6,6 +6,7 @@
 pub use connection::{Connection, Stage};
 pub use fault::MscFault;
 pub use msc::MscEnd;
+pub use parameters::{CONNECTION_LIMIT, REFERENCE_BASE};
 
 mod bssap_data;
 mod connection;

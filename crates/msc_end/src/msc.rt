@@ -13,6 +13,7 @@ ghost use Rattle.msc_end.specs.Switch.{after, after_clear, assignment_request, c
 ghost use Rattle.msc_end.specs.Switch.{replies, reply_count, connection_in, accepted_on, taken_on};
 ghost use Rattle.msc_end.specs.Switch.{unnumbered_on, data_form as data_form_of, data_forms_on};
 ghost use Rattle.msc_end.specs.Switch.{dlci_for, initial_message_of, initial_messages};
+ghost use Rattle.msc_end.specs.Switch.{has_gap_on};
 
 use crate::bssap_data::{data_form, read_data};
 use crate::parameters::{
@@ -283,6 +284,24 @@ impl MscEnd {
             Some(connection) => Some(connection.reception.unnumbered()),
             None => None,
         }
+    }
+
+    /// Whether a gap was found in the flow of a connection; none where there is no connection of
+    /// that number.
+    pub fn has_gap(&self, conn: u32) -> Option<bool>
+        ensures { result ≡ has_gap_on self.now conn }
+    {
+        match self.connection(conn) {
+            Some(connection) => Some(connection.reception.has_gap()),
+            None => None,
+        }
+    }
+
+    /// How many connections there are, those that ended among them.
+    pub fn connection_count(&self) -> usize
+        ensures { result ≡ length self.now.connections }
+    {
+        self.connections.len()
     }
 }
 

@@ -3,7 +3,9 @@ ghost use Rattle.std.specs.Prelude.{◌≡◌, [], ◌∷◌, ◌++◌, ◌<◌,
 ghost use Rattle.std.specs.Prelude.{None, vec_len};
 ghost use Rattle.std.specs.Prelude.{vec_capacity};
 ghost use Rattle.dtap_codec.specs.Number.{count_of, number_in};
+ghost use Rattle.std.specs.Option.{is_none};
 ghost use Rattle.nsd_filter.specs.AcceptedList.{accepted_list, delivery_by, not_of_the_flow};
+ghost use Rattle.nsd_filter.specs.AcceptedList.{progress};
 ghost use Rattle.nsd_filter.specs.Reception.{with_taken};
 
 use crate::{Filter, Verdict};
@@ -114,6 +116,13 @@ impl Reception {
         ensures { result.now ≡ not_of_the_flow self.now.taken }
     {
         self.unnumbered.as_slice()
+    }
+
+    /// Whether a gap was found in the flow, after which nothing more of it is accepted.
+    pub fn has_gap(&self) -> bool
+        ensures { result ≡ is_none (progress self.now.modulus self.now.taken) }
+    {
+        self.filter.is_broken()
     }
 }
 

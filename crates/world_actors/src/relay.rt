@@ -1,10 +1,12 @@
 // SPDX-License-Identifier: MIT OR Apache-2.0
 ghost use Rattle.std.specs.Prelude.{◌≡◌, ◌+◌, [], IfOk, OnOk, None, drop, length};
-ghost use Rattle.std.specs.Prelude.{option_map};
+ghost use Rattle.std.specs.Prelude.{option_map, slice_get};
+ghost use Rattle.std.specs.Option.{option_and_then};
 ghost use Rattle.std.specs.Prelude.{replicate};
 ghost use Rattle.bssmap_codec.specs.SccpText.{sccp_write_fault};
+ghost use Rattle.conn_rules.specs.Timers.{after_pass};
 ghost use Rattle.controller_model.specs.Controller.{new_controller};
-ghost use Rattle.ruled_relay.specs.declared.item.What.TheVariants as whats;
+ghost use Rattle.controller_model.specs.Life.{expiry};
 ghost use Rattle.rsl_codec.specs.RslText.{rsl_write_fault};
 ghost use Rattle.world_model.specs.Lists.{behind_first, first_in};
 ghost use Rattle.world_model.specs.Relay.{station_item, switch_item};
@@ -12,12 +14,12 @@ ghost use Rattle.world_model.specs.World.{new_link};
 ghost use Rattle.world_actors.specs.Links.{is_up_in, outbox_in, taken_of};
 ghost use Rattle.world_actors.specs.Relay.{breaking, handling, ticking, with_item_in};
 
+use crate::items::{station_item as item_of_station, switch_item as item_of_switch};
 use crate::links::Links;
-use bssmap_codec::{Sccp, write_sccp};
-use conn_messages::SWITCH_LINK;
+use bssmap_codec::Sccp;
+use conn_fsm::{Conn, Input};
 use controller::{Controller, Outputs};
-use ipa_framing::{Frame, RSL_STREAM, SCCP_STREAM};
-use octets::{Memory, Octets};
+use octets::Memory;
 use rsl_codec::Rsl;
 use ruled_relay::{Item, What};
 use settings::Settings;
@@ -135,6 +137,30 @@ impl Relay {
         self.inbox.get(place)
     }
 
+    /// How many connections the controller has.
+    pub fn connection_count(&self) -> usize
+        ensures { result ≡ length self.now.controller.entries }
+    {
+        self.controller.connection_count()
+    }
+
+    /// The controller's connection at this place, by rising number, from 0.
+    pub fn connection_at(&self, place: usize) -> Option<&Conn>
+        ensures { option_map (λ c. c.now) result
+            ≡ option_map (λ e. e.connection) (slice_get self.now.controller.entries place) }
+    {
+        self.controller.connection_at(place)
+    }
+
+    /// What expires for the connection at this place once so many milliseconds more have passed.
+    pub fn expiry_at(&self, place: usize, ms: u32) -> Option<Input>
+        ensures { result ≡ option_and_then
+            (λ e. expiry self.now.controller.settings.timers (after_pass ms e.connection))
+            (slice_get self.now.controller.entries place) }
+    {
+        self.controller.expiry_at(place, ms)
+    }
+
     /// Takes the first entry of an outbox.
     pub fn take_entry(&mut self, link: u16) -> Option<OutboxEntry>
         ensures entry { result ≡ first_in (outbox_in self.old.links link) }
@@ -149,9 +175,7 @@ impl Relay {
         ensures { OnOk result
             (self.new ≡ with_item_in (station_item station message.now) self.old) }
     {
-        let mut body = Vec::new(self.alloc);
-        message.write(self.alloc, &mut body).map_err(|_| Memory)?;
-        self.push_frame(station, RSL_STREAM, Octets::new(body))
+        self.push(item_of_station(self.alloc, station, message)?)
     }
 
     /// A message that the switch gives out goes to the inbox's end.
@@ -159,21 +183,7 @@ impl Relay {
         requires { sccp_write_fault message.now ≡ None }
         ensures { OnOk result (self.new ≡ with_item_in (switch_item message.now) self.old) }
     {
-        let mut body = Vec::new(self.alloc);
-        write_sccp(self.alloc, message, &mut body).map_err(|_| Memory)?;
-        self.push_frame(SWITCH_LINK, SCCP_STREAM, Octets::new(body))
-    }
-
-    fn push_frame(&mut self, source: u16, stream: u8, body: Octets) -> Result<(), Memory>
-        ensures { OnOk result (self.new ≡ with_item_in (record {
-          source = source;
-          what = whats.Frame (record { stream = stream; body = body });
-        }) self.old) }
-    {
-        self.push(Item {
-            source,
-            what: What::Frame(Frame { stream, body }),
-        })
+        self.push(item_of_switch(self.alloc, message)?)
     }
 
     fn push(&mut self, item: Item) -> Result<(), Memory>

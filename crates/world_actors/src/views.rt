@@ -1,5 +1,6 @@
 // SPDX-License-Identifier: MIT OR Apache-2.0
-ghost use Rattle.std.specs.Prelude.{◌≡◌, option_map};
+ghost use Rattle.std.specs.Prelude.{◌≡◌, length, option_map};
+ghost use Rattle.msc_end.specs.Switch.{has_gap_on};
 ghost use Rattle.world_model.specs.Views.{accepted, received, sent, taken, unnumbered};
 ghost use Rattle.world_model.specs.World.{mobile_of};
 
@@ -67,5 +68,19 @@ impl Network {
         ensures { option_map (λ list. list.now) result ≡ unnumbered self.now connection }
     {
         self.switch.unnumbered(connection)
+    }
+
+    /// Whether the switch found a gap in the flow of a connection.
+    pub fn has_gap(&self, connection: u32) -> Option<bool>
+        ensures { result ≡ has_gap_on self.now.switch connection }
+    {
+        self.switch.has_gap(connection)
+    }
+
+    /// How many connections the switch has, those that ended among them.
+    pub fn switch_connections(&self) -> usize
+        ensures { result ≡ length self.now.switch.connections }
+    {
+        self.switch.connection_count()
     }
 }

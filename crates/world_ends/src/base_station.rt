@@ -1,5 +1,6 @@
 // SPDX-License-Identifier: MIT OR Apache-2.0
-ghost use Rattle.std.specs.Prelude.{◌≡◌, None, true, OnOk, IfOk, IfSome, replicate};
+ghost use Rattle.std.specs.Prelude.{◌≡◌, None, true, OnOk, IfOk, IfSome, replicate, length};
+ghost use Rattle.std.specs.Prelude.{option_map, slice_get};
 ghost use Rattle.controller_model.specs.declared.limits.TheConstants.{CHANNEL_NUMBERS};
 ghost use Rattle.link_model.specs.Base.{after_establish, is_active, is_told, first_message};
 ghost use Rattle.world_model.specs.World.{new_spot, new_station};
@@ -113,6 +114,22 @@ impl BaseStation {
         ensures after { self.new ≡ given_on self.old }
     {
         self.base.next()
+    }
+
+    /// How many messages it made and didn't give out yet.
+    pub(crate) fn made_count(&self) -> usize
+        ensures { result ≡ length self.now.base.messages }
+    {
+        self.base.made_count()
+    }
+
+    /// The one at this place of them, from 0. It can be written.
+    pub(crate) fn made_at(&self, place: usize) -> Option<&Rsl>
+        ensures message { option_map (λ m. m.now) result
+            ≡ slice_get self.now.base.messages place }
+        ensures written { IfSome (option_map (λ m. m.now) result) IsWritten }
+    {
+        self.base.made_at(place)
     }
 }
 

@@ -1,6 +1,6 @@
 // SPDX-License-Identifier: MIT OR Apache-2.0
 ghost use Rattle.std.specs.Prelude.{◌≡◌, ◌≢◌, ◌-◌, length, Some, true, OnOk, IfOk};
-ghost use Rattle.std.specs.Prelude.{IfSome};
+ghost use Rattle.std.specs.Prelude.{IfSome, option_map, slice_get};
 ghost use Rattle.dtap_codec.specs.declared.report.TheConstants.{REPORT_LENGTH};
 ghost use Rattle.link_model.specs.Base.{first_message, is_told};
 ghost use Rattle.rsl_codec.specs.Rsl.{IsL3};
@@ -204,6 +204,28 @@ impl Stations {
     {
         match self.stations.get_mut(place_of(station)) {
             Some(station) => station.next(),
+            None => None,
+        }
+    }
+
+    /// How many messages the station made and didn't give out yet.
+    pub fn made_count(&self, station: u16) -> usize
+        ensures { result ≡ length (station_in self.now station).base.messages }
+    {
+        match self.stations.get(place_of(station)) {
+            Some(station) => station.made_count(),
+            None => 0,
+        }
+    }
+
+    /// The one at this place of them, from 0. It can be written.
+    pub fn made_at(&self, station: u16, place: usize) -> Option<&Rsl>
+        ensures message { option_map (λ m. m.now) result
+            ≡ slice_get (station_in self.now station).base.messages place }
+        ensures written { IfSome (option_map (λ m. m.now) result) IsWritten }
+    {
+        match self.stations.get(place_of(station)) {
+            Some(station) => station.made_at(place),
             None => None,
         }
     }

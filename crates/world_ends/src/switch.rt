@@ -1,12 +1,12 @@
 // SPDX-License-Identifier: MIT OR Apache-2.0
 ghost use Rattle.std.specs.Prelude.{◌≡◌, ◌≢◌, ◌≤◌, ◌++◌, ◌∷◌, []};
 ghost use Rattle.std.specs.Prelude.{false, length};
-ghost use Rattle.std.specs.Prelude.{IsSome, IfOk, IfSome, OnOk, OnErr, option_map};
+ghost use Rattle.std.specs.Prelude.{IsSome, IfOk, IfSome, OnOk, OnErr, option_map, slice_get};
 ghost use Rattle.std.specs.List.{AllByRecursion};
 ghost use Rattle.dtap_codec.specs.Number.{count_of};
 ghost use Rattle.ipa_framing.specs.declared.streams.TheConstants.{SCCP_STREAM};
 ghost use Rattle.msc_end.specs.declared.fault.MscFault.TheVariants.{Memory as OutOfMemory};
-ghost use Rattle.msc_end.specs.Switch.{connection_of, replies};
+ghost use Rattle.msc_end.specs.Switch.{connection_of, has_gap_on, replies};
 ghost use Rattle.nsd_filter.specs.AcceptedList.{accepted_list, not_of_the_flow};
 ghost use Rattle.octets.specs.declared.limits.TheConstants.{MESSAGE_LIMIT};
 ghost use Rattle.world_model.specs.Lists.{behind_first, first_in};
@@ -192,6 +192,35 @@ impl Switch {
             (connection_of self.now.switch.connections connection) }
     {
         self.end.unnumbered(connection)
+    }
+
+    /// Whether a gap was found in the flow of a connection; none where there is no such connection.
+    pub fn has_gap(&self, connection: u32) -> Option<bool>
+        ensures { result ≡ has_gap_on self.now.switch connection }
+    {
+        self.end.has_gap(connection)
+    }
+
+    /// How many connections there are, those that ended among them.
+    pub fn connection_count(&self) -> usize
+        ensures { result ≡ length self.now.switch.connections }
+    {
+        self.end.connection_count()
+    }
+
+    /// How many messages it made and didn't give out yet.
+    pub fn made_count(&self) -> usize
+        ensures { result ≡ length self.now.made }
+    {
+        self.made.len()
+    }
+
+    /// The one at this place of them, from 0. It can be written.
+    pub fn made_at(&self, place: usize) -> Option<&Sccp>
+        ensures message { option_map (λ m. m.now) result ≡ slice_get self.now.made place }
+        ensures written { IfSome (option_map (λ m. m.now) result) IsWritten }
+    {
+        self.made.get(place)
     }
 }
 

@@ -29,6 +29,12 @@ made_item w source =
     if source == SWITCH_LINK then map switch_item (first_of w.switch_made)
     else map (station_item source) (option_to_list (first_message (base_of w source)))
 
+-- all of them, in order
+abbrev pub made_items : Actors → ℕ → List Item
+made_items w source =
+    if source == SWITCH_LINK then map switch_item w.switch_made
+    else map (station_item source) (base_of w source).messages
+
 -- what an event puts there: a made item, or the end of a link that breaks
 abbrev pub pushed : Actors → Event → List Item
 pushed w (BasePush source) = made_item w source
