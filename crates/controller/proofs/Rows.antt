@@ -10,14 +10,14 @@ use Rattle.conn_messages.specs.declared.channel.Change.TheVariants.{Assignment, 
 use Rattle.conn_rules.specs.declared.input.Input.TheVariants as inputs
 use Rattle.conn_rules.specs.declared.state.Stage.TheVariants.{Preparing, Changing, Draining}
 use Rattle.controller_model.specs.Controller.{new_controller, place_at}
-use Rattle.controller_model.specs.Life.{new_entry, pong, step}
+use Rattle.controller_model.specs.Life.{may_open, new_entry, pong, step}
 use Rattle.controller_model.proofs.Lives.{on_stream, usual_settings}
 use Rattle.controller_model.proofs.OnLiterals.{on_literals}
 use Rattle.controller.specs.declared.many.Cause.TheVariants.{Time, Break}
 use Rattle.controller.specs.Doing.{IsUnchanged, Turns, by_offer, fits_in, fits_with}
 use Rattle.controller.specs.Many.{AreReady, Due, IsReadyFor, all_due, due, due_of}
 use Rattle.controller.specs.Offers.{HasCell, awaits, may_begin}
-use Rattle.controller.specs.Rest.{is_at_rest}
+use Rattle.controller.specs.Rest.{is_at_rest, left_without_number, new_from}
 use Rattle.controller.specs.Standing.{IsStanding}
 use Rattle.dtap_codec.specs.declared.sapi.Sapi.TheVariants.{Zero}
 use Rattle.ho_decision.specs.declared.decision.Decision.TheVariants.{Stay, Move}
@@ -259,3 +259,20 @@ not_while_one_is_up = refl
 
 not_with_a_connection : is_at_rest (record broken { entries = entry 7 ∷ [] }) ≡ false
 not_with_a_connection = refl
+
+-- ---- the last number is 16,777,215
+
+begins_with_one : new_from usual_settings 1 ≡ fresh
+begins_with_one = refl
+
+opens_up_to_the_last : map (λ (number : ℕ). may_open (new_from usual_settings number)) (1 ∷ 16777215 ∷ 16777216 ∷ []) ≡ true ∷ true ∷ false ∷ []
+opens_up_to_the_last = refl
+
+none_is_told_before : map (λ (number : ℕ). left_without_number (new_from usual_settings number)) (1 ∷ 16777215 ∷ []) ≡ None ∷ None ∷ []
+none_is_told_before = refl
+
+nobody_is_left : left_without_number (new_from usual_settings 16777216) ≡ Some 0
+nobody_is_left = refl
+
+one_is_left : left_without_number (record (new_from usual_settings 16777216) { entries = entry 7 ∷ [] }) ≡ Some 1
+one_is_left = refl

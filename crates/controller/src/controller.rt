@@ -1,6 +1,7 @@
 // SPDX-License-Identifier: MIT OR Apache-2.0
-ghost use Rattle.std.specs.Prelude.{◌≡◌, ◌+◌, [], IfOk, length, replicate, true};
+ghost use Rattle.std.specs.Prelude.{◌≡◌, ◌≤◌, ◌+◌, ◌^◌, [], IfOk, length, replicate, true};
 ghost use Rattle.controller_model.specs.Controller.{free_channels, is_up, new_controller, ignoring};
+ghost use Rattle.controller.specs.Rest.{new_from};
 
 use connections::Connections;
 use controller_parts::Channels;
@@ -50,6 +51,16 @@ impl Controller {
     pub fn new(alloc: Global, settings: Settings) -> Result<Controller, Memory>
         ensures { IfOk result (λ c. c ≡ new_controller settings) }
     {
+        Controller::new_from(alloc, settings, 1)
+    }
+
+    /// What `new` makes, but that the next connection has this number, as if all below it had been
+    /// given; 16,777,216 where none is left.
+    pub fn new_from(alloc: Global, settings: Settings, number: u32) -> Result<Controller, Memory>
+        requires from { 1 ≤ number }
+        requires last { number ≤ 2 ^ 24 }
+        ensures { IfOk result (λ c. c ≡ new_from settings number) }
+    {
         match parts(alloc, &settings) {
             Ok((links, channels, connections)) => Ok(Controller {
                 alloc,
@@ -57,7 +68,7 @@ impl Controller {
                 links,
                 channels,
                 connections,
-                next_number: 1,
+                next_number: number,
                 handovers: 0,
                 ignored: 0,
             }),

@@ -31,8 +31,9 @@ impl Controller {
         }
     }
 
+    /// Does what `step` does, and leaves the item to the caller.
     #[tactic(auto, unfolding(controller_model::specs::Life::take))]
-    fn take(&mut self, item: &Item, outputs: &mut Outputs) -> Result<(), Memory>
+    pub(crate) fn take(&mut self, item: &Item, outputs: &mut Outputs) -> Result<(), Memory>
         ensures ok { OnOk result (Turns (words.take item.now self.old)
             self.old self.new outputs.old.outs outputs.new.outs) }
         ensures err { UnchangedOnErr result self.old self.new outputs.old.outs outputs.new.outs }

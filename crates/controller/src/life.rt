@@ -81,9 +81,18 @@ impl Controller {
             self.old self.new outputs.old.outs outputs.new.outs) }
         ensures err { UnchangedOnErr result self.old self.new outputs.old.outs outputs.new.outs }
     {
+        self.run_shown(&step, outputs)
+    }
+
+    /// Does what `run_one` does, and leaves the step to the caller.
+    pub fn run_shown(&mut self, step: &Step, outputs: &mut Outputs) -> Result<(), Memory>
+        ensures ok { OnOk result (Turns (words.step self.old step.now)
+            self.old self.new outputs.old.outs outputs.new.outs) }
+        ensures err { UnchangedOnErr result self.old self.new outputs.old.outs outputs.new.outs }
+    {
         match step {
-            Step::Take(item) => self.step(item, outputs).map_err(|_| Memory),
-            Step::Tick(ms) => self.tick(ms, outputs),
+            Step::Take(item) => self.take(item, outputs),
+            Step::Tick(ms) => self.tick(*ms, outputs),
         }
     }
 

@@ -3,6 +3,7 @@ ghost use Rattle.std.specs.Prelude.{◌≡◌};
 ghost use Rattle.controller.specs.Rest as words;
 
 use crate::controller::Controller;
+use controller_model::MAX_CONNECTION_NUMBER;
 
 impl Controller {
     /// Whether every link is down and no connection is left. Whatever comes then, it puts nothing.
@@ -10,6 +11,18 @@ impl Controller {
         ensures { result ≡ words.is_at_rest self.now }
     {
         self.connections.len() == 0 && all_down(self.links.as_slice())
+    }
+
+    /// How many connections are left, once each number up to 16,777,215 was given to one: then no
+    /// channel is given out any more. None while a number is left.
+    pub fn left_without_number(&self) -> Option<usize>
+        ensures { result ≡ words.left_without_number self.now }
+    {
+        if self.next_number > MAX_CONNECTION_NUMBER {
+            Some(self.connections.len())
+        } else {
+            None
+        }
     }
 }
 

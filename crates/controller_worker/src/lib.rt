@@ -14,5 +14,6 @@ mod ending;
 mod limits;
 mod mark;
 mod sending;
+mod showing;
 mod stepping;
 mod worker;

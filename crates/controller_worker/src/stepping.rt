@@ -151,7 +151,7 @@ impl<K: Clock> CallWorker<K> {
         ensures stands { IsValid (seen K.told self.new) }
     {
         let mut outputs = Outputs::new(self.alloc);
-        self.controller.run_one(step, &mut outputs)?;
+        self.step_shown(step, &mut outputs)?;
         if outputs.is_empty() {
             self.put_none();
         } else {
