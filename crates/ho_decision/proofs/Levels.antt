@@ -1,16 +1,19 @@
 -- SPDX-License-Identifier: MIT OR Apache-2.0
 -- The levels that the code measures are those of the cells.
-use Rattle.std.proofs.Common.{◌≡◌, ℕ, ◌+◌, ◌/◌, ◌<◌, ◌≤◌, ◌==◌, ◌&&◌, Bool, true, false, Option, Some, None, option_map, unwrap_or, cond, find, position, List, [], ◌∷◌, length, sum_by, arith, sym, ap, ◌∙◌, subst, refl, zero, suc}
+use Rattle.std.proofs.Common.{◌≡◌, ℕ, ◌+◌, ◌/◌, ◌<◌, ◌≤◌, ◌==◌, ◌&&◌, Bool, true, false, Option, Some, None, option_map, unwrap_or, cond, find, position, List, [], ◌∷◌, length, get_or, map, sum_by, arith, sym, ap, ◌∙◌, subst, refl, zero, suc}
 use Rattle.std.specs.List.{slice_get, position_from}
 use Rattle.std.proofs.lemmas.Bool.{eq-eqb, ne_eqb, eqb-true}
 use Rattle.std.proofs.lemmas.Iterator.Adapters.{position_from-zero}
+use Rattle.std.proofs.lemmas.List.{get_or-map}
 use Rattle.std.proofs.lemmas.List.Sums.{sum_by-le-sum_by}
 use Rattle.dtap_codec.specs.declared.report.Neighbour.{Neighbour}
 use Rattle.dtap_codec.specs.declared.report.Report.{Report}
 use Rattle.dtap_codec.specs.Report.{neighbours_of}
+use Rattle.ho_decision.specs.declared.measure.Measure.{Measure}
 use Rattle.ho_decision.specs.declared.settings.Cell.{Cell}
 use Rattle.ho_decision.specs.Settings.{Settings, other_arfcns}
 use Rattle.ho_decision.specs.Average.{average, last, is_arfcn, names, level_in, neighbour_average}
+use Rattle.ho_decision.specs.Decision.{average_at}
 use Rattle.ho_decision.specs.Measure.{names_at, value_of, level_of}
 use Rattle.ho_decision.proofs.Arfcns.{Above, Rising, other_arfcns_rising}
 
@@ -94,3 +97,10 @@ pub level_average : (s : Settings) (reports : List Report) (cell : Cell) → ave
 level_average s reports cell =
     let w = s.parameters.neighbour_window in
     ap (λ n. n / length (last w reports)) (sum_same (value_of (level_of s cell)) (level_in (other_arfcns s) cell) (last w reports) (level_same s cell))
+
+-- the same of what measures are kept, one for each cell
+pub level_measured : (s : Settings) (reports : List Report) (levels : List Measure) (place : ℕ) (m : Measure) → place < length s.cells → levels ≡ map (level_of s) s.cells → m ≡ get_or levels place m → average (value_of m) s.parameters.neighbour_window reports ≡ average_at s reports place
+level_measured s reports levels place m there kept is =
+    let cell : Cell = get_or s.cells place (record { arfcn = 0; bsic = 0 }) in
+    ap (λ (n : Measure). average (value_of n) s.parameters.neighbour_window reports) (is ∙ ap (λ (ms : List Measure). get_or ms place m) kept ∙ get_or-map (level_of s) s.cells place (record { arfcn = 0; bsic = 0 }) m there)
+    ∙ level_average s reports cell

@@ -1,10 +1,10 @@
 -- SPDX-License-Identifier: MIT OR Apache-2.0
 pub mod Arfcns
 pub mod Choice
-pub mod Kept
+mod Copies
 pub mod Levels
 mod Rows
 pub mod Ten
+pub mod Unheard
 pub mod Unique
 pub mod Window
-mod Copies

@@ -44,25 +44,31 @@ missing_by true xs back is e =
     ]
 missing_by false xs back is e = ltb-false back (length xs) is
 
--- the element that leaves the window
-pub sum_by-leaving : {X : Type 0} (f : X → ℕ) (xs : List X) (w : ℕ) (x : X) → 1 ≤ w → Some x ≡ cond (ltb (w - 1) (length xs)) (slice_get xs (length xs - (w - 1) - 1)) None → sum_by f (last w xs) ≡ f x + sum_by f (last (w - 1) xs)
-sum_by-leaving f xs w x some e =
-    let found = found_by (ltb (w - 1) (length xs)) xs (w - 1) x refl e in
-    let i = length xs - (w - 1) - 1 in
+-- one element more of the last ones
+pub sum_by-leaving : {X : Type 0} (f : X → ℕ) (xs : List X) (back : ℕ) (x : X) → Some x ≡ cond (ltb back (length xs)) (slice_get xs (length xs - back - 1)) None → sum_by f (last (back + 1) xs) ≡ f x + sum_by f (last back xs)
+sum_by-leaving f xs back x e =
+    let found = found_by (ltb back (length xs)) xs back x refl e in
+    let i = length xs - back - 1 in
     let there : i < length xs = omega (arith, found.0) in
     let value = get_or_from_slice_get xs i x x found.1 in
-    let here : length xs - w ≡ i = omega arith in
-    let next : i + 1 ≡ length xs - (w - 1) = omega (arith, found.0) in
+    let here : length xs - (back + 1) ≡ i = omega arith in
+    let next : i + 1 ≡ length xs - back = omega (arith, found.0) in
     ap (λ k. sum_by f (drop k xs)) here
     ∙ sum_by-drop_more f xs i x there
     ∙ ap (λ v. f v + sum_by f (drop (i + 1) xs)) value
     ∙ ap (λ k. f x + sum_by f (drop k xs)) next
 
--- none leaves it
-pub sum_by-staying : {X : Type 0} (f : X → ℕ) (xs : List X) (w : ℕ) → 1 ≤ w → None ≡ cond (ltb (w - 1) (length xs)) (slice_get xs (length xs - (w - 1) - 1)) None → sum_by f (last w xs) ≡ sum_by f (last (w - 1) xs)
-sum_by-staying f xs w some e =
-    let few = missing_by (ltb (w - 1) (length xs)) xs (w - 1) refl e in
-    let here : length xs - w ≡ length xs - (w - 1) = omega (arith, few) in
+-- what leaves a window
+pub leaving_window : (total : ℕ → ℕ) (w back left : ℕ) → back + 1 ≡ w → total (back + 1) ≡ left + total back → total w ≡ left + total (w - 1)
+leaving_window total w back left next e =
+    let before : back ≡ w - 1 = omega arith in
+    ap total (sym next) ∙ e ∙ ap (λ k. left + total k) before
+
+-- there is none more
+pub sum_by-staying : {X : Type 0} (f : X → ℕ) (xs : List X) (back : ℕ) → None ≡ cond (ltb back (length xs)) (slice_get xs (length xs - back - 1)) None → sum_by f (last (back + 1) xs) ≡ sum_by f (last back xs)
+sum_by-staying f xs back e =
+    let few = missing_by (ltb back (length xs)) xs back refl e in
+    let here : length xs - (back + 1) ≡ length xs - back = omega (arith, few) in
     ap (λ k. sum_by f (drop k xs)) here
 
 -- a sum of octets
@@ -83,7 +89,6 @@ are_sums_last reports sums h = record {
   serving_level = is_sum_last reports sums.serving_level h.serving_level;
   serving_quality = is_sum_last reports sums.serving_quality h.serving_quality;
   bad_quality = is_sum_last reports sums.bad_quality h.bad_quality;
-  levels = λ k d within. is_sum_last reports _ (h.levels k d within);
 }
 
 -- sums of the same as those of the settings
@@ -92,5 +97,4 @@ are_of_same s before after h same = record {
   serving_level = same.serving_level ∙ h.serving_level;
   serving_quality = same.serving_quality ∙ h.serving_quality;
   bad_quality = same.bad_quality ∙ h.bad_quality;
-  levels = same.levels ∙ h.levels;
 }

@@ -2,6 +2,7 @@
 pub mod Average
 pub mod Choice
 pub mod Decision
+pub mod Heard
 pub mod Measure
 pub mod Settings
 pub mod State

@@ -1,6 +1,6 @@
 -- SPDX-License-Identifier: MIT OR Apache-2.0
 -- What the code measures in a report.
-use Rattle.std.specs.Prelude.{ℕ, ◌==◌, Bool, false, ◌&&◌, Option, Some, None}
+use Rattle.std.specs.Prelude.{ℕ, ◌==◌, Bool, false, ◌&&◌, List, Option, Some, None}
 use Rattle.std.specs.Prelude.{option_map, unwrap_or, cond, position, find}
 use Rattle.dtap_codec.specs.declared.report.Neighbour.{Neighbour}
 use Rattle.dtap_codec.specs.declared.report.Report.{Report}
@@ -29,6 +29,9 @@ value_of ServingQuality r = r.rxqual_full
 value_of BadQuality r = cond (is_bad r) 1 0
 value_of (NeighbourLevel place bsic) r = level_at place bsic r
 
--- what measures the level of a cell
+-- what measures the level of a cell, where BCCH-FREQ counts in these ARFCNs
+abbrev pub level_among : List ℕ → Cell → Measure
+level_among arfcns cell = NeighbourLevel (position (λ a. a == cell.arfcn) arfcns) cell.bsic
+
 abbrev pub level_of : Settings → Cell → Measure
-level_of s cell = NeighbourLevel (position (λ a. a == cell.arfcn) (other_arfcns s)) cell.bsic
+level_of s cell = level_among (other_arfcns s) cell

@@ -1,9 +1,8 @@
 -- SPDX-License-Identifier: MIT OR Apache-2.0
 -- Running sums over the last reports, the oldest first.
-use Rattle.std.specs.Prelude.{◌≡◌, ℕ, ◌≤◌, List, map, sum_by}
+use Rattle.std.specs.Prelude.{◌≡◌, ℕ, ◌≤◌, List, sum_by}
 use Rattle.std.specs.List.{All}
 use Rattle.dtap_codec.specs.declared.report.Report.{Report}
-use Rattle.ho_decision.specs.declared.settings.Cell.{Cell}
 use Rattle.ho_decision.specs.declared.settings.TheConstants.{MAX_WINDOW}
 use Rattle.ho_decision.specs.declared.decision.TheConstants.{QUALITY_WINDOW}
 use Rattle.ho_decision.specs.declared.measure.Measure.{Measure}
@@ -14,7 +13,7 @@ use Rattle.ho_decision.specs.declared.running.RunningSum.{RunningSum}
 use Rattle.ho_decision.specs.declared.sums.Sums.{Sums}
 use Rattle.ho_decision.specs.Settings.{Settings}
 use Rattle.ho_decision.specs.Average.{last}
-use Rattle.ho_decision.specs.Measure.{value_of, level_of}
+use Rattle.ho_decision.specs.Measure.{value_of}
 
 -- what a measure adds up to over the last reports of a window
 abbrev pub total_over : Measure → ℕ → List Report → ℕ
@@ -31,26 +30,19 @@ pub record AreSums (reports : List Report) (sums : Sums) : Type 0 where
   pub serving_level : IsSum reports sums.serving_level
   pub serving_quality : IsSum reports sums.serving_quality
   pub bad_quality : IsSum reports sums.bad_quality
-  pub levels : All (IsSum reports) sums.levels.items
 
 abbrev pub averaged : Measure → ℕ → Averaged
 averaged measure window = record { measure = measure; window = window }
 
--- the level of a cell, over the neighbours' window
-abbrev pub level_in_window : Settings → Cell → Averaged
-level_in_window s cell = averaged (level_of s cell) s.parameters.neighbour_window
-
--- What the sums are of: for these settings the serving cell's level and quality, how often the
--- quality was bad, and the level of each cell.
+-- What the sums are of: for these settings the serving cell's level and quality, and how often the
+-- quality was bad.
 pub record AreOf (s : Settings) (sums : Sums) : Type 0 where
   pub serving_level : sums.serving_level.of ≡ averaged ServingLevel s.parameters.rxlev_window
   pub serving_quality : sums.serving_quality.of ≡ averaged ServingQuality s.parameters.rxqual_window
   pub bad_quality : sums.bad_quality.of ≡ averaged BadQuality QUALITY_WINDOW
-  pub levels : map (λ sum. sum.of) sums.levels.items ≡ map (level_in_window s) s.cells
 
 -- The sums are of the same as others.
 pub record AreOfSame (before after : Sums) : Type 0 where
   pub serving_level : after.serving_level.of ≡ before.serving_level.of
   pub serving_quality : after.serving_quality.of ≡ before.serving_quality.of
   pub bad_quality : after.bad_quality.of ≡ before.bad_quality.of
-  pub levels : map (λ sum. sum.of) after.levels.items ≡ map (λ sum. sum.of) before.levels.items

@@ -3,11 +3,14 @@ ghost use Rattle.std.specs.Prelude.{◌≡◌, ◌==◌, ◌<◌, length, count_
 ghost use Rattle.dtap_codec.specs.declared.report.Report.{Report as ReportValue};
 ghost use Rattle.ho_decision.specs.Average.{quality, last, serving_average};
 ghost use Rattle.ho_decision.specs.Decision.{Decides, average_at, is_bad};
+ghost use Rattle.ho_decision.specs.Heard.{AreHeard};
 ghost use Rattle.ho_decision.specs.Settings.{IsAllowed};
 ghost use Rattle.ho_decision.specs.declared.decision.TheConstants.{QUALITY_WINDOW};
 ghost use Rattle.ho_decision.specs.declared.settings.TheConstants.{MAX_WINDOW};
 
 use crate::decision::decide;
+use crate::heard::Heard;
+use crate::running::{Averaged, average_over};
 use crate::sums::Sums;
 use crate::{Decision, HoSettings, MAX_WINDOW};
 use circular_buffer::HeapCircularBuffer;
@@ -58,20 +61,19 @@ impl Averages {
             settings: Snapshot::of(settings),
             reports: HeapCircularBuffer::with_capacity(alloc, usize::from(MAX_WINDOW))?,
             number: 0,
-            sums: Sums::new(alloc, settings)?,
+            sums: Sums::new(settings),
         })
     }
 
-    /// Begins anew, as `new` does, for settings with as many cells, such as those of another
-    /// serving cell. It takes no memory.
+    /// Begins anew, as `new` does, for other settings, such as those of another serving cell. It
+    /// takes no memory.
     pub fn restart(&mut self, settings: &HoSettings)
-        requires { length settings.now.cells ≡ length self.old.settings.cells }
         ensures { self.new ≡ new_state settings.now }
     {
         self.settings = Snapshot::of(settings);
         self.reports.clear();
         self.number = 0;
-        self.sums.restart(settings);
+        self.sums = Sums::new(settings);
     }
 
     /// A copy of them. The settings are those that they were made for.
@@ -83,7 +85,7 @@ impl Averages {
             settings: Snapshot::of(settings),
             reports: copied_reports(alloc, &self.reports)?,
             number: self.number,
-            sums: self.sums.copied(alloc)?,
+            sums: self.sums,
         })
     }
 
@@ -157,14 +159,43 @@ impl Averages {
         self.sums.serving_level.average(&self.reports)
     }
 
-    /// The average level of the cell at a place, from 0, of the settings.
-    pub(crate) fn level_at(&self, place: usize) -> u8
+    /// Which neighbours the reports name.
+    pub(crate) fn heard(&self) -> Heard
+        ensures { AreHeard self.now.reports result }
+    {
+        Heard::of(&self.reports)
+    }
+
+    /// The average level of the cell at a place, from 0, of the settings, with what was heard.
+    pub(crate) fn level_at(&self, settings: &HoSettings, heard: &Heard, place: usize) -> u8
         requires some { 0 < length self.now.reports }
         requires place { place < length self.now.settings.cells }
+        requires same { settings.now ≡ self.now.settings }
+        requires heard { AreHeard self.now.reports heard.now }
         ensures { result ≡ average_at self.now.settings self.now.reports place }
     {
-        self.sums.levels[place].average(&self.reports)
+        average_level(settings, heard, place, &self.reports)
     }
+}
+
+// The average over reports of the level of the cell at a place.
+fn average_level(
+    settings: &HoSettings,
+    heard: &Heard,
+    place: usize,
+    reports: &HeapCircularBuffer<Report>,
+) -> u8
+    requires some { 0 < length reports.now.items }
+    requires place { place < length settings.now.cells }
+    requires heard { AreHeard reports.now.items heard.now }
+    ensures { result ≡ average_at settings.now reports.now.items place }
+{
+    let measure = settings.levels[place];
+    if !heard.may_name(measure) {
+        return 0;
+    }
+    let window = settings.parameters.neighbour_window;
+    average_over(Averaged { measure, window }, reports)
 }
 
 // A copy of the reports, in a ring of the same capacity.

@@ -75,10 +75,11 @@ fn best(settings: &HoSettings, averages: &Averages) -> Decision
         decision: Decision::Stay,
         wanted: bound(settings, averages),
     };
+    let heard = averages.heard();
     for place in 0..settings.cells.len() {
         let number = place as u8 + 1;
         if number != settings.serving {
-            choice.offer(number, averages.level_at(place));
+            choice.offer(number, averages.level_at(settings, &heard, place));
         }
     }
     choice.decision

@@ -12,6 +12,7 @@ pub use settings::{
 
 mod averages;
 mod decision;
+mod heard;
 mod law;
 mod measure;
 mod running;

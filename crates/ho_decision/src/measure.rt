@@ -1,8 +1,8 @@
 // SPDX-License-Identifier: MIT OR Apache-2.0
 ghost use Rattle.std.specs.Prelude.{◌≡◌, ◌==◌, position};
-ghost use Rattle.ho_decision.specs.Measure.{level_at, level_of, names_at, value_of};
+ghost use Rattle.ho_decision.specs.Measure.{level_among, level_at, names_at, value_of};
 
-use crate::{Cell, HoSettings};
+use crate::Cell;
 use dtap_codec::{Neighbour, Report};
 
 /// The RXQUAL-FULL from which on the quality is bad.
@@ -23,12 +23,12 @@ pub(crate) enum Measure {
 }
 
 impl Measure {
-    /// The measure of a cell's level.
-    pub fn level_of(settings: &HoSettings, cell: Cell) -> Measure
-        ensures { result ≡ level_of settings.now cell }
+    /// The measure of a cell's level, where BCCH-FREQ counts in these ARFCNs.
+    pub fn level_of(arfcns: &[u16], cell: Cell) -> Measure
+        ensures { result ≡ level_among arfcns.now cell }
     {
         Measure::NeighbourLevel {
-            place: place_of(settings.frequencies.as_slice(), cell.arfcn),
+            place: place_of(arfcns, cell.arfcn),
             bsic: cell.bsic,
         }
     }

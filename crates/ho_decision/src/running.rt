@@ -1,5 +1,5 @@
 // SPDX-License-Identifier: MIT OR Apache-2.0
-ghost use Rattle.std.specs.Prelude.{◌≡◌, ◌+◌, ◌-◌, ◌<◌, ◌≤◌, [], ◌∷◌};
+ghost use Rattle.std.specs.Prelude.{◌≡◌, ◌+◌, ◌<◌, ◌≤◌, [], ◌∷◌};
 ghost use Rattle.std.specs.Prelude.{◌++◌, length};
 ghost use Rattle.ho_decision.specs.Average.{average};
 ghost use Rattle.ho_decision.specs.Measure.{value_of};
@@ -44,21 +44,11 @@ impl RunningSum {
         ensures of { self.new.of ≡ self.old.of }
         ensures sum { IsSum (reports.now.items ++ report.now ∷ []) self.new }
     {
-        let leaving = self.leaving(reports);
+        // The report that leaves the window as another one comes; none does while it has room.
+        let back = usize::from(self.of.window) - 1;
+        let leaving = value_at(self.of.measure, back, reports);
         self.total -= u16::from(leaving);
         self.total += u16::from(self.of.measure.value(report));
-    }
-
-    // The value of the report that leaves the window as another one comes, 0 while none does.
-    fn leaving(&self, reports: &HeapCircularBuffer<Report>) -> u8
-        requires { 1 ≤ self.now.of.window }
-        ensures { total_over self.now.of.measure self.now.of.window reports.now.items ≡
-            result + total_over self.now.of.measure (self.now.of.window - 1) reports.now.items }
-    {
-        match reports.nth_back(usize::from(self.of.window) - 1) {
-            Some(report) => self.of.measure.value(report),
-            None => 0,
-        }
     }
 
     /// The average over these reports, of which there is one at least.
@@ -70,5 +60,31 @@ impl RunningSum {
     {
         let count = reports.len().min(usize::from(self.of.window)) as u16;
         (self.total / count) as u8
+    }
+}
+
+/// The average of a measure over the last of these reports, of which there is one at least.
+pub(crate) fn average_over(of: Averaged, reports: &HeapCircularBuffer<Report>) -> u8
+    requires window { of.window ≤ MAX_WINDOW }
+    requires one { 1 ≤ of.window }
+    requires some { 0 < length reports.now.items }
+    ensures { result ≡ average (value_of of.measure) of.window reports.now.items }
+{
+    let count = reports.len().min(usize::from(of.window));
+    let mut total = 0;
+    for back in 0..count {
+        total += u16::from(value_at(of.measure, back, reports));
+    }
+    (total / count as u16) as u8
+}
+
+// The value of the report that so many came behind, 0 where there is none.
+fn value_at(measure: Measure, back: usize, reports: &HeapCircularBuffer<Report>) -> u8
+    ensures { total_over measure (back + 1) reports.now.items ≡
+        result + total_over measure back reports.now.items }
+{
+    match reports.nth_back(back) {
+        Some(report) => measure.value(report),
+        None => 0,
     }
 }

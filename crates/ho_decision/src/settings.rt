@@ -1,7 +1,10 @@
 // SPDX-License-Identifier: MIT OR Apache-2.0
-ghost use Rattle.std.specs.Prelude.{◌≡◌, ◌<◌, ◌≤◌, ◌-◌, IfOk, OnOk, fold};
+ghost use Rattle.std.specs.Prelude.{◌≡◌, ◌<◌, ◌≤◌, ◌-◌, [], IfOk, OnOk};
+ghost use Rattle.std.specs.Prelude.{fold, length, map, remove};
+ghost use Rattle.ho_decision.specs.Measure.{level_among};
 ghost use Rattle.ho_decision.specs.Settings.{with_arfcn, with_cell};
 
+use crate::measure::Measure;
 use octets::Memory;
 use std::alloc::Global;
 use std::marker::Model;
@@ -49,20 +52,22 @@ pub struct HoSettings {
     pub(crate) parameters: HoParameters,
     pub(crate) cells: Vec<Cell>,
     pub(crate) serving: u8,
-    // The ARFCNs of the other cells, rising and each once: what BCCH-FREQ counts.
-    pub(crate) frequencies: Vec<u16>,
+    // What measures the level of each cell, in the order of the cells.
+    pub(crate) levels: Vec<Measure>,
 }
 
 impl Model for HoSettings {
-    ghost use Rattle.std.specs.Prelude.{◌≡◌};
-    ghost use Rattle.ho_decision.specs.Settings.{Settings, settings_of, other_arfcns, IsAllowed};
+    ghost use Rattle.std.specs.Prelude.{◌≡◌, map};
+    ghost use Rattle.ho_decision.specs.Measure.{level_of};
+    ghost use Rattle.ho_decision.specs.Settings.{Settings, settings_of, IsAllowed};
 
     ghost Value = { Settings };
 
     ghost view = { λ s. settings_of s.parameters s.cells.items s.serving };
 
     ghost invariant = { λ s.
-        (s.frequencies.items ≡ other_arfcns (settings_of s.parameters s.cells.items s.serving))
+        (s.levels.items
+        ≡ map (level_of (settings_of s.parameters s.cells.items s.serving)) s.cells.items)
         × IsAllowed (settings_of s.parameters s.cells.items s.serving) };
 }
 
@@ -80,17 +85,36 @@ impl HoSettings {
         requires { IsAllowed (settings_of parameters cells.items serving) }
         ensures { IfOk result (λ settings. settings ≡ settings_of parameters cells.items serving) }
     {
-        let mut frequencies = Vec::new(alloc);
-        let place = usize::from(serving);
-        add_frequencies(&mut frequencies, &cells[..place - 1])?;
-        add_frequencies(&mut frequencies, &cells[place..])?;
+        let frequencies = frequencies(alloc, &cells, serving)?;
+        let levels = levels(alloc, &frequencies, &cells)?;
         Ok(HoSettings {
             parameters,
             cells,
             serving,
-            frequencies,
+            levels,
         })
     }
+}
+
+// The ARFCNs of the cells but the serving one, rising and each once: what BCCH-FREQ counts.
+fn frequencies(alloc: Global, cells: &[Cell], serving: u8) -> Result<Vec<u16>, Memory>
+    requires { (1 ≤ serving) × (serving ≤ length cells.now) }
+    ensures { IfOk result
+        (λ arfcns. arfcns.items ≡ fold with_cell [] (remove cells.now (serving - 1))) }
+{
+    let mut frequencies = Vec::new(alloc);
+    let place = usize::from(serving);
+    add_frequencies(&mut frequencies, &cells[..place - 1])?;
+    add_frequencies(&mut frequencies, &cells[place..])?;
+    Ok(frequencies)
+}
+
+// What measures the level of each cell, where BCCH-FREQ counts in these ARFCNs.
+fn levels(alloc: Global, arfcns: &[u16], cells: &[Cell]) -> Result<Vec<Measure>, Memory>
+    ensures { IfOk result (λ levels. levels.items ≡ map (level_among arfcns.now) cells.now) }
+{
+    let levels = cells.iter().map(|cell| Measure::level_of(arfcns, *cell));
+    Ok(levels.collect(alloc)?)
 }
 
 // Puts the ARFCNs of cells among those that are there, each once.

@@ -1,0 +1,14 @@
+-- SPDX-License-Identifier: MIT OR Apache-2.0
+-- The level of a cell is asked for by its frequency.
+use Rattle.std.proofs.Common.{get_or, ap, ◌∙◌}
+use Rattle.dtap_codec.specs.declared.report.Report.{Report}
+use Rattle.ho_decision.specs.declared.measure.Measure.{Measure}
+use Rattle.ho_decision.specs.Measure.{value_of}
+use Rattle.ho_decision.proofs.heard.Heard.may_name.Goals as goal
+
+pub returns-in-NeighbourLevel : goal.returns-in-NeighbourLevel
+returns-in-NeighbourLevel c =
+    λ reports heard unheard k d within.
+    let r : Report = get_or reports k d in
+    ap (λ (m : Measure). value_of m r) c.in-NeighbourLevel.is
+    ∙ c.may_have.ensures reports heard unheard c.in-NeighbourLevel.bsic k d within
