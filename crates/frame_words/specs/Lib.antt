@@ -4,3 +4,4 @@ pub mod Carried
 pub mod Fields
 pub mod MessageName
 pub mod Numbered
+pub mod LongLine

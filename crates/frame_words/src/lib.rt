@@ -1,16 +1,19 @@
 // SPDX-License-Identifier: MIT OR Apache-2.0
-//! What a frame says in words, beside its name: the message that it carries.
+//! What a frame says in words, beside its name: the message that it carries, its fields; and `bsc
+//! decode --long`, which prints them.
 #![tactic(auto)]
 
 pub use carried::carried_name;
 pub use digits::write_digits;
 pub use fields::write_fields;
+pub use long_line::decode_long;
 pub use message_name::write_message_name;
 pub use number::write_number;
 
 mod carried;
 mod digits;
 mod fields;
+mod long_line;
 mod message_name;
 mod names;
 mod number;

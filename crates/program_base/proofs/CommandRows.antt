@@ -8,6 +8,7 @@ use Rattle.program_base.specs.declared.words.TaskFault.TheVariants.{Words, Memor
 use Rattle.program_base.specs.CommandLine.{IsTask}
 use Rattle.program_base.specs.declared.usage.Page.TheVariants as pages
 use Rattle.program_base.specs.Pages.{page_named, page_of}
+use Rattle.program_base.specs.ToolLine.{behind_decode}
 use Rattle.program_base.specs.WordStatus.{status_of_words}
 
 wrong_words : status_of_words Words ≡ 2
@@ -32,3 +33,8 @@ named = refl
 asked_for : map page_of ([] ∷ (codes "--help" ∷ []) ∷ (codes "help" ∷ codes "decode" ∷ []) ∷ (codes "replay" ∷ codes "-h" ∷ codes "run" ∷ []) ∷ (codes "trace" ∷ codes "--help" ∷ []) ∷ []) ≡
     pages.Program ∷ pages.Program ∷ pages.Decode ∷ pages.Replay ∷ pages.Trace ∷ []
 asked_for = refl
+
+-- `decode --long`, whatever stands behind it, and no other words
+long : map behind_decode ((codes "decode" ∷ codes "--long" ∷ []) ∷ (codes "decode" ∷ codes "--long" ∷ codes "x" ∷ []) ∷ (codes "decode" ∷ []) ∷ (codes "trace" ∷ codes "--long" ∷ []) ∷ (codes "decode" ∷ codes "--longer" ∷ []) ∷ [] ∷ []) ≡
+    Some (codes "--long" ∷ []) ∷ Some (codes "--long" ∷ codes "x" ∷ []) ∷ None ∷ None ∷ None ∷ None ∷ []
+long = refl

@@ -21,7 +21,7 @@ use Rattle.program_base.specs.declared.failure.Failure.TheVariants as failures
 use Rattle.program_base.specs.declared.input.Unread.{Unread}
 use Rattle.program_base.specs.declared.input.Unread.TheVariants.{Endless, Device, Refused}
 use Rattle.program_base.specs.Pieces.{all_both}
-use Rattle.program_base.specs.Decoded.{Begins, Decodes, IsOutput, IsRefused, NamesOctets, PrintsFrames, RefusesWith, StopsAmong, StopsNaming, frame_line, frame_lines, rest_line}
+use Rattle.program_base.specs.Decoded.{Begins, Decodes, IsOutput, IsRefused, NamesOctets, PrintsFrames, RefusesWith, StopsAmong, StopsNaming, frame_lines, rest_line}
 use Rattle.program_base.specs.Input.{ReadsInput}
 use Rattle.program_base.specs.NamingLaws.{begins_all, begins_behind, begins_kept, begins_longer, begins_none}
 use Rattle.program_base.specs.Output.{AppendsBeginning}
@@ -30,15 +30,15 @@ use Rattle.program_base.specs.Stopping.{stop_unread}
 
 -- ---- frames one behind the other
 
-pub prints_more : (held between left : FramerState) (old mid new : Option (List ℕ)) (f : Frame) → PrintsFrames held between old mid
-    → BeginsWith between.octets f left.octets → Appends mid new (frame_line f) → PrintsFrames held left old new
-prints_more held between left old mid new f some begins line = record {
+pub prints_more : (line : Frame → List ℕ) (held between left : FramerState) (old mid new : Option (List ℕ)) (f : Frame) → PrintsFrames line held between old mid
+    → BeginsWith between.octets f left.octets → Appends mid new (line f) → PrintsFrames line held left old new
+prints_more line held between left old mid new f some begins written = record {
   frames = some.frames ++ f ∷ [];
   each = all_both IsFrame some.frames (f ∷ []) some.each (begins.0, tt);
   whole =
       some.whole ∙ ap (λ (xs : List ℕ). flat_map frame_text some.frames ++ xs) begins.1 ∙ sym (append_assoc (flat_map frame_text some.frames) (frame_text f) left.octets)
       ∙ ap (λ (xs : List ℕ). xs ++ left.octets) (flat_map_more frame_text [] some.frames f);
-  printed = subst (Appends old new) (flat_map_more frame_line [] some.frames f) (Appends-trans old mid new (frame_lines some.frames) (frame_line f) some.printed line);
+  printed = subst (Appends old new) (flat_map_more line [] some.frames f) (Appends-trans old mid new (frame_lines line some.frames) (line f) some.printed written);
 }
 
 -- ---- the rest
@@ -82,43 +82,43 @@ not_both : (octets : List ℕ) → IsPartial octets → IsTooLong octets → ⊥
 not_both octets partial long = absurd (cc (front_partial octets partial, front_long octets long))
 
 -- what is printed of a known stream begins with the lines of the frames that were found
-text_begins : (last stream : List ℕ) (fs : List Frame) (behind text : List ℕ) → stream ≡ flat_map frame_text fs ++ behind → AllByRecursion IsFrame fs → IsOutput last stream text → (more : List ℕ) × (text ≡ frame_lines fs ++ more)
-text_begins last stream fs behind text whole each (inl decoded) =
+text_begins : (line : Frame → List ℕ) (last stream : List ℕ) (fs : List Frame) (behind text : List ℕ) → stream ≡ flat_map frame_text fs ++ behind → AllByRecursion IsFrame fs → IsOutput line last stream text → (more : List ℕ) × (text ≡ frame_lines line fs ++ more)
+text_begins line last stream fs behind text whole each (inl decoded) =
     let found = found_first stream fs behind decoded.frames decoded.rest whole each decoded.splits in (
-      frame_lines found.0 ++ rest_line decoded.rest,
-      decoded.is ∙ ap (λ (gs : List Frame). frame_lines gs ++ rest_line decoded.rest) found.1 ∙ ap (λ (xs : List ℕ). xs ++ rest_line decoded.rest) (flat_map-append frame_line fs found.0)
-          ∙ append_assoc (frame_lines fs) (frame_lines found.0) (rest_line decoded.rest),
+      frame_lines line found.0 ++ rest_line decoded.rest,
+      decoded.is ∙ ap (λ (gs : List Frame). frame_lines line gs ++ rest_line decoded.rest) found.1 ∙ ap (λ (xs : List ℕ). xs ++ rest_line decoded.rest) (flat_map-append line fs found.0)
+          ∙ append_assoc (frame_lines line fs) (frame_lines line found.0) (rest_line decoded.rest),
     )
-text_begins last stream fs behind text whole each (inr (lines, refused, is)) =
+text_begins line last stream fs behind text whole each (inr (lines, refused, is)) =
     let found = found_first stream fs behind refused.frames refused.rest whole each refused.splits in (
-      frame_lines found.0 ++ last,
-      is ∙ ap (λ (xs : List ℕ). xs ++ last) (refused.is ∙ ap (λ (gs : List Frame). frame_lines gs) found.1 ∙ flat_map-append frame_line fs found.0)
-          ∙ append_assoc (frame_lines fs) (frame_lines found.0) last,
+      frame_lines line found.0 ++ last,
+      is ∙ ap (λ (xs : List ℕ). xs ++ last) (refused.is ∙ ap (λ (gs : List Frame). frame_lines line gs) found.1 ∙ flat_map-append line fs found.0)
+          ∙ append_assoc (frame_lines line fs) (frame_lines line found.0) last,
     )
 
-pub begins_untouched : (last : List ℕ) (start known : Option (List ℕ)) → Begins last start known known
-begins_untouched last None known = tt
-begins_untouched last (Some stream) known = λ text is. begins_none known text
+pub begins_untouched : (line : Frame → List ℕ) (last : List ℕ) (start known : Option (List ℕ)) → Begins line last start known known
+begins_untouched line last None known = tt
+begins_untouched line last (Some stream) known = λ text is. begins_none known text
 
-pub begins_among : (last : List ℕ) (start now : Option (List ℕ)) (octets : List ℕ) (stop : Stop) (old new : Option (List ℕ)) → Consumes start now octets → StopsAmong octets stop old new → Begins last start old new
-begins_among last None now octets stop old new read some = tt
-begins_among last (Some stream) None octets stop old new read some = absurd read
-begins_among last (Some stream) (Some later) octets stop old new read some = λ text is.
+pub begins_among : (line : Frame → List ℕ) (last : List ℕ) (start now : Option (List ℕ)) (octets : List ℕ) (stop : Stop) (old new : Option (List ℕ)) → Consumes start now octets → StopsAmong line octets stop old new → Begins line last start old new
+begins_among line last None now octets stop old new read some = tt
+begins_among line last (Some stream) None octets stop old new read some = absurd read
+begins_among line last (Some stream) (Some later) octets stop old new read some = λ text is.
     let whole = read ∙ ap (λ (xs : List ℕ). xs ++ later) some.whole ∙ append_assoc (flat_map frame_text some.frames) some.rest later in
-    let more = text_begins last stream some.frames (some.rest ++ later) text whole some.each is in
-    subst (AppendsBeginning old new) (sym more.1) (begins_longer old new (frame_lines some.frames) more.0 some.begun)
+    let more = text_begins line last stream some.frames (some.rest ++ later) text whole some.each is in
+    subst (AppendsBeginning old new) (sym more.1) (begins_longer old new (frame_lines line some.frames) more.0 some.begun)
 
 long_with : (octets more : List ℕ) → IsTooLong octets → IsTooLong (octets ++ more)
 long_with [] more long = absurd long
 long_with (high ∷ []) more long = absurd long
 long_with (high ∷ low ∷ octets) more long = long
 
-pub refused_among : (start now : Option (List ℕ)) (octets : List ℕ) (stop : Stop) (old new : Option (List ℕ)) → Consumes start now octets → StopsAmong octets stop old new → stop ≡ TooLong → RefusesWith [] start old new
-refused_among None now octets stop old new read some is = tt
-refused_among (Some stream) None octets stop old new read some is = absurd read
-refused_among (Some stream) (Some later) octets stop old new read some is =
+pub refused_among : (line : Frame → List ℕ) (start now : Option (List ℕ)) (octets : List ℕ) (stop : Stop) (old new : Option (List ℕ)) → Consumes start now octets → StopsAmong line octets stop old new → stop ≡ TooLong → RefusesWith line [] start old new
+refused_among line None now octets stop old new read some is = tt
+refused_among line (Some stream) None octets stop old new read some is = absurd read
+refused_among line (Some stream) (Some later) octets stop old new read some is =
     let long = some.long is in (
-      frame_lines some.frames,
+      frame_lines line some.frames,
       record {
         frames = some.frames;
         rest = some.rest ++ later;
@@ -131,96 +131,96 @@ refused_among (Some stream) (Some later) octets stop old new read some is =
         long = long_with some.rest later long.0;
         is = refl;
       },
-      subst (Appends old new) (sym (append-nil (frame_lines some.frames))) long.1,
+      subst (Appends old new) (sym (append-nil (frame_lines line some.frames))) long.1,
     )
 
 -- ---- a new framer that was given octets
 
-pub names_stop : (held left : FramerState) (octets : List ℕ) (failure : Failure) (old new : Option (List ℕ)) → held ≡ new_framer → NamesOctets held octets left old new → StopsAmong octets (Failed failure) old new
-names_stop held left octets failure old new is some = record {
+pub names_stop : (line : Frame → List ℕ) (held left : FramerState) (octets : List ℕ) (failure : Failure) (old new : Option (List ℕ)) → held ≡ new_framer → NamesOctets line held octets left old new → StopsAmong line octets (Failed failure) old new
+names_stop line held left octets failure old new is some = record {
   frames = some.prints.frames;
   rest = left.octets;
   each = some.prints.each;
   whole = sym (ap (λ (h : FramerState). h.octets ++ octets) is) ∙ some.prints.whole;
-  begun = begins_all old new (frame_lines some.prints.frames) some.prints.printed;
+  begun = begins_all old new (frame_lines line some.prints.frames) some.prints.printed;
   long = λ long. absurd (cc long);
 }
 
-pub stops_first : (held : FramerState) (octets : List ℕ) (stop : Stop) (old new : Option (List ℕ)) → held ≡ new_framer → StopsNaming held octets stop old new → StopsAmong octets stop old new
-stops_first held octets stop old new is stops =
-    subst (λ (xs : List ℕ). StopsAmong (xs ++ octets) stop old new) (ap (λ (h : FramerState). h.octets) is) (stops (ap (λ (h : FramerState). h.failed) is))
+pub stops_first : (line : Frame → List ℕ) (held : FramerState) (octets : List ℕ) (stop : Stop) (old new : Option (List ℕ)) → held ≡ new_framer → StopsNaming line held octets stop old new → StopsAmong line octets stop old new
+stops_first line held octets stop old new is stops =
+    subst (λ (xs : List ℕ). StopsAmong line (xs ++ octets) stop old new) (ap (λ (h : FramerState). h.octets) is) (stops (ap (λ (h : FramerState). h.failed) is))
 
-pub new_partial : (held left : FramerState) (octets : List ℕ) (old new : Option (List ℕ)) → held ≡ new_framer → NamesOctets held octets left old new → IsPartial left.octets
-new_partial held left octets old new is some = some.partial (subst IsPartial (sym (ap (λ (h : FramerState). h.octets) is)) tt)
+pub new_partial : (line : Frame → List ℕ) (held left : FramerState) (octets : List ℕ) (old new : Option (List ℕ)) → held ≡ new_framer → NamesOctets line held octets left old new → IsPartial left.octets
+new_partial line held left octets old new is some = some.partial (subst IsPartial (sym (ap (λ (h : FramerState). h.octets) is)) tt)
 
 -- why an input wasn't read to its end is why its naming stopped
-pub stops_unread : {S : Type 0} (takes : S → List ℕ → S → Type 0) (refuses : S → List ℕ → S → Stop → Type 0) (most : ℕ) (start end : Option (List ℕ)) (before after : S) (old new : Option (List ℕ)) (unread : Unread Stop)
+pub stops_unread : (line : Frame → List ℕ) {S : Type 0} (takes : S → List ℕ → S → Type 0) (refuses : S → List ℕ → S → Stop → Type 0) (most : ℕ) (start end : Option (List ℕ)) (before after : S) (old new : Option (List ℕ)) (unread : Unread Stop)
     → ReadsInput takes refuses most start end before after (Err unread)
-    → ((octets : List ℕ) (failure : Failure) → takes before octets after → StopsAmong octets (Failed failure) old new)
-    → ((octets : List ℕ) (stop : Stop) → refuses before octets after stop → StopsAmong octets stop old new)
-    → (octets : List ℕ) × Consumes start end octets × StopsAmong octets (stop_unread unread) old new
-stops_unread takes refuses most start end before after old new (Endless reads) reading named stopped = (reading.0, reading.1, named reading.0 failures.Device reading.2)
-stops_unread takes refuses most start end before after old new (Device error) reading named stopped = (reading.0, reading.1, named reading.0 (failure_of (error_kind error)) reading.2)
-stops_unread takes refuses most start end before after old new (Refused stop) reading named stopped = (reading.0, reading.1, stopped reading.0 stop reading.2)
+    → ((octets : List ℕ) (failure : Failure) → takes before octets after → StopsAmong line octets (Failed failure) old new)
+    → ((octets : List ℕ) (stop : Stop) → refuses before octets after stop → StopsAmong line octets stop old new)
+    → (octets : List ℕ) × Consumes start end octets × StopsAmong line octets (stop_unread unread) old new
+stops_unread line takes refuses most start end before after old new (Endless reads) reading named stopped = (reading.0, reading.1, named reading.0 failures.Device reading.2)
+stops_unread line takes refuses most start end before after old new (Device error) reading named stopped = (reading.0, reading.1, named reading.0 (failure_of (error_kind error)) reading.2)
+stops_unread line takes refuses most start end before after old new (Refused stop) reading named stopped = (reading.0, reading.1, stopped reading.0 stop reading.2)
 
 -- ---- the whole stream
 
 -- what is printed of a stream is the lines of its frames and of its rest
-text_is : (last stream : List ℕ) (fs : List Frame) (rest text : List ℕ) → IsPartial rest → Splits stream fs rest → IsOutput last stream text → text ≡ frame_lines fs ++ rest_line rest
-text_is last stream fs rest text partial splits (inl decoded) =
+text_is : (line : Frame → List ℕ) (last stream : List ℕ) (fs : List Frame) (rest text : List ℕ) → IsPartial rest → Splits stream fs rest → IsOutput line last stream text → text ≡ frame_lines line fs ++ rest_line rest
+text_is line last stream fs rest text partial splits (inl decoded) =
     let same = splits_only stream decoded.frames decoded.rest fs rest decoded.splits splits in
-    decoded.is ∙ ap (λ (gs : List Frame). frame_lines gs ++ rest_line decoded.rest) same.0 ∙ ap (λ (xs : List ℕ). frame_lines fs ++ rest_line xs) same.1
-text_is last stream fs rest text partial splits (inr (lines, refused, is)) =
+    decoded.is ∙ ap (λ (gs : List Frame). frame_lines line gs ++ rest_line decoded.rest) same.0 ∙ ap (λ (xs : List ℕ). frame_lines line fs ++ rest_line xs) same.1
+text_is line last stream fs rest text partial splits (inr (lines, refused, is)) =
     let same = splits_only stream refused.frames refused.rest fs rest refused.splits splits in
     absurd (not_both rest partial (subst IsTooLong same.1 refused.long))
 
-splits_whole : (stream octets : List ℕ) (held left : FramerState) (old mid : Option (List ℕ)) → held ≡ new_framer → (some : NamesOctets held octets left old mid) → IsPartial left.octets → stream ≡ octets ++ [] → Splits stream some.prints.frames left.octets
-splits_whole stream octets held left old mid is some partial whole = record {
+splits_whole : (line : Frame → List ℕ) (stream octets : List ℕ) (held left : FramerState) (old mid : Option (List ℕ)) → held ≡ new_framer → (some : NamesOctets line held octets left old mid) → IsPartial left.octets → stream ≡ octets ++ [] → Splits stream some.prints.frames left.octets
+splits_whole line stream octets held left old mid is some partial whole = record {
   whole = whole ∙ append-nil octets ∙ sym (ap (λ (h : FramerState). h.octets ++ octets) is) ∙ some.prints.whole;
   each = some.prints.each;
   stops = inl partial;
 }
 
-pub begins_rest : (last : List ℕ) (start end : Option (List ℕ)) (octets : List ℕ) (held left : FramerState) (old mid new : Option (List ℕ)) → held ≡ new_framer → Consumes start end octets → IsAtEnd end → NamesOctets held octets left old mid
-    → AppendsBeginning mid new (rest_line left.octets) → Begins last start old new
-begins_rest last None end octets held left old mid new is read at_end some begun = tt
-begins_rest last (Some stream) None octets held left old mid new is read at_end some begun = absurd read
-begins_rest last (Some stream) (Some later) octets held left old mid new is read at_end some begun = λ text output.
-    let partial = new_partial held left octets old mid is some in
-    let splits = splits_whole stream octets held left old mid is some partial (read ∙ ap (λ (xs : List ℕ). octets ++ xs) at_end) in
-    subst (AppendsBeginning old new) (sym (text_is last stream some.prints.frames left.octets text partial splits output))
-    (begins_behind old mid new (frame_lines some.prints.frames) (rest_line left.octets) some.prints.printed begun)
+pub begins_rest : (line : Frame → List ℕ) (last : List ℕ) (start end : Option (List ℕ)) (octets : List ℕ) (held left : FramerState) (old mid new : Option (List ℕ)) → held ≡ new_framer → Consumes start end octets → IsAtEnd end → NamesOctets line held octets left old mid
+    → AppendsBeginning mid new (rest_line left.octets) → Begins line last start old new
+begins_rest line last None end octets held left old mid new is read at_end some begun = tt
+begins_rest line last (Some stream) None octets held left old mid new is read at_end some begun = absurd read
+begins_rest line last (Some stream) (Some later) octets held left old mid new is read at_end some begun = λ text output.
+    let partial = new_partial line held left octets old mid is some in
+    let splits = splits_whole line stream octets held left old mid is some partial (read ∙ ap (λ (xs : List ℕ). octets ++ xs) at_end) in
+    subst (AppendsBeginning old new) (sym (text_is line last stream some.prints.frames left.octets text partial splits output))
+    (begins_behind old mid new (frame_lines line some.prints.frames) (rest_line left.octets) some.prints.printed begun)
 
-pub decodes_all : (start end : Option (List ℕ)) (octets : List ℕ) (held left : FramerState) (old mid new : Option (List ℕ)) → held ≡ new_framer → Consumes start end octets → IsAtEnd end → NamesOctets held octets left old mid
-    → Appends mid new (rest_line left.octets) → Decodes start old new
-decodes_all None end octets held left old mid new is read at_end some rest = tt
-decodes_all (Some stream) None octets held left old mid new is read at_end some rest = absurd read
-decodes_all (Some stream) (Some later) octets held left old mid new is read at_end some rest =
-    let partial = new_partial held left octets old mid is some in (
-      frame_lines some.prints.frames ++ rest_line left.octets,
+pub decodes_all : (line : Frame → List ℕ) (start end : Option (List ℕ)) (octets : List ℕ) (held left : FramerState) (old mid new : Option (List ℕ)) → held ≡ new_framer → Consumes start end octets → IsAtEnd end → NamesOctets line held octets left old mid
+    → Appends mid new (rest_line left.octets) → Decodes line start old new
+decodes_all line None end octets held left old mid new is read at_end some rest = tt
+decodes_all line (Some stream) None octets held left old mid new is read at_end some rest = absurd read
+decodes_all line (Some stream) (Some later) octets held left old mid new is read at_end some rest =
+    let partial = new_partial line held left octets old mid is some in (
+      frame_lines line some.prints.frames ++ rest_line left.octets,
       record {
         frames = some.prints.frames;
         rest = left.octets;
-        splits = splits_whole stream octets held left old mid is some partial (read ∙ ap (λ (xs : List ℕ). octets ++ xs) at_end);
+        splits = splits_whole line stream octets held left old mid is some partial (read ∙ ap (λ (xs : List ℕ). octets ++ xs) at_end);
         started = partial;
         is = refl;
       },
-      Appends-trans old mid new (frame_lines some.prints.frames) (rest_line left.octets) some.prints.printed rest,
+      Appends-trans old mid new (frame_lines line some.prints.frames) (rest_line left.octets) some.prints.printed rest,
     )
 
 -- ---- the last line of a stream with a frame that is too long
 
 -- a stream that ends with a frame that is too long isn't decoded to its end
-pub refused_only : (P : Type 0) (start old new : Option (List ℕ)) → Decodes start old new → IfSome start (λ stream. (text : List ℕ) → IsRefused stream text → P)
-refused_only P None old new decodes = tt
-refused_only P (Some stream) old new decodes = λ text refused.
+pub refused_only : (line : Frame → List ℕ) (P : Type 0) (start old new : Option (List ℕ)) → Decodes line start old new → IfSome start (λ stream. (text : List ℕ) → IsRefused line stream text → P)
+refused_only line P None old new decodes = tt
+refused_only line P (Some stream) old new decodes = λ text refused.
     let decoded = decodes.1 in
     let same = splits_only stream refused.frames refused.rest decoded.frames decoded.rest refused.splits decoded.splits in
     absurd (not_both decoded.rest decoded.started (subst IsTooLong same.1 refused.long))
 
-pub begins_last : (last : List ℕ) (start old mid new : Option (List ℕ)) → RefusesWith [] start old mid → AppendsBeginning mid new last → Begins last start old new
-begins_last last None old mid new refuses begun = tt
-begins_last last (Some stream) old mid new (lines, refused, printed) begun = λ text output.
+pub begins_last : (line : Frame → List ℕ) (last : List ℕ) (start old mid new : Option (List ℕ)) → RefusesWith line [] start old mid → AppendsBeginning mid new last → Begins line last start old new
+begins_last line last None old mid new refuses begun = tt
+begins_last line last (Some stream) old mid new (lines, refused, printed) begun = λ text output.
     let all = subst (Appends old mid) (append-nil lines) printed in
     elim output [
       | inl decoded ↦
@@ -228,13 +228,13 @@ begins_last last (Some stream) old mid new (lines, refused, printed) begun = λ 
           absurd (not_both decoded.rest decoded.started (subst IsTooLong same.1 refused.long))
       | inr (others, other, is) ↦
           let same = splits_only stream refused.frames refused.rest other.frames other.rest refused.splits other.splits in
-          let text_of : text ≡ lines ++ last = is ∙ ap (λ (xs : List ℕ). xs ++ last) (other.is ∙ ap (λ (fs : List Frame). frame_lines fs) (sym same.0) ∙ sym refused.is) in
+          let text_of : text ≡ lines ++ last = is ∙ ap (λ (xs : List ℕ). xs ++ last) (other.is ∙ ap (λ (fs : List Frame). frame_lines line fs) (sym same.0) ∙ sym refused.is) in
           subst (AppendsBeginning old new) (sym text_of) (begins_behind old mid new lines last all begun)
     ]
 
-pub begins_before : (last : List ℕ) (start old mid new : Option (List ℕ)) → Begins [] start old mid → Keeps mid new → Begins last start old new
-begins_before last None old mid new begins keeps = tt
-begins_before last (Some stream) old mid new begins keeps = λ text output.
+pub begins_before : (line : Frame → List ℕ) (last : List ℕ) (start old mid new : Option (List ℕ)) → Begins line [] start old mid → Keeps mid new → Begins line last start old new
+begins_before line last None old mid new begins keeps = tt
+begins_before line last (Some stream) old mid new begins keeps = λ text output.
     elim output [
       | inl decoded ↦ begins_kept old mid new text (begins text (inl decoded)) keeps
       | inr (lines, refused, is) ↦
@@ -242,33 +242,33 @@ begins_before last (Some stream) old mid new begins keeps = λ text output.
           subst (AppendsBeginning old new) (sym is) (begins_longer old new lines last (begins_kept old mid new lines begun keeps))
     ]
 
-pub begins_flushed : (last : List ℕ) (start old mid new : Option (List ℕ)) → Begins last start old mid → Keeps mid new → Begins last start old new
-begins_flushed last None old mid new begins keeps = tt
-begins_flushed last (Some stream) old mid new begins keeps = λ text output. begins_kept old mid new text (begins text output) keeps
+pub begins_flushed : (line : Frame → List ℕ) (last : List ℕ) (start old mid new : Option (List ℕ)) → Begins line last start old mid → Keeps mid new → Begins line last start old new
+begins_flushed line last None old mid new begins keeps = tt
+begins_flushed line last (Some stream) old mid new begins keeps = λ text output. begins_kept old mid new text (begins text output) keeps
 
 -- ---- where naming stops
 
-pub stops_printing : (held between : FramerState) (old mid new : Option (List ℕ)) (f : Frame) (rest : List ℕ) (failure : Failure) (stop : Stop) → PrintsFrames held between old mid → BeginsWith between.octets f rest → AppendsBeginning mid new (frame_line f)
-    → stop ≡ Failed failure → StopsAmong held.octets stop old new
-stops_printing held between old mid new f rest failure stop some begins begun is = record {
+pub stops_printing : (line : Frame → List ℕ) (held between : FramerState) (old mid new : Option (List ℕ)) (f : Frame) (rest : List ℕ) (failure : Failure) (stop : Stop) → PrintsFrames line held between old mid → BeginsWith between.octets f rest → AppendsBeginning mid new (line f)
+    → stop ≡ Failed failure → StopsAmong line held.octets stop old new
+stops_printing line held between old mid new f rest failure stop some begins begun is = record {
   frames = some.frames ++ f ∷ [];
   rest = rest;
   each = all_both IsFrame some.frames (f ∷ []) some.each (begins.0, tt);
   whole =
       some.whole ∙ ap (λ (xs : List ℕ). flat_map frame_text some.frames ++ xs) begins.1 ∙ sym (append_assoc (flat_map frame_text some.frames) (frame_text f) rest)
       ∙ ap (λ (xs : List ℕ). xs ++ rest) (flat_map_more frame_text [] some.frames f);
-  begun = subst (AppendsBeginning old new) (flat_map_more frame_line [] some.frames f) (begins_behind old mid new (frame_lines some.frames) (frame_line f) some.printed begun);
+  begun = subst (AppendsBeginning old new) (flat_map_more line [] some.frames f) (begins_behind old mid new (frame_lines line some.frames) (line f) some.printed begun);
   long = λ long. absurd (cc (is, long));
 }
 
-pub stops_flushing : (held fed left : FramerState) (octets : List ℕ) (old mid new : Option (List ℕ)) (failure : Failure) (stop : Stop) → (held.failed ≡ false) × (fed ≡ record { octets = held.octets ++ octets; failed = false })
-    → PrintsFrames fed left old mid → Keeps mid new → stop ≡ Failed failure → StopsAmong (held.octets ++ octets) stop old new
-stops_flushing held fed left octets old mid new failure stop feeds some keeps is = record {
+pub stops_flushing : (line : Frame → List ℕ) (held fed left : FramerState) (octets : List ℕ) (old mid new : Option (List ℕ)) (failure : Failure) (stop : Stop) → (held.failed ≡ false) × (fed ≡ record { octets = held.octets ++ octets; failed = false })
+    → PrintsFrames line fed left old mid → Keeps mid new → stop ≡ Failed failure → StopsAmong line (held.octets ++ octets) stop old new
+stops_flushing line held fed left octets old mid new failure stop feeds some keeps is = record {
   frames = some.frames;
   rest = left.octets;
   each = some.each;
   whole = sym (ap (λ (h : FramerState). h.octets) feeds.1) ∙ some.whole;
-  begun = begins_all old new (frame_lines some.frames) (Appends-kept old mid new (frame_lines some.frames) some.printed keeps);
+  begun = begins_all old new (frame_lines line some.frames) (Appends-kept old mid new (frame_lines line some.frames) some.printed keeps);
   long = λ long. absurd (cc (is, long));
 }
 

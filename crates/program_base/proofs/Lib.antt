@@ -4,7 +4,7 @@ pub mod Lists
 pub mod Putting
 pub mod Feeding
 mod Rows
-pub mod FrameLine
+pub mod LineBegins
 pub mod Decoding
 mod NameRows
 mod CommandRows

@@ -20,7 +20,7 @@ use Rattle.program_base.specs.declared.input.Unread.TheVariants.{Endless, Refuse
 use Rattle.program_base.specs.declared.failure.Failure.TheVariants.{Memory, Device}
 use Rattle.program_base.specs.Status.{failure_of}
 use Rattle.program_base.specs.declared.decode_command.Stop.TheVariants.{TooLong, Failed}
-use Rattle.program_base.specs.Decoded.{IsOutput, IsRefused, frame_lines, rest_line}
+use Rattle.program_base.specs.Decoded.{frame_line, IsOutput, IsRefused, frame_lines, rest_line}
 use Rattle.program_base.specs.Names.{ccm_name, rsl_fault_name, rsl_message_name, sccp_fault_name, sccp_message_name}
 use Rattle.program_base.specs.Stopping.{stop_of, stop_unread}
 
@@ -38,7 +38,7 @@ failed_read_of_a_stream error is = ap (λ (kind : ErrorKind). Failed (failure_of
 -- ---- frames
 
 abbrev line : ℕ → List ℕ → List ℕ
-line stream body = frame_lines ((record { stream = stream; body = body }) ∷ [])
+line stream body = frame_lines frame_line ((record { stream = stream; body = body }) ∷ [])
 
 ping : line 0xfe (0x00 ∷ []) ≡ codes "fe PING\n"
 unfolding hex_on_literals
@@ -113,7 +113,7 @@ switch_faults : map sccp_fault_name (interface.Short ∷ interface.UnknownType �
 switch_faults = refl
 
 -- PONG, and behind it a frame of 2,049 octets
-refused : IsRefused (hex "00 01 fe 01 08 01") (codes "fe PONG\n")
+refused : IsRefused frame_line (hex "00 01 fe 01 08 01") (codes "fe PONG\n")
 unfolding hex_on_literals
 refused = record {
   frames = (record { stream = 0xfe; body = 0x01 ∷ [] }) ∷ [];
@@ -123,7 +123,7 @@ refused = record {
   is = refl;
 }
 
-its_output : IsOutput (codes "fault F1\n") (hex "00 01 fe 01 08 01") (codes "fe PONG\nfault F1\n")
+its_output : IsOutput frame_line (codes "fault F1\n") (hex "00 01 fe 01 08 01") (codes "fe PONG\nfault F1\n")
 its_output = inr (codes "fe PONG\n", refused, refl)
 
 no_rest : rest_line [] ≡ []

@@ -1,5 +1,5 @@
 -- SPDX-License-Identifier: MIT OR Apache-2.0
--- What `decode` prints of a stream.
+-- What is printed of a stream, of whose frames each has a line; and the lines of `decode`.
 use Rattle.std.specs.Prelude.{◌≡◌, ◌⊎◌, ℕ, false, List, [], ◌∷◌, ◌++◌}
 use Rattle.std.specs.Prelude.{length, codes, decimal}
 use Rattle.std.specs.Prelude.{Option, IfSome}
@@ -22,8 +22,9 @@ line_of stream name = encode_lower (stream ∷ []) ++ codes " " ++ name ++ codes
 abbrev pub frame_line : Frame → List ℕ
 frame_line frame = line_of frame.stream (name_of frame)
 
-abbrev pub frame_lines : List Frame → List ℕ
-frame_lines frames = flat_map frame_line frames
+-- the lines of frames, of each of which this is the line
+abbrev pub frame_lines : (Frame → List ℕ) → List Frame → List ℕ
+frame_lines line frames = flat_map line frames
 
 -- the line of the octets of a frame that was only started; none where there are no such octets
 abbrev pub rest_line : List ℕ → List ℕ
@@ -31,77 +32,84 @@ rest_line [] = []
 rest_line (octet ∷ octets) = codes "rest " ++ decimal (length (octet ∷ octets)) ++ codes "\n"
 
 -- The stream is frames and at most the beginning of one, and the text is their lines.
-pub record IsDecoded (stream text : List ℕ) : Type 0 where
+pub record IsDecoded (line : Frame → List ℕ) (stream text : List ℕ) : Type 0 where
   pub frames : List Frame
   pub rest : List ℕ
   pub splits : Splits stream frames rest
   pub started : IsPartial rest
-  pub is : text ≡ frame_lines frames ++ rest_line rest
+  pub is : text ≡ frame_lines line frames ++ rest_line rest
 
 -- The stream is frames and behind them one that is too long, and the text is the lines of the
 -- frames.
-pub record IsRefused (stream text : List ℕ) : Type 0 where
+pub record IsRefused (line : Frame → List ℕ) (stream text : List ℕ) : Type 0 where
   pub frames : List Frame
   pub rest : List ℕ
   pub splits : Splits stream frames rest
   pub long : IsTooLong rest
-  pub is : text ≡ frame_lines frames
+  pub is : text ≡ frame_lines line frames
 
 -- Known contents grew by the lines of a known stream.
-abbrev pub Decodes : Option (List ℕ) → Option (List ℕ) → Option (List ℕ) → Type 0
-Decodes start old new =
-    IfSome start (λ stream. (text : List ℕ) × IsDecoded stream text × Appends old new text)
+abbrev pub Decodes : (Frame → List ℕ) → Option (List ℕ) → Option (List ℕ) → Option (List ℕ)
+    → Type 0
+Decodes line start old new =
+    IfSome start (λ stream. (text : List ℕ) × IsDecoded line stream text × Appends old new text)
 
 -- Known contents grew by the lines of a known stream before a frame that is too long, and by a last
 -- line.
-abbrev pub RefusesWith : List ℕ → Option (List ℕ) → Option (List ℕ) → Option (List ℕ) → Type 0
-RefusesWith last start old new = IfSome start (λ stream.
-    (text : List ℕ) × IsRefused stream text × Appends old new (text ++ last))
+abbrev pub RefusesWith : (Frame → List ℕ) → List ℕ → Option (List ℕ) → Option (List ℕ)
+    → Option (List ℕ) → Type 0
+RefusesWith line last start old new = IfSome start (λ stream.
+    (text : List ℕ) × IsRefused line stream text × Appends old new (text ++ last))
 
 -- The text is the lines of the stream's frames, and behind them that of the rest, or where a frame
 -- is too long these last octets.
-abbrev pub IsOutput : List ℕ → List ℕ → List ℕ → Type 0
-IsOutput last stream text =
-    IsDecoded stream text ⊎ ((lines : List ℕ) × IsRefused stream lines × (text ≡ lines ++ last))
+abbrev pub IsOutput : (Frame → List ℕ) → List ℕ → List ℕ → List ℕ → Type 0
+IsOutput line last stream text =
+    IsDecoded line stream text
+    ⊎ ((lines : List ℕ) × IsRefused line stream lines × (text ≡ lines ++ last))
 
 -- Known contents grew by a beginning of that text of a known stream.
-abbrev pub Begins : List ℕ → Option (List ℕ) → Option (List ℕ) → Option (List ℕ) → Type 0
-Begins last start old new = IfSome start (λ stream.
-    (text : List ℕ) → IsOutput last stream text → AppendsBeginning old new text)
+abbrev pub Begins : (Frame → List ℕ) → List ℕ → Option (List ℕ) → Option (List ℕ)
+    → Option (List ℕ) → Type 0
+Begins line last start old new = IfSome start (λ stream.
+    (text : List ℕ) → IsOutput line last stream text → AppendsBeginning old new text)
 
 -- ---- what the parts of the program do
 
 -- What a framer held were frames and behind them what it holds now. Known contents grew by the
 -- lines of the frames.
-pub record PrintsFrames (held left : FramerState) (old new : Option (List ℕ)) : Type 0 where
+pub record PrintsFrames (line : Frame → List ℕ) (held left : FramerState)
+    (old new : Option (List ℕ)) : Type 0 where
   pub frames : List Frame
   pub each : AllByRecursion IsFrame frames
   pub whole : held.octets ≡ flat_map frame_text frames ++ left.octets
-  pub printed : Appends old new (frame_lines frames)
+  pub printed : Appends old new (frame_lines line frames)
 
 -- The octets begin with frames, and known contents grew by a beginning of their lines. Where a
 -- frame that is too long was the reason to stop, it stands behind them, and their lines are
 -- written.
-pub record StopsAmong (octets : List ℕ) (stop : Stop) (old new : Option (List ℕ)) : Type 0 where
+pub record StopsAmong (line : Frame → List ℕ) (octets : List ℕ) (stop : Stop)
+    (old new : Option (List ℕ)) : Type 0 where
   pub frames : List Frame
   pub rest : List ℕ
   pub each : AllByRecursion IsFrame frames
   pub whole : octets ≡ flat_map frame_text frames ++ rest
-  pub begun : AppendsBeginning old new (frame_lines frames)
-  pub long : stop ≡ TooLong → IsTooLong rest × Appends old new (frame_lines frames)
+  pub begun : AppendsBeginning old new (frame_lines line frames)
+  pub long : stop ≡ TooLong → IsTooLong rest × Appends old new (frame_lines line frames)
 
 -- a framer that holds these octets more
 abbrev pub with_more : FramerState → List ℕ → FramerState
 with_more held octets = record { octets = held.octets ++ octets; failed = held.failed }
 
 -- Octets were fed and the frames printed that were whole then.
-pub record NamesOctets (held : FramerState) (octets : List ℕ) (left : FramerState)
-    (old new : Option (List ℕ)) : Type 0 where
-  pub prints : PrintsFrames (with_more held octets) left old new
+pub record NamesOctets (line : Frame → List ℕ) (held : FramerState) (octets : List ℕ)
+    (left : FramerState) (old new : Option (List ℕ)) : Type 0 where
+  pub prints : PrintsFrames line (with_more held octets) left old new
   pub partial : IsPartial held.octets → IsPartial left.octets
   pub working : held.failed ≡ false → left.failed ≡ false
 
 -- Octets were fed, and not all were named.
-abbrev pub StopsNaming : FramerState → List ℕ → Stop → Option (List ℕ) → Option (List ℕ) → Type 0
-StopsNaming held octets stop old new =
-    held.failed ≡ false → StopsAmong (held.octets ++ octets) stop old new
+abbrev pub StopsNaming : (Frame → List ℕ) → FramerState → List ℕ → Stop → Option (List ℕ)
+    → Option (List ℕ) → Type 0
+StopsNaming line held octets stop old new =
+    held.failed ≡ false → StopsAmong line (held.octets ++ octets) stop old new

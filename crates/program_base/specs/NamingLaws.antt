@@ -12,7 +12,7 @@ use Rattle.ipa_framing.specs.declared.frame.Frame.{Frame}
 use Rattle.ipa_framing.specs.Frame.{IsFrame, frame_text}
 use Rattle.ipa_framing.specs.Framer.{FramerState}
 use Rattle.program_base.specs.declared.decode_command.Stop.{Stop}
-use Rattle.program_base.specs.Decoded.{NamesOctets, StopsNaming, frame_line, frame_lines}
+use Rattle.program_base.specs.Decoded.{NamesOctets, StopsNaming, frame_lines}
 use Rattle.program_base.specs.Output.{AppendsBeginning}
 use Rattle.program_base.specs.Pieces.{all_both}
 
@@ -51,9 +51,9 @@ begins_kept old mid new text some keeps =
 
 -- ---- pieces one behind the other
 
-pub names_none : (held : FramerState) (known : Option (List ℕ))
-    → NamesOctets held [] held known known
-names_none held known = record {
+pub names_none : (line : Frame → List ℕ) (held : FramerState) (known : Option (List ℕ))
+    → NamesOctets line held [] held known known
+names_none line held known = record {
   prints = record {
     frames = [];
     each = tt;
@@ -76,11 +76,11 @@ joined held between octets second left fs gs first then =
     ∙ sym (append_assoc some (flat_map frame_text gs) left)
     ∙ ap (λ (xs : List ℕ). xs ++ left) (sym (flat_map-append frame_text fs gs))
 
-pub names_both : (held between left : FramerState) (first second : List ℕ)
+pub names_both : (line : Frame → List ℕ) (held between left : FramerState) (first second : List ℕ)
     (old mid new : Option (List ℕ))
-    → NamesOctets held first between old mid → NamesOctets between second left mid new
-    → NamesOctets held (first ++ second) left old new
-names_both held between left first second old mid new some more =
+    → NamesOctets line held first between old mid → NamesOctets line between second left mid new
+    → NamesOctets line held (first ++ second) left old new
+names_both line held between left first second old mid new some more =
     let fs : List Frame = some.prints.frames in
     let gs : List Frame = more.prints.frames in
     record {
@@ -91,19 +91,19 @@ names_both held between left first second old mid new some more =
             whole = joined held.octets between.octets first second left.octets fs gs
                 some.prints.whole more.prints.whole;
             printed =
-                subst (Appends old new) (sym (flat_map-append frame_line fs gs))
-                (Appends-trans old mid new (frame_lines fs) (frame_lines gs)
+                subst (Appends old new) (sym (flat_map-append line fs gs))
+                (Appends-trans old mid new (frame_lines line fs) (frame_lines line gs)
                 some.prints.printed more.prints.printed);
           };
       partial = λ partial. more.partial (some.partial partial);
       working = λ working. more.working (some.working working);
     }
 
-pub stops_later : (held between : FramerState) (first second : List ℕ) (stop : Stop)
-    (old mid new : Option (List ℕ))
-    → NamesOctets held first between old mid → StopsNaming between second stop mid new
-    → StopsNaming held (first ++ second) stop old new
-stops_later held between first second stop old mid new some stops working =
+pub stops_later : (line : Frame → List ℕ) (held between : FramerState) (first second : List ℕ)
+    (stop : Stop) (old mid new : Option (List ℕ))
+    → NamesOctets line held first between old mid → StopsNaming line between second stop mid new
+    → StopsNaming line held (first ++ second) stop old new
+stops_later line held between first second stop old mid new some stops working =
     let more = stops (some.working working) in
     let fs : List Frame = some.prints.frames in
     let gs : List Frame = more.frames in
@@ -114,14 +114,14 @@ stops_later held between first second stop old mid new some stops working =
       whole = joined held.octets between.octets first second more.rest fs gs some.prints.whole
           more.whole;
       begun =
-          subst (AppendsBeginning old new) (sym (flat_map-append frame_line fs gs))
-          (begins_behind old mid new (frame_lines fs) (frame_lines gs)
+          subst (AppendsBeginning old new) (sym (flat_map-append line fs gs))
+          (begins_behind old mid new (frame_lines line fs) (frame_lines line gs)
           some.prints.printed more.begun);
       long = λ is.
           let long = more.long is in (
             long.0,
-            subst (Appends old new) (sym (flat_map-append frame_line fs gs))
-                (Appends-trans old mid new (frame_lines fs) (frame_lines gs)
+            subst (Appends old new) (sym (flat_map-append line fs gs))
+                (Appends-trans old mid new (frame_lines line fs) (frame_lines line gs)
                 some.prints.printed long.1),
           );
     }

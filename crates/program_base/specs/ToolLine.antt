@@ -1,22 +1,22 @@
 -- SPDX-License-Identifier: MIT OR Apache-2.0
 -- The words of a tool, as `clap` sees those behind its name.
-use Rattle.std.specs.Prelude.{◌≡◌, ◌≢◌, true, if◌then◌else◌, Option, Some, None, List, [], ◌∷◌}
-use Rattle.std.specs.Prelude.{IfSome, IsSomeAnd, codes, option_map, string_bytes, unwrap_or}
+use Rattle.std.specs.Prelude.{◌≡◌, ◌≢◌, ℕ, true, ◌&&◌, if◌then◌else◌, Option, Some, None, List, []}
+use Rattle.std.specs.Prelude.{◌∷◌, codes, option_map, string_bytes, unwrap_or}
 use Rattle.std.specs.Str.{bytes_eq}
 use Rattle.clap.specs.Words.{App, Row, Rule, Text, fault_of, first_of, matches_of, new_app}
 use Rattle.clap.specs.Words.{new_rule, with_rule}
 use Rattle.clap.specs.declared.builder.action.ArgAction.TheVariants.{SetTrue}
 use Rattle.program_base.specs.CommandLine.{required_config}
 use Rattle.program_base.specs.declared.words.Tool.{Tool}
-use Rattle.program_base.specs.declared.words.Tool.TheVariants.{Trace}
+use Rattle.program_base.specs.declared.words.Tool.TheVariants.{Trace, DecodeLong}
 
--- `--strict`
-abbrev pub strict_flag : Rule
-strict_flag =
-    record (new_rule (codes "strict")) { long = Some (codes "strict"); action = Some SetTrue }
+-- an option without a value
+abbrev pub flag : List ℕ → Rule
+flag name = record (new_rule name) { long = Some name; action = Some SetTrue }
 
-abbrev pub trace_program : App
-trace_program = let app = new_app (codes "bsc trace") in record {
+-- a tool without its options
+abbrev pub tool_program : List ℕ → App
+tool_program name = let app = new_app name in record {
   top = record app.top { no_binary_name = true };
   subs = app.subs;
 }
@@ -37,8 +37,14 @@ capture_option = record (new_rule (codes "capture")) { long = Some (codes "captu
 abbrev pub trace_command : App
 trace_command =
     with_rule
-    (with_rule (with_rule (with_rule trace_program required_config) strict_flag) chart_option)
+    (with_rule
+    (with_rule (with_rule (tool_program (codes "bsc trace")) required_config) (flag (codes "strict")))
+    chart_option)
     capture_option
+
+-- `decode --long`: what stands behind `decode`
+abbrev pub long_command : App
+long_command = with_rule (tool_program (codes "bsc decode")) (flag (codes "long"))
 
 -- the values of its options
 unfoldable pub IsTrace : Tool → List Row → Type 0
@@ -48,17 +54,37 @@ IsTrace (Trace settings strict chart capture) rows =
     × (first_of (codes "strict") rows ≡ Some (codes "true") → strict ≡ true)
     × (option_map string_bytes chart ≡ first_of (codes "chart") rows)
     × (option_map string_bytes capture ≡ first_of (codes "capture") rows)
+IsTrace DecodeLong rows = ⊥
 
 -- the words behind `trace`, where that is the first
 abbrev pub behind_trace : List Text → Option (List Text)
 behind_trace [] = None
 behind_trace (word ∷ words) = if bytes_eq word (codes "trace") then Some words else None
 
+-- the words behind `decode`, where that is the first and `--long` the next
+abbrev pub behind_decode : List Text → Option (List Text)
+behind_decode [] = None
+behind_decode (word ∷ []) = None
+behind_decode (word ∷ next ∷ words) =
+    if bytes_eq word (codes "decode") && bytes_eq next (codes "--long") then Some (next ∷ words)
+    else None
+
+-- what stands behind `trace`, or else behind `decode`, asks for this tool
+abbrev pub IsToolBy : Tool → Option (List Text) → Option (List Text) → Type 0
+IsToolBy tool (Some options) long =
+    (fault_of trace_command options ≡ []) × IsTrace tool (matches_of trace_command options)
+IsToolBy tool None (Some options) = (fault_of long_command options ≡ []) × (tool ≡ DecodeLong)
+IsToolBy tool None None = ⊥
+
+abbrev pub AreNoToolBy : Option (List Text) → Option (List Text) → Type 0
+AreNoToolBy (Some options) long = fault_of trace_command options ≢ []
+AreNoToolBy None (Some options) = fault_of long_command options ≢ []
+AreNoToolBy None None = Unit {0}
+
 -- the words ask for this tool
 abbrev pub IsTool : Tool → List Text → Type 0
-IsTool tool words = IsSomeAnd (behind_trace words) (λ options.
-    (fault_of trace_command options ≡ []) × IsTrace tool (matches_of trace_command options))
+IsTool tool words = IsToolBy tool (behind_trace words) (behind_decode words)
 
 -- they ask for none
 abbrev pub AreNoTool : List Text → Type 0
-AreNoTool words = IfSome (behind_trace words) (λ options. fault_of trace_command options ≢ [])
+AreNoTool words = AreNoToolBy (behind_trace words) (behind_decode words)

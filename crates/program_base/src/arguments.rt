@@ -1,8 +1,8 @@
 // SPDX-License-Identifier: MIT OR Apache-2.0
 use crate::no_task::NoTask;
 use crate::parsing::found_task;
-use crate::tools::{behind_trace, found_trace};
-use crate::usage::{Page, is_version};
+use crate::tools::{behind_decode, behind_trace, found_long, found_trace};
+use crate::usage::{Page, asks_of_trace, is_version};
 use crate::words::{Asked, TaskFault};
 use clap::Error;
 use std::alloc::Global;
@@ -40,16 +40,19 @@ pub fn asked<R: Runtime + AllocGlobal>(rt: &R) -> Result<Asked, TaskFault> {
 
 /// The tool or the task that the words ask for.
 fn found<'a>(alloc: Global, words: &'a [&'a str]) -> Result<Asked, NoTask> {
-    match behind_trace(words) {
-        Some(options) => Ok(Asked::Tool(found_trace(alloc, options)?)),
-        None => Ok(Asked::Task(found_task(alloc, words)?)),
+    if let Some(options) = behind_trace(words) {
+        return Ok(Asked::Tool(found_trace(alloc, options)?));
     }
+    if let Some(options) = behind_decode(words) {
+        return Ok(Asked::Tool(found_long(alloc, options)?));
+    }
+    Ok(Asked::Task(found_task(alloc, words)?))
 }
 
 /// Prints what `clap` finds wrong with the words, and how they are to be. Its help is left out, since
-/// the program has pages of its own.
+/// the program has pages of its own; that of `trace` is no subcommand that `clap` knows.
 fn complain<R: Runtime>(rt: &R, complaint: &Error, words: &[&str]) {
-    if complaint.use_stderr() {
+    if complaint.use_stderr() && !asks_of_trace(words) {
         let _ = eprint!(rt; "{complaint}");
         print_page(rt, Page::Program);
     } else {

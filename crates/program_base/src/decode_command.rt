@@ -1,5 +1,5 @@
 // SPDX-License-Identifier: MIT OR Apache-2.0
-//! `bsc decode`: names the frames of a link.
+//! `bsc decode`: names the frames of a link; and the same with another line for each of them.
 ghost use Rattle.std.specs.Prelude.{◌≡◌, ◌⊎◌, ℕ, List, [], Err, IfErr, IfSome, OnOk};
 ghost use Rattle.std.specs.Prelude.{codes};
 ghost use Rattle.std.specs.Io.KnownBytes.{IsAtEnd};
@@ -14,6 +14,7 @@ ghost use Rattle.program_base.specs.Stopping.{stop_of, stop_unread};
 ghost use Rattle.program_base.specs.declared.decode_command.Stop.TheVariants.{Failed, TooLong};
 
 use crate::failure::Failure;
+use crate::frame_line::FrameLine;
 use crate::input::{Sink, Unread, read_all, room_for};
 use crate::names::frame_name;
 use crate::output::put;
@@ -87,16 +88,35 @@ fn print_frame<W: Write>(alloc: Global, frame: &Frame, output: &mut W) -> Result
     Ok(())
 }
 
+/// The line of a frame that has its name.
+#[derive(Clone, Copy)]
+struct Named;
+
+impl FrameLine for Named {
+    ghost use Rattle.program_base.specs.Decoded.{frame_line};
+
+    ghost line = { frame_line };
+
+    fn print<W: Write>(&self, alloc: Global, frame: &Frame, output: &mut W) -> Result<(), Failure> {
+        print_frame(alloc, frame, output)
+    }
+}
+
 /// Prints a line for each frame that is whole.
-fn print_frames<W: Write>(alloc: Global, framer: &mut Framer, output: &mut W) -> Result<(), Stop>
+fn print_frames<L: FrameLine, W: Write>(
+    alloc: Global,
+    form: &L,
+    framer: &mut Framer,
+    output: &mut W,
+) -> Result<(), Stop>
     ensures ok { OnOk result
-        (PrintsFrames framer.old framer.new (W.contents output.old) (W.contents output.new)
+        (PrintsFrames L.line framer.old framer.new (W.contents output.old) (W.contents output.new)
         × IsPartial framer.new.octets × (framer.new.failed ≡ framer.old.failed)) }
     ensures err { IfErr result (λ stop.
-        StopsAmong framer.old.octets stop (W.contents output.old) (W.contents output.new)) }
+        StopsAmong L.line framer.old.octets stop (W.contents output.old) (W.contents output.new)) }
 {
     while let Some(frame) = framer.next()? {
-        print_frame(alloc, &frame, output)?;
+        form.print(alloc, &frame, output)?;
     }
     Ok(())
 }
@@ -117,27 +137,29 @@ fn print_rest<W: Write>(alloc: Global, framer: &Framer, output: &mut W) -> Resul
 
 /// Names the frames of a stream on an output, as far as they are whole.
 #[derive(Drop)]
-struct Namer<'a, W> {
+struct Namer<'a, L, W> {
     alloc: Global,
+    form: &'a L,
     framer: Framer,
     output: &'a mut W,
 }
 
-impl<'a, W: Write> Namer<'a, W> {
-    fn new(alloc: Global, output: &'a mut W) -> Namer<'a, W>
+impl<'a, L: FrameLine, W: Write> Namer<'a, L, W> {
+    fn new(alloc: Global, form: &'a L, output: &'a mut W) -> Namer<'a, L, W>
         ensures same_reference { result.output.ghost_name ≡ output.entry.ghost_name }
         ensures output { result.output.now ≡ output.old }
         ensures framer { result.framer ≡ new_framer }
     {
         Namer {
             alloc,
+            form,
             framer: Framer::new(alloc),
             output,
         }
     }
 }
 
-impl<W: Write> Sink for Namer<'_, W> {
+impl<L: FrameLine, W: Write> Sink for Namer<'_, L, W> {
     ghost use Rattle.std.specs.Prelude.{◌≡◌};
     ghost use Rattle.program_base.specs.Decoded.{NamesOctets, StopsNaming};
     ghost use Rattle.program_base.specs.NamingLaws.{names_none, names_both, stops_later};
@@ -146,24 +168,28 @@ impl<W: Write> Sink for Namer<'_, W> {
     type Fault = Stop;
 
     ghost takes = { λ old octets new. (new.output.ghost_name ≡ old.output.ghost_name)
-        × NamesOctets old.framer octets new.framer
+        × NamesOctets L.line old.framer octets new.framer
         (W.contents old.output.now) (W.contents new.output.now) };
 
     ghost refuses = { λ old octets new stop. (new.output.ghost_name ≡ old.output.ghost_name)
-        × StopsNaming old.framer octets stop
+        × StopsNaming L.line old.framer octets stop
         (W.contents old.output.now) (W.contents new.output.now) };
 
-    ghost takes_none = { λ namer. (refl, names_none namer.framer (W.contents namer.output.now)) };
+    ghost takes_none = { λ namer. (
+      refl,
+      names_none L.line namer.framer (W.contents namer.output.now),
+    ) };
 
     ghost takes_both = { λ old mid new first second some more. (
       more.0 ∙ some.0,
-      names_both old.framer mid.framer new.framer first second (W.contents old.output.now)
-          (W.contents mid.output.now) (W.contents new.output.now) some.1 more.1,
+      names_both L.line old.framer mid.framer new.framer first second
+          (W.contents old.output.now) (W.contents mid.output.now) (W.contents new.output.now)
+          some.1 more.1,
     ) };
 
     ghost refuses_later = { λ old mid new first second stop some stops. (
       stops.0 ∙ some.0,
-      stops_later old.framer mid.framer first second stop (W.contents old.output.now)
+      stops_later L.line old.framer mid.framer first second stop (W.contents old.output.now)
           (W.contents mid.output.now) (W.contents new.output.now) some.1 stops.1,
     ) };
 
@@ -171,24 +197,29 @@ impl<W: Write> Sink for Namer<'_, W> {
     /// read.
     fn take(&mut self, piece: &[u8]) -> Result<(), Stop> {
         self.framer.feed(piece)?;
-        print_frames(self.alloc, &mut self.framer, self.output)?;
+        print_frames(self.alloc, self.form, &mut self.framer, self.output)?;
         self.output.flush()?;
         Ok(())
     }
 }
 
 /// Prints the frames of the input to its end, and what remains of a started one.
-fn print_stream<R: Read, W: Write>(alloc: Global, input: &mut R, output: &mut W) -> Result<(), Stop>
+fn print_stream<L: FrameLine, R: Read, W: Write>(
+    alloc: Global,
+    form: &L,
+    input: &mut R,
+    output: &mut W,
+) -> Result<(), Stop>
     ensures read { OnOk result (IsAtEnd (R.remaining input.new)) }
     ensures printed { OnOk result
-        (Decodes (R.remaining input.old) (W.contents output.old) (W.contents output.new)) }
-    ensures long { result ≡ Err TooLong →
-        RefusesWith [] (R.remaining input.old) (W.contents output.old) (W.contents output.new) }
-    ensures begun { Begins [] (R.remaining input.old)
+        (Decodes L.line (R.remaining input.old) (W.contents output.old) (W.contents output.new)) }
+    ensures long { result ≡ Err TooLong → RefusesWith L.line [] (R.remaining input.old)
+        (W.contents output.old) (W.contents output.new) }
+    ensures begun { Begins L.line [] (R.remaining input.old)
         (W.contents output.old) (W.contents output.new) }
 {
     let mut room = room_for(alloc, BLOCK)?;
-    let mut namer = Namer::new(alloc, output);
+    let mut namer = Namer::new(alloc, form, output);
     let read = read_all(input, room.as_mut_slice(), &mut namer);
     let Namer { framer, output, .. } = namer;
     // No effect at run time. The proof reads what `output` holds from this use of it.
@@ -199,14 +230,19 @@ fn print_stream<R: Read, W: Write>(alloc: Global, input: &mut R, output: &mut W)
 }
 
 /// Prints the stream, and a frame that is too long as its last line.
-fn print_all<R: Read, W: Write>(alloc: Global, input: &mut R, output: &mut W) -> Result<(), Stop>
+fn print_all<L: FrameLine, R: Read, W: Write>(
+    alloc: Global,
+    form: &L,
+    input: &mut R,
+    output: &mut W,
+) -> Result<(), Stop>
     ensures read { OnOk result (IsAtEnd (R.remaining input.new)) }
     ensures printed { OnOk result
-        (Decodes (R.remaining input.old) (W.contents output.old) (W.contents output.new)) }
-    ensures begun { Begins (codes "fault F1\n") (R.remaining input.old)
+        (Decodes L.line (R.remaining input.old) (W.contents output.old) (W.contents output.new)) }
+    ensures begun { Begins L.line (codes "fault F1\n") (R.remaining input.old)
         (W.contents output.old) (W.contents output.new) }
 {
-    match print_stream(alloc, input, output) {
+    match print_stream(alloc, form, input, output) {
         Err(Stop::TooLong) => {
             put(output, b"fault F1\n")?;
             output.flush()?;
@@ -235,15 +271,35 @@ pub fn decode<R: Read, W: Write, E: Write>(
     // What is printed then are the lines of the frames that the octets are, if it is known what an
     // output holds.
     ensures printed { result ≡ 0
-        → Decodes (R.remaining input.old) (W.contents output.old) (W.contents output.new) }
+        → Decodes frame_line (R.remaining input.old) (W.contents output.old) (W.contents output.new) }
     // Where a frame is too long the lines end with `fault F1`. Whatever the status, what is printed
     // is a beginning of them.
-    ensures begun { Begins (codes "fault F1\n") (R.remaining input.old)
+    ensures begun { Begins frame_line (codes "fault F1\n") (R.remaining input.old)
         (W.contents output.old) (W.contents output.new) }
     ensures long { IfSome (R.remaining input.old) (λ stream.
-        (text : List ℕ) → IsRefused stream text → result ≡ 3) }
+        (text : List ℕ) → IsRefused frame_line stream text → result ≡ 3) }
 {
-    match print_all(alloc, input, output) {
+    decode_as(alloc, &Named, input, output, errors)
+}
+
+/// The same with this form of a line for each frame.
+pub fn decode_as<L: FrameLine, R: Read, W: Write, E: Write>(
+    alloc: Global,
+    form: &L,
+    input: &mut R,
+    output: &mut W,
+    errors: &mut E,
+) -> u8
+    ensures status { (result ≡ 0) ⊎ (result ≡ 3) }
+    ensures read { result ≡ 0 → IsAtEnd (R.remaining input.new) }
+    ensures printed { result ≡ 0
+        → Decodes L.line (R.remaining input.old) (W.contents output.old) (W.contents output.new) }
+    ensures begun { Begins L.line (codes "fault F1\n") (R.remaining input.old)
+        (W.contents output.old) (W.contents output.new) }
+    ensures long { IfSome (R.remaining input.old) (λ stream.
+        (text : List ℕ) → IsRefused L.line stream text → result ≡ 3) }
+{
+    match print_all(alloc, form, input, output) {
         Ok(()) => 0,
         Err(Stop::TooLong) => 3,
         Err(Stop::Failed(failure)) => {

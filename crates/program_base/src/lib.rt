@@ -6,9 +6,11 @@
 #![tactic(auto)]
 
 pub use arguments::{asked, print_usage};
-pub use decode_command::decode;
+pub use complaint::Complaint;
+pub use decode_command::{decode, decode_as};
 pub use failure::Failure;
 pub use fault::ProgramFault;
+pub use frame_line::FrameLine;
 pub use input::{MOST_READS, Sink, Unread, read_all, room_for};
 pub use kept_script::{KeptScript, read_kept_script};
 pub use line_fault::LineFault;
@@ -20,13 +22,16 @@ pub use script::read_line;
 pub use settings_file::{read_settings, settings_text, unread_fault};
 pub use tools::tool;
 pub use value::read_source;
+pub use watched::{WatchedInput, WatchedOutput};
 pub use whole_script::read_script;
 pub use words::{Asked, Task, TaskFault, Tool};
 
 mod arguments;
+mod complaint;
 mod decode_command;
 mod failure;
 mod fault;
+mod frame_line;
 mod hexadecimal;
 mod input;
 mod kept_script;
@@ -42,5 +47,6 @@ mod settings_file;
 mod tools;
 mod usage;
 mod value;
+mod watched;
 mod whole_script;
 mod words;

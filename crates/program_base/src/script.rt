@@ -47,7 +47,7 @@ pub(crate) enum Action {
 
 /// The action with this name.
 #[tactic(auto, unfolding(crate::specs::ScriptReading::action_in))]
-fn action_in(word: &str) -> Result<Action, BadEvent>
+pub(crate) fn action_in(word: &str) -> Result<Action, BadEvent>
     ensures { Reads (λ action. action) result (action_in word.now) }
 {
     match word {
@@ -60,7 +60,7 @@ fn action_in(word: &str) -> Result<Action, BadEvent>
 
 /// The kind of line that begins with this word.
 #[tactic(auto, unfolding(crate::specs::ScriptReading::kind_in))]
-fn kind_in(word: &str) -> Result<Kind, BadEvent>
+pub(crate) fn kind_in(word: &str) -> Result<Kind, BadEvent>
     ensures { Reads (λ kind. kind) result (kind_in word.now) }
 {
     match word {

@@ -7,10 +7,12 @@ ghost use Rattle.clap.specs.Words.{rows_of, rule_of};
 ghost use Rattle.clap.specs.declared.builder.command.Command.TheViews.{out-Command as fields_of};
 ghost use Rattle.clap.specs.declared.error.Error.{Error as Complaint};
 ghost use Rattle.program_base.specs.CommandLine.{texts};
-ghost use Rattle.program_base.specs.ToolLine.{AreNoTool, IsTool, IsTrace, behind_trace};
-ghost use Rattle.program_base.specs.ToolLine.{chart_option, strict_flag, trace_command, trace_program};
+ghost use Rattle.program_base.specs.ToolLine.{AreNoTool, IsTool, IsTrace, behind_decode};
+ghost use Rattle.program_base.specs.ToolLine.{behind_trace, chart_option, flag, long_command};
+ghost use Rattle.program_base.specs.ToolLine.{tool_program, trace_command};
 ghost use Rattle.program_base.specs.declared.no_task.NoTask.TheVariants.{Refused};
 ghost use Rattle.program_base.specs.declared.words.TaskFault.TheVariants.{Words};
+ghost use Rattle.program_base.specs.declared.words.Tool.TheVariants.{DecodeLong};
 
 use crate::no_task::NoTask;
 use crate::parsing::{copy_of, option};
@@ -22,27 +24,34 @@ use std::alloc::{AllocError, Global};
 fn trace_command<'a>(alloc: Global) -> Result<Command<'a>, AllocError>
     ensures { IfOk result (λ command. app_of command ≡ trace_command) }
 {
-    trace_program(alloc)
+    tool_program(alloc, "bsc trace")
         .arg(option(alloc, "config").required(true))?
-        .arg(strict_flag(alloc))?
+        .arg(flag(alloc, "strict"))?
         .arg(chart_option(alloc))?
         .arg(option(alloc, "capture"))
 }
 
-/// `trace` without its options.
-fn trace_program<'a>(alloc: Global) -> Command<'a>
-    ensures app { app_of result ≡ trace_program }
-    ensures local { (fields_of result).has_globals ≡ false }
+/// The option of `decode --long`.
+fn long_command<'a>(alloc: Global) -> Result<Command<'a>, AllocError>
+    ensures { IfOk result (λ command. app_of command ≡ long_command) }
 {
-    Command::new(alloc, "bsc trace").no_binary_name(true)
+    tool_program(alloc, "bsc decode").arg(flag(alloc, "long"))
 }
 
-/// `--strict`.
-fn strict_flag<'a>(alloc: Global) -> Arg<'a>
-    ensures rule { rule_of result ≡ strict_flag }
+/// A tool without its options.
+fn tool_program<'a>(alloc: Global, name: &'a str) -> Command<'a>
+    ensures app { app_of result ≡ tool_program name.entry.now }
+    ensures local { (fields_of result).has_globals ≡ false }
+{
+    Command::new(alloc, name).no_binary_name(true)
+}
+
+/// An option without a value.
+fn flag<'a>(alloc: Global, name: &'a str) -> Arg<'a>
+    ensures rule { rule_of result ≡ flag name.entry.now }
     ensures local { result.global ≡ false }
 {
-    option(alloc, "strict").action(ArgAction::SetTrue)
+    option(alloc, name).action(ArgAction::SetTrue)
 }
 
 /// `--chart[=FORM]`, of a text where there is no form.
@@ -89,6 +98,20 @@ pub(crate) fn found_trace<'a>(alloc: Global, options: &'a [&'a str]) -> Result<T
     })
 }
 
+/// `decode --long`, where `clap` takes these words behind `decode`, or its complaint.
+pub(crate) fn found_long<'a>(alloc: Global, options: &'a [&'a str]) -> Result<Tool, NoTask>
+    ensures taken { IfOk result (λ _. fault_of long_command (texts options.entry.now) ≡ []) }
+    ensures found { IfOk result (λ tool. tool ≡ DecodeLong) }
+    ensures refused { (complaint : Complaint) → result ≡ Err (Refused complaint)
+        → fault_of long_command (texts options.entry.now) ≢ [] }
+{
+    let command = long_command(alloc)?;
+    match command.try_get_matches_from(options) {
+        Ok(_) => Ok(Tool::DecodeLong),
+        Err(error) => Err(NoTask::from(error)),
+    }
+}
+
 /// Whether a flag was given, by its value.
 fn is_true(value: Option<&str>) -> bool
     ensures given { result ≡ true
@@ -115,17 +138,28 @@ pub(crate) fn behind_trace<'a>(words: &'a [&'a str]) -> Option<&'a [&'a str]>
     }
 }
 
+/// The words behind `decode`, where that is the first one and `--long` the next.
+pub(crate) fn behind_decode<'a>(words: &'a [&'a str]) -> Option<&'a [&'a str]>
+    ensures { option_map (λ options. texts options.now) result
+        ≡ behind_decode (texts words.entry.now) }
+{
+    match words {
+        [name, next, ..] if *name == "decode" && *next == "--long" => Some(&words[1..]),
+        _ => None,
+    }
+}
+
 /// Reads the words behind the program's name as those of a tool. They are `Words` only where they
 /// don't begin with the name of one, or where `clap` refuses the others.
 pub fn tool<'a>(alloc: Global, words: &'a [&'a str]) -> Result<Tool, TaskFault>
     ensures found { IfOk result (λ tool. IsTool tool (texts words.entry.now)) }
     ensures words { result ≡ Err Words → AreNoTool (texts words.entry.now) }
 {
-    let Some(options) = behind_trace(words) else {
-        return Err(TaskFault::Words);
-    };
-    match found_trace(alloc, options) {
-        Ok(tool) => Ok(tool),
-        Err(none) => Err(none.fault()),
+    if let Some(options) = behind_trace(words) {
+        return found_trace(alloc, options).map_err(|none| none.fault());
     }
+    if let Some(options) = behind_decode(words) {
+        return found_long(alloc, options).map_err(|none| none.fault());
+    }
+    Err(TaskFault::Words)
 }

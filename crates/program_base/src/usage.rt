@@ -33,9 +33,9 @@ usage: bsc COMMAND
       taken; with --chart it draws a chart in place of these lines, as text or
       in the form of SVG; with --capture it also writes the frames into a file
       that Wireshark opens
-  decode
+  decode [--long]
       reads the octets of an IPA link on standard input, and prints the name of
-      each frame
+      each frame; with --long also what else it says, and its octets
 
 'bsc COMMAND --help' tells more of a command, 'bsc --version' the version.";
 
@@ -94,10 +94,15 @@ usage: bsc trace --config FILE [--strict] [--chart[=text|svg]] [--capture FILE]
   taken.";
 
 const DECODE: &str = "\
-usage: bsc decode
+usage: bsc decode [--long]
 
   reads the octets of an IPA link on standard input, and prints the name of each
   frame
+
+  --long
+      prints behind it the name of the message inside the frame; then, each
+      behind a tab, its channel, references and number N(SD), and the octets of
+      its body
 
   status 0: done. 2: the words have a fault. 3: memory ran out, a device failed,
   or the octets are no frames.";
@@ -138,6 +143,16 @@ impl Page {
             Page::Trace => TRACE,
             Page::Decode => DECODE,
         }
+    }
+}
+
+/// Whether these words are `help trace`.
+pub(crate) fn asks_of_trace(words: &[&str]) -> bool
+    ensures { IsTrue result ↔ (texts words.now ≡ codes "help" ∷ codes "trace" ∷ []) }
+{
+    match words {
+        [help, name] => *help == "help" && *name == "trace",
+        _ => false,
     }
 }
 

@@ -32,6 +32,8 @@ pub enum Tool {
         /// The file of a capture.
         capture: Option<String>,
     },
+    /// `decode --long`: to name the frames of a stream, with what else they say.
+    DecodeLong,
 }
 
 /// What the words behind the program's name ask for.

@@ -6,6 +6,8 @@
 #[cfg(test)]
 mod base_end;
 #[cfg(test)]
+mod charts;
+#[cfg(test)]
 mod fault_texts;
 #[cfg(test)]
 mod fixed_world;

@@ -1,1 +1,3 @@
 -- SPDX-License-Identifier: MIT OR Apache-2.0
+mod Sending
+mod Rows

@@ -3,7 +3,7 @@ ghost use Rattle.std.specs.Prelude.{◌≡◌, IfErr};
 ghost use Rattle.program_base.specs.Status.{status_of};
 
 use crate::lifelines::Lifelines;
-use frame_chart::{Arrow, Chart, ChartEvent, Fate};
+use frame_pictures::{Arrow, Chart, ChartEvent, Fate};
 use frame_words::write_message_name;
 use memchr::memchr;
 use octets::Memory;

@@ -1,19 +1,19 @@
 // SPDX-License-Identifier: MIT OR Apache-2.0
 ghost use Rattle.std.specs.Prelude.{◌≡◌, IfOk, IsOkAnd, OnOk, IfSome, length};
 ghost use Rattle.std.specs.Io.KnownBytes.{IsAtEnd};
-ghost use Rattle.frame_capture.specs.Capture.{capture_of};
+ghost use Rattle.frame_pictures.specs.Capture.{capture_of};
 ghost use Rattle.program_base.specs.SettingsText.{settings_of};
 ghost use Rattle.program_base.specs.WholeScript.{IsScript};
-ghost use Rattle.trace_capture.specs.FramesSent.{frames_sent};
+ghost use Rattle.trace_pictures.specs.FramesSent.{frames_sent};
 ghost use Rattle.world_model.specs.World.{new_actors};
 
+use crate::captured_events::capture_events;
 use crate::charting::chart_of;
-use frame_chart::{svg_of, text_of};
+use frame_pictures::{svg_of, text_of};
 use program_base::{Failure, KeptScript, ProgramFault, read_kept_script, read_settings};
 use settings::Settings;
 use std::alloc::Global;
 use std::io::Read;
-use trace_capture::capture_events;
 use world_actors::Network;
 use world_model::Event;
 

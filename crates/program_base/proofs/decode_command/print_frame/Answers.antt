@@ -5,7 +5,7 @@ use Rattle.hex.specs.Hex.{encode_lower}
 use Rattle.program_base.specs.Names.{name_of}
 use Rattle.program_base.specs.Output.{AppendsBeginning}
 use Rattle.program_base.proofs.Putting.{puts_failed}
-use Rattle.program_base.proofs.FrameLine.{begins_feed, begins_line, begins_name, begins_space}
+use Rattle.program_base.proofs.LineBegins.{begins_feed, begins_line, begins_name, begins_space}
 use Rattle.program_base.proofs.decode_command.print_frame.Goals as goal
 
 pub returns-in_err-put : goal.returns-in_err-put

@@ -5,7 +5,7 @@ use Rattle.program_base.proofs.decode_command.print_frames.Given as goal
 
 abbrev pub invariant-loop-frame : goal.invariant-loop-frame
 invariant-loop-frame g l =
-    PrintsFrames l.initial.framer l.framer (g.W.Write.contents l.initial.output) (g.W.Write.contents l.output) × (l.framer.failed ≡ l.initial.framer.failed)
+    PrintsFrames g.L.FrameLine.line l.initial.framer l.framer (g.W.Write.contents l.initial.output) (g.W.Write.contents l.output) × (l.framer.failed ≡ l.initial.framer.failed)
 
 abbrev pub decreases-loop-frame : goal.decreases-loop-frame
 decreases-loop-frame g l = length l.framer.octets

@@ -10,6 +10,6 @@ returns-in_err-flush-clause-refused g c =
     (λ stop is. (
       refl,
       λ working.
-          stops_flushing c.args.self.now.framer c.feed.new.self c.print_frames.new.framer c.args.piece.now (g.W.Write.contents c.args.self.now.output.now) (g.W.Write.contents c.print_frames.new.output) (g.W.Write.contents c.flush.new.self)
+          stops_flushing g.L.FrameLine.line c.args.self.now.framer c.feed.new.self c.print_frames.new.framer c.args.piece.now (g.W.Write.contents c.args.self.now.output.now) (g.W.Write.contents c.print_frames.new.output) (g.W.Write.contents c.flush.new.self)
           _ stop c.in_ok-feed.ensures c.in_ok-print_frames.ensures.ok.0 c.in_err-flush.ensures.bytes is,
     ))

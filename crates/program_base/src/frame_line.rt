@@ -1,0 +1,18 @@
+// SPDX-License-Identifier: MIT OR Apache-2.0
+ghost use Rattle.std.specs.Prelude.{ℕ, List};
+ghost use Rattle.ipa_framing.specs.declared.frame.Frame.{Frame as LinkFrame};
+ghost use Rattle.program_base.specs.Output.{Puts};
+
+use crate::failure::Failure;
+use ipa_framing::Frame;
+use std::alloc::Global;
+use std::io::Write;
+
+/// What is printed of each frame of a stream: a line.
+pub trait FrameLine {
+    ghost line: { LinkFrame → List ℕ };
+
+    /// Prints the line of a frame. Where that fails, a beginning of it is printed.
+    fn print<W: Write>(&self, alloc: Global, frame: &Frame, output: &mut W) -> Result<(), Failure>
+        ensures { Puts result (W.contents output.old) (W.contents output.new) (line frame.now) };
+}

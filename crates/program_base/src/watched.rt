@@ -1,0 +1,156 @@
+// SPDX-License-Identifier: MIT OR Apache-2.0
+ghost use Rattle.std.specs.Prelude.{◌<◌, IfSome, length};
+
+use crate::complaint::{Complaint, complaint_of};
+use memchr::{memchr, memrchr};
+use std::alloc::Global;
+use std::io::{self, ErrorKind, Read, Write};
+
+/// An input that remembers whether it failed, and the octets that it gave last: from the beginning
+/// of the line in which they begin.
+#[derive(Drop)]
+pub struct WatchedInput<'a, R> {
+    input: &'a mut R,
+    octets: Vec<u8>,
+    /// How many lines are before these octets; none where memory ran out.
+    lines: Option<u64>,
+    has_failed: bool,
+}
+
+impl<'a, R: Read> WatchedInput<'a, R> {
+    pub fn new(alloc: Global, input: &'a mut R) -> WatchedInput<'a, R> {
+        WatchedInput {
+            input,
+            octets: Vec::new(alloc),
+            lines: Some(0),
+            has_failed: false,
+        }
+    }
+
+    /// Whether the device failed.
+    pub fn has_failed(&self) -> bool {
+        self.has_failed
+    }
+
+    /// The number of the first line that is no event's, of those that came last, and what is wrong
+    /// with it.
+    pub fn bad_line(&self, cells: u16) -> Option<(u64, Complaint)> {
+        let mut number = self.lines?;
+        let mut rest = self.octets.as_slice();
+        while let Some((line, others)) = split_line(rest) {
+            number = number.saturating_add(1);
+            if let Some(complaint) = complaint_of(cells, line) {
+                return Some((number, complaint));
+            }
+            rest = others;
+        }
+        if rest.is_empty() {
+            return None;
+        }
+        let complaint = complaint_of(cells, rest)?;
+        Some((number.saturating_add(1), complaint))
+    }
+
+    /// Remembers a block of octets, and forgets the lines that ended before it.
+    fn remember(&mut self, block: &[u8]) {
+        let end = match memrchr(b'\n', self.octets.as_slice()) {
+            Some(place) => place + 1,
+            None => 0,
+        };
+        let ended = lines_in(&self.octets[..end]);
+        let lines = self.lines.map(|lines| lines.saturating_add(ended));
+        self.octets.drain(..end);
+        self.lines = match self.octets.extend_from_slice(block) {
+            Ok(()) => lines,
+            Err(_) => None,
+        };
+    }
+}
+
+/// The first line of these octets, and those behind it; none where no line ends in them.
+fn split_line(octets: &[u8]) -> Option<(&[u8], &[u8])>
+    ensures { IfSome result (λ parts. length parts.1.now < length octets.now) }
+{
+    let end = memchr(b'\n', octets)?;
+    Some((&octets[..end], &octets[end + 1..]))
+}
+
+/// How many lines end in these octets.
+fn lines_in(octets: &[u8]) -> u64 {
+    let mut count = 0_u64;
+    for octet in octets {
+        if *octet == b'\n' {
+            count = count.saturating_add(1);
+        }
+    }
+    count
+}
+
+impl<R: Read> Read for WatchedInput<'_, R> {
+    fn read(&mut self, room: &mut [u8]) -> io::Result<usize> {
+        match self.input.read(room) {
+            Ok(count) => {
+                self.remember(&room[..count]);
+                Ok(count)
+            }
+            Err(error) => {
+                self.has_failed = is_of_device(error.kind());
+                Err(error)
+            }
+        }
+    }
+}
+
+/// An output that remembers whether it failed.
+#[derive(Drop)]
+pub struct WatchedOutput<'a, W> {
+    output: &'a mut W,
+    has_failed: bool,
+}
+
+impl<'a, W: Write> WatchedOutput<'a, W> {
+    pub fn new(output: &'a mut W) -> WatchedOutput<'a, W> {
+        WatchedOutput {
+            output,
+            has_failed: false,
+        }
+    }
+
+    /// Whether the device failed.
+    pub fn has_failed(&self) -> bool {
+        self.has_failed
+    }
+}
+
+impl<W: Write> Write for WatchedOutput<'_, W> {
+    fn write(&mut self, octets: &[u8]) -> io::Result<usize> {
+        match self.output.write(octets) {
+            Ok(count) => {
+                self.has_failed = self.has_failed || (count == 0 && !octets.is_empty());
+                Ok(count)
+            }
+            Err(error) => {
+                self.has_failed = self.has_failed || is_of_device(error.kind());
+                Err(error)
+            }
+        }
+    }
+
+    fn flush(&mut self) -> io::Result<()> {
+        match self.output.flush() {
+            Ok(()) => Ok(()),
+            Err(error) => {
+                self.has_failed = self.has_failed || is_of_device(error.kind());
+                Err(error)
+            }
+        }
+    }
+}
+
+/// Whether an error of this kind says that a device failed.
+fn is_of_device(kind: ErrorKind) -> bool {
+    match kind {
+        ErrorKind::Interrupted | ErrorKind::OutOfMemory => false,
+        _ => true,
+    }
+}

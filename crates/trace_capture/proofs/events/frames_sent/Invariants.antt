@@ -1,8 +1,0 @@
--- SPDX-License-Identifier: MIT OR Apache-2.0
-use Rattle.std.proofs.Common.{◌≡◌, ◌++◌, drop}
-use Rattle.trace_capture.specs.FramesSent.{frames_sent}
-use Rattle.trace_capture.proofs.events.frames_sent.Given as goal
-
--- the frames so far, with those of the events that are left, are those of all
-abbrev pub invariant-loop-event : goal.invariant-loop-event
-invariant-loop-event l = l.frames.items ++ frames_sent l.network l.ms (drop l.event-index l.events) ≡ frames_sent l.fn.network 0 l.fn.events

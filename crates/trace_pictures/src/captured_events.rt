@@ -1,0 +1,54 @@
+// SPDX-License-Identifier: MIT OR Apache-2.0
+ghost use Rattle.std.specs.Prelude.{◌≡◌, IfOk};
+ghost use Rattle.frame_pictures.specs.Capture.{capture_of};
+ghost use Rattle.trace_pictures.specs.FramesSent.{frames_sent, time_after};
+
+use crate::link_frames::add_frames;
+use frame_pictures::{LinkFrame, capture};
+use octets::Memory;
+use std::alloc::Global;
+use world_actors::Network;
+use world_model::Event;
+use world_trace::step;
+
+/// Lets these events happen, and gives the file of the frames that they put on links. It is refused
+/// only for lack of memory.
+pub fn capture_events(
+    alloc: Global,
+    network: &mut Network,
+    events: &[Event],
+) -> Result<Vec<u8>, Memory>
+    ensures { IfOk result (λ file.
+        file.items ≡ capture_of (frames_sent network.old 0 events.now)) }
+{
+    let frames = frames_sent(alloc, network, events)?;
+    capture(alloc, frames.as_slice())
+}
+
+/// Lets these events happen, and gives the frames that they put on links, in order.
+pub fn frames_sent(
+    alloc: Global,
+    network: &mut Network,
+    events: &[Event],
+) -> Result<Vec<LinkFrame>, Memory>
+    ensures { IfOk result (λ frames. frames.items ≡ frames_sent network.old 0 events.now) }
+{
+    let mut frames = Vec::new(alloc);
+    let mut ms = 0;
+    for event in events {
+        ms = time_after(ms, event);
+        let trace = step(alloc, network, event)?;
+        add_frames(alloc, ms, trace.crossings.as_slice(), &mut frames)?;
+    }
+    Ok(frames)
+}
+
+/// The time behind an event: the sum of the ticks so far, in milliseconds.
+fn time_after(ms: u64, event: &Event) -> u64
+    ensures { result ≡ time_after ms event.now }
+{
+    match event {
+        Event::Tick(more) => ms.wrapping_add(u64::from(*more)),
+        _ => ms,
+    }
+}
