@@ -4,13 +4,13 @@ ghost use Rattle.link_sockets.specs.Naming.{AreNamed, place_of};
 ghost use Rattle.link_sockets.specs.declared.name.LinkName.TheVariants.{Switch};
 
 use crate::arrivals::{Port, await_stations};
+use crate::endings::Endings;
 use crate::fault::RunFault;
 use crate::gate::OpenGate;
 use crate::line::log_line;
 use crate::name::LinkName;
 use crate::other_links::OtherLinks;
 use crate::socket::{ReadingEnd, WritingEnd, ends_of};
-use crate::stations::Stations;
 use log::{Level, Log};
 use settings::{Cell, Settings};
 use station_io::Link;
@@ -23,12 +23,13 @@ use std::time::{Clock, Duration};
 pub type SocketLink<R> = Link<ReadingEnd<R>, WritingEnd<R>, OpenGate>;
 
 /// The links of a relay that begins, and the listeners of its cells, on which nobody more is taken.
-/// Those of the stations end behind that of the switch by `stations`.
+/// Links whose time has come are ended by `endings`.
 #[derive(Drop)]
 pub struct OpenedLinks<R> {
     pub links: Vec<SocketLink<R>>,
     pub listeners: Vec<TcpListener>,
-    pub(crate) stations: Stations,
+    pub(crate) endings: Endings,
+    pub(crate) others: OtherLinks,
 }
 
 /// Opens the links of these settings, the switch's first, then one for each cell, in their order.
@@ -67,32 +68,33 @@ fn links_of<R: Log + Copy + Drop>(
         × AreNamed (map (λ link. link.writer.name) opened.links.items)) }
 {
     let others = OtherLinks::new(alloc, ports.len() + 1)?;
-    let mut stations = Stations::new(alloc, others.try_clone()?, patience);
+    let mut endings = Endings::new(alloc, &switch, others.try_clone()?, patience)?;
     let mut links = Vec::new(alloc);
     let mut listeners = Vec::new(alloc);
     links.push(link_of(*rt, alloc, LinkName::Switch, switch, others.try_clone()?)?)?;
     for port in ports {
-        let others = others.try_clone()?;
-        let (link, listener) = station_of(rt, alloc, links.len(), port, others, &mut stations)?;
+        let known = others.try_clone()?;
+        let (link, listener) = station_of(rt, alloc, links.len(), port, known, &mut endings)?;
         links.push(link)?;
         listeners.push(listener)?;
     }
     Ok(OpenedLinks {
         links,
         listeners,
-        stations,
+        endings,
+        others,
     })
 }
 
 /// The link over the socket of the station of the cell with this number, and the cell's listener.
-/// The station is added to the others.
+/// The station is added to those whose links may be ended.
 fn station_of<R: Log + Copy + Drop>(
     rt: &R,
     alloc: Global,
     number: usize,
     port: Port,
     others: OtherLinks,
-    stations: &mut Stations,
+    endings: &mut Endings,
 ) -> Result<(SocketLink<R>, TcpListener), RunFault>
     ensures { IfOk result (λ station.
         (place_of station.0.reader.name ≡ number) × (place_of station.0.writer.name ≡ number)) }
@@ -102,7 +104,7 @@ fn station_of<R: Log + Copy + Drop>(
         return Err(RunFault::Device);
     };
     let name = LinkName::of_link(number, arrived.peer);
-    stations.add(&arrived.stream)?;
+    endings.add(&arrived.stream)?;
     let link = link_of(*rt, alloc, name, arrived.stream, others)?;
     Ok((link, listener))
 }

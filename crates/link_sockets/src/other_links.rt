@@ -1,6 +1,6 @@
 // SPDX-License-Identifier: MIT OR Apache-2.0
 // What the links of one relay know of each other: how many of them have not ended, whether the
-// switch's has, and whether the time behind that is over.
+// switch's has, and which are to end.
 
 use crate::name::LinkName;
 use std::alloc::{AllocError, Global};
@@ -14,7 +14,15 @@ struct Shared {
     has_switch_ended: AtomicBool,
     /// Whether it is so long since then that the stations' links are to end too.
     is_over: AtomicBool,
+    /// Whether no number is left for a connection, and no connection is left.
+    is_used_up: AtomicBool,
 }
+
+/// Why nothing more is read from a station some time behind the end of the switch's link.
+const BEHIND_SWITCH: &str = "shut: the switch's link has ended";
+
+/// Why nothing more is read from the switch.
+const USED_UP: &str = "shut: no number is left for a connection";
 
 /// What one link knows of the others.
 #[derive(Drop)]
@@ -29,6 +37,7 @@ impl OtherLinks {
             open: AtomicUsize::new(count),
             has_switch_ended: AtomicBool::new(false),
             is_over: AtomicBool::new(false),
+            is_used_up: AtomicBool::new(false),
         };
         Ok(OtherLinks {
             shared: Arc::new(alloc, shared)?,
@@ -63,5 +72,25 @@ impl OtherLinks {
     /// Whether the stations' links are to end too.
     pub(crate) fn is_over(&self) -> bool {
         self.shared.is_over.load(Ordering::SeqCst)
+    }
+
+    /// Notes that no number is left for a connection, and no connection is left, so that the
+    /// switch's link is to end.
+    pub(crate) fn use_up(&self) {
+        self.shared.is_used_up.store(true, Ordering::SeqCst);
+    }
+
+    /// Whether the switch's link is to end, or has ended for that reason.
+    pub(crate) fn is_used_up(&self) -> bool {
+        self.shared.is_used_up.load(Ordering::SeqCst)
+    }
+
+    /// Why the link with this name is to end, whatever still comes, if it is.
+    pub(crate) fn why_over(&self, name: LinkName) -> Option<&'static str> {
+        match name {
+            LinkName::Switch if self.is_used_up() => Some(USED_UP),
+            LinkName::Cell(..) if self.is_over() => Some(BEHIND_SWITCH),
+            _ => None,
+        }
     }
 }

@@ -1,12 +1,11 @@
 // SPDX-License-Identifier: MIT OR Apache-2.0
 // While a relay runs its ports stay open, so that no other program can take its stations, and
-// whoever connects there is shut out at once. The same thread sees to it that the stations' links
-// end behind that of the switch.
+// whoever connects there is shut out at once. The same thread ends links whose time has come.
 
 use crate::arrivals::{Arrival, is_passing, refuse};
+use crate::endings::Endings;
 use crate::fault::RunFault;
 use crate::readiness::{of_peers, wait_for_any};
-use crate::stations::Stations;
 use libc::net::{SHUT_RDWR, shutdown};
 use libc::types::pollfd;
 use log::Log;
@@ -21,8 +20,8 @@ use std::time::Clock;
 /// How often it is looked whether somebody came, at most: more often than a relay runs.
 const MOST_LOOKS: u64 = 1 << 40;
 
-/// The thread that shuts out whoever connects to a port of a relay that runs, and ends the links of
-/// the stations behind that of the switch.
+/// The thread that shuts out whoever connects to a port of a relay that runs, and ends links whose
+/// time has come.
 #[derive(Drop)]
 pub(crate) struct Doorkeeper {
     thread: JoinHandle<()>,
@@ -37,7 +36,7 @@ impl Doorkeeper {
         rt: R,
         alloc: Global,
         listeners: Vec<TcpListener>,
-        stations: Stations,
+        endings: Endings,
     ) -> Result<Doorkeeper, RunFault>
     where
         R: Log + Clock + Threads + Copy + Send + Drop + 'static,
@@ -49,7 +48,7 @@ impl Doorkeeper {
             None => None,
         };
         let doors = Doors::new(alloc, listeners)?;
-        match thread::spawn(&rt, move || keep(&rt, doors, stations, &asked)) {
+        match thread::spawn(&rt, move || keep(&rt, doors, endings, &asked)) {
             Ok(thread) => Ok(Doorkeeper {
                 thread,
                 has_ended,
@@ -69,13 +68,13 @@ impl Doorkeeper {
     }
 }
 
-/// Keeps doors and stations until the relay has ended.
-fn keep<R: Log + Clock>(rt: &R, mut doors: Doors, mut stations: Stations, has_ended: &AtomicBool) {
+/// Keeps the doors, and ends links, until the relay has ended.
+fn keep<R: Log + Clock>(rt: &R, mut doors: Doors, mut endings: Endings, has_ended: &AtomicBool) {
     for _ in 0..MOST_LOOKS {
         if has_ended.load(Ordering::SeqCst) {
             return;
         }
-        let milliseconds = stations.end_behind_switch(rt);
+        let milliseconds = endings.end_what_is_due(rt);
         doors.refuse_next(rt, milliseconds);
     }
 }

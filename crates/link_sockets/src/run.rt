@@ -4,6 +4,8 @@ use crate::line::log_line;
 use crate::open::{OpenedLinks, SocketLink, open_links};
 use crate::refusing::Doorkeeper;
 use crate::stopwatch::Stopwatch;
+use crate::watch::Watch;
+use crate::watching::WatchingClock;
 use controller::Controller;
 use link_workers::IoFault;
 use log::{Level, Log};
@@ -32,14 +34,32 @@ where
         + Send
         + 'static,
 {
+    let opened = open_links(&rt, alloc, &settings)?;
+    let controller = Controller::new(alloc, settings)?;
+    relay_links(rt, alloc, opened, controller)
+}
+
+/// Relays between these links, by this controller of their settings, until all have ended. How each
+/// link ends is logged. `Memory`: there was none, or a thread couldn't be had.
+pub fn relay_links<R>(
+    rt: R,
+    alloc: Global,
+    opened: OpenedLinks<R>,
+    controller: Controller,
+) -> Result<(), RunFault>
+where
+    R: Clock + Log + Threads + Wait + Copy + Drop + Send + 'static,
+{
     let OpenedLinks {
         links,
         listeners,
-        stations,
-    } = open_links(&rt, alloc, &settings)?;
-    let controller = Controller::new(alloc, settings)?;
-    let doorkeeper = Doorkeeper::start(rt, alloc, listeners, stations)?;
-    let clock = Stopwatch::new(rt);
+        endings,
+        others,
+    } = opened;
+    let watch = Watch::new(rt, alloc, links.len(), others, controller.ignored())?;
+    let stopwatch = Stopwatch::new(rt);
+    let clock = WatchingClock { stopwatch, watch };
+    let doorkeeper = Doorkeeper::start(rt, alloc, listeners, endings)?;
     let served = serve_links(rt, alloc, controller, links, clock, REFUSALS);
     doorkeeper.end(&rt);
     match served {

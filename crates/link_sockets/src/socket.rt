@@ -3,6 +3,7 @@ ghost use Rattle.std.specs.Prelude.{◌≡◌, IfOk};
 
 use crate::dead_peer::notice_dead_peer;
 use crate::fault::RunFault;
+use crate::lengths::Lengths;
 use crate::line::log_line;
 use crate::name::LinkName;
 use crate::other_links::OtherLinks;
@@ -28,21 +29,19 @@ const GIVEN_UP: &str = ": the outbox stayed full, or memory ran out";
 /// Why nothing more comes from a peer that has shut its side.
 const CLOSED: &str = "link closed";
 
-/// Why nothing more is read from a station some time behind the end of the switch's link.
-const BEHIND_SWITCH: &str = "shut: the switch's link has ended";
-
 /// The end of a link's socket that is read. It logs when nothing more comes. Where it is told that
 /// nothing more is read, it logs why and shuts the socket both ways, so that the peer sees it, and
 /// the writer of the same link ends too.
 ///
-/// Once the links of the stations are to end behind that of the switch, a station's gives the end of
-/// the octets, whatever still comes.
+/// Once the link is to end, as a station's is behind that of the switch, it gives the end of the
+/// octets, whatever still comes.
 #[derive(Drop)]
 pub struct ReadingEnd<R> {
     rt: R,
     name: LinkName,
     stream: TcpStream,
     broken: Option<IoFault>,
+    lengths: Lengths,
     /// Whether nothing more comes, which the writing end asks.
     at_end: Arc<AtomicBool, Global>,
     others: OtherLinks,
@@ -79,6 +78,7 @@ pub(crate) fn ends_of<R: Log + Copy>(
         name,
         stream,
         broken: None,
+        lengths: Lengths::new(),
         at_end,
         others,
     };
@@ -134,7 +134,7 @@ impl<R: Log> ReadingEnd<R> {
 
 impl<R: Log> Read for ReadingEnd<R> {
     fn read(&mut self, buffer: &mut [u8]) -> io::Result<usize> {
-        let read = if self.others.is_over() {
+        let read = if self.others.why_over(self.name).is_some() {
             Ok(0)
         } else {
             self.stream.read(buffer)
@@ -142,9 +142,10 @@ impl<R: Log> Read for ReadingEnd<R> {
         match &read {
             Ok(0) => {
                 self.at_end.store(true, Ordering::SeqCst);
-                let is_over = self.others.is_over();
-                self.end(Level::Info, if is_over { BEHIND_SWITCH } else { CLOSED });
+                let why = self.others.why_over(self.name).unwrap_or(CLOSED);
+                self.end(Level::Info, why);
             }
+            Ok(count) => self.lengths.pass(&buffer[..*count]),
             Err(error) if error.kind() != ErrorKind::Interrupted => {
                 self.at_end.store(true, Ordering::SeqCst);
                 log_line(
@@ -165,7 +166,12 @@ impl<R: Log> LinkReader for ReadingEnd<R> {
     fn break_off(&mut self, fault: IoFault) {
         self.broken = Some(fault);
         self.at_end.store(true, Ordering::SeqCst);
-        self.end(Level::Warn, format_args!("shut: {fault}"));
+        match (fault, self.lengths.too_long()) {
+            (IoFault::FrameFault, Some(length)) => {
+                self.end(Level::Warn, format_args!("shut: {fault}: {length} octets"));
+            }
+            _ => self.end(Level::Warn, format_args!("shut: {fault}")),
+        }
         let _ = self.stream.shutdown(Shutdown::Both);
     }
 }

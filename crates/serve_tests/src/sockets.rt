@@ -1,6 +1,7 @@
 // SPDX-License-Identifier: MIT OR Apache-2.0
-use crate::texts::{answers, first, requests};
-use link_sockets::run_links;
+use crate::texts::{CHANNEL_ACTIVATION, NACK_AND_REQUEST, answers, first, requests};
+use controller::Controller;
+use link_sockets::{open_links, relay_links, run_links};
 use settings::Settings;
 use std::alloc::Global;
 use std::io::{Read, Write};
@@ -70,6 +71,23 @@ fn play_switch<R: Abort>(rt: &R, alloc: Global, listener: TcpListener) -> bool {
         .any(|mobiles| are_requests(rt, alloc, got.as_slice(), mobiles))
 }
 
+/// What comes until the link is ended at the other side.
+fn got_to_end<R: Abort>(rt: &R, alloc: Global, mut stream: TcpStream) -> Vec<u8> {
+    let mut got = Vec::new(alloc);
+    stream.read_to_end(&mut got).expect(rt, "a read to the end");
+    got
+}
+
+/// Whether a station gets a channel, and then, since it refuses to activate it and asks once more,
+/// the end of its link.
+fn play_last_access<R: Abort>(rt: &R, alloc: Global, mut stream: TcpStream) -> bool {
+    let mut got = [0; 15];
+    stream.write_all(first(13)).expect(rt, "a write");
+    stream.read_exact(&mut got).expect(rt, "a read");
+    stream.write_all(&NACK_AND_REQUEST).expect(rt, "a write");
+    got == CHANNEL_ACTIVATION && got_to_end(rt, alloc, stream).is_empty()
+}
+
 /// A listener, and its port.
 fn listener<R>(rt: &R) -> (TcpListener, u16)
 where
@@ -112,4 +130,33 @@ fn two_stations_reach_the_switch_over_tcp(rt: HostRuntime) {
     assert!(rt; switch.join(&rt));
     assert!(rt; station.join(&rt));
     assert!(rt; other.join(&rt));
+}
+
+/// A controller with one number left gives it to an access, which fails: all links are ended.
+#[test]
+fn links_end_behind_the_last_number(rt: HostRuntime) {
+    let alloc = rt.alloc();
+    let (switch_listener, switch_port) = listener(&rt);
+    // ports that nobody has any more
+    let (_, one) = listener(&rt);
+    let (_, second) = listener(&rt);
+    let settings = settings(&rt, alloc, switch_port, one, second);
+    let station = thread::spawn(
+        &rt,
+        move || play_last_access(&rt, alloc, connect(&rt, one)),
+    ).expect(&rt, "a thread");
+    let other = thread::spawn(&rt, move || got_to_end(&rt, alloc, connect(&rt, second))).expect(
+        &rt, "a thread",
+    );
+    let Ok(opened) = open_links(&rt, alloc, &settings) else {
+        panic!(rt; "no links")
+    };
+    let Ok(controller) = Controller::new_from(alloc, settings, 16_777_215) else {
+        panic!(rt; "no memory")
+    };
+    assert!(rt; relay_links(rt, alloc, opened, controller).is_ok());
+    let (switch, _) = switch_listener.accept().expect(&rt, "a connection");
+    assert!(rt; got_to_end(&rt, alloc, switch).is_empty());
+    assert!(rt; station.join(&rt));
+    assert!(rt; other.join(&rt).is_empty());
 }

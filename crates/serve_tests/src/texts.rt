@@ -26,7 +26,7 @@ pub(crate) fn first(octets: usize) -> &'static [u8] {
     STATION.get(..octets).unwrap_or(STATION)
 }
 
-const CHANNEL_ACTIVATION: [u8; 15] = [
+pub(crate) const CHANNEL_ACTIVATION: [u8; 15] = [
     0x00, 0x0c, 0x00, 0x08, 0x21, 0x01, 0x41, 0x03, 0x00, 0x06, 0x04, 0x00, 0x03, 0x01, 0x00,
 ];
 
@@ -52,6 +52,12 @@ fn immediate_assign(cell: u8) -> [u8; 32] {
         0x2b, 0x2b, 0x2b, 0x2b, 0x2b,
     ]
 }
+
+/// CHANNEL ACTIVATION NACK of that channel, and CHANNEL REQUIRED once more.
+pub(crate) const NACK_AND_REQUEST: [u8; 20] = [
+    0x00, 0x04, 0x00, 0x08, 0x23, 0x01, 0x41, 0x00, 0x0a, 0x00, 0x0c, 0x13, 0x01, 0x88, 0x13, 0x7f,
+    0x03, 0x04, 0x11, 0x05,
+];
 
 /// How many octets a station gets for so many of its frames.
 pub(crate) fn answered(frames: u32) -> u64 {
