@@ -70,7 +70,7 @@ impl Outputs {
     }
 
     /// Puts the frames of all messages of the connection with this number behind the others, in
-    /// order. An `Err` changes nothing.
+    /// order. Where there is no room yet their list becomes this one. An `Err` changes nothing.
     pub fn put_all(&mut self, alloc: Global, number: u32, messages: &Messages) -> Result<(), Memory>
         requires { number < 2 ^ 24 }
         ensures ok { OnOk result (self.new.outs ≡ self.old.outs ++ outs_of number messages.now) }
@@ -78,6 +78,10 @@ impl Outputs {
         ensures err { OnErr result (self.new ≡ self.old) }
     {
         let made = Outputs::made(alloc, number, messages)?;
+        if self.outs.capacity() == 0 {
+            *self = made;
+            return Ok(());
+        }
         self.reserve(made.len())?;
         self.append(made);
         Ok(())
