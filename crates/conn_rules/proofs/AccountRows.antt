@@ -3,7 +3,7 @@
 use Rattle.conn_rules.proofs.Prelude.{◌≡◌, zero, suc, false, true≢false, [], ◌∷◌, map, Option, Some, None, refl, sym, arith, Contains}
 use Rattle.conn_rules.proofs.Prelude.{Channel, Assignment, Handover, Zero, Three, hex, Connection, Active, Preparing}
 use Rattle.conn_rules.proofs.Prelude.{Closed, Removed, Complete, WaitActivation, rf_channel_release, change_activation, handing}
-use Rattle.conn_rules.proofs.Prelude.{drops, refused, commands, stays, channel_release, clear_complete}
+use Rattle.conn_rules.proofs.Prelude.{drops, refused, commands, unchanged, channel_release, clear_complete}
 use Rattle.conn_rules.specs.declared.input.Input.TheVariants as inputs
 use Rattle.conn_rules.specs.Roles.{Roles, TargetRole, change_by, MayBegin, orders, IsOfSwitch, FitsEnd, to_stations, IsGivenUp, IsTaken, IsAcknowledged, channels_in_use, IsNew, ChangesRolesBy}
 use Rattle.conn_rules.specs.Roles.IsGivenUp.{released, broke, not_activated}
@@ -119,10 +119,10 @@ not_taken_without_its_activation is = none_there is.1
 -- ---- its release is acknowledged on its place
 
 acknowledged : IsAcknowledged (cell_1 0x0a) (inputs.ReleaseAck (on_1 0x0a))
-acknowledged = record { at = on_1 0x0a; comes = refl; there = refl }
+acknowledged = record { at = on_1 0x0a; acknowledges = refl; there = refl }
 
 not_acknowledged_by_an_activation : IsAcknowledged (cell_1 0x0a) (inputs.ActivationAck (on_1 0x0a)) → ⊥
-not_acknowledged_by_an_activation is = absurd (let same = is.comes in cc)
+not_acknowledged_by_an_activation is = absurd (let same = is.acknowledges in cc)
 
 -- ---- the channels in use, and which channel is new
 
@@ -140,4 +140,4 @@ not_new is = true≢false is.1.0
 -- ---- where no row fits, the input brings no step
 
 not_without_a_row : ChangesRolesBy (live (Preparing (target Assignment (cell_1 0x0a))) (cell_1 0x41)) (inputs.ActivationAck (on_1 0x0a)) None None → ⊥
-not_without_a_row is = absurd (let same : commands ≡ stays = is in cc)
+not_without_a_row is = absurd (let same : commands ≡ unchanged = is in cc)

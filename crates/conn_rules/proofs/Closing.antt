@@ -12,7 +12,7 @@ use Rattle.conn_rules.proofs.DownlinkTable.{Does-row}
 -- a row between two states that are open
 is_final_open : (s : Connection) (r : Row) → IsOpen s.state → IsOpen r.next.state → IsFinal s r
 is_final_open s r was_open is_open = record {
-  stays = λ shut _. shut was_open;
+  remains_closed = λ shut _. shut was_open;
   relays = λ shut sapi. absurd (shut is_open);
   hands = λ shut sapi. absurd (shut is_open);
   cleared = only_releases_open s.state r.outs was_open;
@@ -20,7 +20,7 @@ is_final_open s r was_open is_open = record {
 
 is_final_does : (s : Connection) (input : Input) (r : Row) → Does s.state s input r → IsFinal s r
 is_final_does s input r (ends shut parting releases) = record {
-  stays = λ _. shut;
+  remains_closed = λ _. shut;
   relays = λ _ sapi. relayed-parting sapi r.outs parting;
   hands = λ _ sapi. handed-parting sapi r.outs parting;
   cleared = releases;

@@ -15,16 +15,16 @@ of_row_so P Q so None holds = tt
 of_row_so P Q so (Some r) holds = so r holds
 
 keeps_downlink_does : (sapi : Sapi) (state : State) (s : Connection) (input : Input) (r : Row) → IsValid s → Does state s input r → KeepsDownlink sapi s input r
-keeps_downlink_does sapi state s input r stands (ends shut parting releases) = record {
+keeps_downlink_does sapi state s input r valid (ends shut parting releases) = record {
   stream = λ is_open. absurd (shut is_open);
   serving = AllByRecursion-so IsParting (IsHandedTo r.next.serving) (goes_to_parting r.next.serving) r.outs parting;
 }
-keeps_downlink_does sapi state s input r stands (passes was_open is_open quiet same nothing) = keeps_downlink_quiet sapi s input r quiet same nothing
-keeps_downlink_does sapi state s input r stands (moves was_open is_open keeps silent) = keeps stands sapi
+keeps_downlink_does sapi state s input r valid (passes was_open is_open quiet same nothing) = keeps_downlink_quiet sapi s input r quiet same nothing
+keeps_downlink_does sapi state s input r valid (moves was_open is_open keeps silent) = keeps valid sapi
 
 pub KeepsDownlink-row : (sapi : Sapi) (s : Connection) (input : Input) (offer : Option Channel) → IsValid s → OfRow (KeepsDownlink sapi s input) (row_of s input offer)
-KeepsDownlink-row sapi s input offer stands =
-    of_row_so (Does s.state s input) (KeepsDownlink sapi s input) (λ r. keeps_downlink_does sapi s.state s input r stands) (row_of s input offer) (Does-row s input offer)
+KeepsDownlink-row sapi s input offer valid =
+    of_row_so (Does s.state s input) (KeepsDownlink sapi s input) (λ r. keeps_downlink_does sapi s.state s input r valid) (row_of s input offer) (Does-row s input offer)
 
 is_silent_does : (state : State) (s : Connection) (input : Input) (r : Row) → Does state s input r → IsSilent r
 is_silent_does state s input r (ends shut parting releases) = λ _. (handed-parting Zero r.outs parting, handed-parting Three r.outs parting)

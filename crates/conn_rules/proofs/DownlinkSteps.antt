@@ -82,37 +82,39 @@ are_quiet_waiting false reference offer = tt
 record Begins (s next : Connection) : Type 0 where
   pub down : next.down ≡ s.down
   pub serving : next.serving ≡ s.serving
-  pub stays_open : IsOpen s.state → IsOpen next.state
+  pub remains_open : IsOpen s.state → IsOpen next.state
   pub prepares : IsChanging next.state → IsChanging s.state
 
 begins_begin : (reference : ℕ) (change : Change) (offer : Option Channel) (s : Connection) → Begins s (after_begin reference change offer s)
-begins_begin reference change (Some channel) s = record { down = refl; serving = refl; stays_open = λ _. tt; prepares = absurd }
-begins_begin reference change None s = record { down = refl; serving = refl; stays_open = λ stays. stays; prepares = λ changes. changes }
+begins_begin reference change (Some channel) s = record { down = refl; serving = refl; remains_open = λ _. tt; prepares = absurd }
+begins_begin reference change None s = record
+    { down = refl; serving = refl; remains_open = λ is_open. is_open; prepares = λ changes. changes }
 
 begins_waiting : (waits : Bool) (reference : ℕ) (offer : Option Channel) (s : Connection) → Begins s (after_waiting waits reference offer s)
 begins_waiting true reference offer s =
     let begins = begins_begin reference Assignment offer (record s { waits = false }) in
-    record { down = begins.down; serving = begins.serving; stays_open = begins.stays_open; prepares = begins.prepares }
-begins_waiting false reference offer s = record { down = refl; serving = refl; stays_open = λ stays. stays; prepares = λ changes. changes }
+    record { down = begins.down; serving = begins.serving; remains_open = begins.remains_open; prepares = begins.prepares }
+begins_waiting false reference offer s = record
+    { down = refl; serving = refl; remains_open = λ is_open. is_open; prepares = λ changes. changes }
 
 pub does_begin : (state : State) (s : Connection) (input : Input) (reference : ℕ) (change : Change) (offer : Option Channel) → IsOpen state → IsOpen s.state → BringsNothing input → Does state s input (begin reference change offer s)
 does_begin state s input reference change offer is_open opened nothing =
     let begins = begins_begin reference change offer s in
-    passes is_open (begins.stays_open opened) (are_quiet_begin reference change offer) begins.down nothing
+    passes is_open (begins.remains_open opened) (are_quiet_begin reference change offer) begins.down nothing
 
 -- a request that waits begins behind quiet messages
 pub does_waiting : (state : State) (s : Connection) (input : Input) (stage : Stage) (reference : ℕ) (offer : Option Channel) (outs : List Message) (t : Connection) → IsOpen state → IsOpen t.state → AreQuiet outs → t.down ≡ s.down → BringsNothing input → Does state s input (row outs t then begin_waiting stage reference offer)
 does_waiting state s input stage reference offer outs t is_open opened quiet same nothing =
     let begins = begins_waiting (t.waits && may_begin stage t.draining) reference offer t in
-    passes is_open (begins.stays_open opened)
+    passes is_open (begins.remains_open opened)
     (AllByRecursion-append IsQuiet outs _ quiet (are_quiet_waiting (t.waits && may_begin stage t.draining) reference offer)) (begins.down ∙ same) nothing
 
 -- ---- what rows keep of the downlink
 
 -- where nothing came and nothing is rejected
 keeps_downlink_still : (sapi : Sapi) (s : Connection) (input : Input) (r : Row) → rejects r.outs ≡ false → BringsNothing input → AllByRecursion (IsHandedTo r.next.serving) r.outs → handed sapi r.outs ++ filter is_dtap (messages r.next.down sapi) ≡ filter is_dtap (messages s.down sapi) → KeepsDownlink sapi s input r
-keeps_downlink_still sapi s input r none nothing goes same = record {
-  serving = goes;
+keeps_downlink_still sapi s input r none nothing to_serving same = record {
+  serving = to_serving;
   stream = λ _. same ∙ sym (
       without_rejected-none sapi r.outs (filter is_dtap (messages s.down sapi ++ received_by sapi input)) none
       ∙ ap (λ (xs : List (List ℕ)). filter is_dtap (messages s.down sapi ++ xs)) (received_by-nothing sapi input nothing)
@@ -178,14 +180,14 @@ opened reference stage s is = subst IsOpen (sym is) tt
 -- a message is handed
 pub does_handing : (reference : ℕ) (stage : Stage) (s : Connection) (sapi : Sapi) (message : List ℕ) → IsStill stage → s.state ≡ Live reference stage → (IsValid s → messages s.down sapi ≡ []) → Does (Live reference stage) s (inputs.Downlink sapi message) (row (handing s.serving sapi message ∷ []) s)
 does_handing reference stage s sapi message still is none =
-    moves tt (opened reference stage s is) (λ stands of. keeps_downlink_handed of sapi message s (none stands)) (λ changes. absurd (not_changing stage reference s still is changes))
+    moves tt (opened reference stage s is) (λ valid of. keeps_downlink_handed of sapi message s (none valid)) (λ changes. absurd (not_changing stage reference s still is changes))
 
 -- a message is held while a channel changes
 pub does_hold_down : (reference : ℕ) (target : Target) (s : Connection) (sapi : Sapi) (message : List ℕ) → s.state ≡ Live reference (Changing target) → Does (Live reference (Changing target)) s (inputs.Downlink sapi message) (hold_down (Live reference (Changing target)) sapi message s)
 does_hold_down reference target s sapi message is =
     cond_both (eqb (count s.down) s.down.limit) _ _ (Does (Live reference (Changing target)) s (inputs.Downlink sapi message))
     (λ full. does_failing (Live reference (Changing target)) s (inputs.Downlink sapi message) EQUIPMENT_FAILURE tt)
-    (λ room. moves tt (opened reference (Changing target) s is) (λ stands of. keeps_downlink_held of sapi message s _ tt refl) (λ _. (refl, refl)))
+    (λ room. moves tt (opened reference (Changing target) s is) (λ valid of. keeps_downlink_held of sapi message s _ tt refl) (λ _. (refl, refl)))
 
 -- a message of SAPI 3 is held for its link
 are_quiet_request : (link : ShortMessageLink) (serving : Channel) → AreQuiet (request_where link serving)
@@ -196,7 +198,7 @@ does_hold_short : (reference : ℕ) (stage : Stage) (s : Connection) (message : 
 does_hold_short reference stage s message is =
     cond_both (eqb (count s.down) s.down.limit) _ _ (Does (Live reference stage) s (inputs.Downlink Three message))
     (λ full. does_failing (Live reference stage) s (inputs.Downlink Three message) EQUIPMENT_FAILURE tt)
-    (λ room. moves tt (opened reference stage s is) (λ stands of. keeps_downlink_held of Three message s _ (are_quiet_request s.link s.serving) refl)
+    (λ room. moves tt (opened reference stage s is) (λ valid of. keeps_downlink_held of Three message s _ (are_quiet_request s.link s.serving) refl)
     (λ _. handed_none (request_where s.link s.serving) (are_quiet_request s.link s.serving)))
 
 pub does_short_message : (reference : ℕ) (stage : Stage) (link : ShortMessageLink) (s : Connection) (message : List ℕ) → IsStill stage → s.state ≡ Live reference stage → (IsValid s → IsAskedFor link s.down.three) → Does (Live reference stage) s (inputs.Downlink Three message) (short_message (Live reference stage) link message s)
@@ -207,7 +209,7 @@ does_short_message reference stage _ s message still is none = does_hold_short r
 pub does_link_up : (reference : ℕ) (stage : Stage) (s : Connection) (input : Input) → IsStill stage → s.state ≡ Live reference stage → BringsNothing input → Does (Live reference stage) s input (link_up s)
 does_link_up reference stage s input still is nothing =
     moves tt (opened reference stage s is)
-    (λ stands of. keeps_downlink_still of s input (link_up s) (rejects-handing s.serving Three s.down.three) nothing (goes_to_handing s.serving Three s.down.three) (handed-held of Three s.serving s.down))
+    (λ valid of. keeps_downlink_still of s input (link_up s) (rejects-handing s.serving Three s.down.three) nothing (goes_to_handing s.serving Three s.down.three) (handed-held of Three s.serving s.down))
     (λ changes. absurd (not_changing stage reference s still is changes))
 
 -- SAPI 3 goes down: what is held for it is rejected
@@ -220,7 +222,7 @@ keeps_downlink_rejected Three reference s input nothing = record { serving = (tt
 
 pub does_link_down : (reference : ℕ) (stage : Stage) (link : ShortMessageLink) (s : Connection) (input : Input) → IsStill stage → s.state ≡ Live reference stage → BringsNothing input → Does (Live reference stage) s input (link_down link reference s)
 does_link_down reference stage Asked s input still is nothing =
-    moves tt (opened reference stage s is) (λ stands of. keeps_downlink_rejected of reference s input nothing) (λ changes. absurd (not_changing stage reference s still is changes))
+    moves tt (opened reference stage s is) (λ valid of. keeps_downlink_rejected of reference s input nothing) (λ changes. absurd (not_changing stage reference s still is changes))
 does_link_down reference stage _ s input still is nothing = passes tt (opened reference stage s is) tt refl nothing
 
 -- a message of the mobile is held
@@ -239,7 +241,7 @@ are_quiet_request_for (first ∷ rest) serving = (tt, tt)
 pub does_changed : (state : State) (s : Connection) (input : Input) (outs : List Message) (t : Connection) (stage : Stage) (reference : ℕ) (offer : Option Channel) → IsOpen state → AreQuiet outs → t.down ≡ s.down → BringsNothing input → IsOpen t.state → (IsChanging t.state → ⊥) →
     Does state s input (row outs t then hand_held Zero then ask_for_held then begin_waiting stage reference offer)
 does_changed state s input outs t stage reference offer is_open quiet same nothing opened still =
-    moves is_open (begins.stays_open opened) (λ stands. keeps) (λ changes. absurd (still (begins.prepares changes)))
+    moves is_open (begins.remains_open opened) (λ valid. keeps) (λ changes. absurd (still (begins.prepares changes)))
   where
     handing_outs : List Message
     handing_outs = map (handing t.serving Zero) t.down.zero
@@ -281,8 +283,8 @@ does_changed state s input outs t stage reference offer is_open quiet same nothi
     goes_quiet : (outs : List Message) → AreQuiet outs → AllByRecursion (IsHandedTo t.serving) outs
     goes_quiet outs quiet = AllByRecursion-so IsQuiet (IsHandedTo t.serving) (goes_to_quiet t.serving) outs quiet
 
-    goes : AllByRecursion (IsHandedTo t.serving) all
-    goes = AllByRecursion-append (IsHandedTo t.serving) (outs ++ handing_outs ++ asking) behind
+    to_serving : AllByRecursion (IsHandedTo t.serving) all
+    to_serving = AllByRecursion-append (IsHandedTo t.serving) (outs ++ handing_outs ++ asking) behind
         (AllByRecursion-append (IsHandedTo t.serving) (outs ++ handing_outs) asking
         (AllByRecursion-append (IsHandedTo t.serving) outs handing_outs (goes_quiet outs quiet) (goes_to_handing t.serving Zero t.down.zero))
         (goes_quiet asking (are_quiet_request_for t.down.three t.serving)))
@@ -290,5 +292,5 @@ does_changed state s input outs t stage reference offer is_open quiet same nothi
 
     keeps : (of : Sapi) → KeepsDownlink of s input (row all (after_waiting waits reference offer after))
     keeps of = keeps_downlink_still of s input (row all (after_waiting waits reference offer after)) none nothing
-        (subst (λ (serving : Channel). AllByRecursion (IsHandedTo serving) all) (sym begins.serving) goes)
+        (subst (λ (serving : Channel). AllByRecursion (IsHandedTo serving) all) (sym begins.serving) to_serving)
         (rw (handed_all of, begins.down) (handed-held of Zero t.serving t.down ∙ ap (λ (down : HoldState). filter is_dtap (messages down of)) same))

@@ -50,11 +50,11 @@ is_apart_from_leave reference (d ∷ ds) s =
 -- the state behind it
 record Settles (s next : Connection) : Type 0 where
   pub down : next.down ≡ s.down
-  pub stays_open : IsOpen s.state → IsOpen next.state
+  pub remains_open : IsOpen s.state → IsOpen next.state
 
 settles_settled : (reference : ℕ) (stage : Stage) (ds : List Drain) (s : Connection) → Settles s (settled reference stage ds s)
-settles_settled reference Draining [] s = record { down = refl; stays_open = λ _. tt }
-settles_settled reference _ _ s = record { down = refl; stays_open = λ stays. stays }
+settles_settled reference Draining [] s = record { down = refl; remains_open = λ _. tt }
+settles_settled reference _ _ s = record { down = refl; remains_open = λ is_open. is_open }
 
 release_does : (reference : ℕ) (stage : Stage) (s : Connection) (input : Input) (place : ℕ) (offer : Option Channel) → s.state ≡ Live reference stage → BringsNothing input → Does (Live reference stage) s input (release reference stage place offer s)
 release_does reference stage s input place offer is nothing =
@@ -63,7 +63,7 @@ release_does reference stage s input place offer is nothing =
     let leaves = is_apart_from_leave reference (done_at place s.draining) s in
     let settles = settles_settled reference stage left.next.draining left.next in
     does_waiting (Live reference stage) s input (settled_stage stage rests.draining) reference offer (left.outs ++ []) rests tt
-    (settles.stays_open (subst IsOpen (sym (leaves.state ∙ is)) tt))
+    (settles.remains_open (subst IsOpen (sym (leaves.state ∙ is)) tt))
     (AllByRecursion-append IsQuiet left.outs [] leaves.quiet tt) (settles.down ∙ leaves.down) nothing
 
 -- ---- channels are activated
@@ -217,9 +217,9 @@ released_does _ s source = tt
 
 downlink_does : (state : State) (s : Connection) (sapi : Sapi) (message : List ℕ) → s.state ≡ state → OfRow (Does state s (inputs.Downlink sapi message)) (on_downlink state s sapi message)
 downlink_does (Live reference (Changing target)) s sapi message is = does_hold_down reference target s sapi message is
-downlink_does (Live reference stage) s Zero message is = does_handing reference stage s Zero message tt is (λ stands. none_held stage s.draining s.down s.link s.waits tt (in_stage reference stage s is stands))
+downlink_does (Live reference stage) s Zero message is = does_handing reference stage s Zero message tt is (λ valid. none_held stage s.draining s.down s.link s.waits tt (in_stage reference stage s is valid))
 downlink_does (Live reference stage) s Three message is =
-    does_short_message reference stage s.link s message tt is (λ stands. asked_for stage s.draining s.down s.link s.waits tt (in_stage reference stage s is stands))
+    does_short_message reference stage s.link s message tt is (λ valid. asked_for stage s.draining s.down s.link s.waits tt (in_stage reference stage s is valid))
 downlink_does _ s sapi message is = tt
 
 assignment_request_does : (state : State) (s : Connection) (is_speech : Bool) (offer : Option Channel) → s.state ≡ state → OfRow (Does state s (inputs.AssignmentRequest is_speech)) (on_assignment_request state s is_speech offer)

@@ -130,18 +130,18 @@ kept_use station uses now _ same at differ = same at differ
 
 -- of one that doesn't go
 dropped_use : (station : ℕ) (uses now : Using) (m : Message) → is_for_station station m ≡ true → IsSameElse station uses now → IsSameElse station (used_after uses m) now
-dropped_use station uses now (Station to (ChannelActivation a)) goes same at differ =
-    same at differ ∙ sym (ap (λ (b : Bool). b || uses at) (not_same at (record { station = to; number = a.channel }) (λ is. differ (is ∙ eqb-true to station goes))))
-dropped_use station uses now (Station to (RfChannelRelease channel)) goes same at differ =
-    same at differ ∙ sym (ap (λ (b : Bool). not b && uses at) (not_same at (record { station = to; number = channel }) (λ is. differ (is ∙ eqb-true to station goes))))
-dropped_use station uses now (Station to _) goes same at differ = same at differ
-dropped_use station uses now _ goes same at differ = absurd (true≢false (sym goes))
+dropped_use station uses now (Station to (ChannelActivation a)) for_station same at differ =
+    same at differ ∙ sym (ap (λ (b : Bool). b || uses at) (not_same at (record { station = to; number = a.channel }) (λ is. differ (is ∙ eqb-true to station for_station))))
+dropped_use station uses now (Station to (RfChannelRelease channel)) for_station same at differ =
+    same at differ ∙ sym (ap (λ (b : Bool). not b && uses at) (not_same at (record { station = to; number = channel }) (λ is. differ (is ∙ eqb-true to station for_station))))
+dropped_use station uses now (Station to _) for_station same at differ = same at differ
+dropped_use station uses now _ for_station same at differ = absurd (true≢false (sym for_station))
 
 kept_put : (station : ℕ) (uses now : Using) (m : Message) → is_for_station station m ≡ false → IsSameElse station uses now → IsPutOn uses m → IsPutOn now m
-kept_put station uses now (Station to (DataRequest d)) goes same put = same (record { station = to; number = d.channel }) (λ is. true≢false (sym (eq-eqb to station is) ∙ goes)) ∙ put
-kept_put station uses now (Station to (EstablishRequest l)) goes same put = same (record { station = to; number = l.channel }) (λ is. true≢false (sym (eq-eqb to station is) ∙ goes)) ∙ put
-kept_put station uses now (Station to (RfChannelRelease channel)) goes same put = same (record { station = to; number = channel }) (λ is. true≢false (sym (eq-eqb to station is) ∙ goes)) ∙ put
-kept_put station uses now _ goes same put = tt
+kept_put station uses now (Station to (DataRequest d)) for_station same put = same (record { station = to; number = d.channel }) (λ is. true≢false (sym (eq-eqb to station is) ∙ for_station)) ∙ put
+kept_put station uses now (Station to (EstablishRequest l)) for_station same put = same (record { station = to; number = l.channel }) (λ is. true≢false (sym (eq-eqb to station is) ∙ for_station)) ∙ put
+kept_put station uses now (Station to (RfChannelRelease channel)) for_station same put = same (record { station = to; number = channel }) (λ is. true≢false (sym (eq-eqb to station is) ∙ for_station)) ∙ put
+kept_put station uses now _ for_station same put = tt
 
 without_puts : (station : ℕ) (uses now : Using) (ms : List Message) → IsSameElse station uses now → ArePutOn uses ms → ArePutOn now (filter (λ message. not (is_for_station station message)) ms)
 without_puts station uses now [] same puts = tt
@@ -149,8 +149,9 @@ without_puts station uses now (m ∷ ms) same puts = by (is_for_station station 
   where
     by : (b : Bool) → is_for_station station m ≡ b → ((later : Using) → IsSameElse station (used_after uses m) later → ArePutOn later (filter (λ message. not (is_for_station station message)) ms)) →
         ArePutOn now (if not b then m ∷ filter (λ message. not (is_for_station station message)) ms else filter (λ message. not (is_for_station station message)) ms)
-    by true goes rest = rest now (dropped_use station uses now m goes same)
-    by false goes rest = (kept_put station uses now m goes same puts.0, rest (used_after now m) (kept_use station uses now m same))
+    by true for_station rest = rest now (dropped_use station uses now m for_station same)
+    by false for_station rest =
+        (kept_put station uses now m for_station same puts.0, rest (used_after now m) (kept_use station uses now m same))
 
 without_keeps : (station : ℕ) (uses : Using) (ms : List Message) → ArePutOn uses ms → ArePutOn uses (filter (λ message. not (is_for_station station message)) ms)
 without_keeps station uses ms puts = without_puts station uses uses ms (λ at differ. refl) puts
@@ -487,4 +488,4 @@ puts_by s input offer (Some r) is all (had_ended was_shut shut nothing) = quiet_
 
 -- channels of an open connection are apart
 pub puts_on_own : (s : Connection) (input : Input) (offer : Option Channel) → IsValid s → (IsOpen s.state → AreApart (used_channels s)) → OfRow (λ r. PutsOnOwn s r.outs) (row_of s input offer)
-puts_on_own s input offer stands all = puts_by s input offer (row_of s input offer) refl all (changes_roles_row s input offer stands)
+puts_on_own s input offer valid all = puts_by s input offer (row_of s input offer) refl all (changes_roles_row s input offer valid)

@@ -5,7 +5,7 @@ use Rattle.conn_rules.proofs.Prelude.{Option, Some, None, true≢false, Contains
 use Rattle.conn_rules.proofs.Prelude.{Contains-append_left, Contains-append_right, AllByRecursion, ABNORMAL_RELEASE, Change, Assignment}
 use Rattle.conn_rules.proofs.Prelude.{Handover, Channel, Message, Station, handing, change_activation, relaying, Sapi, Zero, Three, Tenure}
 use Rattle.conn_rules.proofs.Prelude.{HoldState, DataRequest, Input, Drain, ShortMessageLink, Down, Stage, Preparing, Changing, State, Live}
-use Rattle.conn_rules.proofs.Prelude.{Target, Connection, stays, commands, leaves, drops, dismisses, goes_on, ends, had_ended, IsOpen}
+use Rattle.conn_rules.proofs.Prelude.{Target, Connection, unchanged, commands, leaves, drops, dismisses, goes_on, ends, had_ended, IsOpen}
 use Rattle.conn_rules.proofs.Prelude.{ChannelActivation, RfChannelRelease}
 use Rattle.conn_rules.specs.declared.input.Input.TheVariants as inputs
 use Rattle.conn_rules.specs.Roles.{Roles, target_role, roles_of, RoleStep, after_step, with_target, step_by, change_by, MayBegin, is_order, orders, step_orders, begin_orders, IsOfSwitch, brought, Tells, RemainsOpen, end_messages, is_to_station, to_stations, those_that_go, Ends, ChangesRoles, ChangesRolesBy}
@@ -41,8 +41,8 @@ ends_in state s input offer r is was_open shut over =
 pub had_ended_in : (state : State) (s : Connection) (input : Input) (offer : Option Channel) (r : Row) → s.state ≡ state → (IsOpen state → ⊥) → (IsOpen r.next.state → ⊥) → to_stations r.outs ≡ [] → ChangesRoles s input offer r
 had_ended_in state s input offer r is was_shut shut nothing = had_ended (λ is_open. was_shut (subst IsOpen is is_open)) shut nothing
 
-pub none_in : (state : State) (s : Connection) (input : Input) (offer : Option Channel) → s.state ≡ state → step_by input (roles_in state s) ≡ stays → ChangesRolesBy s input offer None
-none_in state s input offer is same = subst (λ (state : State). step_by input (roles_in state s) ≡ stays) (sym is) same
+pub none_in : (state : State) (s : Connection) (input : Input) (offer : Option Channel) → s.state ≡ state → step_by input (roles_in state s) ≡ unchanged → ChangesRolesBy s input offer None
+none_in state s input offer is same = subst (λ (state : State). step_by input (roles_in state s) ≡ unchanged) (sym is) same
 
 -- a row that fits where a test holds
 pub changes_roles_by_row_if : (s : Connection) (input : Input) (offer : Option Channel) (test : Bool) (r : Row) → (test ≡ true → ChangesRoles s input offer r) → (test ≡ false → ChangesRolesBy s input offer None) → ChangesRolesBy s input offer (row_if test r)
@@ -125,7 +125,7 @@ are_plain_request_for (first ∷ rest) serving = (tt, tt)
 -- ---- rows without a step
 
 -- nothing is ordered, nobody is told, no change begins
-pub goes_on_plain : (before : Roles) (down : HoldState) (input : Input) (offer : Option Channel) (r : Row) → roles_of r.next ≡ before → ArePlain r.outs → RemainsOpen stays before down input offer r
+pub goes_on_plain : (before : Roles) (down : HoldState) (input : Input) (offer : Option Channel) (r : Row) → roles_of r.next ≡ before → ArePlain r.outs → RemainsOpen unchanged before down input offer r
 goes_on_plain before down input offer r same plain = record {
   begun = None;
   may = tt;
@@ -142,7 +142,7 @@ pub record BeginsBy (input : Input) (offer : Option Channel) (t : Connection) (o
   pub roles : roles_of next ≡ with_target begun (roles_of t)
   pub ordered : orders outs ≡ begin_orders begun
   pub untold : AllByRecursion IsUntold outs
-  pub stays_open : IsOpen t.state → IsOpen next.state
+  pub remains_open : IsOpen t.state → IsOpen next.state
 
 is_order_activation : (change : Change) (channel : Channel) → (orders (change_activation change channel ∷ []) ≡ change_activation change channel ∷ []) × IsUntold (change_activation change channel)
 is_order_activation Assignment channel = (refl, tt)
@@ -155,10 +155,10 @@ begins_by_begin input (Some channel) reference change t kind free = record {
   roles = refl;
   ordered = (is_order_activation change channel).0;
   untold = ((is_order_activation change channel).1, tt);
-  stays_open = λ _. tt;
+  remains_open = λ _. tt;
 }
-begins_by_begin input None reference Assignment t kind free = record { begun = None; may = tt; roles = refl; ordered = refl; untold = (tt, tt); stays_open = λ stays. stays }
-begins_by_begin input None reference Handover t kind free = record { begun = None; may = tt; roles = refl; ordered = refl; untold = tt; stays_open = λ stays. stays }
+begins_by_begin input None reference Assignment t kind free = record { begun = None; may = tt; roles = refl; ordered = refl; untold = (tt, tt); remains_open = λ is_open. is_open }
+begins_by_begin input None reference Handover t kind free = record { begun = None; may = tt; roles = refl; ordered = refl; untold = tt; remains_open = λ is_open. is_open }
 
 -- no change is under way where one may begin
 free_in : (stage : Stage) (draining : List Drain) (reference : ℕ) → may_begin stage draining ≡ true → target_role (Live reference stage) ≡ None
@@ -176,8 +176,8 @@ second_true false b both = absurd (true≢false (sym both))
 begins_by_after : (waits : Bool) (input : Input) (offer : Option Channel) (reference : ℕ) (t : Connection) → Assignment ≡ change_by input → (waits ≡ true → target_role t.state ≡ None) → BeginsBy input offer t (waiting_outs waits reference offer) (after_waiting waits reference offer t)
 begins_by_after true input offer reference t kind free =
     let begins = begins_by_begin input offer reference Assignment (record t { waits = false }) kind (free refl) in
-    record { begun = begins.begun; may = begins.may; roles = begins.roles; ordered = begins.ordered; untold = begins.untold; stays_open = begins.stays_open }
-begins_by_after false input offer reference t kind free = record { begun = None; may = tt; roles = refl; ordered = refl; untold = tt; stays_open = λ stays. stays }
+    record { begun = begins.begun; may = begins.may; roles = begins.roles; ordered = begins.ordered; untold = begins.untold; remains_open = begins.remains_open }
+begins_by_after false input offer reference t kind free = record { begun = None; may = tt; roles = refl; ordered = refl; untold = tt; remains_open = λ is_open. is_open }
 
 pub begins_by_waiting : (stage : Stage) (input : Input) (offer : Option Channel) (reference : ℕ) (t : Connection) → Assignment ≡ change_by input → t.state ≡ Live reference stage → BeginsBy input offer t (begin_waiting stage reference offer t).outs (begin_waiting stage reference offer t).next
 begins_by_waiting stage input offer reference t kind is =
@@ -190,19 +190,19 @@ IsUntoldStep commands = ⊥
 IsUntoldStep _ = Unit {0}
 
 tells_by : (step : RoleStep) (before : Roles) (down : HoldState) (input : Input) (outs : List Message) → IsUntoldStep step → AllByRecursion (IsOfSwitch down input) outs → Tells step before down input outs
-tells_by commands before down input outs untold told = absurd untold
-tells_by (leaves place) before down input outs untold told = told
-tells_by _ before down input outs untold told = told
+tells_by commands before down input outs untold of_switch = absurd untold
+tells_by (leaves place) before down input outs untold of_switch = of_switch
+tells_by _ before down input outs untold of_switch = of_switch
 
 pub goes_on_begins : (step : RoleStep) (before : Roles) (down : HoldState) (input : Input) (offer : Option Channel) (outs : List Message) (t : Connection) (behind : List Message) (next : Connection) →
     IsUntoldStep step → roles_of t ≡ after_step step before → orders outs ≡ step_orders step before → AllByRecursion (IsOfSwitch down input) outs → BeginsBy input offer t behind next → RemainsOpen step before down input offer (row (outs ++ behind) next)
-goes_on_begins step before down input offer outs t behind next untold same ordered told begins = record {
+goes_on_begins step before down input offer outs t behind next untold same ordered of_switch begins = record {
   begun = begins.begun;
   may = subst (MayBegin begins.begun input offer) same begins.may;
   roles = begins.roles ∙ ap (with_target begins.begun) same;
   ordered = orders-append outs behind ∙ rw (ordered, begins.ordered) refl;
   tells = tells_by step before down input (outs ++ behind) untold
-      (AllByRecursion-append (IsOfSwitch down input) outs behind told (told_untold down input behind begins.untold));
+      (AllByRecursion-append (IsOfSwitch down input) outs behind of_switch (told_untold down input behind begins.untold));
 }
 
 -- ---- ends

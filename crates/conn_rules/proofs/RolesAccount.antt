@@ -4,7 +4,7 @@ use Rattle.conn_rules.proofs.Prelude.{◌≡◌, inl, inr, ℕ, zero, suc, Bool,
 use Rattle.conn_rules.proofs.Prelude.{sym, ◌∙◌, ap, subst, Option, Some, None, true≢false, Contains, if◌then◌else◌, arith, Contains-push}
 use Rattle.conn_rules.proofs.Prelude.{Contains-append_left, Contains-append_right, Change, Channel, Place, Message, change_activation}
 use Rattle.conn_rules.proofs.Prelude.{channel_release, rf_channel_release, cond_both, ◌⊎◌, ⊎_elim, option_map, Contains-append_cases, Input}
-use Rattle.conn_rules.proofs.Prelude.{Drain, State, Closed, Removed, Target, Connection, is_at, drain_at, stays, commands, completes}
+use Rattle.conn_rules.proofs.Prelude.{Drain, State, Closed, Removed, Target, Connection, is_at, drain_at, unchanged, commands, completes}
 use Rattle.conn_rules.proofs.Prelude.{goes_back, leaves, refused, drops, dismisses, goes_on, ends, had_ended, OfRow, IsOpen, undone}
 use Rattle.std.proofs.Common.{eqb-true}
 use Rattle.conn_rules.specs.declared.input.Input.TheVariants as inputs
@@ -75,10 +75,10 @@ in_use_where _ roles c is_open there = there
 
 -- ---- which inputs bring a step
 
-goes_back≢stays : goes_back ≡ stays → ⊥
-goes_back≢stays same = cc
+goes_back≢unchanged : goes_back ≡ unchanged → ⊥
+goes_back≢unchanged same = cc
 
-if_true : (test : Bool) (step : RoleStep) → (step ≡ stays → ⊥) → (other : RoleStep) → (if test then other else stays) ≡ step → (test ≡ true) × (other ≡ step)
+if_true : (test : Bool) (step : RoleStep) → (step ≡ unchanged → ⊥) → (other : RoleStep) → (if test then other else unchanged) ≡ step → (test ≡ true) × (other ≡ step)
 if_true true step moves other is = (refl, is)
 if_true false step moves other is = absurd (moves (sym is))
 
@@ -89,25 +89,25 @@ both_true false b both = absurd (true≢false (sym both))
 -- a target to which the mobile wasn't commanded goes where its activation was refused
 was_refused : (input : Input) (roles : Roles) (t : TargetRole) → step_by input roles ≡ goes_back → roles.target ≡ Some t → t.is_commanded ≡ false → (at : Place) × (input ≡ inputs.ActivationNack at) × (is_at at t.target.channel ≡ true)
 was_refused (inputs.ActivationNack at) roles t back is awaits =
-    let refused : awaits_at at (Some t) ≡ true = ap (awaits_at at) (sym is) ∙ (if_true (awaits_at at roles.target) goes_back goes_back≢stays goes_back back).0 in
+    let refused : awaits_at at (Some t) ≡ true = ap (awaits_at at) (sym is) ∙ (if_true (awaits_at at roles.target) goes_back goes_back≢unchanged goes_back back).0 in
     (at, refl, (both_true (not t.is_commanded) (is_at at t.target.channel) refused).1)
 was_refused (inputs.Failure at change cause) roles t back is awaits =
-    let tested = (if_true (is_at at roles.serving && changes_by change roles.target) goes_back goes_back≢stays goes_back back).0 in
+    let tested = (if_true (is_at at roles.serving && changes_by change roles.target) goes_back goes_back≢unchanged goes_back back).0 in
     let by : changes_by change (Some t) ≡ true = ap (changes_by change) (sym is) ∙ (both_true (is_at at roles.serving) (changes_by change roles.target) tested).1 in
     absurd (true≢false (sym (both_true t.is_commanded _ by).0 ∙ awaits))
 was_refused (inputs.ActivationAck at) roles t back is awaits =
-    let other : commands ≡ goes_back = (if_true (awaits_at at roles.target) goes_back goes_back≢stays commands back).1 in absurd cc
+    let other : commands ≡ goes_back = (if_true (awaits_at at roles.target) goes_back goes_back≢unchanged commands back).1 in absurd cc
 was_refused (inputs.Complete at change cause) roles t back is awaits =
-    let other : completes ≡ goes_back = (if_true (is_target_at at roles.target && changes_by change roles.target) goes_back goes_back≢stays completes back).1 in absurd cc
+    let other : completes ≡ goes_back = (if_true (is_target_at at roles.target && changes_by change roles.target) goes_back goes_back≢unchanged completes back).1 in absurd cc
 was_refused (inputs.ReleaseAck at) roles t back is awaits = absurd (never (drain_at at roles.draining) back)
   where
     never : (found : Option ℕ) → leaves_at found ≡ goes_back → ⊥
     never (Some place) same = cc
     never None same = cc
-was_refused _ roles t back is awaits = absurd (goes_back≢stays (sym back))
+was_refused _ roles t back is awaits = absurd (goes_back≢unchanged (sym back))
 
-leaves≢stays : (place : ℕ) → leaves place ≡ stays → ⊥
-leaves≢stays place same = cc
+leaves≢unchanged : (place : ℕ) → leaves place ≡ unchanged → ⊥
+leaves≢unchanged place same = cc
 
 -- an old channel is done where its release was acknowledged
 was_acknowledged : (input : Input) (roles : Roles) (place : ℕ) → step_by input roles ≡ leaves place → (at : Place) × (input ≡ inputs.ReleaseAck at) × (drain_at at roles.draining ≡ Some place)
@@ -115,16 +115,16 @@ was_acknowledged (inputs.ReleaseAck at) roles place is = (at, refl, found (drain
   where
     found : (o : Option ℕ) → leaves_at o ≡ leaves place → o ≡ Some place
     found (Some other) same = cc
-    found None same = absurd (leaves≢stays place (sym same))
+    found None same = absurd (leaves≢unchanged place (sym same))
 was_acknowledged (inputs.ActivationNack at) roles place is =
-    let other : goes_back ≡ leaves place = (if_true (awaits_at at roles.target) (leaves place) (leaves≢stays place) goes_back is).1 in absurd cc
+    let other : goes_back ≡ leaves place = (if_true (awaits_at at roles.target) (leaves place) (leaves≢unchanged place) goes_back is).1 in absurd cc
 was_acknowledged (inputs.Failure at change cause) roles place is =
-    let other : goes_back ≡ leaves place = (if_true (is_at at roles.serving && changes_by change roles.target) (leaves place) (leaves≢stays place) goes_back is).1 in absurd cc
+    let other : goes_back ≡ leaves place = (if_true (is_at at roles.serving && changes_by change roles.target) (leaves place) (leaves≢unchanged place) goes_back is).1 in absurd cc
 was_acknowledged (inputs.ActivationAck at) roles place is =
-    let other : commands ≡ leaves place = (if_true (awaits_at at roles.target) (leaves place) (leaves≢stays place) commands is).1 in absurd cc
+    let other : commands ≡ leaves place = (if_true (awaits_at at roles.target) (leaves place) (leaves≢unchanged place) commands is).1 in absurd cc
 was_acknowledged (inputs.Complete at change cause) roles place is =
-    let other : completes ≡ leaves place = (if_true (is_target_at at roles.target && changes_by change roles.target) (leaves place) (leaves≢stays place) completes is).1 in absurd cc
-was_acknowledged _ roles place is = absurd (leaves≢stays place (sym is))
+    let other : completes ≡ leaves place = (if_true (is_target_at at roles.target && changes_by change roles.target) (leaves place) (leaves≢unchanged place) completes is).1 in absurd cc
+was_acknowledged _ roles place is = absurd (leaves≢unchanged place (sym is))
 
 -- ---- what is given up
 
@@ -139,7 +139,7 @@ goes_or_broke _ c list there = inl there
 
 given_up_ordered : (c : Channel) (input : Input) (outs list : List Message) → to_stations outs ≡ those_that_go input list → Contains list (rf_channel_release c) → IsGivenUp c input outs
 given_up_ordered c input outs list is there = elim (goes_or_broke input c list there) [
-  | inl goes ↦ released (contains_to_station outs (those_that_go input list) (rf_channel_release c) is goes)
+  | inl leaving ↦ released (contains_to_station outs (those_that_go input list) (rf_channel_release c) is leaving)
   | inr down ↦ broke down
 ]
 
@@ -171,7 +171,7 @@ given_up_end (dismisses cause) input roles outs c fits ordered there =
 -- a step leaves a channel in use, or gives it up
 step_gives_up : (step : RoleStep) (input : Input) (roles : Roles) (target : Option TargetRole) (outs behind : List Message) (c : Channel) → step_by input roles ≡ step → roles.target ≡ target → orders outs ≡ step_orders step (record roles { target = target }) ++ behind → Contains (roles.serving ∷ target_channels target) c →
     Contains (used (after_step step (record roles { target = target }))) c ⊎ IsGivenUp c input outs
-step_gives_up stays input roles target outs behind c by is ordered there = inl there
+step_gives_up unchanged input roles target outs behind c by is ordered there = inl there
 step_gives_up commands input roles (Some t) outs behind c by is ordered there = inl there
 step_gives_up commands input roles None outs behind c by is ordered there = inl there
 step_gives_up completes input roles None outs behind c by is ordered there = inl there
@@ -183,14 +183,14 @@ step_gives_up completes input roles (Some t) outs behind c by is ordered there =
 step_gives_up goes_back input roles None outs behind c by is ordered there = inl there
 step_gives_up goes_back input roles (Some t) outs behind c by is ordered there = elim (contains_cases roles.serving c (t.target.channel ∷ []) there) [
   | inl same ↦ inl (subst (λ (c : Channel). Contains (roles.serving ∷ []) c) same (contains_first roles.serving []))
-  | inr target ↦ inr (goes t.is_commanded refl ordered (contains_one t.target.channel c target))
+  | inr target ↦ inr (leaving t.is_commanded refl ordered (contains_one t.target.channel c target))
 ]
   where
-    goes : (is_commanded : Bool) → t.is_commanded ≡ is_commanded → orders outs ≡ (if is_commanded then rf_channel_release t.target.channel ∷ [] else []) ++ behind → t.target.channel ≡ c → IsGivenUp c input outs
-    goes true was ordered same =
+    leaving : (is_commanded : Bool) → t.is_commanded ≡ is_commanded → orders outs ≡ (if is_commanded then rf_channel_release t.target.channel ∷ [] else []) ++ behind → t.target.channel ≡ c → IsGivenUp c input outs
+    leaving true was ordered same =
         released (contains_ordered outs (rf_channel_release t.target.channel ∷ behind) (rf_channel_release c) ordered
         (subst (λ (c : Channel). Contains (rf_channel_release t.target.channel ∷ behind) (rf_channel_release c)) same (contains_first (rf_channel_release t.target.channel) behind)))
-    goes false was ordered same =
+    leaving false was ordered same =
         let nack = was_refused input roles t by is was in
         not_activated nack.0 nack.1 (subst (λ (c : Channel). is_at nack.0 c ≡ true) same nack.2)
 step_gives_up (leaves place) input roles target outs behind c by is ordered there = inl there
@@ -219,7 +219,7 @@ begin_takes (Some target) input offer roles outs front c may ordered there = eli
 
 -- a step takes nothing
 step_takes : (step : RoleStep) (roles : Roles) (target : Option TargetRole) (c : Channel) → Contains (used (after_step step (record roles { target = target }))) c → Contains (roles.serving ∷ target_channels target) c
-step_takes stays roles target c there = there
+step_takes unchanged roles target c there = there
 step_takes commands roles (Some t) c there = there
 step_takes commands roles None c there = there
 step_takes completes roles (Some t) c there = Contains-append_right (roles.serving ∷ []) (t.target.channel ∷ []) c there
@@ -297,7 +297,7 @@ still_undone at (d ∷ ds) place c found there = by (is_at at d.channel && not d
 
 step_begins_to_drain : (step : RoleStep) (roles : Roles) (target : Option TargetRole) (outs behind : List Message) (c : Channel) → orders outs ≡ step_orders step (record roles { target = target }) ++ behind → Contains (undone (after_step step (record roles { target = target })).draining) c →
     Contains (undone roles.draining) c ⊎ ((c ≡ roles.serving) × Contains outs (rf_channel_release c))
-step_begins_to_drain stays roles target outs behind c ordered there = inl there
+step_begins_to_drain unchanged roles target outs behind c ordered there = inl there
 step_begins_to_drain commands roles target outs behind c ordered there = inl there
 step_begins_to_drain completes roles None outs behind c ordered there = inl there
 step_begins_to_drain completes roles (Some t) outs behind c ordered there = elim (undone_more roles.draining c roles.serving there) [
@@ -314,7 +314,7 @@ step_begins_to_drain (leaves place) roles target outs behind c ordered there =
 
 step_drains : (step : RoleStep) (input : Input) (roles : Roles) (target : Option TargetRole) (c : Channel) → step_by input roles ≡ step → Contains (undone roles.draining) c →
     Contains (undone (after_step step (record roles { target = target })).draining) c ⊎ IsAcknowledged c input
-step_drains stays input roles target c by there = inl there
+step_drains unchanged input roles target c by there = inl there
 step_drains commands input roles target c by there = inl there
 step_drains completes input roles None c by there = inl there
 step_drains completes input roles (Some t) c by there = inl (undone_kept roles.draining (record { channel = roles.serving; is_done = false } ∷ []) c there)
@@ -323,7 +323,7 @@ step_drains (leaves place) input roles target c by there =
     let ack = was_acknowledged input roles place by in
     elim (still_undone ack.0 roles.draining place c ack.2 there) [
       | inl still ↦ inl (subst (λ (cs : List Channel). Contains cs c) (sym (undone-still_draining (done_at place roles.draining))) still)
-      | inr done ↦ inr (record { at = ack.0; comes = ack.1; there = done })
+      | inr done ↦ inr (record { at = ack.0; acknowledges = ack.1; there = done })
     ]
 
 -- ---- the account

@@ -2,7 +2,8 @@
 -- No two channels of a connection are the same, where the offer is none of them.
 use Rattle.conn_rules.proofs.Prelude.{◌≡◌, ℕ, zero, suc, Bool, true, false, List, [], ◌∷◌, ◌++◌, refl, sym, ◌∙◌, ap, subst, Option, Some}
 use Rattle.conn_rules.proofs.Prelude.{None, append_assoc, if◌then◌else◌, AllByRecursion, Channel, Input, Drain, Preparing, State, Live}
-use Rattle.conn_rules.proofs.Prelude.{Target, Connection, stays, commands, completes, goes_back, leaves, goes_on, ends, had_ended, OfRow}
+use Rattle.conn_rules.proofs.Prelude.{Target, Connection, unchanged, commands, completes, goes_back, leaves, goes_on, ends, had_ended}
+use Rattle.conn_rules.proofs.Prelude.{OfRow}
 use Rattle.conn_rules.proofs.Prelude.{undone, target_in, used_channels, IsApart, AreApart}
 use Rattle.conn_rules.specs.Roles.{TargetRole, Roles, target_role, roles_of, RoleStep, after_step, with_target, step_by, MayBegin, ChangesRoles, ChangesRolesBy, target_channels, IsNew, IsApartAfter}
 use Rattle.conn_rules.specs.Steps.{Row, done_at}
@@ -77,7 +78,7 @@ pub channels_of-roles : (s : Connection) → channels_of (roles_of s) ≡ used_c
 channels_of-roles s = ap (λ (targets : List Channel). undone s.draining ++ s.serving ∷ targets) (target_in_role s.state)
 
 pub IsPart-step : (step : RoleStep) (roles : Roles) (target : Option TargetRole) → IsPart (undone roles.draining ++ roles.serving ∷ target_channels target) (channels_of (after_step step (record roles { target = target })))
-IsPart-step stays roles target = is_part_same _ (undone roles.draining ++ roles.serving ∷ target_channels target) refl
+IsPart-step unchanged roles target = is_part_same _ (undone roles.draining ++ roles.serving ∷ target_channels target) refl
 IsPart-step commands roles None = is_part_same _ (undone roles.draining ++ roles.serving ∷ []) refl
 IsPart-step commands roles (Some t) = is_part_same _ (undone roles.draining ++ roles.serving ∷ t.target.channel ∷ []) refl
 IsPart-step completes roles None = is_part_same _ (undone roles.draining ++ roles.serving ∷ []) refl

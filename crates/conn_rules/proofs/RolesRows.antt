@@ -2,7 +2,7 @@
 -- The words on roles, against literal roles: a connection on 41 of station 1, whose target is 0A of
 -- station 2.
 use Rattle.conn_rules.proofs.Prelude.{◌≡◌, ℕ, Bool, true, false, [], ◌∷◌, Option, Some, None, refl, Assignment, Handover, Channel, Place, hex}
-use Rattle.conn_rules.proofs.Prelude.{channel_release, rf_channel_release, Drain, stays, commands, completes, goes_back, leaves, drops}
+use Rattle.conn_rules.proofs.Prelude.{channel_release, rf_channel_release, Drain, unchanged, commands, completes, goes_back, leaves, drops}
 use Rattle.conn_rules.proofs.Prelude.{dismisses}
 use Rattle.conn_rules.specs.declared.input.Input.TheVariants as inputs
 use Rattle.conn_rules.specs.Roles.{TargetRole, Roles, after_step, step_by, step_orders, end_messages, those_that_go, still_draining}
@@ -34,10 +34,10 @@ roles to = record { serving = channel 1 0x41; target = to; draining = drain 1 0x
 acknowledged_target : step_by (inputs.ActivationAck (place 2 0x0a)) (roles (Some (target false))) ≡ commands
 acknowledged_target = refl
 
-acknowledged_elsewhere : step_by (inputs.ActivationAck (place 1 0x0a)) (roles (Some (target false))) ≡ stays
+acknowledged_elsewhere : step_by (inputs.ActivationAck (place 1 0x0a)) (roles (Some (target false))) ≡ unchanged
 acknowledged_elsewhere = refl
 
-acknowledged_again : step_by (inputs.ActivationAck (place 2 0x0a)) (roles (Some (target true))) ≡ stays
+acknowledged_again : step_by (inputs.ActivationAck (place 2 0x0a)) (roles (Some (target true))) ≡ unchanged
 acknowledged_again = refl
 
 refused_target : step_by (inputs.ActivationNack (place 2 0x0a)) (roles (Some (target false))) ≡ goes_back
@@ -46,25 +46,25 @@ refused_target = refl
 completed_handover : step_by (inputs.Complete (place 2 0x0a) Handover (record { 0 = 0 })) (roles (Some (target true))) ≡ completes
 completed_handover = refl
 
-completed_assignment : step_by (inputs.Complete (place 2 0x0a) Assignment (record { 0 = 0 })) (roles (Some (target true))) ≡ stays
+completed_assignment : step_by (inputs.Complete (place 2 0x0a) Assignment (record { 0 = 0 })) (roles (Some (target true))) ≡ unchanged
 completed_assignment = refl
 
-completed_uncommanded : step_by (inputs.Complete (place 2 0x0a) Handover (record { 0 = 0 })) (roles (Some (target false))) ≡ stays
+completed_uncommanded : step_by (inputs.Complete (place 2 0x0a) Handover (record { 0 = 0 })) (roles (Some (target false))) ≡ unchanged
 completed_uncommanded = refl
 
 failed_on_serving : step_by (inputs.Failure (place 1 0x41) Handover (record { 0 = 0 })) (roles (Some (target true))) ≡ goes_back
 failed_on_serving = refl
 
-failed_on_target : step_by (inputs.Failure (place 2 0x0a) Handover (record { 0 = 0 })) (roles (Some (target true))) ≡ stays
+failed_on_target : step_by (inputs.Failure (place 2 0x0a) Handover (record { 0 = 0 })) (roles (Some (target true))) ≡ unchanged
 failed_on_target = refl
 
 released_second : step_by (inputs.ReleaseAck (place 2 0x41)) (roles None) ≡ leaves 1
 released_second = refl
 
-released_serving : step_by (inputs.ReleaseAck (place 1 0x41)) (roles None) ≡ stays
+released_serving : step_by (inputs.ReleaseAck (place 1 0x41)) (roles None) ≡ unchanged
 released_serving = refl
 
-released_done : step_by (inputs.ReleaseAck (place 2 0x41)) (record { serving = channel 1 0x41; target = None; draining = drain 1 0x49 false ∷ drain 2 0x41 true ∷ [] }) ≡ stays
+released_done : step_by (inputs.ReleaseAck (place 2 0x41)) (record { serving = channel 1 0x41; target = None; draining = drain 1 0x49 false ∷ drain 2 0x41 true ∷ [] }) ≡ unchanged
 released_done = refl
 
 -- ---- the roles behind it

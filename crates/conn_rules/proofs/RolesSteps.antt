@@ -37,7 +37,7 @@ changes_roles_changed step state s input offer outs t stage reference same is wa
     let after : Connection = (ask_for_held (hand_held Zero t).next).next in
     let begins = begins_by_waiting stage input offer reference after kind live in
     goes_on_by step state s input offer (row outs t then hand_held Zero then ask_for_held then begin_waiting stage reference offer) same is was_open
-    (begins.stays_open (subst IsOpen (sym live) tt))
+    (begins.remains_open (subst IsOpen (sym live) tt))
     (subst (λ (down : HoldState). RemainsOpen step (roles_in state s) down input offer (row outs t then hand_held Zero then ask_for_held then begin_waiting stage reference offer)) hold
     (goes_on_begins step (roles_in state s) t.down input offer (outs ++ map (handing t.serving Zero) t.down.zero ++ request_for t.down.three t.serving) after
     (begin_waiting stage reference offer after).outs (begin_waiting stage reference offer after).next untold roles (orders-changed outs t ∙ ordered) (told_changed input outs t quiet) begins))
@@ -54,7 +54,7 @@ pub changes_roles_refused : (reference : ℕ) (target : Target) (at : Place) (s 
     ChangesRoles s (inputs.ActivationNack at) offer (row (nack_outs target.change reference) (resting reference s) then begin_waiting (resting_stage s.draining) reference offer)
 changes_roles_refused reference target at s offer same is =
     let begins = begins_by_waiting (resting_stage s.draining) (inputs.ActivationNack at) offer reference (resting reference s) refl refl in
-    goes_on_by goes_back (Live reference (Preparing target)) s (inputs.ActivationNack at) offer (row (nack_outs target.change reference) (resting reference s) then begin_waiting (resting_stage s.draining) reference offer) same is tt (begins.stays_open tt)
+    goes_on_by goes_back (Live reference (Preparing target)) s (inputs.ActivationNack at) offer (row (nack_outs target.change reference) (resting reference s) then begin_waiting (resting_stage s.draining) reference offer) same is tt (begins.remains_open tt)
     (goes_on_begins goes_back (roles_in (Live reference (Preparing target)) s) s.down (inputs.ActivationNack at) offer (nack_outs target.change reference) (resting reference s)
     (begin_waiting (resting_stage s.draining) reference offer (resting reference s)).outs (begin_waiting (resting_stage s.draining) reference offer (resting reference s)).next
     tt (resting-roles reference (Live reference (Preparing target)) s) (orders-plain (nack_outs target.change reference) (plain target.change))
@@ -100,7 +100,7 @@ settles_by_settled reference _ ds s are is = record { state = is; roles = ap (λ
 pub changes_roles_release : (reference : ℕ) (stage : Stage) (place : ℕ) (at : Place) (s : Connection) (offer : Option Channel) → drain_at at s.draining ≡ Some place → s.state ≡ Live reference stage → ChangesRoles s (inputs.ReleaseAck at) offer (release reference stage place offer s)
 changes_roles_release reference stage place at s offer found is =
     goes_on_by (leaves place) (Live reference stage) s (inputs.ReleaseAck at) offer (release reference stage place offer s) (ap leaves_at found) is tt
-    (begins.stays_open (subst IsOpen (sym settles.state) tt))
+    (begins.remains_open (subst IsOpen (sym settles.state) tt))
     (goes_on_begins (leaves place) (roles_in (Live reference stage) s) s.down (inputs.ReleaseAck at) offer (left.outs ++ []) rests
     (begin_waiting (settled_stage stage rests.draining) reference offer rests).outs (begin_waiting (settled_stage stage rests.draining) reference offer rests).next tt
     (settles.roles ∙ equal_roles _ (after_step (leaves place) (roles_in (Live reference stage) s)) leaves_by.serving refl leaves_by.draining)

@@ -8,7 +8,8 @@ use Rattle.conn_rules.proofs.Prelude.{Channel, Message, handing, rf_channel_rele
 use Rattle.conn_rules.proofs.Prelude.{cond_both, Sapi, Zero, Three, chain_count, count, Place, INITIAL_LIMIT, change_command, Input, Drain}
 use Rattle.conn_rules.proofs.Prelude.{ShortMessageLink, Down, Asked, Up, Stage, Preparing, Changing, Draining, State, WaitActivation}
 use Rattle.conn_rules.proofs.Prelude.{WaitEstablish, WaitConfirm, Live, Closed, Removed, Connection, emptied, first_channel, is_at}
-use Rattle.conn_rules.proofs.Prelude.{drain_at, tenure_at, IsValid, Reference, Due, WasAsked, Complete, RrCause, stays, commands, completes}
+use Rattle.conn_rules.proofs.Prelude.{drain_at, tenure_at, IsValid, Reference, Due, WasAsked, Complete, RrCause, unchanged, commands}
+use Rattle.conn_rules.proofs.Prelude.{completes}
 use Rattle.conn_rules.proofs.Prelude.{goes_back, refused, dismisses, IsOpen}
 use Rattle.conn_rules.specs.declared.input.Input.TheVariants as inputs
 use Rattle.conn_rules.specs.Steps.{Row, row, ◌then◌, end_outs, failing, dropping, without_station, may_begin, begin_outs, after_begin, begin, short_message, link_up, link_down, resting_stage, resting, moved}
@@ -39,9 +40,9 @@ ends_it state s input offer cause more next is was_open shut none all_go =
     })
 
 -- plain messages, and the same roles
-same_roles : (reference : ℕ) (stage : Stage) (s : Connection) (input : Input) (offer : Option Channel) (r : Row) → step_by input (roles_in (Live reference stage) s) ≡ stays → s.state ≡ Live reference stage → r.next.state ≡ s.state → roles_of r.next ≡ roles_of s → ArePlain r.outs → ChangesRoles s input offer r
+same_roles : (reference : ℕ) (stage : Stage) (s : Connection) (input : Input) (offer : Option Channel) (r : Row) → step_by input (roles_in (Live reference stage) s) ≡ unchanged → s.state ≡ Live reference stage → r.next.state ≡ s.state → roles_of r.next ≡ roles_of s → ArePlain r.outs → ChangesRoles s input offer r
 same_roles reference stage s input offer r none is state same plain =
-    goes_on_by stays (Live reference stage) s input offer r none is tt (subst IsOpen (sym (state ∙ is)) tt)
+    goes_on_by unchanged (Live reference stage) s input offer r none is tt (subst IsOpen (sym (state ∙ is)) tt)
     (goes_on_plain (roles_in (Live reference stage) s) s.down input offer r (same ∙ roles_known (Live reference stage) s is) plain)
 
 -- ---- channels are activated
@@ -53,9 +54,9 @@ activation_ack_roles WaitActivation s at offer is =
     (λ _. none_in WaitActivation s (inputs.ActivationAck at) offer is refl)
 activation_ack_roles (Live reference (Preparing target)) s at offer is =
     changes_roles_by_row_if s (inputs.ActivationAck at) offer (is_at at target.channel) _
-    (λ there. goes_on_by commands (Live reference (Preparing target)) s (inputs.ActivationAck at) offer _ (ap (λ (b : Bool). if b then commands else stays) there) is tt tt
+    (λ there. goes_on_by commands (Live reference (Preparing target)) s (inputs.ActivationAck at) offer _ (ap (λ (b : Bool). if b then commands else unchanged) there) is tt tt
     (record { begun = None; may = tt; roles = refl; ordered = (quiet target.change); tells = refl }))
-    (λ apart. none_in (Live reference (Preparing target)) s (inputs.ActivationAck at) offer is (ap (λ (b : Bool). if b then commands else stays) apart))
+    (λ apart. none_in (Live reference (Preparing target)) s (inputs.ActivationAck at) offer is (ap (λ (b : Bool). if b then commands else unchanged) apart))
   where
     quiet : (change : Change) → orders (change_command s.serving change target.channel ∷ []) ≡ []
     quiet Assignment = refl
@@ -69,8 +70,8 @@ activation_nack_roles WaitActivation s at offer is =
     (λ _. none_in WaitActivation s (inputs.ActivationNack at) offer is refl)
 activation_nack_roles (Live reference (Preparing target)) s at offer is =
     changes_roles_by_row_if s (inputs.ActivationNack at) offer (is_at at target.channel) _
-    (λ there. changes_roles_refused reference target at s offer (ap (λ (b : Bool). if b then goes_back else stays) there) is)
-    (λ apart. none_in (Live reference (Preparing target)) s (inputs.ActivationNack at) offer is (ap (λ (b : Bool). if b then goes_back else stays) apart))
+    (λ there. changes_roles_refused reference target at s offer (ap (λ (b : Bool). if b then goes_back else unchanged) there) is)
+    (λ apart. none_in (Live reference (Preparing target)) s (inputs.ActivationNack at) offer is (ap (λ (b : Bool). if b then goes_back else unchanged) apart))
 activation_nack_roles state s at offer is = none_in state s (inputs.ActivationNack at) offer is refl
 
 -- ---- the mobile's links
@@ -84,9 +85,9 @@ access_roles (Some initial) s at sapi offer is =
 access_roles None s at sapi offer is = drops_it WaitEstablish s (inputs.EstablishIndication at sapi None) offer is tt refl (λ _. refl)
 
 -- SAPI 3 comes up: what is held of it is handed
-link_up_roles : (reference : ℕ) (stage : Stage) (s : Connection) (input : Input) (offer : Option Channel) → step_by input (roles_in (Live reference stage) s) ≡ stays → s.state ≡ Live reference stage → ChangesRoles s input offer (link_up s)
+link_up_roles : (reference : ℕ) (stage : Stage) (s : Connection) (input : Input) (offer : Option Channel) → step_by input (roles_in (Live reference stage) s) ≡ unchanged → s.state ≡ Live reference stage → ChangesRoles s input offer (link_up s)
 link_up_roles reference stage s input offer none is =
-    goes_on_by stays (Live reference stage) s input offer (link_up s) none is tt (subst IsOpen (sym is) tt)
+    goes_on_by unchanged (Live reference stage) s input offer (link_up s) none is tt (subst IsOpen (sym is) tt)
     (record {
       begun = None;
       may = tt;
@@ -110,7 +111,7 @@ establish_confirm_roles (Live reference stage) s at Three offer is =
     changes_roles_by_row_if s (inputs.EstablishConfirm at Three) offer (was_asked s.link && is_at at s.serving) _ (λ _. link_up_roles reference stage s (inputs.EstablishConfirm at Three) offer refl is) (λ _. refl)
 establish_confirm_roles _ s at sapi offer is = refl
 
-link_down_roles : (reference : ℕ) (stage : Stage) (link : ShortMessageLink) (s : Connection) (input : Input) (offer : Option Channel) → step_by input (roles_in (Live reference stage) s) ≡ stays → s.state ≡ Live reference stage → ChangesRoles s input offer (link_down link reference s)
+link_down_roles : (reference : ℕ) (stage : Stage) (link : ShortMessageLink) (s : Connection) (input : Input) (offer : Option Channel) → step_by input (roles_in (Live reference stage) s) ≡ unchanged → s.state ≡ Live reference stage → ChangesRoles s input offer (link_down link reference s)
 link_down_roles reference stage Asked s input offer none is = same_roles reference stage s input offer (link_down Asked reference s) none is refl refl (tt, tt)
 link_down_roles reference stage Down s input offer none is = same_roles reference stage s input offer (link_down Down reference s) none is refl refl tt
 link_down_roles reference stage Up s input offer none is = same_roles reference stage s input offer (link_down Up reference s) none is refl refl tt
@@ -180,14 +181,14 @@ complete_roles (Live reference (Changing target)) s at change cause offer is =
     changes_roles_by_row_if s (inputs.Complete at change cause) offer (is_at at target.channel && same_change change target.change) _
     (λ there. changes_roles_changed completes (Live reference (Changing target)) s (inputs.Complete at change cause) offer
     (change_complete reference change target.channel cause.0 ∷ rf_channel_release s.serving ∷ []) (moved reference target.channel s) Draining reference
-    (ap (λ (b : Bool). if b then completes else stays) there) is tt tt refl refl (quiet change).0 ((quiet change).1, (tt, tt)) refl refl)
-    (λ apart. none_in (Live reference (Changing target)) s (inputs.Complete at change cause) offer is (ap (λ (b : Bool). if b then completes else stays) apart))
+    (ap (λ (b : Bool). if b then completes else unchanged) there) is tt tt refl refl (quiet change).0 ((quiet change).1, (tt, tt)) refl refl)
+    (λ apart. none_in (Live reference (Changing target)) s (inputs.Complete at change cause) offer is (ap (λ (b : Bool). if b then completes else unchanged) apart))
   where
     quiet : (change : Change) → (orders (change_complete reference change target.channel cause.0 ∷ rf_channel_release s.serving ∷ []) ≡ rf_channel_release s.serving ∷ []) × IsUntold (change_complete reference change target.channel cause.0)
     quiet Assignment = (refl, tt)
     quiet Handover = (refl, tt)
 complete_roles (Live reference (Preparing target)) s at change cause offer is =
-    none_in (Live reference (Preparing target)) s (inputs.Complete at change cause) offer is (ap (λ (b : Bool). if b then completes else stays) (and_false (is_at at target.channel)))
+    none_in (Live reference (Preparing target)) s (inputs.Complete at change cause) offer is (ap (λ (b : Bool). if b then completes else unchanged) (and_false (is_at at target.channel)))
 complete_roles state s at change cause offer is = none_in state s (inputs.Complete at change cause) offer is refl
 
 failure_roles : (state : State) (s : Connection) (at : Place) (change : Change) (cause : RrCause) (offer : Option Channel) → s.state ≡ state → ChangesRolesBy s (inputs.Failure at change cause) offer (on_failure state s at change cause.0 offer)
@@ -195,14 +196,14 @@ failure_roles (Live reference (Changing target)) s at change cause offer is =
     changes_roles_by_row_if s (inputs.Failure at change cause) offer (is_at at s.serving && same_change change target.change) _
     (λ there. changes_roles_changed goes_back (Live reference (Changing target)) s (inputs.Failure at change cause) offer
     (failure_outs change reference cause.0 ++ rf_channel_release target.channel ∷ []) (resting reference s) (resting_stage s.draining) reference
-    (ap (λ (b : Bool). if b then goes_back else stays) there) is tt tt refl (resting-roles reference (Live reference (Changing target)) s) (quiet change).0 (quiet change).1 refl refl)
-    (λ apart. none_in (Live reference (Changing target)) s (inputs.Failure at change cause) offer is (ap (λ (b : Bool). if b then goes_back else stays) apart))
+    (ap (λ (b : Bool). if b then goes_back else unchanged) there) is tt tt refl (resting-roles reference (Live reference (Changing target)) s) (quiet change).0 (quiet change).1 refl refl)
+    (λ apart. none_in (Live reference (Changing target)) s (inputs.Failure at change cause) offer is (ap (λ (b : Bool). if b then goes_back else unchanged) apart))
   where
     quiet : (change : Change) → (orders (failure_outs change reference cause.0 ++ rf_channel_release target.channel ∷ []) ≡ rf_channel_release target.channel ∷ []) × AllByRecursion IsUntold (failure_outs change reference cause.0 ++ rf_channel_release target.channel ∷ [])
     quiet Assignment = (refl, (tt, (tt, tt)))
     quiet Handover = (refl, (tt, tt))
 failure_roles state s at change cause offer is =
-    none_in state s (inputs.Failure at change cause) offer is (ap (λ (b : Bool). if b then goes_back else stays) (and_false (is_at at s.serving)))
+    none_in state s (inputs.Failure at change cause) offer is (ap (λ (b : Bool). if b then goes_back else unchanged) (and_false (is_at at s.serving)))
 
 release_in_roles : (found : Option ℕ) (reference : ℕ) (stage : Stage) (s : Connection) (at : Place) (offer : Option Channel) → drain_at at s.draining ≡ found → s.state ≡ Live reference stage → ChangesRolesBy s (inputs.ReleaseAck at) offer (release_in found reference stage offer s)
 release_in_roles (Some place) reference stage s at offer found is = changes_roles_release reference stage place at s offer found is
@@ -213,20 +214,20 @@ no_release : (s : Connection) (at : Place) (offer : Option Channel) → s.draini
 no_release s at offer none = ap (λ (ds : List Drain). leaves_at (drain_at at ds)) none
 
 release_ack_roles : (state : State) (s : Connection) (at : Place) (offer : Option Channel) → s.state ≡ state → IsValid s → ChangesRolesBy s (inputs.ReleaseAck at) offer (on_release_ack state s at offer)
-release_ack_roles (Live reference stage) s at offer is stands = release_in_roles (drain_at at s.draining) reference stage s at offer refl is
-release_ack_roles WaitActivation s at offer is stands = no_release s at offer (by_state WaitActivation s is stands).0.none_drains
-release_ack_roles WaitEstablish s at offer is stands = no_release s at offer (by_state WaitEstablish s is stands).0.none_drains
-release_ack_roles WaitConfirm s at offer is stands = no_release s at offer (by_state WaitConfirm s is stands).none_drains
-release_ack_roles (Closed clearing) s at offer is stands = no_release s at offer (by_state (Closed clearing) s is stands).none_drains
-release_ack_roles Removed s at offer is stands = no_release s at offer (by_state Removed s is stands).none_drains
+release_ack_roles (Live reference stage) s at offer is valid = release_in_roles (drain_at at s.draining) reference stage s at offer refl is
+release_ack_roles WaitActivation s at offer is valid = no_release s at offer (by_state WaitActivation s is valid).0.none_drains
+release_ack_roles WaitEstablish s at offer is valid = no_release s at offer (by_state WaitEstablish s is valid).0.none_drains
+release_ack_roles WaitConfirm s at offer is valid = no_release s at offer (by_state WaitConfirm s is valid).none_drains
+release_ack_roles (Closed clearing) s at offer is valid = no_release s at offer (by_state (Closed clearing) s is valid).none_drains
+release_ack_roles Removed s at offer is valid = no_release s at offer (by_state Removed s is valid).none_drains
 
 -- ---- a change begins
 
-begin_roles : (reference : ℕ) (stage : Stage) (change : Change) (s : Connection) (input : Input) (offer : Option Channel) → step_by input (roles_in (Live reference stage) s) ≡ stays → change ≡ change_by input → s.state ≡ Live reference stage → may_begin stage s.draining ≡ true → ChangesRoles s input offer (begin reference change offer s)
+begin_roles : (reference : ℕ) (stage : Stage) (change : Change) (s : Connection) (input : Input) (offer : Option Channel) → step_by input (roles_in (Live reference stage) s) ≡ unchanged → change ≡ change_by input → s.state ≡ Live reference stage → may_begin stage s.draining ≡ true → ChangesRoles s input offer (begin reference change offer s)
 begin_roles reference stage change s input offer none kind is may =
     let begins = begins_by_begin input offer reference change s kind (free_where stage reference s is may) in
-    goes_on_by stays (Live reference stage) s input offer (begin reference change offer s) none is tt (begins.stays_open (subst IsOpen (sym is) tt))
-    (goes_on_begins stays (roles_in (Live reference stage) s) s.down input offer [] s (begin_outs reference change offer) (after_begin reference change offer s) tt (roles_known (Live reference stage) s is) refl tt begins)
+    goes_on_by unchanged (Live reference stage) s input offer (begin reference change offer s) none is tt (begins.remains_open (subst IsOpen (sym is) tt))
+    (goes_on_begins unchanged (roles_in (Live reference stage) s) s.down input offer [] s (begin_outs reference change offer) (after_begin reference change offer s) tt (roles_known (Live reference stage) s is) refl tt begins)
 
 move_roles : (state : State) (s : Connection) (offer : Option Channel) → s.state ≡ state → ChangesRolesBy s inputs.Move offer (on_move state s offer)
 move_roles (Live reference stage) s offer is =
@@ -267,7 +268,7 @@ released_roles _ s source offer is = refl
 -- a message is handed
 handed_roles : (reference : ℕ) (stage : Stage) (s : Connection) (sapi : Sapi) (message : List ℕ) (offer : Option Channel) → s.state ≡ Live reference stage → ChangesRoles s (inputs.Downlink sapi message) offer (row (handing s.serving sapi message ∷ []) s)
 handed_roles reference stage s sapi message offer is =
-    goes_on_by stays (Live reference stage) s (inputs.Downlink sapi message) offer (row (handing s.serving sapi message ∷ []) s) refl is tt (subst IsOpen (sym is) tt)
+    goes_on_by unchanged (Live reference stage) s (inputs.Downlink sapi message) offer (row (handing s.serving sapi message ∷ []) s) refl is tt (subst IsOpen (sym is) tt)
     (record {
       begun = None;
       may = tt;
@@ -347,26 +348,26 @@ switch_down_roles Removed s offer is = refl
 
 pub changes_roles_row : (s : Connection) (input : Input) (offer : Option Channel) → IsValid s → ChangesRolesBy s input offer (row_of s input offer)
 unfolding row_of
-changes_roles_row s (inputs.ActivationAck at) offer stands = activation_ack_roles s.state s at offer refl
-changes_roles_row s (inputs.ActivationNack at) offer stands = activation_nack_roles s.state s at offer refl
-changes_roles_row s (inputs.EstablishIndication at sapi message) offer stands = establish_indication_roles s.state s at sapi message offer refl
-changes_roles_row s (inputs.EstablishConfirm at sapi) offer stands = establish_confirm_roles s.state s at sapi offer refl
-changes_roles_row s (inputs.ReleaseIndication at sapi) offer stands = release_indication_roles s.state s at sapi offer refl
-changes_roles_row s (inputs.ErrorIndication at sapi) offer stands = error_indication_roles s.state s at sapi offer refl
-changes_roles_row s (inputs.ConnectionFailure at) offer stands = connection_failure_roles s.state s at offer refl
-changes_roles_row s (inputs.Dtap at sapi message) offer stands = dtap_roles s.state s at sapi message offer refl
-changes_roles_row s (inputs.Complete at change cause) offer stands = complete_roles s.state s at change cause offer refl
-changes_roles_row s (inputs.Failure at change cause) offer stands = failure_roles s.state s at change cause offer refl
-changes_roles_row s (inputs.ReleaseAck at) offer stands = release_ack_roles s.state s at offer refl stands
-changes_roles_row s inputs.Move offer stands = move_roles s.state s offer refl
-changes_roles_row s (inputs.ConnectionConfirm source) offer stands = confirm_roles s.state s source offer refl
-changes_roles_row s inputs.ConnectionRefused offer stands = refused_roles s.state s offer refl
-changes_roles_row s (inputs.Released source) offer stands = released_roles s.state s source offer refl
-changes_roles_row s (inputs.Downlink sapi message) offer stands = downlink_roles s.state s sapi message offer refl
-changes_roles_row s (inputs.AssignmentRequest is_speech) offer stands = assignment_request_roles s.state s is_speech offer refl
-changes_roles_row s inputs.CipherModeCommand offer stands = cipher_mode_command_roles s.state s offer refl
-changes_roles_row s inputs.ClearCommand offer stands = clear_command_roles s.state s offer refl
-changes_roles_row s inputs.Expiry offer stands = expiry_roles s.state s offer refl
-changes_roles_row s inputs.DrainExpiry offer stands = drain_expiry_roles s.state s offer refl
-changes_roles_row s (inputs.StationDown station) offer stands = station_down_roles s.state s station offer refl
-changes_roles_row s inputs.SwitchDown offer stands = switch_down_roles s.state s offer refl
+changes_roles_row s (inputs.ActivationAck at) offer valid = activation_ack_roles s.state s at offer refl
+changes_roles_row s (inputs.ActivationNack at) offer valid = activation_nack_roles s.state s at offer refl
+changes_roles_row s (inputs.EstablishIndication at sapi message) offer valid = establish_indication_roles s.state s at sapi message offer refl
+changes_roles_row s (inputs.EstablishConfirm at sapi) offer valid = establish_confirm_roles s.state s at sapi offer refl
+changes_roles_row s (inputs.ReleaseIndication at sapi) offer valid = release_indication_roles s.state s at sapi offer refl
+changes_roles_row s (inputs.ErrorIndication at sapi) offer valid = error_indication_roles s.state s at sapi offer refl
+changes_roles_row s (inputs.ConnectionFailure at) offer valid = connection_failure_roles s.state s at offer refl
+changes_roles_row s (inputs.Dtap at sapi message) offer valid = dtap_roles s.state s at sapi message offer refl
+changes_roles_row s (inputs.Complete at change cause) offer valid = complete_roles s.state s at change cause offer refl
+changes_roles_row s (inputs.Failure at change cause) offer valid = failure_roles s.state s at change cause offer refl
+changes_roles_row s (inputs.ReleaseAck at) offer valid = release_ack_roles s.state s at offer refl valid
+changes_roles_row s inputs.Move offer valid = move_roles s.state s offer refl
+changes_roles_row s (inputs.ConnectionConfirm source) offer valid = confirm_roles s.state s source offer refl
+changes_roles_row s inputs.ConnectionRefused offer valid = refused_roles s.state s offer refl
+changes_roles_row s (inputs.Released source) offer valid = released_roles s.state s source offer refl
+changes_roles_row s (inputs.Downlink sapi message) offer valid = downlink_roles s.state s sapi message offer refl
+changes_roles_row s (inputs.AssignmentRequest is_speech) offer valid = assignment_request_roles s.state s is_speech offer refl
+changes_roles_row s inputs.CipherModeCommand offer valid = cipher_mode_command_roles s.state s offer refl
+changes_roles_row s inputs.ClearCommand offer valid = clear_command_roles s.state s offer refl
+changes_roles_row s inputs.Expiry offer valid = expiry_roles s.state s offer refl
+changes_roles_row s inputs.DrainExpiry offer valid = drain_expiry_roles s.state s offer refl
+changes_roles_row s (inputs.StationDown station) offer valid = station_down_roles s.state s station offer refl
+changes_roles_row s inputs.SwitchDown offer valid = switch_down_roles s.state s offer refl

@@ -119,7 +119,7 @@ pub record Puts (k : Kinds) (P : Message → Type 0) (s : Connection) : Type 0 w
 pub record Enters (k : Kinds) (Q : State → RequestReference → Type 0) : Type 0 where
   pub establishes : (before : State) (request : RequestReference) → Q before request → Q WaitEstablish request
   pub confirms : (before : State) (request : RequestReference) → Q before request → Q WaitConfirm request
-  pub lives : (before : State) (request : RequestReference) (reference : ℕ) (stage : Stage) → Q before request → k.reference reference → Q (Live reference stage) request
+  pub once_live : (before : State) (request : RequestReference) (reference : ℕ) (stage : Stage) → Q before request → k.reference reference → Q (Live reference stage) request
   pub due : (before : State) (request : RequestReference) (cause : ℕ) → Q before request → k.cause cause → Q (Closed (Due cause)) request
   pub asks : (before : State) (request : RequestReference) (reference : ℕ) → Q before request → k.reference reference → Q (Closed (WasAsked reference)) request
   pub clears : (before : State) (request : RequestReference) → Q before request → Q (Closed Complete) request
@@ -139,7 +139,7 @@ module _ (k : Kinds) (P : Message → Type 0) (Q : State → RequestReference �
   -- ---- states
 
   lived : (reference : ℕ) (stage : Stage) → k.reference reference → Q (Live reference stage) s.request
-  lived reference stage own = enters.lives s.state s.request reference stage before own
+  lived reference stage own = enters.once_live s.state s.request reference stage before own
 
   due : (cause : ℕ) → k.cause cause → Q (Closed (Due cause)) s.request
   due cause is = enters.due s.state s.request cause before is
@@ -276,12 +276,12 @@ module _ (k : Kinds) (P : Message → Type 0) (Q : State → RequestReference �
   begun reference change (Some channel) own there = (lived reference _ own, begins reference change (Some channel) own there)
 
   after_wait : (b : Bool) (reference : ℕ) (o : Option Channel) (t : Connection) → k.reference reference → Q t.state t.request → Q (after_waiting b reference o t).state (after_waiting b reference o t).request
-  after_wait true reference (Some channel) t own is = enters.lives t.state t.request reference _ is own
+  after_wait true reference (Some channel) t own is = enters.once_live t.state t.request reference _ is own
   after_wait true reference None t own is = is
   after_wait false reference o t own is = is
 
   after_settled : (reference : ℕ) (stage : Stage) (draining : List Drain) (t : Connection) → k.reference reference → Q t.state t.request → Q (settled reference stage draining t).state (settled reference stage draining t).request
-  after_settled reference Draining [] t own is = enters.lives t.state t.request reference Active is own
+  after_settled reference Draining [] t own is = enters.once_live t.state t.request reference Active is own
   after_settled reference Draining (d ∷ ds) t own is = is
   after_settled reference _ draining t own is = is
 
@@ -316,8 +316,8 @@ module _ (k : Kinds) (P : Message → Type 0) (Q : State → RequestReference �
   of_activation_ack : (state : State) (at : Place) → Knows k state → OfRow Is (on_activation_ack state s at)
   of_activation_ack WaitActivation at knows = where_fits Is _ _ (enters.establishes s.state s.request before, (puts.assigns, tt))
   of_activation_ack (Live reference (Preparing target)) at knows =
-      let told : P (change_command s.serving target.change target.channel) = puts.commands target.change target.channel in
-      where_fits Is _ _ (lived reference _ knows.own, (told, tt))
+      let ordered : P (change_command s.serving target.change target.channel) = puts.commands target.change target.channel in
+      where_fits Is _ _ (lived reference _ knows.own, (ordered, tt))
   of_activation_ack _ at knows = tt
 
   of_refuse : (reference : ℕ) (change : Change) → k.reference reference → Is (refuse reference change offer s)
@@ -371,8 +371,8 @@ module _ (k : Kinds) (P : Message → Type 0) (Q : State → RequestReference �
 
   of_dtap_in : (place : Option ℕ) (reference : ℕ) (stage : Stage) (at : Place) (sapi : Sapi) (message : List ℕ) → Knows k (Live reference stage) → k.layer3 message → OfRow Is (dtap_in place reference stage s at sapi message)
   of_dtap_in (Some zero) reference stage at sapi message knows layer3 =
-      let goes = puts.relays reference (first_channel s.draining s.serving) sapi message knows.own layer3 in
-      (before, (goes, tt))
+      let held_for = puts.relays reference (first_channel s.draining s.serving) sapi message knows.own layer3 in
+      (before, (held_for, tt))
   of_dtap_in (Some (suc tenure)) reference stage at sapi message knows layer3 = of_hold_up (Live reference stage) (suc tenure) sapi message knows
   of_dtap_in None reference stage at sapi message knows layer3 = of_dtap_on_target reference stage at sapi knows
 
@@ -401,8 +401,8 @@ module _ (k : Kinds) (P : Message → Type 0) (Q : State → RequestReference �
       let next : Connection = resting reference s in
       let released : List Message = rf_channel_release target.channel ∷ [] in
       let outs : List Message = failure_outs change reference cause ++ released in
-      let goes : P (rf_channel_release target.channel) = puts.releases target.channel knows.target.0 in
-      let all : All outs = AllByRecursion-append P (failure_outs change reference cause) released (fails change) (goes, tt) in
+      let held_for : P (rf_channel_release target.channel) = puts.releases target.channel knows.target.0 in
+      let all : All outs = AllByRecursion-append P (failure_outs change reference cause) released (fails change) (held_for, tt) in
       let first : Is (row outs next) = (lived reference (resting_stage s.draining) knows.own, all) in
       let ends_so = of_end (resting_stage s.draining) reference next outs knows.own parts.serving parts.zero first in
       where_fits Is _ (failure reference change target.channel cause offer s) ends_so
@@ -433,11 +433,11 @@ module _ (k : Kinds) (P : Message → Type 0) (Q : State → RequestReference �
   of_move _ knows = tt
 
   of_confirm : (state : State) (source : ℕ) → Knows k state → k.reference source → OfRow Is (on_confirm state s source)
-  of_confirm WaitConfirm source knows told =
-      let all = of_tenure source (first_channel s.draining s.serving) s.up.tenures told parts.up in
-      (lived source Active told, all)
-  of_confirm (Closed (Due cause)) source knows told = (asked source told, (puts.asks source cause told knows.due, tt))
-  of_confirm _ source knows told = tt
+  of_confirm WaitConfirm source knows known =
+      let all = of_tenure source (first_channel s.draining s.serving) s.up.tenures known parts.up in
+      (lived source Active known, all)
+  of_confirm (Closed (Due cause)) source knows known = (asked source known, (puts.asks source cause known knows.due, tt))
+  of_confirm _ source knows known = tt
 
   of_refused : (state : State) → Knows k state → OfRow Is (on_refused state s)
   of_refused WaitConfirm knows = of_removing WaitConfirm knows
@@ -445,10 +445,11 @@ module _ (k : Kinds) (P : Message → Type 0) (Q : State → RequestReference �
   of_refused _ knows = tt
 
   of_released : (state : State) (source : ℕ) → Knows k state → k.reference source → OfRow Is (on_released state s source)
-  of_released WaitConfirm source knows told = (removed, ends_then WaitConfirm ABNORMAL_RELEASE _ knows (puts.answers source told))
-  of_released (Live own stage) source knows told = (removed, ends_then (Live own stage) ABNORMAL_RELEASE _ knows (puts.answers source told))
-  of_released (Closed clearing) source knows told = (removed, (puts.answers source told, tt))
-  of_released _ source knows told = tt
+  of_released WaitConfirm source knows known = (removed, ends_then WaitConfirm ABNORMAL_RELEASE _ knows (puts.answers source known))
+  of_released (Live own stage) source knows known =
+      (removed, ends_then (Live own stage) ABNORMAL_RELEASE _ knows (puts.answers source known))
+  of_released (Closed clearing) source knows known = (removed, (puts.answers source known, tt))
+  of_released _ source knows known = tt
 
   of_downlink : (state : State) (sapi : Sapi) (message : List ℕ) → Knows k state → k.layer3 message → OfRow Is (on_downlink state s sapi message)
   of_downlink (Live reference (Changing target)) sapi message knows layer3 = of_hold_down (Live reference (Changing target)) sapi message knows
@@ -589,7 +590,7 @@ enters_any : (k : Kinds) → Enters k (λ state request. Unit {0})
 enters_any k = record {
   establishes = λ before request is. tt;
   confirms = λ before request is. tt;
-  lives = λ before request reference stage is own. tt;
+  once_live = λ before request reference stage is own. tt;
   due = λ before request cause is small. tt;
   asks = λ before request reference is own. tt;
   clears = λ before request is. tt;

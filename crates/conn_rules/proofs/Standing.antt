@@ -18,53 +18,53 @@ nothing (x ∷ xs) none = absurd (omega arith)
 
 -- ---- the hold of the switch's messages
 
-pub record StandsDown (down : HoldState) : Type 0 where
+pub record ValidDown (down : HoldState) : Type 0 where
   pub limit : down.limit ≡ DOWN_LIMIT
   pub within : count down ≤ DOWN_LIMIT
   pub zero : AllByRecursion IsLayer3 down.zero
   pub three : AllByRecursion IsLayer3 down.three
 
-pub stands_down_new : (limit : ℕ) → limit ≡ DOWN_LIMIT → StandsDown (new_hold limit)
-stands_down_new limit is = record { limit = is; within = omega arith; zero = tt; three = tt }
+pub valid_down_new : (limit : ℕ) → limit ≡ DOWN_LIMIT → ValidDown (new_hold limit)
+valid_down_new limit is = record { limit = is; within = omega arith; zero = tt; three = tt }
 
-pub stands_down_put : (sapi : Sapi) (message : List ℕ) (down : HoldState) → StandsDown down → eqb (count down) down.limit ≡ false → IsLayer3 message → StandsDown (with_messages down sapi (messages down sapi ++ message ∷ []))
-stands_down_put Zero message down stands room carried =
+pub valid_down_put : (sapi : Sapi) (message : List ℕ) (down : HoldState) → ValidDown down → eqb (count down) down.limit ≡ false → IsLayer3 message → ValidDown (with_messages down sapi (messages down sapi ++ message ∷ []))
+valid_down_put Zero message down valid room carried =
     let apart = eqb-false (count down) down.limit room in
-    let limit = stands.limit in
-    let within = stands.within in
+    let limit = valid.limit in
+    let within = valid.within in
     record {
       limit = limit;
       within = omega (arith, length-append {A = List ℕ});
-      zero = AllByRecursion-push IsLayer3 down.zero message stands.zero carried;
-      three = stands.three;
+      zero = AllByRecursion-push IsLayer3 down.zero message valid.zero carried;
+      three = valid.three;
     }
-stands_down_put Three message down stands room carried =
+valid_down_put Three message down valid room carried =
     let apart = eqb-false (count down) down.limit room in
-    let limit = stands.limit in
-    let within = stands.within in
+    let limit = valid.limit in
+    let within = valid.within in
     record {
       limit = limit;
       within = omega (arith, length-append {A = List ℕ});
-      zero = stands.zero;
-      three = AllByRecursion-push IsLayer3 down.three message stands.three carried;
+      zero = valid.zero;
+      three = AllByRecursion-push IsLayer3 down.three message valid.three carried;
     }
 
 -- a SAPI's messages go
-pub stands_down_without : (sapi : Sapi) (down : HoldState) → StandsDown down → StandsDown (with_messages down sapi [])
-stands_down_without Zero down stands =
-    let within = stands.within in record { limit = stands.limit; within = omega arith; zero = tt; three = stands.three }
-stands_down_without Three down stands =
-    let within = stands.within in record { limit = stands.limit; within = omega arith; zero = stands.zero; three = tt }
+pub valid_down_without : (sapi : Sapi) (down : HoldState) → ValidDown down → ValidDown (with_messages down sapi [])
+valid_down_without Zero down valid =
+    let within = valid.within in record { limit = valid.limit; within = omega arith; zero = tt; three = valid.three }
+valid_down_without Three down valid =
+    let within = valid.within in record { limit = valid.limit; within = omega arith; zero = valid.zero; three = tt }
 
 -- ---- the tenures of the mobile's messages
 
-pub record StandsUp (up : ChainState) : Type 0 where
+pub record ValidUp (up : ChainState) : Type 0 where
   pub limit : up.limit ≡ UP_LIMIT
   pub within : chain_count up ≤ UP_LIMIT
   pub each : AllByRecursion IsHeldTenure up.tenures
 
-pub stands_up_new : (limit : ℕ) → limit ≡ UP_LIMIT → StandsUp (new_chain limit)
-stands_up_new limit is = record { limit = is; within = omega arith; each = ((tt, tt), tt) }
+pub valid_up_new : (limit : ℕ) → limit ≡ UP_LIMIT → ValidUp (new_chain limit)
+valid_up_new limit is = record { limit = is; within = omega arith; each = ((tt, tt), tt) }
 
 pub length-put_in : (place : ℕ) (sapi : Sapi) (message : List ℕ) (ts : List Tenure) → length (put_in place sapi message ts) ≡ length ts
 length-put_in place sapi message [] = refl
@@ -83,13 +83,13 @@ each_put_in zero Zero message (t ∷ ts) all carried = ((AllByRecursion-push IsL
 each_put_in zero Three message (t ∷ ts) all carried = ((all.0.0, AllByRecursion-push IsLayer3 t.three message all.0.1 carried), all.1)
 each_put_in (suc place) sapi message (t ∷ ts) all carried = (all.0, each_put_in place sapi message ts all.1 carried)
 
-pub stands_up_put : (place : ℕ) (sapi : Sapi) (message : List ℕ) (up : ChainState) → StandsUp up → eqb (chain_count up) up.limit ≡ false → IsLayer3 message → StandsUp (record up { tenures = put_in place sapi message up.tenures })
-stands_up_put place sapi message up stands room carried =
+pub valid_up_put : (place : ℕ) (sapi : Sapi) (message : List ℕ) (up : ChainState) → ValidUp up → eqb (chain_count up) up.limit ≡ false → IsLayer3 message → ValidUp (record up { tenures = put_in place sapi message up.tenures })
+valid_up_put place sapi message up valid room carried =
     let apart = eqb-false (chain_count up) up.limit room in
-    let limit = stands.limit in
-    let within = stands.within in
+    let limit = valid.limit in
+    let within = valid.within in
     let more = tenures_count_put_in place sapi message up.tenures in
-    record { limit = limit; within = omega arith; each = each_put_in place sapi message up.tenures stands.each carried }
+    record { limit = limit; within = omega arith; each = each_put_in place sapi message up.tenures valid.each carried }
 
 -- the first tenure is relayed
 count_first_cleared : (ts : List Tenure) → tenures_count (first_cleared ts) ≤ tenures_count ts
@@ -108,11 +108,11 @@ pub first_is_empty_cleared : (ts : List Tenure) → length ts ≡ 1 → FirstIsE
 first_is_empty_cleared [] one = absurd (omega arith)
 first_is_empty_cleared (t ∷ ts) one = refl
 
-pub stands_up_cleared : (up : ChainState) → StandsUp up → StandsUp (record up { tenures = first_cleared up.tenures })
-stands_up_cleared up stands = record {
-  limit = stands.limit;
-  within = le_trans (count_first_cleared up.tenures) stands.within;
-  each = each_first_cleared up.tenures stands.each;
+pub valid_up_cleared : (up : ChainState) → ValidUp up → ValidUp (record up { tenures = first_cleared up.tenures })
+valid_up_cleared up valid = record {
+  limit = valid.limit;
+  within = le_trans (count_first_cleared up.tenures) valid.within;
+  each = each_first_cleared up.tenures valid.each;
 }
 
 -- the first tenure ends, and what is held of the next is relayed
@@ -132,11 +132,11 @@ pub first_is_empty_ended : (ts : List Tenure) (more : ℕ) → length ts ≡ suc
 first_is_empty_ended (t ∷ next ∷ ts) more long = refl
 first_is_empty_ended _ more long = absurd (omega arith)
 
-pub stands_up_ended : (up : ChainState) → StandsUp up → StandsUp (record up { tenures = first_cleared (drop 1 up.tenures) })
-stands_up_ended up stands = record {
-  limit = stands.limit;
-  within = le_trans (count_ended up.tenures) stands.within;
-  each = each_ended up.tenures stands.each;
+pub valid_up_ended : (up : ChainState) → ValidUp up → ValidUp (record up { tenures = first_cleared (drop 1 up.tenures) })
+valid_up_ended up valid = record {
+  limit = valid.limit;
+  within = le_trans (count_ended up.tenures) valid.within;
+  each = each_ended up.tenures valid.each;
 }
 
 -- a tenure begins
@@ -144,11 +144,11 @@ count_begun : (ts : List Tenure) → tenures_count (ts ++ empty_tenure ∷ []) �
 count_begun [] = refl
 count_begun (t ∷ ts) = let rest = count_begun ts in omega arith
 
-pub stands_up_begun : (up : ChainState) → StandsUp up → StandsUp (record up { tenures = up.tenures ++ empty_tenure ∷ [] })
-stands_up_begun up stands =
-    let within = stands.within in
+pub valid_up_begun : (up : ChainState) → ValidUp up → ValidUp (record up { tenures = up.tenures ++ empty_tenure ∷ [] })
+valid_up_begun up valid =
+    let within = valid.within in
     let same = count_begun up.tenures in
-    record { limit = stands.limit; within = omega arith; each = AllByRecursion-push IsHeldTenure up.tenures empty_tenure stands.each (tt, tt) }
+    record { limit = valid.limit; within = omega arith; each = AllByRecursion-push IsHeldTenure up.tenures empty_tenure valid.each (tt, tt) }
 
 pub first_is_empty_begun : (ts : List Tenure) → FirstIsEmpty ts → FirstIsEmpty (ts ++ empty_tenure ∷ [])
 first_is_empty_begun [] first = refl

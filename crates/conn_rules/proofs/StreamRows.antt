@@ -117,8 +117,8 @@ not_to_another_station to = let same = (to refl).0 in omega (arith, same)
 -- ---- what is still to be relayed: 41 of cell 1 and 0B of cell 1 drained, and 0B is done; 0A of cell 2 serves, and 0A of
 -- cell 1 is the target. The one message that may come on a channel is its station and its number
 
-abbrev coming : Future
-coming at = (at.station ∷ at.number ∷ []) ∷ []
+abbrev arriving : Future
+arriving at = (at.station ∷ at.number ∷ []) ∷ []
 
 abbrev old : List Drain
 old = drains (cell_1 0x41) ∷ is_done (cell_1 0x0b) ∷ []
@@ -137,31 +137,31 @@ changing = in_stage (Changing (target Assignment (cell_1 0x0a)))
 abbrev preparing : Connection
 preparing = in_stage (Preparing (target Assignment (cell_1 0x0a)))
 
-still_of_0 : still_to_relay Zero coming changing ≡ call 1 ∷ hex "01 41" ∷ call 2 ∷ call 3 ∷ call 4 ∷ hex "02 0a" ∷ hex "01 0a" ∷ []
+still_of_0 : still_to_relay Zero arriving changing ≡ call 1 ∷ hex "01 41" ∷ call 2 ∷ call 3 ∷ call 4 ∷ hex "02 0a" ∷ hex "01 0a" ∷ []
 still_of_0 = refl
 
-still_of_3 : still_to_relay Three coming changing ≡ text 1 ∷ hex "01 41" ∷ text 2 ∷ text 3 ∷ hex "02 0a" ∷ hex "01 0a" ∷ []
+still_of_3 : still_to_relay Three arriving changing ≡ text 1 ∷ hex "01 41" ∷ text 2 ∷ text 3 ∷ hex "02 0a" ∷ hex "01 0a" ∷ []
 still_of_3 = refl
 
 -- before the COMMAND nothing counts of the target
-still_before_the_command : still_to_relay Zero coming preparing ≡ call 1 ∷ hex "01 41" ∷ call 2 ∷ call 3 ∷ call 4 ∷ hex "02 0a" ∷ []
+still_before_the_command : still_to_relay Zero arriving preparing ≡ call 1 ∷ hex "01 41" ∷ call 2 ∷ call 3 ∷ call 4 ∷ hex "02 0a" ∷ []
 still_before_the_command = refl
 
-still_of_one : still_to_relay Zero coming (live Active (cell_1 0x41)) ≡ hex "01 41" ∷ []
+still_of_one : still_to_relay Zero arriving (live Active (cell_1 0x41)) ≡ hex "01 41" ∷ []
 still_of_one = refl
 
-targets_to_come : map (of_target coming) (changing.state ∷ preparing.state ∷ Live 5 Active ∷ WaitConfirm ∷ []) ≡ (hex "01 0a" ∷ []) ∷ [] ∷ [] ∷ [] ∷ []
+targets_to_come : map (of_target arriving) (changing.state ∷ preparing.state ∷ Live 5 Active ∷ WaitConfirm ∷ []) ≡ (hex "01 0a" ∷ []) ∷ [] ∷ [] ∷ [] ∷ []
 targets_to_come = refl
 
-targets_before_the_command : map (of_prepared coming) (changing.state ∷ preparing.state ∷ Live 5 Active ∷ WaitConfirm ∷ []) ≡ [] ∷ (hex "01 0a" ∷ []) ∷ [] ∷ [] ∷ []
+targets_before_the_command : map (of_prepared arriving) (changing.state ∷ preparing.state ∷ Live 5 Active ∷ WaitConfirm ∷ []) ≡ [] ∷ (hex "01 0a" ∷ []) ∷ [] ∷ [] ∷ []
 targets_before_the_command = refl
 
 -- an input's message comes first on its channel, of its SAPI alone
 abbrev places : List Place
 places = on_1 0x41 ∷ on_1 0x0a ∷ on_2 0x41 ∷ []
 
-abbrev comes : Sapi → Input → List (List (List ℕ))
-comes sapi input = map (from_input sapi input coming) places
+abbrev arrives : Sapi → Input → List (List (List ℕ))
+arrives sapi input = map (from_input sapi input arriving) places
 
 abbrev first : List ℕ → List (List (List ℕ))
 first message = (message ∷ hex "01 41" ∷ []) ∷ (hex "01 0a" ∷ []) ∷ (hex "02 41" ∷ []) ∷ []
@@ -169,23 +169,23 @@ first message = (message ∷ hex "01 41" ∷ []) ∷ (hex "01 0a" ∷ []) ∷ (h
 abbrev as_before : List (List (List ℕ))
 as_before = (hex "01 41" ∷ []) ∷ (hex "01 0a" ∷ []) ∷ (hex "02 41" ∷ []) ∷ []
 
-come_of_0 : map (comes Zero) (inputs.Dtap (on_1 0x41) Zero (call 1) ∷ inputs.EstablishIndication (on_1 0x41) Zero (Some (hex "05 24 71"))
+come_of_0 : map (arrives Zero) (inputs.Dtap (on_1 0x41) Zero (call 1) ∷ inputs.EstablishIndication (on_1 0x41) Zero (Some (hex "05 24 71"))
     ∷ inputs.Dtap (on_1 0x41) Three (text 1) ∷ inputs.EstablishIndication (on_1 0x41) Zero None
     ∷ inputs.EstablishIndication (on_1 0x41) Three (Some (text 1)) ∷ inputs.Downlink Zero (call 1) ∷ inputs.Move ∷ []) ≡
     first (call 1) ∷ first (hex "05 24 71") ∷ as_before ∷ as_before ∷ as_before ∷ as_before ∷ as_before ∷ []
 come_of_0 = refl
 
-come_of_3 : map (comes Three) (inputs.Dtap (on_1 0x41) Three (text 1) ∷ inputs.Dtap (on_1 0x41) Zero (call 1)
+come_of_3 : map (arrives Three) (inputs.Dtap (on_1 0x41) Three (text 1) ∷ inputs.Dtap (on_1 0x41) Zero (call 1)
     ∷ inputs.EstablishIndication (on_1 0x41) Zero (Some (hex "05 24 71")) ∷ inputs.EstablishIndication (on_1 0x41) Three (Some (text 1))
     ∷ inputs.Downlink Three (text 1) ∷ []) ≡
     first (text 1) ∷ as_before ∷ as_before ∷ as_before ∷ as_before ∷ []
 come_of_3 = refl
 
 -- nothing is asked of what may come but on a channel that an input ends, or on a target
-nothing_ends : Ends coming changing.state (inputs.Dtap (on_1 0x41) Zero (call 1)) × Ends coming changing.state (inputs.ActivationAck (on_1 0x0a))
-    × Ends coming preparing.state (inputs.Failure (on_2 0x0a) Assignment (record { 0 = 0 }))
-    × Ends coming changing.state (inputs.Complete (on_1 0x0a) Assignment (record { 0 = 0 }))
-    × Ends coming preparing.state (inputs.ActivationNack (on_1 0x0a)) × Ends coming changing.state inputs.Expiry
+nothing_ends : Ends arriving changing.state (inputs.Dtap (on_1 0x41) Zero (call 1)) × Ends arriving changing.state (inputs.ActivationAck (on_1 0x0a))
+    × Ends arriving preparing.state (inputs.Failure (on_2 0x0a) Assignment (record { 0 = 0 }))
+    × Ends arriving changing.state (inputs.Complete (on_1 0x0a) Assignment (record { 0 = 0 }))
+    × Ends arriving preparing.state (inputs.ActivationNack (on_1 0x0a)) × Ends arriving changing.state inputs.Expiry
 nothing_ends = (tt, refl, refl, tt, tt, tt)
 
 abbrev but_41 : Future
@@ -306,14 +306,14 @@ closed = ended (Closed (WasAsked 5)) active
 
 final_row : IsFinal active (row (clear_request ∷ down 1 0x41 0x00 (hex "06 0d 00") ∷ []) closed)
 final_row = record {
-  stays = λ shut. absurd (shut tt);
+  remains_closed = λ shut. absurd (shut tt);
   relays = λ shut. elim [ Zero ↦ refl | Three ↦ refl ];
   hands = λ shut. elim [ Zero ↦ refl | Three ↦ refl ];
   cleared = tt;
 }
 
 not_opened_again : IsFinal closed (row [] active) → ⊥
-not_opened_again final = final.stays (λ is. is) tt
+not_opened_again final = final.remains_closed (λ is. is) tt
 
 not_relayed_at_the_end : IsFinal active (row (up 0x83 (text 1) ∷ []) closed) → ⊥
 not_relayed_at_the_end final = some_is_none (final.relays (λ is. is) Three)

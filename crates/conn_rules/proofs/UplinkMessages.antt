@@ -31,19 +31,19 @@ relayed-initial Zero c initial = refl
 relayed-initial Three c initial = refl
 
 pub establish_indication : (sapi : Sapi) (future : Future) (state : State) (s : Connection) (at : Place) (of : Sapi) (message : Option (List ℕ)) → IsValidState state s.draining s.down s.up.tenures s.link s.waits → OfRow (Passes sapi future (still_to_relay sapi (from_input sapi (inputs.EstablishIndication at of message) future) (in_state state s))) (on_establish_indication state (in_state state s) at of message)
-establish_indication sapi future WaitEstablish s at Zero None stands = of_if _ (is_at at s.serving) _ (λ here kept. absurd kept)
-establish_indication sapi future WaitEstablish s at Zero (Some initial) stands =
-    let bare = stands.0 in
+establish_indication sapi future WaitEstablish s at Zero None valid = of_if _ (is_at at s.serving) _ (λ here kept. absurd kept)
+establish_indication sapi future WaitEstablish s at Zero (Some initial) valid =
+    let bare = valid.0 in
     let after = from_input sapi (inputs.EstablishIndication at Zero (Some initial)) future in
     of_if _ (is_at at s.serving) _ (λ here. cond_both (nat_le (length initial) INITIAL_LIMIT) _ _ (Passes sapi future (still_to_relay sapi after (in_state WaitEstablish s)))
     (λ fits kept.
     rw (bare.none_drains, bare.one_tenure, relayed-initial sapi s.serving initial)
     (sym (append_assoc (of_sapi sapi Zero (initial ∷ [])) (still_of sapi future s.serving [] (empty_tenure ∷ [])) []) ∙ ap (λ (xs : List (List ℕ)). xs ++ []) (initial-still sapi future at initial s.serving here)))
     (λ long kept. absurd kept))
-establish_indication sapi future (Live reference (Changing target)) s at of message stands = tt
-establish_indication sapi future (Live reference stage) s at Three message stands =
+establish_indication sapi future (Live reference (Changing target)) s at of message valid = tt
+establish_indication sapi future (Live reference stage) s at Three message valid =
     rw (link_of_three sapi future at message) (of_if _ (is_at at s.serving) _ (λ here kept. gives_link_up sapi future (in_state (Live reference stage) s)))
-establish_indication sapi future _ s at of message stands = tt
+establish_indication sapi future _ s at of message valid = tt
 
 -- ---- DTAP
 
@@ -101,12 +101,12 @@ dtap_by sapi future reference (Changing target) s at Zero message None state apa
 dtap_by sapi future reference stage s at of message None state apart is first = tt
 
 pub dtap : (sapi : Sapi) (future : Future) (state : State) (s : Connection) (at : Place) (of : Sapi) (message : List ℕ) → IsValidState state s.draining s.down s.up.tenures s.link s.waits → AreApart (undone s.draining ++ s.serving ∷ target_in state) → OfRow (Passes sapi future (still_to_relay sapi (from_input sapi (inputs.Dtap at of message) future) (in_state state s))) (on_dtap state (in_state state s) at of message)
-dtap sapi future WaitEstablish s at Zero message stands apart = of_if _ (is_at at s.serving) _ (λ here kept. absurd kept)
-dtap sapi future WaitConfirm s at of message stands apart =
+dtap sapi future WaitEstablish s at Zero message valid apart = of_if _ (is_at at s.serving) _ (λ here kept. absurd kept)
+dtap sapi future WaitConfirm s at of message valid apart =
     let old = in_state WaitConfirm s in
     of_if _ (is_at at s.serving) _ (λ here.
     passes_hold_up sapi of at message future 0 old (failing WaitConfirm old EQUIPMENT_FAILURE) (λ kept. kept) apart
-    (cond-true _ _ _ here ∙ ap (λ (ds : List Drain). Some (length ds)) stands.none_drains))
-dtap sapi future (Live reference stage) s at of message stands apart =
-    dtap_by sapi future reference stage (in_state (Live reference stage) s) at of message (tenure_at at s.serving s.draining) refl apart refl stands.first
-dtap sapi future _ s at of message stands apart = tt
+    (cond-true _ _ _ here ∙ ap (λ (ds : List Drain). Some (length ds)) valid.none_drains))
+dtap sapi future (Live reference stage) s at of message valid apart =
+    dtap_by sapi future reference stage (in_state (Live reference stage) s) at of message (tenure_at at s.serving s.draining) refl apart refl valid.first
+dtap sapi future _ s at of message valid apart = tt

@@ -11,7 +11,7 @@ use Rattle.conn_rules.proofs.Prelude.{of_prepared}
 use Rattle.conn_rules.specs.Steps.{Row, row, ◌then◌, may_begin, begin_waiting, resting, resting_stage, moved, hold_down, hand_held, request_where, short_message, ask_for_held, link_up, link_down, done_at, leave, settled, settled_stage}
 use Rattle.conn_rules.specs.Table.{row_if, on_activation_ack, nack_outs, on_activation_nack, was_asked, on_establish_confirm, on_release_indication, on_error_indication, on_connection_failure, same_change, on_complete, failure_outs, on_failure, release, release_in, on_release_ack, on_move, on_confirm, on_refused, on_released, on_downlink, speech_request, on_assignment_request, on_cipher_mode_command, on_clear_command, on_expiry, is_some_draining, on_drain_expiry, drains_at, targets, on_station_down, on_switch_down}
 use Rattle.conn_rules.proofs.UplinkPlaces.{drain_at_drains}
-use Rattle.conn_rules.proofs.UplinkSteps.{Gives, gives_then, gives_relay_held, gives_hand_held, gives_ask_for_held, gives_begin, begins_untargeted, gives_begin_waiting, resting_untargeted, gives_leave, leave-state, gives_settled, settled-stands}
+use Rattle.conn_rules.proofs.UplinkSteps.{Gives, gives_then, gives_relay_held, gives_hand_held, gives_ask_for_held, gives_begin, begins_untargeted, gives_begin_waiting, resting_untargeted, gives_leave, leave-state, gives_settled, settled-valid}
 use Rattle.conn_rules.proofs.UplinkTenures.{done_still, moved_still}
 
 -- while the connection stays open
@@ -46,8 +46,8 @@ activation_nack sapi future WaitActivation s at offer = of_if _ (is_at at s.serv
 activation_nack sapi future (Live reference (Preparing target)) s at offer =
     let old = in_state (Live reference (Preparing target)) s in
     let back : Row = row (nack_outs target.change reference) (resting reference old) in
-    let goes : Gives sapi future (still_to_relay sapi future old) back = rw (none_in_nack sapi target.change reference, resting_untargeted future reference s.draining) refl in
-    of_if _ (is_at at target.channel) _ (λ here kept. gives_then sapi future (still_to_relay sapi future old) back (begin_waiting (resting_stage s.draining) reference offer) goes (gives_begin_waiting sapi future (resting_stage s.draining) reference offer (resting reference old) refl))
+    let gives : Gives sapi future (still_to_relay sapi future old) back = rw (none_in_nack sapi target.change reference, resting_untargeted future reference s.draining) refl in
+    of_if _ (is_at at target.channel) _ (λ here kept. gives_then sapi future (still_to_relay sapi future old) back (begin_waiting (resting_stage s.draining) reference offer) gives (gives_begin_waiting sapi future (resting_stage s.draining) reference offer (resting reference old) refl))
 activation_nack sapi future _ s at offer = tt
 
 pub gives_link_up : (sapi : Sapi) (future : Future) (s : Connection) → Gives sapi future (still_to_relay sapi future s) (link_up s)
@@ -90,24 +90,24 @@ none_in_complete sapi reference Handover channel cause = refl
 
 -- what follows a change: the switch's messages are handed, and a request that waited begins
 gives_after : (sapi : Sapi) (future : Future) (up : List (List ℕ)) (stage : Stage) (reference : ℕ) (offer : Option Channel) (r : Row) → r.next.state ≡ Live reference stage → Gives sapi future up r → Gives sapi future up (r then hand_held Zero then ask_for_held then begin_waiting stage reference offer)
-gives_after sapi future up stage reference offer r is goes =
-    let handed = gives_then sapi future up r (hand_held Zero) goes (gives_hand_held sapi future Zero r.next) in
+gives_after sapi future up stage reference offer r is gives =
+    let handed = gives_then sapi future up r (hand_held Zero) gives (gives_hand_held sapi future Zero r.next) in
     let after : Row = r then hand_held Zero in
     let asked = gives_then sapi future up after ask_for_held handed (gives_ask_for_held sapi future after.next) in
     let last : Row = after then ask_for_held in
     gives_then sapi future up last (begin_waiting stage reference offer) asked (gives_begin_waiting sapi future stage reference offer last.next is)
 
 pub completed : (sapi : Sapi) (future : Future) (state : State) (s : Connection) (at : Place) (change : Change) (cause : ℕ) (offer : Option Channel) → IsValidState state s.draining s.down s.up.tenures s.link s.waits → PassesOn sapi future (in_state state s) (on_complete state (in_state state s) at change cause offer)
-completed sapi future (Live reference (Changing target)) s at change cause offer stands =
+completed sapi future (Live reference (Changing target)) s at change cause offer valid =
     let old = in_state (Live reference (Changing target)) s in
     let next = moved reference target.channel old in
     let moves : Row = row (change_complete reference change target.channel cause ∷ rf_channel_release s.serving ∷ []) next in
-    let goes : Gives sapi future (still_to_relay sapi future old) moves =
+    let gives : Gives sapi future (still_to_relay sapi future old) moves =
     ap (λ (xs : List (List ℕ)). xs ++ still_to_relay sapi future next) (none_in_complete sapi reference change target.channel cause)
     ∙ append-nil (still_of sapi future next.serving next.draining next.up.tenures)
-    ∙ moved_still sapi future s.serving target.channel s.draining s.up.tenures stands.a_tenure_each in
-    of_if _ (is_at at target.channel && same_change change target.change) _ (λ here kept. gives_after sapi future (still_to_relay sapi future old) Draining reference offer moves refl goes)
-completed sapi future _ s at change cause offer stands = tt
+    ∙ moved_still sapi future s.serving target.channel s.draining s.up.tenures valid.a_tenure_each in
+    of_if _ (is_at at target.channel && same_change change target.change) _ (λ here kept. gives_after sapi future (still_to_relay sapi future old) Draining reference offer moves refl gives)
+completed sapi future _ s at change cause offer valid = tt
 
 none_in_failure : (sapi : Sapi) (change : Change) (reference cause : ℕ) (channel : Channel) → relayed sapi (failure_outs change reference cause ++ rf_channel_release channel ∷ []) ≡ []
 none_in_failure sapi Assignment reference cause channel = refl
@@ -117,8 +117,8 @@ pub failed : (sapi : Sapi) (future : Future) (state : State) (s : Connection) (a
 failed sapi future (Live reference (Changing target)) s at change cause offer none =
     let old = in_state (Live reference (Changing target)) s in
     let back : Row = row (failure_outs change reference cause ++ rf_channel_release target.channel ∷ []) (resting reference old) in
-    let goes : Gives sapi future (still_to_relay sapi future old) back = rw (none_in_failure sapi change reference cause target.channel, resting_untargeted future reference s.draining, none) refl in
-    of_if _ (is_at at s.serving && same_change change target.change) _ (λ here kept. gives_after sapi future (still_to_relay sapi future old) (resting_stage s.draining) reference offer back refl goes)
+    let gives : Gives sapi future (still_to_relay sapi future old) back = rw (none_in_failure sapi change reference cause target.channel, resting_untargeted future reference s.draining, none) refl in
+    of_if _ (is_at at s.serving && same_change change target.change) _ (λ here kept. gives_after sapi future (still_to_relay sapi future old) (resting_stage s.draining) reference offer back refl gives)
 failed sapi future _ s at change cause offer none = tt
 
 -- ---- an old channel is released, or the serving one changes
@@ -134,22 +134,22 @@ gives_release sapi future reference stage at place offer s is over drains first 
     let going : Row = leave reference (done_at place s.draining) s in
     let left = going.next in
     let rests = settled reference stage left.draining left in
-    let stands : left.state ≡ Live reference stage = leave-state reference (done_at place s.draining) s ∙ is in
+    let valid : left.state ≡ Live reference stage = leave-state reference (done_at place s.draining) s ∙ is in
     let same = ap (λ (xs : List (List ℕ)). xs ++ of_target future s.state) (done_still sapi at future s.serving place s.draining s.up.tenures over (drain_at_drains at s.draining place drains)) in
-    let goes : Gives sapi future up going = gives_leave sapi future reference (done_at place s.draining) s first (long ∙ ap (λ (n : ℕ). n + 1) (sym (length-done_at place s.draining))) ∙ same in
+    let gives : Gives sapi future up going = gives_leave sapi future reference (done_at place s.draining) s first (long ∙ ap (λ (n : ℕ). n + 1) (sym (length-done_at place s.draining))) ∙ same in
     let settling : Connection → Row = λ (c : Connection). row [] (settled reference stage c.draining c) in
-    let settles = gives_then sapi future up going settling goes (gives_settled sapi future reference stage left.draining left stands) in
+    let settles = gives_then sapi future up going settling gives (gives_settled sapi future reference stage left.draining left valid) in
     gives_then sapi future up (going then settling) (λ (c : Connection). begin_waiting (settled_stage stage c.draining) reference offer c) settles
-    (gives_begin_waiting sapi future (settled_stage stage rests.draining) reference offer rests (settled-stands reference stage left stands))
+    (gives_begin_waiting sapi future (settled_stage stage rests.draining) reference offer rests (settled-valid reference stage left valid))
 
 release_by : (sapi : Sapi) (future : Future) (reference : ℕ) (stage : Stage) (at : Place) (offer : Option Channel) (s : Connection) (place : Option ℕ) → s.state ≡ Live reference stage → future at ≡ [] → drain_at at s.draining ≡ place → FirstIsEmpty s.up.tenures → length s.up.tenures ≡ length s.draining + 1 → PassesOn sapi future s (release_in place reference stage offer s)
 release_by sapi future reference stage at offer s (Some place) is over drains first long = λ kept. gives_release sapi future reference stage at place offer s is over drains first long
 release_by sapi future reference stage at offer s None is over drains first long = tt
 
 pub release_ack : (sapi : Sapi) (future : Future) (state : State) (s : Connection) (at : Place) (offer : Option Channel) → future at ≡ [] → IsValidState state s.draining s.down s.up.tenures s.link s.waits → PassesOn sapi future (in_state state s) (on_release_ack state (in_state state s) at offer)
-release_ack sapi future (Live reference stage) s at offer over stands =
-    release_by sapi future reference stage at offer (in_state (Live reference stage) s) (drain_at at s.draining) refl over refl stands.first stands.a_tenure_each
-release_ack sapi future _ s at offer over stands = tt
+release_ack sapi future (Live reference stage) s at offer over valid =
+    release_by sapi future reference stage at offer (in_state (Live reference stage) s) (drain_at at s.draining) refl over refl valid.first valid.a_tenure_each
+release_ack sapi future _ s at offer over valid = tt
 
 pub move : (sapi : Sapi) (future : Future) (state : State) (s : Connection) (offer : Option Channel) → PassesOn sapi future (in_state state s) (on_move state (in_state state s) offer)
 move sapi future (Live reference stage) s offer =

@@ -144,8 +144,8 @@ gives_leave_by sapi future reference (d ∷ ds) (t ∷ (u ∷ ts)) s first long 
       | inl done ↦
           let left : Connection = shifted ds (with_tenures (t ∷ (u ∷ ts)) s) in
           let up = still_of sapi future s.serving (d ∷ ds) (t ∷ (u ∷ ts)) ++ of_target future s.state in
-          let goes : Gives sapi future up (row [] left) = rw (first, empty_messages sapi, done) refl in
-          let relays = gives_then sapi future up (row [] left) (relay_held reference) goes (gives_relay_held sapi future reference left) in
+          let gives : Gives sapi future up (row [] left) = rw (first, empty_messages sapi, done) refl in
+          let relays = gives_then sapi future up (row [] left) (relay_held reference) gives (gives_relay_held sapi future reference left) in
           let others = gives_leave_by sapi future reference ds (empty_tenure ∷ ts) left refl (omega arith) in
           let all = gives_then sapi future up (row [] left then relay_held reference) (leave reference ds) relays others in
           subst (λ (r : Row). Gives sapi future up r) (sym (cond-true _ _ _ done)) all
@@ -178,6 +178,6 @@ settled-draining reference Draining [] s = refl
 settled-draining reference stage ds s = refl
 
 -- so it rests in the stage that is left
-pub settled-stands : (reference : ℕ) (stage : Stage) (s : Connection) → s.state ≡ Live reference stage → (settled reference stage s.draining s).state ≡ Live reference (settled_stage stage (settled reference stage s.draining s).draining)
-settled-stands reference stage s is =
+pub settled-valid : (reference : ℕ) (stage : Stage) (s : Connection) → s.state ≡ Live reference stage → (settled reference stage s.draining s).state ≡ Live reference (settled_stage stage (settled reference stage s.draining s).draining)
+settled-valid reference stage s is =
     settled-state reference stage s.draining s is ∙ ap (λ (ds : List Drain). Live reference (settled_stage stage ds)) (sym (settled-draining reference stage s.draining s))

@@ -56,7 +56,7 @@ valid_opened = record {
 
 valid_asked : IsValid asked
 valid_asked = record {
-  state = record { a_tenure_each = refl; first = refl; oldest = tt; stands = (refl, refl, tt, refl) };
+  state = record { a_tenure_each = refl; first = refl; oldest = tt; valid = (refl, refl, tt, refl) };
   down_limit = refl;
   up_limit = refl;
   down_within = omega arith;
@@ -69,7 +69,7 @@ valid_asked = record {
 
 valid_while_preparing : IsValid (preparing.waiting preparing.assigning)
 valid_while_preparing = record {
-  state = record { a_tenure_each = refl; first = refl; oldest = tt; stands = (omega arith, refl, tt) };
+  state = record { a_tenure_each = refl; first = refl; oldest = tt; valid = (omega arith, refl, tt) };
   down_limit = refl;
   up_limit = refl;
   down_within = omega arith;
@@ -82,7 +82,7 @@ valid_while_preparing = record {
 
 valid_while_preparing_beside : IsValid (preparing.waiting preparing.moves_on)
 valid_while_preparing_beside = record {
-  state = record { a_tenure_each = refl; first = refl; oldest = refl; stands = (omega arith, refl, tt) };
+  state = record { a_tenure_each = refl; first = refl; oldest = refl; valid = (omega arith, refl, tt) };
   down_limit = refl;
   up_limit = refl;
   down_within = omega arith;
@@ -95,7 +95,7 @@ valid_while_preparing_beside = record {
 
 valid_while_changing : IsValid (changing.waiting changing.moving)
 valid_while_changing = record {
-  state = record { a_tenure_each = refl; first = refl; oldest = tt; stands = (omega arith, refl) };
+  state = record { a_tenure_each = refl; first = refl; oldest = tt; valid = (omega arith, refl) };
   down_limit = refl;
   up_limit = refl;
   down_within = omega arith;
@@ -108,7 +108,7 @@ valid_while_changing = record {
 
 valid_while_changing_beside : IsValid (changing.waiting changing.moves_on)
 valid_while_changing_beside = record {
-  state = record { a_tenure_each = refl; first = refl; oldest = refl; stands = (omega arith, refl) };
+  state = record { a_tenure_each = refl; first = refl; oldest = refl; valid = (omega arith, refl) };
   down_limit = refl;
   up_limit = refl;
   down_within = omega arith;
@@ -121,7 +121,7 @@ valid_while_changing_beside = record {
 
 valid_with_one : IsValid draining.one
 valid_with_one = record {
-  state = record { a_tenure_each = refl; first = refl; oldest = refl; stands = (omega arith, omega arith, refl, tt, none_waits) };
+  state = record { a_tenure_each = refl; first = refl; oldest = refl; valid = (omega arith, omega arith, refl, tt, none_waits) };
   down_limit = refl;
   up_limit = refl;
   down_within = omega arith;
@@ -134,7 +134,7 @@ valid_with_one = record {
 
 valid_with_two : IsValid draining.two_one_done
 valid_with_two = record {
-  state = record { a_tenure_each = refl; first = refl; oldest = refl; stands = (omega arith, omega arith, refl, tt, none_waits) };
+  state = record { a_tenure_each = refl; first = refl; oldest = refl; valid = (omega arith, omega arith, refl, tt, none_waits) };
   down_limit = refl;
   up_limit = refl;
   down_within = omega arith;
@@ -147,7 +147,7 @@ valid_with_two = record {
 
 valid_with_three : IsValid (draining.waiting draining.three_two_done)
 valid_with_three = record {
-  state = record { a_tenure_each = refl; first = refl; oldest = refl; stands = (omega arith, omega arith, refl, tt, λ waits. refl) };
+  state = record { a_tenure_each = refl; first = refl; oldest = refl; valid = (omega arith, omega arith, refl, tt, λ waits. refl) };
   down_limit = refl;
   up_limit = refl;
   down_within = omega arith;

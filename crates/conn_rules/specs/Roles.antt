@@ -55,7 +55,7 @@ roles_of s = record { serving = s.serving; target = target_role s.state; drainin
 
 pub data RoleStep : Type 0 where
   -- nothing
-  stays : RoleStep
+  unchanged : RoleStep
   -- the mobile is commanded to the target
   commands : RoleStep
   -- the target serves, and the channel that served drains as the youngest
@@ -87,7 +87,7 @@ still_draining (d ∷ ds) = if d.is_done then still_draining ds else d ∷ ds
 
 -- the roles after it
 abbrev pub after_step : RoleStep → Roles → Roles
-after_step stays roles = roles
+after_step unchanged roles = roles
 after_step commands roles = record roles { target = commanded roles.target }
 after_step completes roles = completed roles.target roles
 after_step goes_back roles = record roles { target = None }
@@ -118,18 +118,20 @@ is_target_at at None = false
 
 abbrev pub leaves_at : Option ℕ → RoleStep
 leaves_at (Some place) = leaves place
-leaves_at None = stays
+leaves_at None = unchanged
 
 -- the step that an input brings to the roles
 abbrev pub step_by : Input → Roles → RoleStep
-step_by (inputs.ActivationAck at) roles = if awaits_at at roles.target then commands else stays
-step_by (inputs.ActivationNack at) roles = if awaits_at at roles.target then goes_back else stays
+step_by (inputs.ActivationAck at) roles = if awaits_at at roles.target then commands else unchanged
+step_by (inputs.ActivationNack at) roles = if awaits_at at roles.target then goes_back else
+    unchanged
 step_by (inputs.Complete at change cause) roles =
-    if (is_target_at at roles.target && changes_by change roles.target) then completes else stays
+    if (is_target_at at roles.target && changes_by change roles.target) then completes else
+    unchanged
 step_by (inputs.Failure at change cause) roles =
-    if (is_at at roles.serving && changes_by change roles.target) then goes_back else stays
+    if (is_at at roles.serving && changes_by change roles.target) then goes_back else unchanged
 step_by (inputs.ReleaseAck at) roles = leaves_at (drain_at at roles.draining)
-step_by _ roles = stays
+step_by _ roles = unchanged
 
 -- a handover is begun by a report, an assignment by a request, which may have waited
 abbrev pub change_by : Input → Change
@@ -264,7 +266,7 @@ pub data ChangesRoles (s : Connection) (input : Input) (offer : Option Channel)
 -- where no row fits, the input brings no step
 abbrev pub ChangesRolesBy : Connection → Input → Option Channel → Option Row → Type 0
 ChangesRolesBy s input offer (Some r) = ChangesRoles s input offer r
-ChangesRolesBy s input offer None = step_by input (roles_of s) ≡ stays
+ChangesRolesBy s input offer None = step_by input (roles_of s) ≡ unchanged
 
 -- ---- the channels in use
 
@@ -297,7 +299,7 @@ IsTaken c input offer outs =
 -- its release was acknowledged
 pub record IsAcknowledged (c : Channel) (input : Input) : Type 0 where
   pub at : Place
-  pub comes : input ≡ inputs.ReleaseAck at
+  pub acknowledges : input ≡ inputs.ReleaseAck at
   pub there : is_at at c ≡ true
 
 -- The account of a connection's channels: what a row gives up and takes, and which old channels

@@ -210,7 +210,7 @@ OnlyReleases _ outs = Unit {0}
 
 -- From the row that closes a connection on nothing is relayed or handed, and it doesn't open again.
 pub record IsFinal (s : Connection) (r : Row) : Type 0 where
-  pub stays : (IsOpen s.state → ⊥) → IsOpen r.next.state → ⊥
+  pub remains_closed : (IsOpen s.state → ⊥) → IsOpen r.next.state → ⊥
   pub relays : (IsOpen r.next.state → ⊥) → (sapi : Sapi) → relayed sapi r.outs ≡ []
   pub hands : (IsOpen r.next.state → ⊥) → (sapi : Sapi) → handed sapi r.outs ≡ []
   pub cleared : OnlyReleases s.state r.outs

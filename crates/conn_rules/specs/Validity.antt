@@ -82,7 +82,7 @@ pub record IsLive (stage : Stage) (draining : List Drain) (down : HoldState) (te
   pub a_tenure_each : length tenures ≡ length draining + 1
   pub first : FirstIsEmpty tenures
   pub oldest : OldestDrains draining
-  pub stands : IsValidStage stage draining down link waits
+  pub valid : IsValidStage stage draining down link waits
 
 abbrev pub IsValidState : State → List Drain → HoldState → List Tenure → ShortMessageLink
     → Bool → Type 0

@@ -23,8 +23,8 @@ row_leaves : (m : ℕ) (e : Entry) (r : Row) (c : Controller) → Keeps e.connec
 row_leaves m e r c keeps other = back_over m (entry_after c.settings e r) c.entries (λ is. other (is ∙ keeps))
 
 fitting_leaves : (m : ℕ) (otherwise : Turn) (e : Entry) (r : Option Row) (c : Controller) → Leaves m c otherwise.next → OfRow (Keeps e.connection.number) r → m ≢ e.connection.number → Leaves m c (by_fitting otherwise e r c).next
-fitting_leaves m otherwise e None c stays keeps other = stays
-fitting_leaves m otherwise e (Some r) c stays keeps other = row_leaves m e r c keeps other
+fitting_leaves m otherwise e None c unchanged keeps other = unchanged
+fitting_leaves m otherwise e (Some r) c unchanged keeps other = row_leaves m e r c keeps other
 
 concerning_leaves : (m : ℕ) (input : Input) (c : Controller) (number : ℕ) (o : Option Entry) → NumberOf number o → m ≢ number → Leaves m c (concerning input c o).next
 concerning_leaves m input c number None is other = refl

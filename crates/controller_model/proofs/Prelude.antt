@@ -53,7 +53,7 @@ pub use Rattle.conn_rules.specs.Roles.{with_target, ChangesRolesBy, IsGivenUp, I
 pub use Rattle.conn_rules.specs.Roles.{target_orders}
 pub use Rattle.conn_rules.specs.Roles.ChangesRoles.{ends, goes_on, had_ended}
 pub use Rattle.conn_rules.specs.Roles.RoleEnd.{dismisses, drops, refused}
-pub use Rattle.conn_rules.specs.Roles.RoleStep.{commands, completes, goes_back, leaves, stays}
+pub use Rattle.conn_rules.specs.Roles.RoleStep.{commands, completes, goes_back, leaves, unchanged}
 pub use Rattle.conn_rules.specs.Validity.{IsCarried, IsValid, DrainTime, IsHeldTenure}
 pub use Rattle.conn_rules.specs.Steps.{Row, after_waiting, ask_for_held, begin, begin_waiting, done_at, dropping, failing}
 pub use Rattle.conn_rules.specs.Steps.{is_for_station, hand_held, hold_down, hold_short_message, hold_up, leave, link_down, link_up, may_begin}
@@ -93,8 +93,8 @@ pub use Rattle.controller_model.specs.Life.{measures, new_averages, new_entry, o
 pub use Rattle.controller_model.specs.Life.{on_what, on_word, pong, row_in, step, timed, with_own_input, with_connection, with_report}
 pub use Rattle.controller_model.specs.LifeLaws.Acts.{Acts, ActsOn, Brought, FitsNone, IsAged, IsBrought, IsTimer, brought_by, brought_in}
 pub use Rattle.controller_model.specs.LifeLaws.Acts.{brought_with, if_held, kept, kept_in, passed}
-pub use Rattle.controller_model.specs.LifeLaws.Acts.Acts.{ages, goes, opens, rests}
-pub use Rattle.controller_model.specs.LifeLaws.Acts.Brought.{breaks, comes, comes as comes_with, nothing, passes, reports}
+pub use Rattle.controller_model.specs.LifeLaws.Acts.Acts.{ages, takes_row, opens, rests}
+pub use Rattle.controller_model.specs.LifeLaws.Acts.Brought.{breaks, of_frame, of_frame as comes_with, nothing, passes, reports}
 pub use Rattle.controller_model.specs.LifeLaws.Concern.{FrameLeaves, IsLeft}
 pub use Rattle.controller_model.specs.LifeLaws.Downlink.{ConservesDownlink, DownlinkIsConserved, IsPart, Switched, confirms, counted}
 pub use Rattle.controller_model.specs.LifeLaws.Downlink.{is_confirm, left_over, nothing_switched, requests, switched, with_moment}
@@ -108,7 +108,7 @@ pub use Rattle.controller_model.specs.LifeLaws.Placing.{KeepsToChannels, used_by
 pub use Rattle.controller_model.specs.LifeLaws.Reach.{PutsOnUpLinks}
 pub use Rattle.controller_model.specs.LifeLaws.Seen.{messages_on, passed_by}
 pub use Rattle.controller_model.specs.LifeLaws.Sending.{IsOctetStep, IsMessage, IsOfOctets, IsSent, SendsMessages}
-pub use Rattle.controller_model.specs.LifeLaws.Uplink.{Tenure, UplinkIsConserved, acknowledged, after_input, after_moment, after_word}
+pub use Rattle.controller_model.specs.LifeLaws.Uplink.{ServedTenure, UplinkIsConserved, acknowledged, after_input, after_moment, after_word}
 pub use Rattle.controller_model.specs.LifeLaws.Uplink.{begin_first, begin_next, beginning, ended, heard, is_on, is_same, joined, of_sapi}
 pub use Rattle.controller_model.specs.LifeLaws.Uplink.{performs, service, with_message}
 pub use Rattle.controller_model.specs.LifeLaws.Using.{AreUsed, used_places}

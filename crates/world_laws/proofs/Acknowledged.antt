@@ -220,14 +220,14 @@ pub acks_flow_new : (settings : Parameters) (events : List Event) → AcksFlow s
 acks_flow_new settings events at least most up =
     let w : Actors = world settings events in
     let taken : List Rsl = flat_map (read_of at.station) (all_popped (new_actors settings) events) in
-    let came : List Rsl = flat_map (read_of at.station) w.inbox in
+    let reads : List Rsl = flat_map (read_of at.station) w.inbox in
     let made : List Rsl = (base_of w at.station).messages in
     let still : List Rsl = due at.number (is_active (base_of w at.station).active at.number) (outbox_of w at.station) in
     (ArePipes-new settings events at.station at.number least most).flows up
     ∙ ap (λ (ms : List Rsl). acknowledgements at.number ms ++ (acknowledgements at.number made ++ still)) (given_read settings events at.station (λ is. not_zero is least))
-    ∙ ap (λ (ms : List Rsl). ms ++ (acknowledgements at.number made ++ still)) (filter-append (is_bound_of at.number) taken came)
-    ∙ append_assoc (acknowledgements at.number taken) (acknowledgements at.number came) (acknowledgements at.number made ++ still)
-    ∙ ap (λ (ms : List Rsl). acknowledgements at.number taken ++ ms) (sym (append_assoc (acknowledgements at.number came) (acknowledgements at.number made) still))
-    ∙ ap (λ (ms : List Rsl). acknowledgements at.number taken ++ (ms ++ still)) (sym (filter-append (is_bound_of at.number) came made)) where
+    ∙ ap (λ (ms : List Rsl). ms ++ (acknowledgements at.number made ++ still)) (filter-append (is_bound_of at.number) taken reads)
+    ∙ append_assoc (acknowledgements at.number taken) (acknowledgements at.number reads) (acknowledgements at.number made ++ still)
+    ∙ ap (λ (ms : List Rsl). acknowledgements at.number taken ++ ms) (sym (append_assoc (acknowledgements at.number reads) (acknowledgements at.number made) still))
+    ∙ ap (λ (ms : List Rsl). acknowledgements at.number taken ++ (ms ++ still)) (sym (filter-append (is_bound_of at.number) reads made)) where
       not_zero : at.station ≡ 0 → 1 ≤ at.station → ⊥
       not_zero is least = absurd (omega arith)

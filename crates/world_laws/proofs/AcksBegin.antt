@@ -11,10 +11,10 @@ pub acks_begin_new : (settings : Parameters) (events : List Event) → AcksBegin
 acks_begin_new settings events at least most =
     let w : Actors = world settings events in
     let taken : List Rsl = flat_map (read_of at.station) (all_popped (new_actors settings) events) in
-    let came : List Rsl = flat_map (read_of at.station) w.inbox in
+    let reads : List Rsl = flat_map (read_of at.station) w.inbox in
     subst (λ (ms : List Rsl). IsPrefix ms (due at.number false (all_put at.station (new_actors settings) events)))
     (ap (λ (ms : List Rsl). acknowledgements at.number (ms ++ (base_of w at.station).messages)) (given_read settings events at.station (λ is. not_zero is least))
-    ∙ ap (acknowledgements at.number) (append_assoc taken came (base_of w at.station).messages)
+    ∙ ap (acknowledgements at.number) (append_assoc taken reads (base_of w at.station).messages)
     ∙ filter-append (is_bound_of at.number) taken (messages_up w at.station))
     (acks_start settings events at.station at.number least most) where
       not_zero : at.station ≡ 0 → 1 ≤ at.station → ⊥

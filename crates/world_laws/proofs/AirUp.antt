@@ -11,7 +11,7 @@ use Rattle.world_laws.proofs.Prelude.{on_target, after_up, frame_answer_at, brou
 use Rattle.world_laws.proofs.Prelude.{remembered, old_tenures, serving_hold, serving_tenure, commanded_target, target_tenure, waiting_of}
 use Rattle.world_laws.proofs.Prelude.{taken_of, assembled, line_up, Sits, Leads, NoneOn, LinedUp}
 use Rattle.conn_rules.specs.Streams.{target_in}
-use Rattle.world_laws.specs.LineUp.Places.{Item, Tenure, Seat}
+use Rattle.world_laws.specs.LineUp.Places.{Item, LineTenure, Seat}
 use Rattle.world_laws.specs.LineUp.Places.Item.{brought}
 use Rattle.world_laws.specs.LineUp.MobileStep.MobileStep.{taken_on_serving, taken_on_target}
 use Rattle.world_laws.proofs.LineUp.Moving.{alive_mobile}
@@ -57,8 +57,8 @@ air_up_coming w p tenure frame c reached c_is = by_opening p.opens where
 
   telling : (base_after : BaseState) (message : Rsl) → base_after.messages ≡ base.messages ++ message ∷ [] → made_of c.number (message ∷ []) ≡ (if tenure.at.number == c.number then brought frame ∷ [] else []) ++ []
       → coming_up (with_base tenure.at.station base_after w) (place_of c) ≡ coming_up w (place_of c) ++ (if is_at tenure.at c then brought frame ∷ [] else [])
-  telling base_after message told is =
-      coming_told w w tenure.at.station (place_of c) base_after (message ∷ []) c_is (reached_up w tenure reached).0 (λ k. refl) refl told (inl (active_there w tenure.at (reached_up w tenure reached).1))
+  telling base_after message appended is =
+      coming_told w w tenure.at.station (place_of c) base_after (message ∷ []) c_is (reached_up w tenure reached).0 (λ k. refl) refl appended (inl (active_there w tenure.at (reached_up w tenure reached).1))
       ∙ ap (λ (items : List Item). coming_up w (place_of c) ++ (if tenure.at.station == c.station then items else [])) is
       ∙ ap (λ (items : List Item). coming_up w (place_of c) ++ items) (two (tenure.at.station == c.station) (tenure.at.number == c.number))
 
@@ -113,13 +113,13 @@ serving_alive {m} {w} {p} {s} tenure command frame seat lent reached on lined = 
   v : Actors
   v = brought_in_world w p tenure.at Zero frame
 
-  old : List Tenure
+  old : List LineTenure
   old = old_tenures (coming_up w) (is_station_up w) s.draining s.up.tenures
 
-  serving : Tenure
+  serving : LineTenure
   serving = serving_tenure (coming_up w) (is_station_up w) s.serving (serving_hold s.draining s.up.tenures)
 
-  target : Seat → Tenure
+  target : Seat → LineTenure
   target sits = target_tenure (coming_up w) (is_station_up w) sits (commanded_target s.state)
 
   commands : ℕ
@@ -157,13 +157,13 @@ target_alive {m} {w} {p} {s} t tenure command frame seat to lent reached on line
   v : Actors
   v = brought_in_world w p tenure.at Zero frame
 
-  old : List Tenure
+  old : List LineTenure
   old = old_tenures (coming_up w) (is_station_up w) s.draining s.up.tenures
 
-  serving : Tenure
+  serving : LineTenure
   serving = serving_tenure (coming_up w) (is_station_up w) s.serving (serving_hold s.draining s.up.tenures)
 
-  target : Tenure
+  target : LineTenure
   target = target_tenure (coming_up w) (is_station_up w) on_target (Some t)
 
   commands : ℕ

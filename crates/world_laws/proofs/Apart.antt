@@ -4,10 +4,10 @@ use Rattle.world_laws.proofs.Prelude.{◌≡◌, ℕ, ◌&&◌, nat_eq, Bool, tr
 use Rattle.world_laws.proofs.Prelude.{sym, ap, ◌∙◌, subst, inl, inr, AllByRecursion, cases_Bool, eqb-true, eqb-false, ne_eqb, eq-eqb}
 use Rattle.world_laws.proofs.Prelude.{Channel, Place, Changing, State, Live, Target, Connection, is_at, IsApart, AreApart, undone}
 use Rattle.world_laws.proofs.Prelude.{used_channels, place_of, Command, On, Moving, Tenure, Actors, tenure_at, false≢true, AreAway}
-use Rattle.world_laws.proofs.Prelude.{commanded_target, Remembers, Sits, came, between}
+use Rattle.world_laws.proofs.Prelude.{commanded_target, Remembers, Sits, at_its_target, between}
 use Rattle.conn_rules.specs.Streams.{target_in}
 use Rattle.world_laws.specs.Seated.{command_to}
-use Rattle.world_laws.specs.Seated.Sits.{stays}
+use Rattle.world_laws.specs.Seated.Sits.{unchanged}
 use Rattle.world_laws.proofs.Framing.{all_right}
 
 -- ---- lists
@@ -87,8 +87,8 @@ pub data SitsOn (w : Actors) (serving : Channel) (target : Option Target) (tenur
   arrived : (t : Target) → target ≡ Some t → tenure ≡ tenure_at w (place_of t.channel) → command ≡ None → SitsOn w serving target tenure command
 
 pub sits_on_tenure : {w : Actors} {serving : Channel} {target : Option Target} (tenure : Tenure) (command : Option Command) → Sits w serving target (On tenure command) → SitsOn w serving target tenure command
-sits_on_tenure tenure command (stays is remembers) = serves is remembers
-sits_on_tenure tenure command (came {target} is) = arrived target refl is refl
+sits_on_tenure tenure command (unchanged is remembers) = serves is remembers
+sits_on_tenure tenure command (at_its_target {target} is) = arrived target refl is refl
 
 pub record SitsBetween (w : Actors) (serving : Channel) (target : Option Target) (from : Tenure) (command : Command) : Type 0 where
   pub to : Target

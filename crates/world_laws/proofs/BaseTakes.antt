@@ -6,11 +6,11 @@ use Rattle.world_laws.proofs.Prelude.{Target, Connection, undone, used_channels,
 use Rattle.world_laws.proofs.Prelude.{is_station_up, tenure_at, AllByRecursion-so, Alive, ended, flow, with_items, released, coming_up}
 use Rattle.world_laws.proofs.Prelude.{going_down, seat_from, remembered, draining_tenure, old_tenure, old_tenures, serving_hold}
 use Rattle.world_laws.proofs.Prelude.{serving_tenure, commanded_target, target_tenure, waiting_of, taken_of, assembled, line_up, Remembers}
-use Rattle.world_laws.proofs.Prelude.{Sits, Leads, NoneOn, LinedUp, leads, came, between}
+use Rattle.world_laws.proofs.Prelude.{Sits, Leads, NoneOn, LinedUp, leads, at_its_target, between}
 use Rattle.conn_rules.specs.Streams.{target_in}
-use Rattle.world_laws.specs.LineUp.Places.{Item, Tenure, Seat}
-use Rattle.world_laws.specs.Seated.Remembers.{nothing, told}
-use Rattle.world_laws.specs.Seated.Sits.{stays, gone}
+use Rattle.world_laws.specs.LineUp.Places.{Item, LineTenure, Seat}
+use Rattle.world_laws.specs.Seated.Remembers.{nothing, by_command}
+use Rattle.world_laws.specs.Seated.Sits.{unchanged, gone}
 use Rattle.world_laws.proofs.Framing.{AreUp, all_left, all_right, lined-same}
 use Rattle.world_laws.proofs.Likening.{Like, AllLike, like_itself, like_released, alive_like}
 use Rattle.world_laws.proofs.OwnMoves.{alive_fewer}
@@ -45,7 +45,7 @@ old_like f g up (d ∷ ds) [] grown = let a = one_like f g up d ds [] grown in (
 old_like f g up (d ∷ ds) (held ∷ others) grown = let a = one_like f g up d ds held.zero grown in (a.0, old_like f g up ds others a.1)
 
 -- with other items on their way
-items_like : (t : Tenure) (now : List Item) {up : Bool} → Grown up now t.items → Like t (with_items t now)
+items_like : (t : LineTenure) (now : List Item) {up : Bool} → Grown up now t.items → Like t (with_items t now)
 items_like t now (rests is) = subst (λ (items : List Item). Like t (with_items t items)) (sym is) (like_itself t)
 items_like t now (ends is up) = subst (λ (items : List Item). Like t (with_items t items)) (sym is) (like_released t)
 
@@ -56,7 +56,7 @@ target_like f g up seat _ grown = like_itself (target_tenure g up seat None)
 -- ---- a connection sees no more commands on their way, and perhaps an RF CHANNEL RELEASE ACK
 
 pub record SeesLess (w v : Actors) (s : Connection) : Type 0 where
-  pub coming : AreGrown (is_station_up w) (coming_up v) (coming_up w) (used_channels s)
+  pub arriving : AreGrown (is_station_up w) (coming_up v) (coming_up w) (used_channels s)
   pub up : AreUp (is_station_up v) (is_station_up w)
   pub serving : Sub (going_down v (place_of s.serving)) (going_down w (place_of s.serving))
   pub target : (t : Target) → commanded_target s.state ≡ Some t → Sub (going_down v (place_of t.channel)) (going_down w (place_of t.channel))
@@ -71,11 +71,12 @@ SameOn w v target = (t : Target) → target ≡ Some t → tenure_at v (place_of
 
 remembers_less : {w v : Actors} {target : Option Target} {command : Option _} → SameOn w v target → Remembers w target command → Remembers v target command
 remembers_less same nothing = nothing
-remembers_less same (told {target} is) = told (is ∙ ap (λ (t : _). record { change = target.change; target = t }) (sym (same target refl)))
+remembers_less same (by_command {target} is) = by_command
+    (is ∙ ap (λ (t : _). record { change = target.change; target = t }) (sym (same target refl)))
 
 sits_less : {w v : Actors} {serving : Channel} {target : Option Target} {seat : MobileSeat} → tenure_at v (place_of serving) ≡ tenure_at w (place_of serving) → SameOn w v target → Sits w serving target seat → Sits v serving target seat
-sits_less on same (stays is remembers) = stays (is ∙ sym on) (remembers_less same remembers)
-sits_less on same (came {target} is) = came (is ∙ sym (same target refl))
+sits_less on same (unchanged is remembers) = unchanged (is ∙ sym on) (remembers_less same remembers)
+sits_less on same (at_its_target {target} is) = at_its_target (is ∙ sym (same target refl))
 sits_less on same (between {target} from is) = between (from ∙ sym on) (is ∙ ap (λ (t : _). record { change = target.change; target = t }) (sym (same target refl)))
 sits_less on same gone = gone
 
@@ -91,7 +92,7 @@ lined_up_less {m} {w} {v} {s} p sees kept = record {
   alive = subst (Alive m) (sym now)
       (alive_like p.end.sent p.end.zero sits s.state commands (old_tenures (coming_up w) up s.draining s.up.tenures) (old_tenures (coming_up v) up s.draining s.up.tenures)
       (serving_tenure (coming_up w) up s.serving hold) (serving_tenure (coming_up v) up s.serving hold) (target_tenure (coming_up w) up sits (commanded_target s.state)) (target_tenure (coming_up v) up sits (commanded_target s.state)) (flow (waiting_of w s.number)) (flow (taken_of w s.number))
-      (old_like (coming_up v) (coming_up w) up s.draining s.up.tenures (all_left (λ c. Grown (up c.station) (coming_up v (place_of c)) (coming_up w (place_of c))) (undone s.draining) (s.serving ∷ target_in s.state) sees.coming))
+      (old_like (coming_up v) (coming_up w) up s.draining s.up.tenures (all_left (λ c. Grown (up c.station) (coming_up v (place_of c)) (coming_up w (place_of c))) (undone s.draining) (s.serving ∷ target_in s.state) sees.arriving))
       (items_like (serving_tenure (coming_up w) up s.serving hold) (coming_up v (place_of s.serving)) rest.0)
       (target_like (coming_up v) (coming_up w) up sits s.state rest.1)
       (alive_fewer (line_up w p s) commands (let fewer = sub_length sees.serving in omega arith) kept.alive));
@@ -114,7 +115,7 @@ lined_up_less {m} {w} {v} {s} p sees kept = record {
   commands = length (going_down v (place_of s.serving)) + remembered p.seat
 
   rest : AreGrown up (coming_up v) (coming_up w) (s.serving ∷ target_in s.state)
-  rest = all_right (λ c. Grown (up c.station) (coming_up v (place_of c)) (coming_up w (place_of c))) (undone s.draining) (s.serving ∷ target_in s.state) sees.coming
+  rest = all_right (λ c. Grown (up c.station) (coming_up v (place_of c)) (coming_up w (place_of c))) (undone s.draining) (s.serving ∷ target_in s.state) sees.arriving
 
   now : line_up v p s ≡ assembled p.end.sent p.end.zero sits s.state commands (old_tenures (coming_up v) up s.draining s.up.tenures) (serving_tenure (coming_up v) up s.serving hold) (target_tenure (coming_up v) up sits (commanded_target s.state)) (flow (waiting_of w s.number)) (flow (taken_of w s.number))
   now = lined-same (coming_up v) (coming_up v) (is_station_up v) up (going_down v (place_of s.serving)) (going_down v (place_of s.serving)) (waiting_of v s.number) (waiting_of w s.number) (taken_of v s.number) (taken_of w s.number) p p s

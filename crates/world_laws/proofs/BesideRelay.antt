@@ -36,7 +36,7 @@ sees_pushed : {w : Actors} {s : Connection} (station : ℕ) (message : Rsl) → 
     → SeesSame w (with_item (station_item station message) (with_base station (after_next (base_of w station)) w)) s
 unfolding SameTenures
 sees_pushed {w} {s} station message placed station_is first read = record {
-  coming = all_both (λ c. c.station ≢ SWITCH_LINK) (λ c. c.station ≢ SWITCH_LINK) (λ c. coming_up (with_item (station_item station message) (with_base station (after_next (base_of w station)) w)) (place_of c) ≡ coming_up w (place_of c)) (used_channels s)
+  arriving = all_both (λ c. c.station ≢ SWITCH_LINK) (λ c. c.station ≢ SWITCH_LINK) (λ c. coming_up (with_item (station_item station message) (with_base station (after_next (base_of w station)) w)) (place_of c) ≡ coming_up w (place_of c)) (used_channels s)
       (λ c c_is _. coming_pushed w station message (place_of c) c_is station_is first read) placed placed;
   up = λ n. refl;
   serving = down_with_base w station (after_next (base_of w station)) (place_of s.serving);
@@ -50,7 +50,7 @@ sees_pushed {w} {s} station message placed station_is first read = record {
 sees_switch_pushed : {w : Actors} {s : Connection} (first : Sccp) (others : List Sccp) → SeesSame w (with_item (switch_item first) (record w { switch_made = others })) s
 unfolding SameTenures
 sees_switch_pushed {w} {s} first others = record {
-  coming = all_of (λ c. coming_up (with_item (switch_item first) (record w { switch_made = others })) (place_of c) ≡ coming_up w (place_of c)) (used_channels s) (λ c. coming_of_switch w first others (place_of c));
+  arriving = all_of (λ c. coming_up (with_item (switch_item first) (record w { switch_made = others })) (place_of c) ≡ coming_up w (place_of c)) (used_channels s) (λ c. coming_of_switch w first others (place_of c));
   up = λ n. refl;
   serving = refl;
   target = λ t is. refl;
@@ -101,7 +101,7 @@ clear_same number n cs = by_number (nat_eq n 0) where
 sees_switch_does : {w : Actors} {s : Connection} (next : SwitchState) (made : List Sccp) → taken_in (find (is_of_peer s.number) next.connections) ≡ taken_of w s.number → SeesSame w (record w { switch = next; switch_made = made }) s
 unfolding SameTenures
 sees_switch_does {w} {s} next made taken = record {
-  coming = all_of (λ c. coming_up w (place_of c) ≡ coming_up w (place_of c)) (used_channels s) (λ c. refl);
+  arriving = all_of (λ c. coming_up w (place_of c) ≡ coming_up w (place_of c)) (used_channels s) (λ c. refl);
   up = λ n. refl;
   serving = refl;
   target = λ t is. refl;
@@ -150,11 +150,11 @@ pub mobiles_keep_line_ups_new : (settings : Parameters) (events : List Event) (e
 mobiles_keep_line_ups_new settings events event mobile s beside alone lined =
     let w : Actors = world settings events in
     let calls : List Call = all_calls (new_actors settings) events mobile in
-    let lives : HasMadeCalls (modulus_in settings) calls lined.one = MobilesLive-new settings events mobile lined.one lined.found in
+    let made_calls : HasMadeCalls (modulus_in settings) calls lined.one = MobilesLive-new settings events mobile lined.one lined.found in
     after_taken (λ v. AreLinedUp (modulus_in settings) v mobile s) (event_after w event) w
     (beside_stays event beside (good_all (new_actors settings) events (good_new settings)) (record {
       found = lined.found;
-      modulus = ap (λ (e : MobileState). e.modulus) lives.is ∙ (IsKept-calls (new_mobile (modulus_in settings)) calls).modulus;
+      modulus = ap (λ (e : MobileState). e.modulus) made_calls.is ∙ (IsKept-calls (new_mobile (modulus_in settings)) calls).modulus;
       lined = lined.lined;
       alone = alone;
     })) lined

@@ -36,7 +36,7 @@ use Rattle.world_laws.proofs.Events.{world}
 
 -- it stays, or the link breaks and a part of it is dropped
 pub data Breaks (up now_up : Bool) (was now : List Item) : Type 0 where
-  stays : now_up ≡ up → now ≡ was → Breaks up now_up was now
+  unchanged : now_up ≡ up → now ≡ was → Breaks up now_up was now
   drops : (dropped : List Item) → up ≡ true → now_up ≡ false → was ≡ now ++ dropped → Breaks up now_up was now
 
 -- behind an RF CHANNEL RELEASE ACK nothing was
@@ -46,7 +46,7 @@ none_behind (brought message ∷ items) dropped is last = none_behind items drop
 none_behind _ dropped is last = absurd cc
 
 draining_breaks : (up now_up : Bool) (was now : List Item) (hold : List (List ℕ)) → EndsLast was → Breaks up now_up was now → Cuts (draining_tenure up was hold) (draining_tenure now_up now hold)
-draining_breaks up now_up was now hold last (stays is same) = subst (λ (b : Bool). Cuts (draining_tenure up was hold) (draining_tenure b now hold)) (sym is) (subst (λ (items : List Item). Cuts (draining_tenure up was hold) (draining_tenure up items hold)) (sym same) (cuts_itself (draining_tenure up was hold)))
+draining_breaks up now_up was now hold last (unchanged is same) = subst (λ (b : Bool). Cuts (draining_tenure up was hold) (draining_tenure b now hold)) (sym is) (subst (λ (items : List Item). Cuts (draining_tenure up was hold) (draining_tenure up items hold)) (sym same) (cuts_itself (draining_tenure up was hold)))
 draining_breaks up now_up was now hold last (drops dropped is down parts) = by_end (is_ended now) refl where
   by_end : (b : Bool) → is_ended now ≡ b → Cuts (draining_tenure up was hold) (draining_tenure now_up now hold)
   by_end false none = breaks (messages_in dropped) refl (ap messages_in parts ∙ messages_in-append now dropped) (ap (λ (b : Bool). not b && not (is_ended now)) down ∙ ap not none)
@@ -56,12 +56,12 @@ draining_breaks up now_up was now hold last (drops dropped is down parts) = by_e
       (ap (λ (b : Bool). not b && not (is_ended now)) down ∙ ap not some ∙ sym (ap (λ (b : Bool). not b && not (is_ended was)) is))
 
 serving_breaks : (up now_up : Bool) (was now : List Item) (hold : List (List ℕ)) → Breaks up now_up was now → Cuts (record { hold = hold; items = was; is_lost = not up; is_done = false }) (record { hold = hold; items = now; is_lost = not now_up; is_done = false })
-serving_breaks up now_up was now hold (stays is same) = whole refl (ap (λ (items : List Item). flow (messages_in items)) same) (let equal = ap controls_in same in omega arith) (ap not is)
+serving_breaks up now_up was now hold (unchanged is same) = whole refl (ap (λ (items : List Item). flow (messages_in items)) same) (let equal = ap controls_in same in omega arith) (ap not is)
 serving_breaks up now_up was now hold (drops dropped is down parts) = breaks (messages_in dropped) refl (ap messages_in parts ∙ messages_in-append now dropped) (ap not down)
 
 -- of a target that the mobile didn't come to nothing was on its way
 target_breaks : (up now_up : Bool) (was now : List Item) (there : Bool) → (there ≡ false → texts_in was ≡ 0) → Breaks up now_up was now → Cuts (record { hold = []; items = was; is_lost = not up && there; is_done = false }) (record { hold = []; items = now; is_lost = not now_up && there; is_done = false })
-target_breaks up now_up was now there none (stays is same) = whole refl (ap (λ (items : List Item). flow (messages_in items)) same) (let equal = ap controls_in same in omega arith) (ap (λ (b : Bool). not b && there) is)
+target_breaks up now_up was now there none (unchanged is same) = whole refl (ap (λ (items : List Item). flow (messages_in items)) same) (let equal = ap controls_in same in omega arith) (ap (λ (b : Bool). not b && there) is)
 target_breaks up now_up was now true none (drops dropped is down parts) = breaks (messages_in dropped) refl (ap messages_in parts ∙ messages_in-append now dropped) (ap (λ (b : Bool). not b && true) down)
 target_breaks up now_up was now false none (drops dropped is down parts) =
     let fewer = texts_front now dropped in
@@ -101,8 +101,8 @@ no_texts away (arrives left none few) = absurd cc
 no_texts away (returns here none few) = omega arith
 
 target_bare : (f : Place → List Item) (up : ℕ → Bool) (seat : Seat) (o : Option Target) {opening : Bool} {commands serving target link : ℕ} → ChangePhase opening (is_changing o) commands seat serving (texts_in (target_tenure f up seat o).items) target link → has_arrived seat ≡ false → texts_in (target_tenure f up seat o).items ≡ 0
-target_bare f up seat None stands away = refl
-target_bare f up seat (Some t) stands away = no_texts away stands
+target_bare f up seat None phase away = refl
+target_bare f up seat (Some t) phase away = no_texts away phase
 
 target_breaks_in : (before after : Place → List Item) (up now_up : ℕ → Bool) (seat : Seat) (o : Option Target) → ((t : Target) → o ≡ Some t → Breaks (up t.channel.station) (now_up t.channel.station) (before (place_of t.channel)) (after (place_of t.channel)))
     → (has_arrived seat ≡ false → texts_in (target_tenure before up seat o).items ≡ 0) → Cuts (target_tenure before up seat o) (target_tenure after now_up seat o)
@@ -137,7 +137,7 @@ coming_broken : (w : Actors) (station : ℕ) (c : Channel) → c.station ≢ SWI
 coming_broken w station c c_is station_is up =
     elim (cases_Bool (nat_eq c.station station)) [
       | inl here ↦ drops (made_of c.number (base_of w c.station).messages) (is_there (eqb-true c.station station here)) (goes_down (eqb-true c.station station here)) (parts (eqb-true c.station station here))
-      | inr other ↦ stays (ap (λ (link : Link). not (c.station == SWITCH_LINK) && link.up) (set-apart w.links broken_link station c.station broken_link (eqb-false c.station station other)))
+      | inr other ↦ unchanged (ap (λ (link : Link). not (c.station == SWITCH_LINK) && link.up) (set-apart w.links broken_link station c.station broken_link (eqb-false c.station station other)))
           (ap (λ (xs : List Item). xs ++ made_of c.number (base_of (broken_world w station) c.station).messages) (inbox-broken w station (place_of c))
           ∙ ap (λ (b : BaseState). flat_map (brings_in (place_of c)) w.inbox ++ made_of c.number b.messages) (base-elsewhere (with_link station broken_link w) c.station station (after_take_down (base_of w station)) c_is station_is (eqb-false c.station station other)))
     ] where
@@ -173,7 +173,7 @@ keeps_broken {m} {w} {s} p station station_is up last kept = record {
       (flow (waiting_of w s.number)) (flow (taken_of w s.number)) (let fewer = sub_length (down_broken w station (place_of s.serving)) in omega arith)
       (old_breaks (coming_up w) (coming_up v) (is_station_up w) (is_station_up v) s.draining s.up.tenures (all_left (λ c. Breaks (is_station_up w c.station) (is_station_up v c.station) (coming_up w (place_of c)) (coming_up v (place_of c))) (undone s.draining) (s.serving ∷ target_in s.state) broken) last)
       (serving_breaks (is_station_up w s.serving.station) (is_station_up v s.serving.station) (coming_up w (place_of s.serving)) (coming_up v (place_of s.serving)) hold rest.0)
-      (target_breaks_in (coming_up w) (coming_up v) (is_station_up w) (is_station_up v) sits (commanded_target s.state) of_target (target_bare (coming_up w) (is_station_up w) sits (commanded_target s.state) kept.alive.stands))
+      (target_breaks_in (coming_up w) (coming_up v) (is_station_up w) (is_station_up v) sits (commanded_target s.state) of_target (target_bare (coming_up w) (is_station_up w) sits (commanded_target s.state) kept.alive.phase))
       (target_came (coming_up v) (is_station_up v) sits (commanded_target s.state)) kept.alive);
   sits = sits_same same_tenures kept.sits;
   led = AllByRecursion-so (λ a. Leads w a (commanded_target s.state)) (λ a. Leads v a (commanded_target s.state)) (λ a. leads_same same_tenures) (going_down v (place_of s.serving)) (sub_all (λ a. Leads w a (commanded_target s.state)) (down_broken w station (place_of s.serving)) kept.led);

@@ -6,28 +6,28 @@ use Rattle.world_laws.proofs.Prelude.{true≢false, false≢true, Alive, FirstRe
 use Rattle.world_laws.proofs.Prelude.{left_the_cell, lost_old, lost_serving, lost_target, flow, messages_in, part_of, parts_of, controls_of}
 use Rattle.world_laws.proofs.Prelude.{controls_in, texts_in, on_serving, on_target, moving, gone, is_gone, is_confirmed, is_intact}
 use Rattle.world_laws.proofs.Prelude.{assembled}
-use Rattle.world_laws.specs.LineUp.Places.{Tenure, Seat}
+use Rattle.world_laws.specs.LineUp.Places.{LineTenure, Seat}
 use Rattle.world_laws.proofs.LineUp.Following.{follows_line, follows_front}
 use Rattle.world_laws.proofs.LineUp.Lines.{flow-append, controls_append}
-use Rattle.world_laws.proofs.LineUp.Standing.{stands_fewer}
+use Rattle.world_laws.proofs.LineUp.Phases.{phase_fewer}
 use Rattle.world_laws.specs.LineUps.{has_arrived}
 
 -- ---- tenures
 
 -- The same on the line; or a part of it went, and nothing comes behind it.
-pub data Cuts (t u : Tenure) : Type 0 where
+pub data Cuts (t u : LineTenure) : Type 0 where
   whole : u.hold ≡ t.hold → flow (messages_in u.items) ≡ flow (messages_in t.items) → controls_in u.items ≤ controls_in t.items → u.is_lost ≡ t.is_lost → Cuts t u
   breaks : (dropped : List (List ℕ)) → u.hold ≡ t.hold → messages_in t.items ≡ messages_in u.items ++ dropped → u.is_lost ≡ true → Cuts t u
 
-abbrev pub AllCut : List Tenure → List Tenure → Type 0
+abbrev pub AllCut : List LineTenure → List LineTenure → Type 0
 AllCut [] [] = Unit {0}
 AllCut (t ∷ ts) (u ∷ us) = Cuts t u × AllCut ts us
 AllCut _ _ = ⊥
 
-pub cuts_itself : (t : Tenure) → Cuts t t
+pub cuts_itself : (t : LineTenure) → Cuts t t
 cuts_itself t = whole refl refl (omega arith) refl
 
-cuts_hold : {t u : Tenure} → Cuts t u → u.hold ≡ t.hold
+cuts_hold : {t u : LineTenure} → Cuts t u → u.hold ≡ t.hold
 cuts_hold (whole hold messages controls lost) = hold
 cuts_hold (breaks dropped hold messages lost) = hold
 
@@ -35,11 +35,11 @@ cuts_hold (breaks dropped hold messages lost) = hold
 front_controls : (xs ys : List (List ℕ)) → controls_of xs ≤ controls_of (xs ++ ys)
 front_controls xs ys = let both = controls_append xs ys in omega arith
 
-pub cuts_controls : {t u : Tenure} → Cuts t u → controls_in u.items ≤ controls_in t.items
+pub cuts_controls : {t u : LineTenure} → Cuts t u → controls_in u.items ≤ controls_in t.items
 cuts_controls (whole hold messages controls lost) = controls
 cuts_controls {t} {u} (breaks dropped hold messages lost) = subst (λ (ms : List (List ℕ)). controls_of (messages_in u.items) ≤ controls_of ms) (sym messages) (front_controls (messages_in u.items) dropped)
 
-pub cuts_texts : {t u : Tenure} → Cuts t u → texts_in u.items ≤ texts_in t.items
+pub cuts_texts : {t u : LineTenure} → Cuts t u → texts_in u.items ≤ texts_in t.items
 cuts_texts (whole hold messages controls lost) = let same = ap length messages in omega arith
 cuts_texts {t} {u} (breaks dropped hold messages lost) =
     let all = ap (λ (ms : List (List ℕ)). length (flow ms)) messages ∙ ap length (flow-append (messages_in u.items) dropped) ∙ length-append (flow (messages_in u.items)) (flow dropped) in
@@ -47,16 +47,16 @@ cuts_texts {t} {u} (breaks dropped hold messages lost) =
 
 -- ---- lines
 
-pub record CutLine (ts us : List Tenure) : Type 0 where
+pub record CutLine (ts us : List LineTenure) : Type 0 where
   pub more : List (List ℕ)
   pub parts : parts_of ts ≡ parts_of us ++ more
   -- where nothing of it is missing, nothing went
   pub none : some_lost us ≡ false → (more ≡ []) × (some_lost ts ≡ false)
 
-part_whole : (t u : Tenure) → u.hold ≡ t.hold → flow (messages_in u.items) ≡ flow (messages_in t.items) → part_of t ≡ part_of u
+part_whole : (t u : LineTenure) → u.hold ≡ t.hold → flow (messages_in u.items) ≡ flow (messages_in t.items) → part_of t ≡ part_of u
 part_whole t u hold messages = ap (λ (h : List (List ℕ)). flow h ++ flow (messages_in t.items)) (sym hold) ∙ ap (λ (ms : List (List ℕ)). flow u.hold ++ ms) (sym messages)
 
-pub cut_line : (ts us : List Tenure) → AllCut ts us → CutLine ts us
+pub cut_line : (ts us : List LineTenure) → AllCut ts us → CutLine ts us
 cut_line [] [] all = record { more = []; parts = refl; none = λ is. (refl, refl) }
 cut_line [] (u ∷ us) all = elim all [ ]
 cut_line (t ∷ ts) [] all = elim all [ ]
@@ -90,13 +90,13 @@ cut_line (t ∷ ts) (u ∷ us) all = by_cut all.0 (cut_line ts us all.1) where
           (behind.0, ap (λ (x : Bool). x || some_lost ts) is ∙ behind.1);
     }
 
-pub behind_cut : (ts us xs ys : List Tenure) → AllCut ts us → AllCut xs ys → AllCut (ts ++ xs) (us ++ ys)
+pub behind_cut : (ts us xs ys : List LineTenure) → AllCut ts us → AllCut xs ys → AllCut (ts ++ xs) (us ++ ys)
 behind_cut [] [] xs ys all more = more
 behind_cut (t ∷ ts) (u ∷ us) xs ys all more = (all.0, behind_cut ts us xs ys all.1 more)
 behind_cut [] (u ∷ us) xs ys all more = elim all [ ]
 behind_cut (t ∷ ts) [] xs ys all more = elim all [ ]
 
-first_cut : (confirmed : Bool) (ts us : List Tenure) (hold hold2 : List (List ℕ)) → AllCut ts us → hold2 ≡ hold → FirstRelays confirmed ts hold → FirstRelays confirmed us hold2
+first_cut : (confirmed : Bool) (ts us : List LineTenure) (hold hold2 : List (List ℕ)) → AllCut ts us → hold2 ≡ hold → FirstRelays confirmed ts hold → FirstRelays confirmed us hold2
 first_cut confirmed [] [] hold hold2 all same first = λ is. same ∙ first is
 first_cut confirmed (t ∷ ts) (u ∷ us) hold hold2 all same first = cuts_hold all.0 ∙ first
 first_cut confirmed [] (u ∷ us) hold hold2 all same first = elim all [ ]
@@ -119,14 +119,14 @@ condition_of moving false false false there = sound
 condition_of _ _ serving target there = lost_old
 
 -- of the whole line
-some_behind : (ts us : List Tenure) → some_lost (ts ++ us) ≡ (some_lost ts || some_lost us)
+some_behind : (ts us : List LineTenure) → some_lost (ts ++ us) ≡ (some_lost ts || some_lost us)
 some_behind [] us = refl
 some_behind (t ∷ ts) us = by_lost t.is_lost (some_behind ts us) where
   by_lost : (b : Bool) → some_lost (ts ++ us) ≡ (some_lost ts || some_lost us) → (b || some_lost (ts ++ us)) ≡ ((b || some_lost ts) || some_lost us)
   by_lost true is = refl
   by_lost false is = is
 
-intact_line : (seat : Seat) (old : List Tenure) (serving target : Tenure) → is_intact seat old serving target ≡ (not (is_gone seat) && not (some_lost (old ++ serving ∷ target ∷ [])))
+intact_line : (seat : Seat) (old : List LineTenure) (serving target : LineTenure) → is_intact seat old serving target ≡ (not (is_gone seat) && not (some_lost (old ++ serving ∷ target ∷ [])))
 intact_line seat old serving target = by_all (not (is_gone seat)) (some_lost old) serving.is_lost target.is_lost ∙ ap (λ (b : Bool). not (is_gone seat) && not b) (sym (some_behind old (serving ∷ target ∷ []))) where
   by_all : (g a b c : Bool) → (g && not a && not b && not c) ≡ (g && not (a || (b || (c || false))))
   by_all true false false true = refl
@@ -134,12 +134,12 @@ intact_line seat old serving target = by_all (not (is_gone seat)) (some_lost old
 
 -- ---- the line-up
 
-pub alive_cut : {m : ℕ} (sent : List (List ℕ)) (link : DataLinkState) (seat : Seat) (state : State) (commands commands2 : ℕ) (old old2 : List Tenure) (serving serving2 target target2 : Tenure) (out taken : List (List ℕ)) → commands2 ≤ commands → AllCut old old2 → Cuts serving serving2 → Cuts target target2
+pub alive_cut : {m : ℕ} (sent : List (List ℕ)) (link : DataLinkState) (seat : Seat) (state : State) (commands commands2 : ℕ) (old old2 : List LineTenure) (serving serving2 target target2 : LineTenure) (out taken : List (List ℕ)) → commands2 ≤ commands → AllCut old old2 → Cuts serving serving2 → Cuts target target2
     → (target2.is_lost ≡ true → has_arrived seat ≡ true) → Alive m (assembled sent link seat state commands old serving target out taken) → Alive m (assembled sent link seat state commands2 old2 serving2 target2 out taken)
 alive_cut {m} sent link seat state commands commands2 old old2 serving serving2 target target2 out taken fewer all cut_serving cut_target there alive = record {
   follows = by_intact (is_intact seat old2 serving2 target2) refl;
   first = first_cut (is_confirmed state) old old2 serving.hold serving2.hold all (cuts_hold cut_serving) alive.first;
-  stands = stands_fewer fewer (cuts_controls cut_serving) (cuts_texts cut_target) (cuts_controls cut_target) (omega arith) alive.stands;
+  phase = phase_fewer fewer (cuts_controls cut_serving) (cuts_texts cut_target) (cuts_controls cut_target) (omega arith) alive.phase;
   condition = condition_of seat (some_lost old2) serving2.is_lost target2.is_lost there;
   bare = cuts_hold cut_target ∙ alive.bare;
 } where

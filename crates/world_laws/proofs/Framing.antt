@@ -6,7 +6,7 @@ use Rattle.world_laws.proofs.Prelude.{used_channels, place_of, Held, DataLinkSta
 use Rattle.world_laws.proofs.Prelude.{remembered, draining_tenure, old_tenure, old_tenures, serving_tenure, serving_hold, commanded_target}
 use Rattle.world_laws.proofs.Prelude.{target_tenure, assembled, lined}
 use Rattle.conn_rules.specs.Streams.{target_in}
-use Rattle.world_laws.specs.LineUp.Places.{Item, Tenure, Seat}
+use Rattle.world_laws.specs.LineUp.Places.{Item, LineTenure, Seat}
 use Rattle.world_laws.specs.LineUps.{has_arrived}
 
 -- ---- all of a list
@@ -40,10 +40,10 @@ pub old_same : (f g : Place → List Item) (up up2 : ℕ → Bool) (ds : List Dr
 old_same f g up up2 [] holds ups same = refl
 old_same f g up up2 (d ∷ ds) [] ups same =
     let a = one_same f g up up2 d ds [] ups same in
-    ap (λ (t : Tenure). t ∷ old_tenures f up ds []) a.0 ∙ ap (λ (ts : List Tenure). old_tenure g up2 d [] ∷ ts) (old_same f g up up2 ds [] ups a.1)
+    ap (λ (t : LineTenure). t ∷ old_tenures f up ds []) a.0 ∙ ap (λ (ts : List LineTenure). old_tenure g up2 d [] ∷ ts) (old_same f g up up2 ds [] ups a.1)
 old_same f g up up2 (d ∷ ds) (held ∷ others) ups same =
     let a = one_same f g up up2 d ds held.zero ups same in
-    ap (λ (t : Tenure). t ∷ old_tenures f up ds others) a.0 ∙ ap (λ (ts : List Tenure). old_tenure g up2 d held.zero ∷ ts) (old_same f g up up2 ds others ups a.1)
+    ap (λ (t : LineTenure). t ∷ old_tenures f up ds others) a.0 ∙ ap (λ (ts : List LineTenure). old_tenure g up2 d held.zero ∷ ts) (old_same f g up up2 ds others ups a.1)
 
 pub serving_same : (f g : Place → List Item) (up up2 : ℕ → Bool) (c : Channel) (hold : List (List ℕ)) → AreUp up up2 → f (place_of c) ≡ g (place_of c) → serving_tenure f up c hold ≡ serving_tenure g up2 c hold
 serving_same f g up up2 c hold ups same = ap (λ (items : List Item). record (serving_tenure g up c hold) { items = items }) same ∙ ap (λ (b : Bool). record (serving_tenure g up2 c hold) { is_lost = not b }) (ups c.station)
@@ -55,7 +55,7 @@ target_same f g up up2 seat _ ups same = refl
 
 -- ---- line-ups
 
-pub assembled-same : {sent sent2 : List (List ℕ)} {link link2 : DataLinkState} {seat seat2 : Seat} (state : State) {commands commands2 : ℕ} {old old2 : List Tenure} {serving serving2 target target2 : Tenure} {out out2 taken taken2 : List (List ℕ)}
+pub assembled-same : {sent sent2 : List (List ℕ)} {link link2 : DataLinkState} {seat seat2 : Seat} (state : State) {commands commands2 : ℕ} {old old2 : List LineTenure} {serving serving2 target target2 : LineTenure} {out out2 taken taken2 : List (List ℕ)}
     → sent ≡ sent2 → link ≡ link2 → seat ≡ seat2 → commands ≡ commands2 → old ≡ old2 → serving ≡ serving2 → target ≡ target2 → out ≡ out2 → taken ≡ taken2
     → assembled sent link seat state commands old serving target out taken ≡ assembled sent2 link2 seat2 state commands2 old2 serving2 target2 out2 taken2
 assembled-same state a b c d e f g h i = rw (a, b, c, d, e, f, g, h, i) refl

@@ -2,7 +2,7 @@
 -- Definitions of what is handled for a connection, at literal values.
 use Rattle.world_laws.proofs.Prelude.{◌≡◌, ℕ, Bool, true, false, if◌then◌else◌, List, [], ◌∷◌, ◌++◌, map, Some, None, refl, arith}
 use Rattle.world_laws.proofs.Prelude.{Assignment, Handover, Channel, Place, Connection, new_connection, Active, Preparing, Changing}
-use Rattle.world_laws.proofs.Prelude.{Draining, WaitActivation, WaitEstablish, WaitConfirm, Live, Removed, roles_stay, role_commands}
+use Rattle.world_laws.proofs.Prelude.{Draining, WaitActivation, WaitEstablish, WaitConfirm, Live, Removed, roles_unchanged, role_commands}
 use Rattle.world_laws.proofs.Prelude.{role_completes, role_goes_back, place_at, Zero, Three, same_place, released, on_serving, on_target}
 use Rattle.world_laws.proofs.Prelude.{moving, gone, awaited_in, IsRequested}
 use Rattle.octets.proofs.Hex.{hex}
@@ -34,7 +34,7 @@ others_leave_it = refl
 a_command_is_put : CommandsAfter role_commands 0 1 × (CommandsAfter role_commands 0 2 → ⊥)
 a_command_is_put = (omega arith, λ two. omega arith)
 
-no_command_is_put : CommandsAfter roles_stay 1 1 × (CommandsAfter roles_stay 0 1 → ⊥)
+no_command_is_put : CommandsAfter roles_unchanged 1 1 × (CommandsAfter roles_unchanged 0 1 → ⊥)
 no_command_is_put = (omega arith, λ one. omega arith)
 
 same_places : map (λ at. same_place at (place_at 1 0x41)) (place_at 1 0x41 ∷ place_at 1 0x0a ∷ place_at 2 0x41 ∷ []) ≡ true ∷ false ∷ false ∷ []

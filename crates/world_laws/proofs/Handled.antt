@@ -45,14 +45,14 @@ none_on_any_target w (Live reference (Preparing target)) none awaited = awaited
 none_on_any_target w _ none awaited = tt
 
 pub frames_keep_line_ups_new : (settings : Parameters) (events : List Event) → FramesKeepLineUps settings events
-frames_keep_line_ups_new settings events mobile s item items input offer r stood comes ready read lined =
+frames_keep_line_ups_new settings events mobile s item items input offer r pending addressed ready read lined =
     let w : Actors = world settings events in
-    let there = said_there comes.said in
-    let handled = frame_is_handled_new w item s input offer r comes in
+    let there = said_there addressed.said in
+    let handled = frame_is_handled_new w item s input offer r addressed in
     let placed = lined.lined.placed in
     let tells = all_acks_tell_new settings events in
     let order : AreInOrder w s input = record {
-      stands = connections_stand_new settings events there.0 s there.1;
+      valid = connections_stand_new settings events there.0 s there.1;
       switch_up = ready.switch_up;
       old_end = all_both (λ c. c.station ≢ SWITCH_LINK) (λ c. ReleasesLast (acknowledgements_up w (place_of c))) (λ c. EndsLast (coming_up w (place_of c))) (undone s.draining) (λ c is releases. (tells (place_of c) is).last releases)
           (all_left (λ c. c.station ≢ SWITCH_LINK) (undone s.draining) (s.serving ∷ target_in s.state) placed) ready.old_end;
@@ -62,4 +62,4 @@ frames_keep_line_ups_new settings events mobile s item items input offer r stood
       uncommanded = none_on_any_target w s.state lined.lined.none_on_target ready.uncommanded;
       whole = all_of (λ c. AreLayer3 (texts_of (coming_up w (place_of c)))) (used_channels s) (λ c. whole_texts (coming_up w (place_of c)) (messages_are_whole_new settings events (place_of c)));
     } in
-    handle_keeps_line_ups_new settings events mobile s item items input offer r handled.0 stood handled.1 order read lined
+    handle_keeps_line_ups_new settings events mobile s item items input offer r handled.0 pending handled.1 order read lined

@@ -1,6 +1,6 @@
 -- SPDX-License-Identifier: MIT OR Apache-2.0
 pub mod Lines
-pub mod Standing
+pub mod Phases
 pub mod Conditions
 pub mod Following
 pub mod Relaying

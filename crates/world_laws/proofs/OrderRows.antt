@@ -7,10 +7,11 @@ use Rattle.world_laws.proofs.Prelude.{Change, Assignment, Handover, Channel, Pla
 use Rattle.world_laws.proofs.Prelude.{outs_of, change_activation, rf_channel_release, AllByRecursion-append, Input, Target, Connection}
 use Rattle.world_laws.proofs.Prelude.{ChangesRoles, MayBegin, RoleEnd, RoleStep, Roles, TargetRole, after_step, begin_orders}
 use Rattle.world_laws.proofs.Prelude.{end_messages, is_order, roles_of, step_by, step_orders, target_channels, those_that_go, goes_on}
-use Rattle.world_laws.proofs.Prelude.{ends, had_ended, refused, drops, dismisses, stays, commands, completes, goes_back, leaves, Row}
+use Rattle.world_laws.proofs.Prelude.{ends, had_ended, refused, drops, dismisses, unchanged, commands, completes, goes_back, leaves, Row}
 use Rattle.world_laws.proofs.Prelude.{IsOpen, AreIn, IsSent, Avoids, IsIn, free≢use, is_there, state_else, state_here, ChannelState, Free}
 use Rattle.world_laws.proofs.Prelude.{InUse, Releasing, CHANNEL_NUMBERS, place_of, state_in, Activation, cases_Bool, eqb-true, eq-eqb}
-use Rattle.world_laws.proofs.Prelude.{and_parts, Goes, Runs, runs, first_passes, activates, over, passes, releases, AllByRecursion-filter}
+use Rattle.world_laws.proofs.Prelude.{and_parts, RunsThrough, Runs, runs, first_passes, activates, over, passes, releases}
+use Rattle.world_laws.proofs.Prelude.{AllByRecursion-filter}
 use Rattle.world_laws.proofs.Prelude.{out_of, is_to_station, to_stations, from_stations, that_go_avoid, still_there, channels_after}
 use Rattle.conn_rules.specs.declared.input.Input.TheVariants as inputs
 use Rattle.rsl_codec.specs.declared.rsl.Rsl.TheVariants as rsl
@@ -115,11 +116,11 @@ release_runs n k at (m ∷ ms) least sent (here is all) =
     (releases (seen_release n at (subst (λ (x : Message). IsSent (out_of n x)) is sent.0)) (avoids_run n at (Releasing k) ms least sent.1 all))
 release_runs n k at (m ∷ ms) least sent (later avoids one) = passes (seen_avoids n m at least sent.0 avoids) (release_runs n k at ms least sent.1 one)
 
-activation_goes : (n k : ℕ) (at : Place) (ms : List Message) → 1 ≤ at.station → at.number < CHANNEL_NUMBERS → AllByRecursion IsSent (outs_of n ms) → OneOrder (Activates at) at ms → Goes at Free (outs_of n ms) (InUse k)
+activation_goes : (n k : ℕ) (at : Place) (ms : List Message) → 1 ≤ at.station → at.number < CHANNEL_NUMBERS → AllByRecursion IsSent (outs_of n ms) → OneOrder (Activates at) at ms → RunsThrough at Free (outs_of n ms) (InUse k)
 activation_goes n k at [] least few sent one = elim one [ ]
 activation_goes n k at (m ∷ ms) least few sent (here is all) =
     let seen = seen_activation n at is.0 (subst (λ (x : Message). IsSent (out_of n x)) is.1 sent.0) in
-    subst (λ (x : Message). Goes at Free (out_of n x ∷ outs_of n ms) (InUse k)) (sym is.1)
+    subst (λ (x : Message). RunsThrough at Free (out_of n x ∷ outs_of n ms) (InUse k)) (sym is.1)
     (activates seen.0 seen.1 (seen.2 ∙ is.2) few (avoids_run n at (InUse k) ms least sent.1 all))
 activation_goes n k at (m ∷ ms) least few sent (later avoids one) = first_passes (seen_avoids n m at least sent.0 avoids) (activation_goes n k at ms least few sent.1 one)
 
@@ -135,15 +136,16 @@ pub data Ends (n : ℕ) (at : Place) (channels : States) (ms : List Message) : T
   leaves_it : AllByRecursion (Avoids at) ms → Ends n at channels ms
   ends_it : state_in channels at ≡ InUse n → OneOrder (Releases at) at ms → Ends n at channels ms
 
-pub touches_goes : (n : ℕ) (at : Place) (channels : States) (ms : List Message) → 1 ≤ at.station → AllByRecursion IsSent (outs_of n ms) → Touches n at channels ms → Goes at (state_in channels at) (outs_of n ms) (state_in (fold (channels_after n) channels ms) at)
+pub touches_goes : (n : ℕ) (at : Place) (channels : States) (ms : List Message) → 1 ≤ at.station → AllByRecursion IsSent (outs_of n ms) → Touches n at channels ms → RunsThrough at (state_in channels at) (outs_of n ms) (state_in (fold (channels_after n) channels ms) at)
 touches_goes n at channels ms least sent (leaves_it all) =
-    subst (Goes at (state_in channels at) (outs_of n ms)) (sym (all_avoid n at channels ms all)) (runs (avoids_run n at (state_in channels at) ms least sent all))
+    subst (RunsThrough at (state_in channels at) (outs_of n ms)) (sym (all_avoid n at channels ms all)) (runs (avoids_run n at (state_in channels at) ms least sent all))
 touches_goes n at channels ms least sent (ends_it used one) =
-    subst (λ (s : ChannelState). Goes at s (outs_of n ms) (state_in (fold (channels_after n) channels ms) at)) (sym used)
-    (subst (Goes at (InUse n) (outs_of n ms)) (sym (one_releases n at channels ms one used)) (runs (release_runs n n at ms least sent one)))
+    subst (λ (s : ChannelState). RunsThrough at s (outs_of n ms) (state_in (fold (channels_after n) channels ms) at)) (sym used)
+    (subst (RunsThrough at (InUse n) (outs_of n ms)) (sym (one_releases n at channels ms one used))
+    (runs (release_runs n n at ms least sent one)))
 touches_goes n at channels ms least sent (begins_it there one) =
-    subst (λ (s : ChannelState). Goes at s (outs_of n ms) (state_in (fold (channels_after n) channels ms) at)) (sym there.free)
-    (subst (Goes at Free (outs_of n ms)) (sym (one_activates n at channels ms one there.is_in)) (activation_goes n n at ms least there.few sent one))
+    subst (λ (s : ChannelState). RunsThrough at s (outs_of n ms) (state_in (fold (channels_after n) channels ms) at)) (sym there.free)
+    (subst (RunsThrough at Free (outs_of n ms)) (sym (one_activates n at channels ms one there.is_in)) (activation_goes n n at ms least there.few sent one))
 
 pub ends_run : (n : ℕ) (at : Place) (channels : States) (ms : List Message) → 1 ≤ at.station → AllByRecursion IsSent (outs_of n ms) → Ends n at channels ms → Runs at (state_in channels at) (outs_of n ms) (state_in (fold (channels_after n) channels ms) at)
 ends_run n at channels ms least sent (leaves_it all) =
@@ -181,7 +183,7 @@ one_release n at channels c used = elim (place_or at (place_of c)) [
 ]
 
 step_ends : (n : ℕ) (at : Place) (channels : States) (step : RoleStep) (roles : Roles) (target : Option TargetRole) → IsOf n channels (record roles { target = target }) → MayEnd n at channels (step_orders step (record roles { target = target }))
-step_ends n at channels stays roles target of = inl tt
+step_ends n at channels unchanged roles target of = inl tt
 step_ends n at channels commands roles target of = inl tt
 step_ends n at channels completes roles target of = one_release n at channels roles.serving of.using.0
 step_ends n at channels goes_back roles None of = inl tt

@@ -77,7 +77,7 @@ users_of c s at number mobile laws asks used = by number asks (laws.used.using a
       let none : entry_of c 0 ≡ None = find_above 0 c.entries laws.ready.numbered.above in
       absurd (contains_none at (subst (λ (o : Option Entry). Contains (used_places (option_map (λ (e : Entry). e.connection) o)) at) none (uses used)))
   by (suc n) asks uses used =
-      same_access (entry_of c (suc n)) (entry_of (step c s).next (suc n)) mobile (laws.names (suc n) (omega arith)).stays asks
+      same_access (entry_of c (suc n)) (entry_of (step c s).next (suc n)) mobile (laws.names (suc n) (omega arith)).keeps_request asks
       (λ none. contains_none at (subst (λ (o : Option Entry). Contains (used_places (option_map (λ (e : Entry). e.connection) o)) at) none (uses used)))
 
 -- ---- what is put fits the tenures
@@ -135,7 +135,7 @@ pub serves_by : (owner : Tenure → ℕ) (w : Actors) (at : Place) (least : 1 �
 serves_by owner w at least target s heard agrees laws serving leads = record {
   hearing = heard_before w.controller s at.station;
   silent = none_to (step w.controller s).next at target (step w.controller s).outs laws.up;
-  goes = λ hearing. (serving hearing laws.sent).0;
+  moves = λ hearing. (serving hearing laws.sent).0;
   fits = λ hearing up. fit_all owner w at heard agrees up (heard_before w.controller s at.station hearing) target (step w.controller s).outs (serving hearing laws.sent).1 (leads hearing up);
   users = λ number mobile asks used. users_of w.controller s at number mobile laws asks used;
 }

@@ -5,7 +5,8 @@ use Rattle.world_laws.proofs.Prelude.{Option, Some, None, refl, sym, ap, subst, 
 use Rattle.world_laws.proofs.Prelude.{AllByRecursion-append, Input, Connection, roles_of, Row, IsOpen, AreRising, IsSent, own_carried}
 use Rattle.world_laws.proofs.Prelude.{break_shut, timer_shut, Holds, changes_of, owns_entry, IsHere, Ready, ChannelState, Free}
 use Rattle.world_laws.proofs.Prelude.{request_offer, Controller, Entry, Turn, turn, each, channel_state, entry_of, freed_station, state_in}
-use Rattle.world_laws.proofs.Prelude.{with_down, all_aged, break_of, by_fitting, expiry, on_break, row_in, timed, Goes, Runs, runs, over}
+use Rattle.world_laws.proofs.Prelude.{with_down, all_aged, break_of, by_fitting, expiry, on_break, row_in, timed, RunsThrough, Runs, runs}
+use Rattle.world_laws.proofs.Prelude.{over}
 use Rattle.world_laws.proofs.Prelude.{passes, releases, get_or-set_other, row_of, expiry_holds, told_holds, IsDue, all_found, expiry_own}
 use Rattle.world_laws.proofs.Prelude.{told_tame, timed_tame, aged_ready, all_here, expiry_numbers, still_here, told_numbers, free_channels}
 use Rattle.world_laws.proofs.Prelude.{expires, with_own_input}
@@ -30,7 +31,7 @@ told_runs at c links d e input least shut own holds = by (row_in d e.connection 
   by None is = λ sent. (over, tt)
   by (Some r) is = λ sent.
       let offer : Option Channel = request_offer d e.connection input in
-      let changes = changes_of e.connection input offer r own.stands is in (
+      let changes = changes_of e.connection input offer r own.valid is in (
         ends_run e.connection.number at d.channels r.outs least sent (row_ends e.connection.number at d.channels e.connection input offer r changes (shut e.connection offer r is) (λ is_open. of_owns d.channels links e.connection.number (roles_of e.connection) (owns_entry links d e own.there holds is_open))),
         no_assignments at c e.connection.number r.outs least sent (shut_assigns e.connection input offer r changes (shut e.connection offer r is)),
       )
@@ -60,16 +61,16 @@ break_serves at least source c differ ready = λ sent.
     let tame = told_tame 1 1 true (break_of source) in
     let all = each_runs at c c.links (with_own_input (break_of source)) tame.rising tame.leaves (told_numbers (break_of source))
     (λ d e own holds. (
-      told_holds c.links d e (break_of source) (break_shut (break_of source) (own_carried source)) own.rising own.there own.stands holds,
+      told_holds c.links d e (break_of source) (break_shut (break_of source) (own_carried source)) own.rising own.there own.valid holds,
       told_runs at c c.links d e (break_of source) least (break_shut (break_of source) (own_carried source)) own holds,
     ))
     down c.entries ready.numbered.rising (down_here c.entries (all_here c c.entries ready (all_found c.entries ready.numbered.rising))) (record { shaped = ready.holds.shaped; each = ready.holds.each }) sent in
-    (subst (Goes at (channel_state c at) (each (with_own_input (break_of source)) down c.entries).outs) (sym (without_same (source == SWITCH_LINK) source (each (with_own_input (break_of source)) down c.entries).next at differ)) (runs all.0), all.1)
+    (subst (RunsThrough at (channel_state c at) (each (with_own_input (break_of source)) down c.entries).outs) (sym (without_same (source == SWITCH_LINK) source (each (with_own_input (break_of source)) down c.entries).next at differ)) (runs all.0), all.1)
   where
     down_here : (xs : List Entry) → AllByRecursion (IsHere c.links c) xs → AllByRecursion (IsHere c.links (with_down source c)) xs
     down_here [] own = tt
     down_here (x ∷ xs) own = (
-      record { rising = own.0.rising; there = own.0.there; stands = own.0.stands; from_one = own.0.from_one; below = own.0.below; linked = own.0.linked },
+      record { rising = own.0.rising; there = own.0.there; valid = own.0.valid; from_one = own.0.from_one; below = own.0.below; linked = own.0.linked },
       down_here xs own.1,
     )
 
@@ -87,7 +88,7 @@ tick_serves at least ms c ready = λ sent.
     let now = aged_ready ms c ready in
     let all = each_runs at c c.links timed tame.rising tame.leaves (λ d e. expiry_numbers (expiry d.settings.timers e.connection) d e)
     (λ d e own holds. (
-      expiry_holds c.links (expiry d.settings.timers e.connection) d e (expiry_own _ _) own.rising own.there own.stands holds,
+      expiry_holds c.links (expiry d.settings.timers e.connection) d e (expiry_own _ _) own.rising own.there own.valid holds,
       expiry_runs at c c.links (expiry d.settings.timers e.connection) d e least (expiry_own _ _) own holds,
     ))
     old old.entries now.numbered.rising (all_here old old.entries now (all_found old.entries now.numbered.rising)) now.holds sent in

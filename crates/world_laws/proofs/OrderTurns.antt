@@ -9,7 +9,7 @@ use Rattle.world_laws.proofs.Prelude.{OnChannel, Reports, OnConnection, access_c
 use Rattle.world_laws.proofs.Prelude.{Turn, turn, ignoring, channel_state, entry_of, freed, place_of, state_in, with_entry, with_state}
 use Rattle.world_laws.proofs.Prelude.{by_fitting, concerning, concerning_too, entry_at, given, may_open, measured, measures, on_decision}
 use Rattle.world_laws.proofs.Prelude.{on_report, on_state, on_word, pong, row_in, with_report, decision_over, Decision, Stay}
-use Rattle.world_laws.proofs.Prelude.{RequestReference, Parameters, asker, rsl_in, Goes, Passes, said_to, runs, over, passes, row_of}
+use Rattle.world_laws.proofs.Prelude.{RequestReference, Parameters, asker, rsl_in, RunsThrough, Passes, said_to, runs, over, passes, row_of}
 use Rattle.world_laws.proofs.Prelude.{serving_after, used_in, IsRow, IsShaped, assignment_offers, freed_shaped, all_at, release≢use}
 use Rattle.world_laws.proofs.Prelude.{still_in, kind_of}
 use Rattle.conn_rules.specs.declared.input.Input.TheVariants as inputs
@@ -51,15 +51,16 @@ module _ (at : Place) (least : 1 ≤ at.station) where
   -- from a state of the channel on, where the frames are sent; the assignments are of the
   -- controller before the step
   abbrev pub Serving : Controller → ChannelState → Turn → Type 0
-  Serving c from t = AllByRecursion IsSent t.outs → Goes at from t.outs (channel_state t.next at) × AllByRecursion (NamesOut at c) t.outs
+  Serving c from t = AllByRecursion IsSent t.outs → RunsThrough at from t.outs (channel_state t.next at) × AllByRecursion
+      (NamesOut at c) t.outs
 
   quiet_serves : (c next : Controller) (from : ChannelState) → channel_state next at ≡ from → Serving c from (turn [] next)
-  quiet_serves c next from same sent = (subst (Goes at from []) (sym same) (runs over), tt)
+  quiet_serves c next from same sent = (subst (RunsThrough at from []) (sym same) (runs over), tt)
 
   -- ---- a row, of a controller of which a channel may have been freed
 
   record RowFits (c d : Controller) (e : Entry) (offer : Option Channel) : Type 0 where
-    stands : IsValid e.connection
+    valid : IsValid e.connection
     of : IsOpen e.connection.state → IsOf e.connection.number d.channels (roles_of e.connection)
     free : IsOpen e.connection.state → (f : Channel) → offer ≡ Some f → IsFreeThere d.channels (place_of f)
     used : IsOpen e.connection.state → place_of e.connection.serving ≡ at → channel_state c at ≡ InUse e.connection.number
@@ -68,7 +69,7 @@ module _ (at : Place) (least : 1 ≤ at.station) where
   fitting_serves : (c d : Controller) (otherwise : Turn) (e : Entry) (input : Input) (offer : Option Channel) (o : Option Row) → row_of e.connection input offer ≡ o → RowFits c d e offer → Serving c (channel_state d at) otherwise → Serving c (channel_state d at) (by_fitting otherwise e o d)
   fitting_serves c d otherwise e input offer None is fits same = same
   fitting_serves c d otherwise e input offer (Some r) is fits same = λ sent.
-      let changes = changes_of e.connection input offer r fits.stands is in (
+      let changes = changes_of e.connection input offer r fits.valid is in (
         touches_goes e.connection.number at d.channels r.outs least sent (row_touches e.connection.number at d.channels e.connection input offer r changes fits.of fits.free),
         row_names at c e.connection.number e.connection input offer r least sent is changes fits.used fits.asks,
       )
@@ -88,7 +89,7 @@ module _ (at : Place) (least : 1 ≤ at.station) where
       let own = here_of c m e ready there in
       fitting_serves c c (ignoring c) e input (request_offer c e.connection input) (row_in c e.connection input) refl
       (record {
-        stands = own.stands;
+        valid = own.valid;
         of = λ is_open. of_owns c.channels c.links e.connection.number (roles_of e.connection) (owns_entry c.links c e own.there ready.holds is_open);
         free = λ is_open f is. free_offer c.settings c.channels c.links f ready.holds.shaped (assignment_offers c (serving_after e.connection (row_of e.connection input None)) f ready.holds.shaped is);
         used = used_of c e own.there ready.holds;
@@ -103,7 +104,7 @@ module _ (at : Place) (least : 1 ≤ at.station) where
       let shaped : IsShaped c.settings (with_state p Free c.channels) = freed_shaped p c ready.holds.shaped in
       fitting_serves c (freed p c) (turn [] (freed p c)) e input (request_offer (freed p c) e.connection input) (row_in (freed p c) e.connection input) refl
       (record {
-        stands = own.stands;
+        valid = own.valid;
         of = λ is_open.
             let owns = owns_entry c.links c e own.there ready.holds is_open in
             record {
@@ -189,7 +190,7 @@ module _ (at : Place) (least : 1 ≤ at.station) where
       let d : Controller = with_entry put c in
       fitting_serves c d (turn [] d) put inputs.Move (handover_offer d put.connection.serving cell) (row_of put.connection inputs.Move (handover_offer d put.connection.serving cell)) refl
       (record {
-        stands = subst IsValid (sym same) own.stands;
+        valid = subst IsValid (sym same) own.valid;
         of = subst (λ (s : Connection). IsOpen s.state → IsOf s.number c.channels (roles_of s)) (sym same) (λ is_open. of_owns c.channels c.links e.connection.number (roles_of e.connection) (owns_entry c.links c e own.there ready.holds is_open));
         free = λ is_open f is. free_offer c.settings c.channels c.links f ready.holds.shaped (offered_free d c.links cell c.handovers (kind_of put.connection.serving.number) f refl ready.holds.shaped is);
         used = subst (λ (s : Connection). IsOpen s.state → place_of s.serving ≡ at → channel_state c at ≡ InUse s.number) (sym same) (used_of c e own.there ready.holds);

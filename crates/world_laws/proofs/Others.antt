@@ -61,7 +61,7 @@ sees_joined {w} {u} {s} target out others sees = by_link (is_up u out.to) where
   by_link : (b : Bool) → SeesSame w (if b then v else u) s
   by_link false = sees
   by_link true = record {
-    coming = sees.coming;
+    arriving = sees.arriving;
     up = λ n. ap (λ (b : Bool). not (n == SWITCH_LINK) && b) (set-same (λ (link : Link). link.up) u.links broken_link out.to n (record (link_of u out.to) { outbox = outbox_of u out.to ++ entry_of target out ∷ [] }) refl) ∙ sees.up n;
     serving = down_joined u target out s.serving others.leads.0 ∙ sees.serving;
     target = λ t is. down_joined u target out t.channel (of_target t is) ∙ sees.target t is;
@@ -84,7 +84,7 @@ sees_all target (out ∷ outs) u others sees = sees_all target outs (joined_by t
 sees_turn : {w u : Actors} {s : Connection} (target : Option Tenure) (t : Turn) → AllByRecursion (IsForOthers target s) t.outs → SeesSame w u s → SeesSame w (with_turn target t u) s
 unfolding SameTenures
 sees_turn {w} {u} {s} target t others sees =
-    sees_all target t.outs (record u { controller = t.next }) others (record { coming = sees.coming; up = sees.up; serving = sees.serving; target = sees.target; tenures = sees.tenures; waiting = sees.waiting; taken = sees.taken })
+    sees_all target t.outs (record u { controller = t.next }) others (record { arriving = sees.arriving; up = sees.up; serving = sees.serving; target = sees.target; tenures = sees.tenures; waiting = sees.waiting; taken = sees.taken })
 
 -- the mobiles are as before
 pub turn_mobiles : (target : Option Tenure) (outs : List Out) (u : Actors) → (fold (joined_by target) u outs).mobiles ≡ u.mobiles
@@ -97,8 +97,8 @@ turn_mobiles target (out ∷ outs) u = turn_mobiles target outs (joined_by targe
 -- an item that brings nothing is handled
 sees_handled : {w : Actors} {s : Connection} (item : RelayItem) (items : List RelayItem) → w.inbox ≡ item ∷ items → BringsNothing s item → SeesSame w (record w { inbox = items }) s
 unfolding SameTenures
-sees_handled {w} {s} item items stood nothing = record {
-  coming = AllByRecursion-so (λ c. brings_in (place_of c) item ≡ []) (λ c. coming_up (record w { inbox = items }) (place_of c) ≡ coming_up w (place_of c)) (λ c none. gone c none) (used_channels s) nothing;
+sees_handled {w} {s} item items pending nothing = record {
+  arriving = AllByRecursion-so (λ c. brings_in (place_of c) item ≡ []) (λ c. coming_up (record w { inbox = items }) (place_of c) ≡ coming_up w (place_of c)) (λ c none. gone c none) (used_channels s) nothing;
   up = λ n. refl;
   serving = refl;
   target = λ t is. refl;
@@ -107,7 +107,7 @@ sees_handled {w} {s} item items stood nothing = record {
   taken = refl;
 } where
   gone : (c : Channel) → brings_in (place_of c) item ≡ [] → coming_up (record w { inbox = items }) (place_of c) ≡ coming_up w (place_of c)
-  gone c none = ap (λ (xs : List Item). (xs ++ flat_map (brings_in (place_of c)) items) ++ made_of c.number (base_of w c.station).messages) (sym none) ∙ ap (λ (xs : List RelayItem). flat_map (brings_in (place_of c)) xs ++ made_of c.number (base_of w c.station).messages) (sym stood)
+  gone c none = ap (λ (xs : List Item). (xs ++ flat_map (brings_in (place_of c)) items) ++ made_of c.number (base_of w c.station).messages) (sym none) ∙ ap (λ (xs : List RelayItem). flat_map (brings_in (place_of c)) xs ++ made_of c.number (base_of w c.station).messages) (sym pending)
 
 leaves : {m : ℕ} {w v : Actors} {mobile : ℕ} {s : Connection} → AreLinedUp m w mobile s → v.mobiles ≡ w.mobiles → SeesSame w v s → AreLinedUp m v mobile s
 leaves {mobile} lined same sees = record { one = lined.one; found = ap (λ (ms : List _). find (has_number mobile) ms) same ∙ lined.found; lined = lined_up_same lined.one lined.one sees refl refl refl lined.lined }
@@ -117,9 +117,9 @@ unfolding event_after
 relay_leaves_others_new settings events mobile s others lined =
     let w : Actors = world settings events in
     after_taken (λ v. AreLinedUp (modulus_in settings) v mobile s) (after_handle w) w
-    (handle_leads (λ v. AreLinedUp (modulus_in settings) v mobile s) w (λ item items stood.
-    let both : BringsNothing s item × AllByRecursion (IsForOthers (target_in w item.source item.what) s) (take item w.controller).outs = subst (IsOthers w s) stood others in
-    leaves lined (turn_mobiles (target_in w item.source item.what) (take item w.controller).outs _) (sees_turn (target_in w item.source item.what) (take item w.controller) both.1 (sees_handled item items stood both.0)))) lined
+    (handle_leads (λ v. AreLinedUp (modulus_in settings) v mobile s) w (λ item items pending.
+    let both : BringsNothing s item × AllByRecursion (IsForOthers (target_in w item.source item.what) s) (take item w.controller).outs = subst (IsOthers w s) pending others in
+    leaves lined (turn_mobiles (target_in w item.source item.what) (take item w.controller).outs _) (sees_turn (target_in w item.source item.what) (take item w.controller) both.1 (sees_handled item items pending both.0)))) lined
 
 pub time_leaves_others_new : (settings : Parameters) (events : List Event) (ms : ℕ) → TimeLeavesOthers settings events ms
 unfolding event_after

@@ -88,11 +88,11 @@ frames_are_for_others_new settings events s item allowed octets had another =
     let w : Actors = world settings events in
     let steps = all_steps (new_actors settings) events in
     let c : Controller = (life settings steps).next in
-    let lives : w.controller ≡ c = FollowsTable-new settings events in
+    let by_table : w.controller ≡ c = FollowsTable-new settings events in
     let own : RelayItem = record { source = item.source; what = whats.Frame another.frame } in
     let same : item ≡ own = ap (λ (x : What). record { source = item.source; what = x }) another.is in
-    let concerns : concerned c (word_of item.source another.frame) ≡ Some another.other = subst (λ (d : Controller). concerned d (word_of item.source another.frame) ≡ Some another.other) lives another.concerns in
-    let there : connection_of c s.number ≡ Some s = subst (λ (d : Controller). connection_of d s.number ≡ Some s) lives had.there in
+    let concerns : concerned c (word_of item.source another.frame) ≡ Some another.other = subst (λ (d : Controller). concerned d (word_of item.source another.frame) ≡ Some another.other) by_table another.concerns in
+    let there : connection_of c s.number ≡ Some s = subst (λ (d : Controller). connection_of d s.number ≡ Some s) by_table had.there in
     let passes : PassesBy s.number another.other c (Take own) = frame_passes settings steps s.number another.other item.source another.frame allowed had.from_one another.from_one another.differs concerns in
     let owns : Owns c.channels c.links s.number (roles_of s) = owns_of settings steps s allowed there had.is_open in
     let sent : AllByRecursion IsSent (step c (Take own)).outs = life_sends settings steps (Take own) allowed octets another.octets in
@@ -100,4 +100,4 @@ frames_are_for_others_new settings events s item allowed octets had another =
     let all : AllByRecursion (IsForOthers (target_in w item.source item.what) s) (outs_of another.other passes.put) =
     all_for_others another.other (target_in w item.source item.what) s passes.put (λ is. another.differs (sym is)) texts
     (used_passed c s.number passes.put (s.serving ∷ commanded_channels (commanded_target s.state)) passes.passes (owns.using.0, commanded_of (λ (x : Channel). channel_state c (place_of x) ≡ InUse s.number) s.state owns.using.1)) in
-    subst (AllByRecursion (IsForOthers (target_in w item.source item.what) s)) (sym (ap (λ (d : Controller). (take item d).outs) lives ∙ ap (λ (i : RelayItem). (take i c).outs) same ∙ passes.outs)) all
+    subst (AllByRecursion (IsForOthers (target_in w item.source item.what) s)) (sym (ap (λ (d : Controller). (take item d).outs) by_table ∙ ap (λ (i : RelayItem). (take i c).outs) same ∙ passes.outs)) all

@@ -135,7 +135,7 @@ serving_after input text targets before after up c first none heard = (
 -- ---- on the target
 
 abbrev pub MayCome : Future → (Place → List Item) → Channel → Type 0
-MayCome future coming c = (b : Bool) × (future (place_of c) ≡ texts_of (coming (place_of c)) ++ mark b) × AreLayer3 (texts_of (coming (place_of c)))
+MayCome future arriving c = (b : Bool) × (future (place_of c) ≡ texts_of (arriving (place_of c)) ++ mark b) × AreLayer3 (texts_of (arriving (place_of c)))
 
 -- what a target is known by
 pub record IsTarget (input : Input) (text : List ℕ) (targets : List Channel) (before after : Place → List Item) (c : Channel) : Type 0 where

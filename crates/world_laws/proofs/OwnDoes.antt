@@ -4,7 +4,8 @@
 use Rattle.world_laws.proofs.Prelude.{◌≡◌, ℕ, suc, ◌+◌, Bool, true, false, if◌then◌else◌, List, [], ◌∷◌, ◌++◌, length, Option, Some, None}
 use Rattle.world_laws.proofs.Prelude.{refl, sym, ap, ◌∙◌, subst, arith, AllByRecursion, Channel, Place, Input, Drain, State}
 use Rattle.world_laws.proofs.Prelude.{WaitConfirm, Live, Closed, Removed, Connection, TargetRole, Roles, RoleStep}
-use Rattle.world_laws.proofs.Prelude.{target_role, roles_of, after_step, target_channels, commanded, completed, roles_stay, role_commands}
+use Rattle.world_laws.proofs.Prelude.{target_role, roles_of, after_step, target_channels, commanded, completed, roles_unchanged}
+use Rattle.world_laws.proofs.Prelude.{role_commands}
 use Rattle.world_laws.proofs.Prelude.{role_completes, role_goes_back, role_leaves, IsValid, IsValidState, AreApart, Future, IsApart, from_input}
 use Rattle.world_laws.proofs.Prelude.{undone, used_channels, target_in_role, place_of, Zero, Held, apart_behind, AllByRecursion-so}
 use Rattle.world_laws.proofs.Prelude.{IsHeldTenure, messages_in, is_ended, EndsLast, AreLayer3, texts_of, AsOld, AsServing, AsTarget}
@@ -41,7 +42,7 @@ held_all (d ∷ ds) (t ∷ ts) many held = (held.0.0, held_all ds ts (one_less (
   one_less a b is = omega arith
 
 pub are_held : (s : Connection) → IsValid s → AreHeld s.draining s.up.tenures
-are_held s stands = held_all s.draining s.up.tenures (many s.state stands.state) stands.up_messages where
+are_held s valid = held_all s.draining s.up.tenures (many s.state valid.state) valid.up_messages where
   one_more_than_none : (ds : List Drain) (n : ℕ) → ds ≡ [] → n ≡ 1 → n ≡ length ds + 1
   one_more_than_none ds n none one = one ∙ ap (λ (xs : List Drain). length xs + 1) (sym none)
 
@@ -82,16 +83,16 @@ are_targets {input} {text} {before} {after} {s} known =
     (all_both (λ c. IsBesideTarget input → messages_in (before (place_of c)) ≡ []) (λ c. AreLayer3 (texts_of (before (place_of c)))) (λ c. (IsBesideTarget input → messages_in (before (place_of c)) ≡ []) × AreLayer3 (texts_of (before (place_of c)))) (target_in s.state) (λ c a b. (a, b))
     (all_under (λ c. messages_in (before (place_of c)) ≡ []) (target_in s.state) known.finds.silent) (whole_rest known).1)
 
-of_role : (future : Future) (coming : Place → List Item) (o : Option TargetRole) → AllByRecursion (MayCome future coming) (target_channels o) → AsTarget future coming (commanded_of o)
+of_role : (future : Future) (arriving : Place → List Item) (o : Option TargetRole) → AllByRecursion (MayCome future arriving) (target_channels o) → AsTarget future arriving (commanded_of o)
 unfolding commanded_of
-of_role future coming None all = tt
-of_role future coming (Some t) all = by t.is_commanded where
-  by : (b : Bool) → AsTarget future coming (if b then Some t.target else None)
+of_role future arriving None all = tt
+of_role future arriving (Some t) all = by t.is_commanded where
+  by : (b : Bool) → AsTarget future arriving (if b then Some t.target else None)
   by true = all.0
   by false = tt
 
 pub stands_before : {input : Input} {text : List ℕ} {before after : Place → List Item} {s : Connection} (up : ℕ → Bool) → IsKnown input text before after s → IsValid s → IsFutureOf (from_input Zero input (to_come input text (target_in s.state) after up)) before up s
-stands_before {input} {text} {before} {after} {s} up known stands = record {
+stands_before {input} {text} {before} {after} {s} up known valid = record {
   old = all_both (λ c. EndsLast (before (place_of c))) (λ c. (passes_target input (target_in s.state) (place_of c) ≡ false) × AreLayer3 (texts_of (before (place_of c)))) (AsOld (from_input Zero input (to_come input text (target_in s.state) after up)) before up) (undone s.draining)
       (λ c last rest. old_before input text (target_in s.state) before after up c known.finds.read (known.finds.first (place_of c)) last rest.0 rest.1) known.finds.old_end
       (all_both (λ c. passes_target input (target_in s.state) (place_of c) ≡ false) (λ c. AreLayer3 (texts_of (before (place_of c)))) (λ c. (passes_target input (target_in s.state) (place_of c) ≡ false) × AreLayer3 (texts_of (before (place_of c)))) (undone s.draining) (λ c a b. (a, b)) (passes_old known) (whole_old known));
@@ -99,7 +100,7 @@ stands_before {input} {text} {before} {after} {s} up known stands = record {
   target = subst (AsTarget (from_input Zero input (to_come input text (target_in s.state) after up)) before) (sym (commanded_role s.state))
       (of_role (from_input Zero input (to_come input text (target_in s.state) after up)) before (target_role s.state) (subst (AllByRecursion (MayCome (from_input Zero input (to_come input text (target_in s.state) after up)) before)) (sym (target_in_role s.state))
       (AllByRecursion-so (IsTarget input text (target_in s.state) before after) (MayCome (from_input Zero input (to_come input text (target_in s.state) after up)) before) (λ c t. target_before input text (target_in s.state) before after up c t) (target_in s.state) (are_targets known))));
-  held = are_held s stands;
+  held = are_held s valid;
 }
 
 -- ---- after it, by the roles
@@ -112,7 +113,7 @@ old_heard {input} {text} {before} {after} {s} known none_ends =
 
 -- a step leaves no target but that which was there
 pub kept_targets : (P : Channel → Type 0) (step : RoleStep) (roles : Roles) → AllByRecursion P (target_channels roles.target) → AllByRecursion P (target_channels (after_step step roles).target)
-kept_targets P roles_stay roles all = all
+kept_targets P roles_unchanged roles all = all
 kept_targets P role_commands roles all = by roles.target all where
   by : (o : Option TargetRole) → AllByRecursion P (target_channels o) → AllByRecursion P (target_channels (commanded o))
   by None all = tt
@@ -128,13 +129,13 @@ pub stands_after : {input : Input} {text : List ℕ} {before after : Place → L
     → AllByRecursion (IsHeard input text (target_in s.state) before) (undone (after_step step (roles_of s)).draining)
     → IsHeard input text (target_in s.state) before (after_step step (roles_of s)).serving → is_ended (before (place_of (after_step step (roles_of s)).serving)) ≡ false
     → IsFutureOf (to_come input text (target_in s.state) after up) after up next
-stands_after {input} {text} {before} {after} {s} up step next known stands now old serving serving_goes_on = record {
+stands_after {input} {text} {before} {after} {s} up step next known valid now old serving serving_goes_on = record {
   old = subst (λ (ds : List Drain). AllByRecursion (AsOld F after up) (undone ds)) (sym now.draining)
       (AllByRecursion-so (IsHeard input text (target_in s.state) before) (AsOld F after up) (λ c heard. old_after input text (target_in s.state) before after up c (known.finds.first (place_of c)) heard) (undone (after_step step (roles_of s)).draining) old);
   serving = subst (AsServing F after up) (sym now.serving) (serving_after input text (target_in s.state) before after up (after_step step (roles_of s)).serving (known.finds.first (place_of (after_step step (roles_of s)).serving)) serving_goes_on serving);
   target = subst (AsTarget F after) (sym now.target) (of_role F after (after_step step (roles_of s)).target (kept_targets (MayCome F after) step (roles_of s) (subst (AllByRecursion (MayCome F after)) (sym (target_in_role s.state))
       (AllByRecursion-so (IsTarget input text (target_in s.state) before after) (MayCome F after) (λ c t. target_after input text (target_in s.state) before after up c t) (target_in s.state) (are_targets known)))));
-  held = are_held next stands;
+  held = are_held next valid;
 } where
   F : Future
   F = to_come input text (target_in s.state) after up

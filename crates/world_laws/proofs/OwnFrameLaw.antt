@@ -4,7 +4,8 @@
 use Rattle.world_laws.proofs.Prelude.{◌≡◌, ℕ, ◌&&◌, not, Bool, true, false, if◌then◌else◌, [], Option, Some, None, refl, sym, ap, ◌∙◌}
 use Rattle.world_laws.proofs.Prelude.{subst, inl, inr, cases_Bool, Channel, Place, outs_of, Input, Active, Preparing, Changing, Draining}
 use Rattle.world_laws.proofs.Prelude.{State, WaitConfirm, Live, Connection, is_at, drain_at, TargetRole, RoleStep, target_role, roles_of}
-use Rattle.world_laws.proofs.Prelude.{awaits_at, changes_by, is_target_at, leaves_at, step_by, roles_stay, role_commands, role_completes}
+use Rattle.world_laws.proofs.Prelude.{awaits_at, changes_by, is_target_at, leaves_at, step_by, roles_unchanged, role_commands}
+use Rattle.world_laws.proofs.Prelude.{role_completes}
 use Rattle.world_laws.proofs.Prelude.{role_goes_back, Row, command_to, on_activation_ack, on_establish_indication, row_if, Word, Controller}
 use Rattle.world_laws.proofs.Prelude.{Entry, channel_state, freed, ignoring, turn, by_fitting, concerning, concerning_too, frees}
 use Rattle.world_laws.proofs.Prelude.{on_freed, on_word, on_what, row_in, Zero, Frame, RelayItem, What, Tenure, tenure_in, rsl_in, Actors}
@@ -85,19 +86,19 @@ unfolding row_of
 begins_of w s (inputs.ActivationAck at) offer r tenure requested fits is =
     let a = acked s.state s at r requested fits in
     let step : step_by (inputs.ActivationAck at) (roles_of s) ≡ role_commands =
-    ap (λ (o : Option TargetRole). if awaits_at at o then role_commands else roles_stay) a.is ∙ ap (λ (b : Bool). if (not b && is_at at a.t.target.channel) then role_commands else roles_stay) a.waits ∙ ap (λ (b : Bool). if b then role_commands else roles_stay) a.here in
+    ap (λ (o : Option TargetRole). if awaits_at at o then role_commands else roles_unchanged) a.is ∙ ap (λ (b : Bool). if (not b && is_at at a.t.target.channel) then role_commands else roles_unchanged) a.waits ∙ ap (λ (b : Bool). if b then role_commands else roles_unchanged) a.here in
     subst (λ (x : RoleStep). BeginsTenure w x (target_role s.state) tenure) (sym step)
     (subst (λ (o : Option TargetRole). BeginsTenure w role_commands o tenure) (sym a.is) (is ∙ ap (λ (p : Place). Some (tenure_at w p)) (place-is at a.t.target.channel a.here)))
 begins_of w s (inputs.ActivationNack at) offer r tenure requested fits none = by (awaits_at at (target_role s.state)) where
-  by : (b : Bool) → BeginsTenure w (if b then role_goes_back else roles_stay) (target_role s.state) tenure
+  by : (b : Bool) → BeginsTenure w (if b then role_goes_back else roles_unchanged) (target_role s.state) tenure
   by true = none
   by false = none
 begins_of w s (inputs.Complete at change cause) offer r tenure requested fits none = by (is_target_at at (target_role s.state) && changes_by change (target_role s.state)) where
-  by : (b : Bool) → BeginsTenure w (if b then role_completes else roles_stay) (target_role s.state) tenure
+  by : (b : Bool) → BeginsTenure w (if b then role_completes else roles_unchanged) (target_role s.state) tenure
   by true = none
   by false = none
 begins_of w s (inputs.Failure at change cause) offer r tenure requested fits none = by (is_at at s.serving && changes_by change (target_role s.state)) where
-  by : (b : Bool) → BeginsTenure w (if b then role_goes_back else roles_stay) (target_role s.state) tenure
+  by : (b : Bool) → BeginsTenure w (if b then role_goes_back else roles_unchanged) (target_role s.state) tenure
   by true = none
   by false = none
 begins_of w s (inputs.ReleaseAck at) offer r tenure requested fits none = by (drain_at at s.draining) where
@@ -119,7 +120,7 @@ frame_is_handled_new w item s input offer r frame =
       says.text,
       record {
         fits = frame.fits;
-        stays_open = frame.stays_open;
+        remains_open = frame.remains_open;
         awaits = λ opens. absurd (unrequested s.state frame.requested opens);
         outs = ap (λ (b : Bool). (on_what b item.source item.what w.controller).outs) frame.up ∙ ap (λ (x : What). (on_what true item.source x w.controller).outs) frame.is ∙ word-outs item.source r frame.said frame.fits;
         carried = frame.carried;

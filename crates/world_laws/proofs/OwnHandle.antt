@@ -4,7 +4,7 @@ use Rattle.world_laws.proofs.Prelude.{◌≡◌, ℕ, ◌≤◌, ◌&&◌, nat_e
 use Rattle.world_laws.proofs.Prelude.{Option, Some, None, refl, sym, ap, ◌∙◌, subst, append_assoc, inl, inr, arith, AllByRecursion}
 use Rattle.world_laws.proofs.Prelude.{flat_map, cases_Bool, eq-eqb, Channel, Place, Out, IsReadOf, outs_of, Input, Connection, is_at}
 use Rattle.world_laws.proofs.Prelude.{drain_at, TargetRole, Roles, RoleStep, target_role, roles_of, awaits_at, changes_by, is_target_at}
-use Rattle.world_laws.proofs.Prelude.{leaves_at, step_by, RemainsOpen, roles_stay, role_commands, role_completes, role_goes_back, role_leaves}
+use Rattle.world_laws.proofs.Prelude.{leaves_at, step_by, RemainsOpen, roles_unchanged, role_commands, role_completes, role_goes_back, role_leaves}
 use Rattle.world_laws.proofs.Prelude.{Row, AreApart, IsApart, undone, used_channels, Turn, place_of, rr_text, RelayItem, AirMessage, Tenure}
 use Rattle.world_laws.proofs.Prelude.{joined_by, with_turn, tenure_in, Actors, base_of, is_up, outbox_of, with_outbox, tenure_at}
 use Rattle.world_laws.proofs.Prelude.{turn_leads, apart_behind, change_command, command, role_commanded, IsCommand, take, brings_in}
@@ -32,8 +32,8 @@ abbrev pub handled_by : Actors → RelayItem → List RelayItem → Actors
 handled_by w item items = with_turn (tenure_in w item.source item.what) (take item w.controller) (record w { inbox = items })
 
 pub first_coming : (w : Actors) (item : RelayItem) (items : List RelayItem) (at : Place) → w.inbox ≡ item ∷ items → coming_up w at ≡ brings_in at item ++ coming_up (handled_by w item items) at
-first_coming w item items at stood =
-    ap (λ (xs : List RelayItem). flat_map (brings_in at) xs ++ made_of at.number (base_of w at.station).messages) stood
+first_coming w item items at pending =
+    ap (λ (xs : List RelayItem). flat_map (brings_in at) xs ++ made_of at.number (base_of w at.station).messages) pending
     ∙ append_assoc (brings_in at item) (flat_map (brings_in at) items) (made_of at.number (base_of w at.station).messages)
     ∙ turn_leads (λ (v : Actors). brings_in at item ++ coming_up (record w { inbox = items }) at ≡ brings_in at item ++ coming_up v at) (tenure_in w item.source item.what) (take item w.controller) (record w { inbox = items }) (λ links. refl)
 
@@ -43,20 +43,20 @@ first_coming w item items at stood =
 commands_awaits : (input : Input) (roles : Roles) → step_by input roles ≡ role_commands → Awaits roles.target
 commands_awaits (inputs.ActivationAck at) roles is = elim (cases_Bool (awaits_at at roles.target)) [
   | inl waits ↦ awaited at roles.target waits
-  | inr not_so ↦ absurd (stays_not (sym (ap (λ (b : Bool). if b then role_commands else roles_stay) not_so) ∙ is))
+  | inr not_so ↦ absurd (stays_not (sym (ap (λ (b : Bool). if b then role_commands else roles_unchanged) not_so) ∙ is))
 ] where
-  stays_not : roles_stay ≡ role_commands → ⊥
+  stays_not : roles_unchanged ≡ role_commands → ⊥
   stays_not is = absurd cc
 commands_awaits (inputs.ActivationNack at) roles is = absurd (by (awaits_at at roles.target) is) where
-  by : (b : Bool) → (if b then role_goes_back else roles_stay) ≡ role_commands → ⊥
+  by : (b : Bool) → (if b then role_goes_back else roles_unchanged) ≡ role_commands → ⊥
   by true is = absurd cc
   by false is = absurd cc
 commands_awaits (inputs.Complete at change cause) roles is = absurd (by (is_target_at at roles.target && changes_by change roles.target) is) where
-  by : (b : Bool) → (if b then role_completes else roles_stay) ≡ role_commands → ⊥
+  by : (b : Bool) → (if b then role_completes else roles_unchanged) ≡ role_commands → ⊥
   by true is = absurd cc
   by false is = absurd cc
 commands_awaits (inputs.Failure at change cause) roles is = absurd (by (is_at at roles.serving && changes_by change roles.target) is) where
-  by : (b : Bool) → (if b then role_goes_back else roles_stay) ≡ role_commands → ⊥
+  by : (b : Bool) → (if b then role_goes_back else roles_unchanged) ≡ role_commands → ⊥
   by true is = absurd cc
   by false is = absurd cc
 commands_awaits (inputs.ReleaseAck at) roles is = absurd (by (drain_at at roles.draining) is) where
@@ -69,7 +69,7 @@ commands_awaits _ roles is = absurd cc
 record Puts (w : Actors) (item : RelayItem) (items : List RelayItem) (s : Connection) (input : Input) (offer : Option Channel) (r : Row) (t : TargetRole) : Type 0 where
   role : target_role s.state ≡ Some t
   waits : t.is_commanded ≡ false
-  goes : RemainsOpen role_commands (roles_of s) s.down input offer r
+  remains : RemainsOpen role_commands (roles_of s) s.down input offer r
   begins : tenure_in w item.source item.what ≡ Some (tenure_at w (place_of t.target.channel))
   outs : (take item w.controller).outs ≡ outs_of s.number r.outs
   puts : r.outs ≡ change_command s.serving t.target.change t.target.channel ∷ []
@@ -79,7 +79,7 @@ record Puts (w : Actors) (item : RelayItem) (items : List RelayItem) (s : Connec
 command_down : {w : Actors} {item : RelayItem} {items : List RelayItem} {s : Connection} {input : Input} {offer : Option Channel} {r : Row} {t : TargetRole} → Puts w item items s input offer r t → Downs w (handled_by w item items) s r.next
 unfolding out_of commanded_of
 command_down {w} {item} {items} {s} {input} {offer} {r} {t} put =
-    let now = channels_after role_commands (roles_of s) s.down input offer r put.goes in
+    let now = channels_after role_commands (roles_of s) s.down input offer r put.remains in
     commanded (commanded_role s.state ∙ ap commanded_of put.role ∙ ap (λ (b : Bool). if b then Some t.target else None) put.waits) t.target (now.target ∙ ap (λ (o : Option TargetRole). commanded_of (role_commanded o)) put.role) now.serving serving_down.0
     (ap (λ (v : Actors). going_down v (place_of s.serving)) one_out ∙ serving_down.1) (serving_down.2 (λ (xs : List AirMessage). length xs ≤ 1) (omega arith) (omega arith))
     (serving_down.2 (λ (xs : List AirMessage). AllByRecursion (λ a. Leads w a (Some t.target)) xs) tt (leads (change-read t.target.change t.target.channel) refl, tt))
@@ -116,20 +116,20 @@ others_down : (w : Actors) (item : RelayItem) (items : List RelayItem) (s next :
 others_down w item items s next none = same (λ c. ap (λ (o : Option Tenure). going_down (with_turn o (take item w.controller) (record w { inbox = items })) (place_of c)) none ∙ turn_down (take item w.controller).outs (handling w items (take item w.controller)) c)
 
 pub downs_of : {w : Actors} {item : RelayItem} (items : List RelayItem) {s : Connection} {input : Input} {offer : Option Channel} {r : Row} {text : List ℕ} → HandlesFor w item s input offer r text → IsPutAsRead s r → AreApart (used_channels s) → RemainsOpen (step_by input (roles_of s)) (roles_of s) s.down input offer r → Downs w (handled_by w item items) s r.next
-downs_of {w} {item} items {s} {input} {offer} {r} handles read apart goes = by (step_by input (roles_of s)) refl handles.begins goes where
+downs_of {w} {item} items {s} {input} {offer} {r} handles read apart remains = by (step_by input (roles_of s)) refl handles.begins remains where
   by : (x : RoleStep) → step_by input (roles_of s) ≡ x → BeginsTenure w x (target_role s.state) (tenure_in w item.source item.what) → RemainsOpen x (roles_of s) s.down input offer r → Downs w (handled_by w item items) s r.next
-  by role_commands is begins goes =
+  by role_commands is begins remains =
       let awaits = commands_awaits input (roles_of s) is in
-      let puts : r.outs ≡ change_command s.serving awaits.t.target.change awaits.t.target.channel ∷ [] = subst (λ (o : Option TargetRole). IsCommand o s.serving r.outs) awaits.is goes.tells in
+      let puts : r.outs ≡ change_command s.serving awaits.t.target.change awaits.t.target.channel ∷ [] = subst (λ (o : Option TargetRole). IsCommand o s.serving r.outs) awaits.is remains.tells in
       command_down (record {
         role = awaits.is;
         waits = awaits.waits;
-        goes = goes;
+        remains = remains;
         begins = subst (λ (o : Option TargetRole). BeginsTenure w role_commands o (tenure_in w item.source item.what)) awaits.is begins;
         outs = handles.outs;
         puts = puts;
         read = (subst (AllByRecursion (λ m. IsReadOf s.number m (out_of s.number m).frame.body)) puts read.read).0;
         apart = (subst (AllByRecursion (IsApart s.serving)) (targets_of s awaits.t awaits.is) (apart_behind (undone s.draining) (s.serving ∷ target_in s.state) apart).0).0;
       })
-  by (role_leaves place) is none goes = others_down w item items s r.next none
-  by _ is none goes = others_down w item items s r.next none
+  by (role_leaves place) is none remains = others_down w item items s r.next none
+  by _ is none remains = others_down w item items s r.next none

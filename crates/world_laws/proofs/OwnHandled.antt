@@ -23,7 +23,7 @@ use Rattle.world_laws.proofs.OwnHandle.{handled_by, handling, first_coming, down
 use Rattle.world_laws.proofs.OwnInput.{does_row, goes_of}
 use Rattle.world_laws.proofs.OwnRowLaw.{row_keeps_line_up_new, of_row}
 use Rattle.world_laws.proofs.OwnSeats.{OwnRest, own_rest}
-use Rattle.world_laws.proofs.OwnSteps.{stands_counted}
+use Rattle.world_laws.proofs.OwnSteps.{phase_counted}
 use Rattle.world_laws.proofs.OwnTurn.{turn_stations, turn_waiting}
 use Rattle.world_laws.proofs.Quiet.{all_of}
 use Rattle.world_laws.proofs.RolesAfter.{commanded_of, channels_after}
@@ -35,23 +35,23 @@ use Rattle.world_laws.proofs.Events.{world}
 -- whatever commands are on their way
 takes_of : {w : Actors} {item : RelayItem} (items : List RelayItem) {s : Connection} {input : Input} {offer : Option Channel} {r : Row} {text : List ℕ} → w.inbox ≡ item ∷ items → HandlesFor w item s input offer r text → AreInOrder w s input → IsPutAsRead s r → AreApart (used_channels s)
     → TakesInput s input offer r text (coming_up w) (coming_up (handled_by w item items)) 0 0
-takes_of {w} {item} items {s} {input} stood handles order read apart = record {
+takes_of {w} {item} items {s} {input} pending handles order read apart = record {
   fits = handles.fits;
-  stays_open = handles.stays_open;
+  remains_open = handles.remains_open;
   awaits = handles.awaits;
-  stands = order.stands;
+  valid = order.valid;
   carried = handles.carried;
   apart = apart;
   finds = record {
     read = handles.read;
-    first = λ at. first_coming w item items at stood ∙ ap (λ (xs : List Item). xs ++ coming_up (handled_by w item items) at) (handles.brings at);
+    first = λ at. first_coming w item items at pending ∙ ap (λ (xs : List Item). xs ++ coming_up (handled_by w item items) at) (handles.brings at);
     old_end = order.old_end;
     others_go_on = order.others_go_on;
     silent = order.silent;
     whole = order.whole;
   };
   whole = read.whole;
-  told = none (step_by input (roles_of s));
+  commands_after = none (step_by input (roles_of s));
 } where
   none : (x : RoleStep) → CommandsAfter x 0 0
   none (role_leaves place) = omega arith
@@ -67,8 +67,8 @@ of_commanded P (Some role) t is all = by role.is_commanded is where
   by false is = absurd cc
 
 quiet_of : {w : Actors} {s : Connection} {input : Input} {offer : Option Channel} {r : Row} → AreInOrder w s input → RemainsOpen (step_by input (roles_of s)) (roles_of s) s.down input offer r → (t : Target) → commanded_target r.next.state ≡ Some t → going_down w (place_of t.channel) ≡ []
-quiet_of {w} {s} {input} {offer} {r} order goes t to =
-    of_commanded (λ c. going_down w (place_of c) ≡ []) (after_step (step_by input (roles_of s)) (roles_of s)).target t (sym (channels_after (step_by input (roles_of s)) (roles_of s) s.down input offer r goes).target ∙ to)
+quiet_of {w} {s} {input} {offer} {r} order remains t to =
+    of_commanded (λ c. going_down w (place_of c) ≡ []) (after_step (step_by input (roles_of s)) (roles_of s)).target t (sym (channels_after (step_by input (roles_of s)) (roles_of s) s.down input offer r remains).target ∙ to)
     (kept_targets (λ c. going_down w (place_of c) ≡ []) (step_by input (roles_of s)) (roles_of s) (subst (AllByRecursion (λ c. going_down w (place_of c) ≡ [])) (sym (target_in_role s.state)) order.uncommanded))
 
 -- the same row, whatever commands are on their way
@@ -76,9 +76,9 @@ with_commands : {s : Connection} {input : Input} {offer : Option Channel} {r : R
     → DoesRow s input offer r before after up (length (going_down w (place_of s.serving)) + remembered mobile_seat) (length (going_down v (place_of r.next.serving)) + remembered mobile_seat) seat seat2
 with_commands does rest = record {
   fits = does.fits;
-  stays_open = does.stays_open;
+  remains_open = does.remains_open;
   awaits = does.awaits;
-  stands = does.stands;
+  valid = does.valid;
   carried = does.carried;
   apart = does.apart;
   future = does.future;
@@ -94,7 +94,7 @@ with_commands does rest = record {
 own_lined : {m : ℕ} {w : Actors} {p : Mobile} {item : RelayItem} (items : List RelayItem) {s : Connection} {input : Input} {offer : Option Channel} {r : Row} {text : List ℕ} → w.inbox ≡ item ∷ items → HandlesFor w item s input offer r text → AreInOrder w s input → IsPutAsRead s r → LinedUp m w p s
     → LinedUp m (handled_by w item items) p r.next
 unfolding SameTenures
-own_lined {m} {w} {p} {item} items {s} {input} {offer} {r} {text} stood handles order read lined = record {
+own_lined {m} {w} {p} {item} items {s} {input} {offer} {r} {text} pending handles order read lined = record {
   alive = alive_now;
   sits = sits_same same_tenures rest.sits;
   led = AllByRecursion-so (λ a. Leads w a (commanded_target r.next.state)) (λ a. Leads v a (commanded_target r.next.state)) (λ a. leads_same same_tenures) (going_down v (place_of r.next.serving)) rest.led;
@@ -106,10 +106,10 @@ own_lined {m} {w} {p} {item} items {s} {input} {offer} {r} {text} stood handles 
   v = handled_by w item items
 
   takes : TakesInput s input offer r text (coming_up w) (coming_up v) 0 0
-  takes = takes_of items stood handles order read lined.apart
+  takes = takes_of items pending handles order read lined.apart
 
-  goes : RemainsOpen (step_by input (roles_of s)) (roles_of s) s.down input offer r
-  goes = goes_of (step_by input (roles_of s)) refl takes
+  remains : RemainsOpen (step_by input (roles_of s)) (roles_of s) s.down input offer r
+  remains = goes_of (step_by input (roles_of s)) refl takes
 
   same_tenures : SameTenures w v
   same_tenures at = turn_leads (λ (x : Actors). tenure_at x at ≡ tenure_at w at) (tenure_in w item.source item.what) (take item w.controller) (record w { inbox = items }) (λ links. refl)
@@ -123,12 +123,12 @@ own_lined {m} {w} {p} {item} items {s} {input} {offer} {r} {text} stood handles 
   rest : OwnRest w v p.seat s r.next (coming_up w) (coming_up v) (is_station_up w) (seat_from s.serving p.seat) seat2
   rest = own_rest (record {
     seen = refl;
-    stands = stands_counted (coming_up w) (is_station_up w) (seat_from s.serving p.seat) s (controls_of (to_be_taken p.end.zero)) lined.alive.stands;
+    phase = phase_counted (coming_up w) (is_station_up w) (seat_from s.serving p.seat) s (controls_of (to_be_taken p.end.zero)) lined.alive.phase;
     sits = lined.sits;
     led = lined.led;
     none = lined.none_on_target;
     apart = λ t is. (is_on_target s t (place_of t.channel) lined.apart is refl).serving;
-  }) (downs_of items handles read lined.apart goes) (λ t idle to. quiet_of order goes t to) does.step
+  }) (downs_of items handles read lined.apart remains) (λ t idle to. quiet_of order remains t to) does.step
 
   number : r.next.number ≡ s.number
   number = (of_row (KeepsChannels s offer) handles.fits (keeps_channels s input offer)).number
@@ -160,14 +160,14 @@ own_lined {m} {w} {p} {item} items {s} {input} {offer} {r} {text} stood handles 
 
 pub handle_keeps_line_ups_new : (settings : Parameters) (events : List Event) → HandleKeepsLineUps settings events
 unfolding event_after
-handle_keeps_line_ups_new settings events mobile s item items input offer r text stood handles order read lined =
+handle_keeps_line_ups_new settings events mobile s item items input offer r text pending handles order read lined =
     let w : Actors = world settings events in
     let now : AreLinedUp (modulus_in settings) (handled_by w item items) mobile r.next = record {
       one = lined.one;
       found = ap (λ (ms : List Mobile). find (has_number mobile) ms) (turn_mobiles (tenure_in w item.source item.what) (take item w.controller).outs (handling w items (take item w.controller))) ∙ lined.found;
-      lined = own_lined items stood handles order read lined.lined;
+      lined = own_lined items pending handles order read lined.lined;
     } in
-    subst (λ (xs : List RelayItem). AreLinedUp (modulus_in settings) (unwrap_or (handled xs w) w) mobile r.next) (sym stood) now
+    subst (λ (xs : List RelayItem). AreLinedUp (modulus_in settings) (unwrap_or (handled xs w) w) mobile r.next) (sym pending) now
 
 -- ---- time passes
 

@@ -5,7 +5,8 @@ use Rattle.world_laws.proofs.Prelude.{length, Option, Some, None, refl, sym, ap,
 use Rattle.world_laws.proofs.Prelude.{cases_Bool, eq-eqb, Change, Channel, Place, Input, Preparing, Changing, State, Live, Zero, Target}
 use Rattle.world_laws.proofs.Prelude.{Connection, is_at, drain_at, TargetRole, RoleStep, target_role, roles_of, after_step, target_channels}
 use Rattle.world_laws.proofs.Prelude.{completed, awaits_at, changes_by, is_target_at, leaves_at, step_by, ChangesRoles, ChangesRolesBy}
-use Rattle.world_laws.proofs.Prelude.{RemainsOpen, roles_stay, role_commands, role_completes, role_goes_back, role_leaves, goes_on, ends}
+use Rattle.world_laws.proofs.Prelude.{RemainsOpen, roles_unchanged, role_commands, role_completes, role_goes_back, role_leaves, goes_on}
+use Rattle.world_laws.proofs.Prelude.{ends}
 use Rattle.world_laws.proofs.Prelude.{had_ended, IsValid, Row, done_at, AreApart, IsOpen, OfRow, undone, target_in_role, changes_roles_row}
 use Rattle.world_laws.proofs.Prelude.{place_of, is_control, and_left, and_right, same_place, AllByRecursion-so, Ends, undone-still_draining}
 use Rattle.world_laws.proofs.Prelude.{IsValid-row, messages_in, controls_of, controls_in, texts_in, flow, released, is_ended}
@@ -16,7 +17,7 @@ use Rattle.world_laws.specs.LineUp.Places.{Item, Seat}
 use Rattle.world_laws.specs.LineUp.Places.Item.{brought}
 use Rattle.world_laws.proofs.LineUp.Lines.{controls_append, controls_first, flow-append, messages_in-append}
 use Rattle.world_laws.specs.OwnItem.{said_by, IsBesideTarget, CommandsAfter, seat_after, TakesInput, InputKeepsLineUp}
-use Rattle.world_laws.specs.OwnStep.OwnStep.{stays}
+use Rattle.world_laws.specs.OwnStep.OwnStep.{unchanged}
 use Rattle.world_laws.proofs.Apart.{at_itself}
 use Rattle.world_laws.proofs.Framing.{all_left}
 use Rattle.world_laws.proofs.OwnChannels.{passed, to_come, IsHeard, ended_same, goes_on_behind}
@@ -77,30 +78,31 @@ known_of : {s : Connection} {input : Input} {offer : Option Channel} {r : Row} {
 known_of takes = record { finds = takes.finds; apart = takes.apart }
 
 of_changes : {s : Connection} {input : Input} {offer : Option Channel} {r : Row} → ChangesRoles s input offer r → IsOpen r.next.state → RemainsOpen (step_by input (roles_of s)) (roles_of s) s.down input offer r
-of_changes (goes_on was_open stays_open goes) is_open = goes
+of_changes (goes_on was_open remains_open remains) is_open = remains
 of_changes (ends was_open shut end) is_open = absurd (shut is_open)
 of_changes (had_ended shut_before shut nothing) is_open = absurd (shut is_open)
 
 pub goes_of : {s : Connection} {input : Input} {offer : Option Channel} {r : Row} {text : List ℕ} {before after : Place → List Item} {commands commands2 : ℕ} (step : RoleStep) → step_by input (roles_of s) ≡ step → TakesInput s input offer r text before after commands commands2 → RemainsOpen step (roles_of s) s.down input offer r
-goes_of {s} {input} {offer} {r} step is takes = subst (λ (x : RoleStep). RemainsOpen x (roles_of s) s.down input offer r) is (of_changes (subst (ChangesRolesBy s input offer) takes.fits (changes_roles_row s input offer takes.stands)) takes.stays_open)
+goes_of {s} {input} {offer} {r} step is takes = subst (λ (x : RoleStep). RemainsOpen x (roles_of s) s.down input offer r) is (of_changes (subst (ChangesRolesBy s input offer) takes.fits (changes_roles_row s input offer takes.valid)) takes.remains_open)
 
 told_of : {s : Connection} {input : Input} {offer : Option Channel} {r : Row} {text : List ℕ} {before after : Place → List Item} {commands commands2 : ℕ} (step : RoleStep) → step_by input (roles_of s) ≡ step → TakesInput s input offer r text before after commands commands2 → CommandsAfter step commands commands2
-told_of {commands = commands} {commands2} step is takes = subst (λ (x : RoleStep). CommandsAfter x commands commands2) is takes.told
+told_of {commands = commands} {commands2} step is takes = subst
+    (λ (x : RoleStep). CommandsAfter x commands commands2) is takes.commands_after
 
 finish : {s : Connection} {input : Input} {offer : Option Channel} {r : Row} {text : List ℕ} {before after : Place → List Item} {commands commands2 : ℕ} (up : ℕ → Bool) (seat : Seat) (step : RoleStep) → step_by input (roles_of s) ≡ step → TakesInput s input offer r text before after commands commands2
     → AllByRecursion (IsHeard input text (target_in s.state) before) (undone (after_step step (roles_of s)).draining) → IsHeard input text (target_in s.state) before (after_step step (roles_of s)).serving → is_ended (before (place_of (after_step step (roles_of s)).serving)) ≡ false
     → OwnStep before after up s r.next commands commands2 seat (seat_after step seat) → DoesRow s input offer r before after up commands commands2 seat (seat_after (step_by input (roles_of s)) seat)
 finish {s} {input} {offer} {r} {text} {before} {after} {commands} {commands2} up seat step is takes old serving serving_on own = record {
   fits = takes.fits;
-  stays_open = takes.stays_open;
+  remains_open = takes.remains_open;
   awaits = takes.awaits;
-  stands = takes.stands;
+  valid = takes.valid;
   carried = takes.carried;
   apart = takes.apart;
   future = to_come input text (target_in s.state) after up;
   ends = ends_of input text s.state after up;
-  was = stands_before up (known_of takes) takes.stands;
-  now = stands_after up step r.next (known_of takes) (subst (OfRow (λ (x : Row). IsValid x.next)) takes.fits (IsValid-row s input offer takes.stands takes.carried))
+  was = stands_before up (known_of takes) takes.valid;
+  now = stands_after up step r.next (known_of takes) (subst (OfRow (λ (x : Row). IsValid x.next)) takes.fits (IsValid-row s input offer takes.valid takes.carried))
       (channels_after step (roles_of s) s.down input offer r (goes_of step is takes)) old serving serving_on;
   whole = takes.whole;
   step = subst (λ (x : RoleStep). OwnStep before after up s r.next commands commands2 seat (seat_after x seat)) (sym is) own;
@@ -114,11 +116,12 @@ covers_of s input text before after up first none_ends none =
 
 -- ---- step by step
 
-input_stays : {s : Connection} {input : Input} {offer : Option Channel} {r : Row} {text : List ℕ} {before after : Place → List Item} {commands commands2 : ℕ} (up : ℕ → Bool) (seat : Seat) → step_by input (roles_of s) ≡ roles_stay → TakesInput s input offer r text before after commands commands2
+input_stays : {s : Connection} {input : Input} {offer : Option Channel} {r : Row} {text : List ℕ} {before after : Place → List Item} {commands commands2 : ℕ} (up : ℕ → Bool) (seat : Seat) → step_by input (roles_of s) ≡ roles_unchanged → TakesInput s input offer r text before after commands commands2
     → AllByRecursion (λ c. is_ended (said_by input text (place_of c)) ≡ false) (undone s.draining) → DoesRow s input offer r before after up commands commands2 seat (seat_after (step_by input (roles_of s)) seat)
 input_stays {s} {input} {offer} {r} {text} {before} {after} up seat is takes none_ends =
-    finish up seat roles_stay is takes (old_heard (known_of takes) none_ends) (serving_heard (known_of takes)) takes.finds.others_go_on.0
-    (own_stays s input offer r seat (goes_of roles_stay is takes) (is_less input text up s takes.finds.first) (told_of roles_stay is takes) (covers_of s input text before after up takes.finds.first none_ends))
+    finish up seat roles_unchanged is takes (old_heard (known_of takes) none_ends)
+    (serving_heard (known_of takes)) takes.finds.others_go_on.0
+    (own_stays s input offer r seat (goes_of roles_unchanged is takes) (is_less input text up s takes.finds.first) (told_of roles_unchanged is takes) (covers_of s input text before after up takes.finds.first none_ends))
 
 pub apart_left : (xs ys : List Channel) → AreApart (xs ++ ys) → AreApart xs
 apart_left [] ys apart = tt
@@ -164,7 +167,7 @@ input_refused {s} {input} {offer} {r} {text} {before} {after} up seat t role wai
     let now = channels_after role_goes_back (roles_of s) s.down input offer r (goes_of role_goes_back is takes) in
     let less = is_less input text up s takes.finds.first in
     finish up seat role_goes_back is takes (old_heard (known_of takes) none_ends) (serving_heard (known_of takes)) takes.finds.others_go_on.0
-    (stays now.serving (now.target ∙ sym (commanded_role s.state ∙ ap commanded_of role ∙ ap (λ (b : Bool). if b then Some t.target else None) waits)) less.serving less.texts less.controls (told_of role_goes_back is takes)
+    (unchanged now.serving (now.target ∙ sym (commanded_role s.state ∙ ap commanded_of role ∙ ap (λ (b : Bool). if b then Some t.target else None) waits)) less.serving less.texts less.controls (told_of role_goes_back is takes)
     (λ none. covers_of s input text before after up takes.finds.first none_ends (sym (ap (some_lacks after up) now.draining) ∙ none)))
 
 input_completes : {s : Connection} {offer : Option Channel} {r : Row} {text : List ℕ} {before after : Place → List Item} {commands commands2 : ℕ} (up : ℕ → Bool) (seat : Seat) (at : Place) (change : Change) (cause : _) (t : TargetRole) → target_role s.state ≡ Some t → t.is_commanded ≡ true
@@ -223,26 +226,26 @@ pub does_row : (s : Connection) (input : Input) (offer : Option Channel) (r : Ro
     → DoesRow s input offer r before after up commands commands2 seat (seat_after (step_by input (roles_of s)) seat)
 does_row s (inputs.ActivationAck at) offer r text before after up commands commands2 seat takes = elim (cases_Bool (awaits_at at (target_role s.state))) [
   | inl waits ↦ let a = awaited at (target_role s.state) waits in
-      input_commands up seat a.t a.is a.waits tt takes.finds.first (ap (λ (b : Bool). if b then role_commands else roles_stay) waits) takes (all_of _ (undone s.draining) (λ c. refl))
-  | inr not_so ↦ input_stays up seat (ap (λ (b : Bool). if b then role_commands else roles_stay) not_so) takes (all_of _ (undone s.draining) (λ c. refl))
+      input_commands up seat a.t a.is a.waits tt takes.finds.first (ap (λ (b : Bool). if b then role_commands else roles_unchanged) waits) takes (all_of _ (undone s.draining) (λ c. refl))
+  | inr not_so ↦ input_stays up seat (ap (λ (b : Bool). if b then role_commands else roles_unchanged) not_so) takes (all_of _ (undone s.draining) (λ c. refl))
 ]
 does_row s (inputs.ActivationNack at) offer r text before after up commands commands2 seat takes = elim (cases_Bool (awaits_at at (target_role s.state))) [
   | inl waits ↦ let a = awaited at (target_role s.state) waits in
-      input_refused up seat a.t a.is a.waits (ap (λ (b : Bool). if b then role_goes_back else roles_stay) waits) takes (all_of _ (undone s.draining) (λ c. refl))
-  | inr not_so ↦ input_stays up seat (ap (λ (b : Bool). if b then role_goes_back else roles_stay) not_so) takes (all_of _ (undone s.draining) (λ c. refl))
+      input_refused up seat a.t a.is a.waits (ap (λ (b : Bool). if b then role_goes_back else roles_unchanged) waits) takes (all_of _ (undone s.draining) (λ c. refl))
+  | inr not_so ↦ input_stays up seat (ap (λ (b : Bool). if b then role_goes_back else roles_unchanged) not_so) takes (all_of _ (undone s.draining) (λ c. refl))
 ]
 does_row s (inputs.Complete at change cause) offer r text before after up commands commands2 seat takes = elim (cases_Bool (is_target_at at (target_role s.state) && changes_by change (target_role s.state))) [
   | inl both ↦ let a = changing change (target_role s.state) (and_right (is_target_at at (target_role s.state)) (changes_by change (target_role s.state)) both) in
       input_completes up seat at change cause a.t a.is a.told_to
       (control_taken text before after at a.t.target.channel takes.finds.read (takes.finds.first (place_of a.t.target.channel)) (sym (ap (is_target_at at) a.is) ∙ and_left (is_target_at at (target_role s.state)) (changes_by change (target_role s.state)) both))
-      (ap (λ (b : Bool). if b then role_completes else roles_stay) both) takes (all_of _ (undone s.draining) (λ c. brought-unended text (same_place (place_of c) at)))
-  | inr not_so ↦ input_stays up seat (ap (λ (b : Bool). if b then role_completes else roles_stay) not_so) takes (all_of _ (undone s.draining) (λ c. brought-unended text (same_place (place_of c) at)))
+      (ap (λ (b : Bool). if b then role_completes else roles_unchanged) both) takes (all_of _ (undone s.draining) (λ c. brought-unended text (same_place (place_of c) at)))
+  | inr not_so ↦ input_stays up seat (ap (λ (b : Bool). if b then role_completes else roles_unchanged) not_so) takes (all_of _ (undone s.draining) (λ c. brought-unended text (same_place (place_of c) at)))
 ]
 does_row s (inputs.Failure at change cause) offer r text before after up commands commands2 seat takes = elim (cases_Bool (is_at at s.serving && changes_by change (target_role s.state))) [
   | inl both ↦ let a = changing change (target_role s.state) (and_right (is_at at s.serving) (changes_by change (target_role s.state)) both) in
       input_goes_back up seat a.t a.is a.told_to (control_taken text before after at s.serving takes.finds.read (takes.finds.first (place_of s.serving)) (and_left (is_at at s.serving) (changes_by change (target_role s.state)) both))
-      (ap (λ (b : Bool). if b then role_goes_back else roles_stay) both) takes (all_of _ (undone s.draining) (λ c. brought-unended text (same_place (place_of c) at)))
-  | inr not_so ↦ input_stays up seat (ap (λ (b : Bool). if b then role_goes_back else roles_stay) not_so) takes (all_of _ (undone s.draining) (λ c. brought-unended text (same_place (place_of c) at)))
+      (ap (λ (b : Bool). if b then role_goes_back else roles_unchanged) both) takes (all_of _ (undone s.draining) (λ c. brought-unended text (same_place (place_of c) at)))
+  | inr not_so ↦ input_stays up seat (ap (λ (b : Bool). if b then role_goes_back else roles_unchanged) not_so) takes (all_of _ (undone s.draining) (λ c. brought-unended text (same_place (place_of c) at)))
 ]
 does_row s (inputs.ReleaseAck at) offer r text before after up commands commands2 seat takes = by (drain_at at s.draining) refl where
   by : (o : Option ℕ) → drain_at at s.draining ≡ o → DoesRow s (inputs.ReleaseAck at) offer r before after up commands commands2 seat (seat_after (step_by (inputs.ReleaseAck at) (roles_of s)) seat)

@@ -12,20 +12,20 @@ use Rattle.world_laws.proofs.Prelude.{same_Some, AllByRecursion-so, Result, rr_r
 use Rattle.world_laws.proofs.Prelude.{on_target, moving, gone, coming_up, leading, leading_from_air, leading_from_outbox, going_down}
 use Rattle.world_laws.proofs.Prelude.{seat_from, remembered, is_intact, old_tenures, serving_hold, serving_tenure, commanded_target}
 use Rattle.world_laws.proofs.Prelude.{target_tenure, waiting_of, taken_of, assembled, lined, line_up, change_in, Remembers, Sits, Leads}
-use Rattle.world_laws.proofs.Prelude.{NoneOn, LinedUp, leads, came, between, is_gone_now}
+use Rattle.world_laws.proofs.Prelude.{NoneOn, LinedUp, leads, at_its_target, between, is_gone_now}
 use Rattle.conn_rules.specs.Streams.{target_in}
 use Rattle.world_laws.specs.LineUp.Alive.{ChangePhase}
 use Rattle.world_laws.specs.LineUp.Alive.ChangePhase.{opens, rests, waits, arrives, returns}
-use Rattle.world_laws.specs.LineUp.Places.{Item, Tenure, Seat}
+use Rattle.world_laws.specs.LineUp.Places.{Item, LineTenure, Seat}
 use Rattle.world_laws.specs.LineUp.MobileStep.MobileStep.{follows_command, arrives as arrives_step, returns as returns_step}
 use Rattle.world_laws.specs.LineUp.MobileStep.MobileStep.{dismissed_from_serving, dismissed_from_target}
 use Rattle.world_laws.proofs.LineUp.Following.{follows_line}
 use Rattle.world_laws.proofs.LineUp.Lines.{parts_tail, last_part}
 use Rattle.world_laws.proofs.LineUp.Moving.{alive_mobile}
-use Rattle.world_laws.proofs.LineUp.Standing.{stands_fewer}
+use Rattle.world_laws.proofs.LineUp.Phases.{phase_fewer}
 use Rattle.world_model.specs.Mobiles.{left}
-use Rattle.world_laws.specs.Seated.Remembers.{nothing, told}
-use Rattle.world_laws.specs.Seated.Sits.{stays}
+use Rattle.world_laws.specs.Seated.Remembers.{nothing, by_command}
+use Rattle.world_laws.specs.Seated.Sits.{unchanged}
 use Rattle.world_laws.proofs.Apart.{is_at_station, target_in_is_so, OnServing, OnTarget, is_on_serving, is_on_target, SitsOn, sits_on_tenure, SitsBetween}
 use Rattle.world_laws.proofs.Apart.{sits_between}
 use Rattle.world_laws.proofs.Apart.SitsOn.{serves, arrived}
@@ -41,7 +41,7 @@ pub alive_fewer : {m : ℕ} (l : LineUp) (n : ℕ) → n ≤ l.commands → Aliv
 alive_fewer l n fewer alive = record {
   follows = alive.follows;
   first = alive.first;
-  stands = stands_fewer fewer (omega arith) (omega arith) (omega arith) (omega arith) alive.stands;
+  phase = phase_fewer fewer (omega arith) (omega arith) (omega arith) (omega arith) alive.phase;
   condition = alive.condition;
   bare = alive.bare;
 }
@@ -83,7 +83,7 @@ target_gone f up seat (Some t) = (not (up t.channel.station) && true, refl)
 
 -- what a connection is seen by, but for the commands on their way
 record SeesBut (w v : Actors) (s : Connection) : Type 0 where
-  coming : AreSame (coming_up v) (coming_up w) (used_channels s)
+  arriving : AreSame (coming_up v) (coming_up w) (used_channels s)
   up : AreUp (is_station_up v) (is_station_up w)
   target : (t : Target) → commanded_target s.state ≡ Some t → going_down v (place_of t.channel) ≡ going_down w (place_of t.channel)
   tenures : SameTenures w v
@@ -95,7 +95,7 @@ lined_but : {m : ℕ} {w v : Actors} {s : Connection} {p : Mobile} (q : Mobile) 
 lined_but {m} {w} {v} {s} {p} q sees alive sits led kept = record {
   alive = subst (Alive m)
       (sym (lined-same (coming_up v) (coming_up w) (is_station_up v) (is_station_up w) (going_down v (place_of s.serving)) (going_down v (place_of s.serving)) (waiting_of v s.number) (waiting_of w s.number) (taken_of v s.number) (taken_of w s.number) q q s
-      sees.coming sees.up refl sees.waiting sees.taken refl refl refl)) alive;
+      sees.arriving sees.up refl sees.waiting sees.taken refl refl refl)) alive;
   sits = sits_same sees.tenures sits;
   led = AllByRecursion-so (λ a. Leads w a (commanded_target s.state)) (λ a. Leads v a (commanded_target s.state)) (λ a. leads_same sees.tenures) (going_down v (place_of s.serving)) led;
   none_on_target = none_same w v (commanded_target s.state) sees.target kept.none_on_target;
@@ -110,7 +110,7 @@ popped w tenure others = with_spot tenure.at (record (spot_at w tenure.at) { air
 but_popped : {w : Actors} {s : Connection} (tenure : ChannelTenure) (others : List AirMessage) → tenure.at.station ≢ SWITCH_LINK → ArePlaced (used_channels s) → OnServing tenure.at s → SeesBut w (popped w tenure others) s
 unfolding popped SameTenures
 but_popped {w} {s} tenure others at_is placed on = record {
-  coming = all_of (λ c. coming_up (popped w tenure others) (place_of c) ≡ coming_up w (place_of c)) (used_channels s) (λ c. coming_with_spot w tenure.at _ (place_of c));
+  arriving = all_of (λ c. coming_up (popped w tenure others) (place_of c) ≡ coming_up w (place_of c)) (used_channels s) (λ c. coming_with_spot w tenure.at _ (place_of c));
   up = λ n. refl;
   target = λ t is. ap (λ (x : Spot). flat_map leading_from_air x.air ++ flat_map (leading_from_outbox t.channel.number) (outbox_of w t.channel.station))
       (spot-elsewhere w tenure.at _ t.channel at_is (subst ArePlaced (target_in_is_so s.state t is) placed_rest.1).0 (subst (λ (cs : List Channel). AllByRecursion (λ c. is_at tenure.at c ≡ false) cs) (target_in_is_so s.state t is) on.target).0);
@@ -187,7 +187,7 @@ gone_alive l b alive = record {
       (parts_tail l.old (l.serving ∷ l.target ∷ []) (l.serving ∷ record l.target { is_lost = b } ∷ [])
       (parts_tail (l.serving ∷ []) (l.target ∷ []) (record l.target { is_lost = b } ∷ []) (last_part l.target ∙ sym (last_part (record l.target { is_lost = b })))))) alive.follows;
   first = alive.first;
-  stands = alive.stands;
+  phase = alive.phase;
   condition = left_the_cell;
   bare = alive.bare;
 }
@@ -208,7 +208,7 @@ lined_up_gone {m} {w} {p} {s} tenure command seat kept = record {
   leaving : (sits : Seat) → Alive m (record (line_up_at w p s sits) { seat = gone; is_intact = false }) → Alive m (line_up w (record p { seat = Gone }) s)
   leaving sits alive =
       let to = target_gone (coming_up w) (is_station_up w) sits (commanded_target s.state) in
-      subst (λ (t : Tenure). Alive m (assembled p.end.sent p.end.zero gone s.state (length (going_down w (place_of s.serving)) + 0) (old_tenures (coming_up w) (is_station_up w) s.draining s.up.tenures)
+      subst (λ (t : LineTenure). Alive m (assembled p.end.sent p.end.zero gone s.state (length (going_down w (place_of s.serving)) + 0) (old_tenures (coming_up w) (is_station_up w) s.draining s.up.tenures)
       (serving_tenure (coming_up w) (is_station_up w) s.serving (serving_hold s.draining s.up.tenures)) t (flow (waiting_of w s.number)) (flow (taken_of w s.number)))) (sym to.1)
       (alive_fewer (record (line_up_at w p s sits) { seat = gone; is_intact = false; target = record (line_up_at w p s sits).target { is_lost = to.0 } }) (length (going_down w (place_of s.serving)) + 0) (fewer sits) (gone_alive (line_up_at w p s sits) to.0 alive))
 
@@ -261,7 +261,7 @@ led_to {w} {s} tenure first others target is air leads_to kept =
 
 -- and the mobile remembers it
 remembers_it : {w : Actors} {o : Option Target} {a : AirMessage} (goal : ChannelTenure) (change : Change) → change_in (rr_reading a.message) ≡ Some change → a.target ≡ Some goal → Leads w a o → Remembers w o (Some (record { change = change; target = goal }))
-remembers_it goal change is to (leads {target} by at) = told (rw (same_Some _ _ (sym is ∙ by), same_Some _ _ (sym to ∙ at)) refl)
+remembers_it goal change is to (leads {target} by at) = by_command (rw (same_Some _ _ (sym is ∙ by), same_Some _ _ (sym to ∙ at)) refl)
 
 -- a command on the serving channel is remembered
 heard_command : {m : ℕ} {w : Actors} {p : Mobile} {s : Connection} (tenure : ChannelTenure) (command : Option Command) (first : AirMessage) (others : List AirMessage) (change : Change) (target : ChannelTenure) (q : Mobile) → is_reached w tenure ≡ true → p.seat ≡ On tenure command → (spot_at w tenure.at).air ≡ first ∷ others
@@ -272,7 +272,7 @@ heard_command {m} {w} {p} {s} tenure command first others change target q reache
 
   by_sits : SitsOn w s.serving (commanded_target s.state) tenure command → LinedUp m (popped w tenure others) q s
   by_sits (serves there remembers) = serving_popped tenure command (Some (record { change = change; target = target })) first others q (up_right tenure.at.station w (reached_up w tenure reached).0).0 seat (ap (λ (t : ChannelTenure). t.at) there) air end seat_now
-      (stays there (remembers_it target change is refl (led_to tenure first others target (ap (λ (t : ChannelTenure). t.at) there) air leads_to kept)))
+      (unchanged there (remembers_it target change is refl (led_to tenure first others target (ap (λ (t : ChannelTenure). t.at) there) air leads_to kept)))
       (let one = leads_on in omega arith) kept
   by_sits (arrived t to there none) = let one = leads_on in let none = ap length (target_popped t tenure first others to (ap (λ (t : ChannelTenure). t.at) there) air kept).0 in absurd (omega arith)
 
@@ -315,12 +315,12 @@ own_leaves {m} {w} {p} {s} tenure command seat none kept = by_sits (sits_on_tenu
       let one : (line_up_at w p s on_serving).commands ≡ 1 = (let a = ap length none in let b = ap remembered seat in omega arith) in
       let was : Alive m (line_up_at w p s on_serving) = at_seat w p s (ap (seat_from s.serving) seat ∙ ap (λ (b : Bool). if b then on_serving else on_target) on.at_serving) kept.alive in
       let left : Alive m (record (line_up_at w p s on_serving) { seat = moving; commands = 0 }) = alive_mobile (follows_command (line_up_at w p s on_serving)) (subst (λ (n : ℕ). Alive m (record (line_up_at w p s on_serving) { commands = n })) one was) in
-      subst (λ (t : Tenure). Alive m (assembled p.end.sent p.end.zero moving s.state (length (going_down w (place_of s.serving)) + 0) (old_tenures (coming_up w) (is_station_up w) s.draining s.up.tenures)
+      subst (λ (t : LineTenure). Alive m (assembled p.end.sent p.end.zero moving s.state (length (going_down w (place_of s.serving)) + 0) (old_tenures (coming_up w) (is_station_up w) s.draining s.up.tenures)
       (serving_tenure (coming_up w) (is_station_up w) s.serving (serving_hold s.draining s.up.tenures)) t (flow (waiting_of w s.number)) (flow (taken_of w s.number)))) (sym (target_moving (coming_up w) (is_station_up w) (commanded_target s.state)))
       (subst (λ (n : ℕ). Alive m (record (line_up_at w p s on_serving) { seat = moving; commands = n })) (sym (ap (λ (entries : List AirMessage). length entries + 0) none)) left)
 
   sitting : (o : Option Target) → tenure ≡ tenure_at w (place_of s.serving) → Remembers w o (Some command) → Sits w s.serving o (Moving tenure command)
-  sitting o is (told by) = between is by
+  sitting o is (by_command by) = between is by
 
   by_sits : SitsOn w s.serving (commanded_target s.state) tenure (Some command) → LinedUp m w q s
   by_sits (serves is remembers) = record {
@@ -348,7 +348,7 @@ own_move {m} {w} {p} {s} tenure command seat kept = by_sits (sits_on_tenure tenu
   none_down on =
       let was : Alive m (line_up_at w p s on_serving) = at_seat w p s (ap (seat_from s.serving) seat ∙ ap (λ (b : Bool). if b then on_serving else on_target) on.at_serving) kept.alive in
       let a = ap remembered seat in
-      let one = only_one was.stands (omega arith) in
+      let one = only_one was.phase (omega arith) in
       none_in (going_down w (place_of s.serving)) (omega arith) where
         none_in : (entries : List AirMessage) → length entries ≡ 0 → entries ≡ []
         none_in [] is = refl
@@ -386,7 +386,7 @@ seated_alive : {m : ℕ} (w : Actors) (p : Mobile) (s : Connection) (from : Chan
 unfolding line_up_at
 seated_alive {m} w p s from command tenure control seat moves is same alive =
     alive_from_seat w (record p { end = after_arrival p.end control; seat = On tenure None }) s is
-    (subst (λ (t : Tenure). Alive m (assembled p.end.sent (after_resume p.end.zero control) seat s.state (length (going_down w (place_of s.serving)) + 0) (old_tenures (coming_up w) (is_station_up w) s.draining s.up.tenures)
+    (subst (λ (t : LineTenure). Alive m (assembled p.end.sent (after_resume p.end.zero control) seat s.state (length (going_down w (place_of s.serving)) + 0) (old_tenures (coming_up w) (is_station_up w) s.draining s.up.tenures)
     (serving_tenure (coming_up w) (is_station_up w) s.serving (serving_hold s.draining s.up.tenures)) t (flow (waiting_of w s.number)) (flow (taken_of w s.number)))) (sym same)
     (subst (λ (n : ℕ). Alive m (assembled p.end.sent (after_resume p.end.zero control) seat s.state (length (going_down w (place_of s.serving)) + n) (old_tenures (coming_up w) (is_station_up w) s.draining s.up.tenures)
     (serving_tenure (coming_up w) (is_station_up w) s.serving (serving_hold s.draining s.up.tenures)) (target_tenure (coming_up w) (is_station_up w) moving (commanded_target s.state)) (flow (waiting_of w s.number)) (flow (taken_of w s.number)))) (ap remembered moves) alive))
@@ -402,7 +402,7 @@ arrives_here {m} {w} {p} {s} from command control moves reached is kept =
     record {
       alive = seated_alive w p s from command command.target control on_target moves (ap (λ (b : Bool). if b then on_serving else on_target) on.serving) (target_arrived (coming_up w) (is_station_up w) sits.to (commanded_target s.state) sits.is_target up)
           (alive_mobile (arrives_step (line_up_at w p s moving) control is) (at_seat w p s (ap (seat_from s.serving) moves) kept.alive));
-      sits = subst (λ (o : Option Target). Sits w s.serving o (On command.target None)) (sym sits.is_target) (came there);
+      sits = subst (λ (o : Option Target). Sits w s.serving o (On command.target None)) (sym sits.is_target) (at_its_target there);
       led = kept.led;
       none_on_target = kept.none_on_target;
       apart = kept.apart;
@@ -417,7 +417,7 @@ returns_here {m} {w} {p} {s} from command control moves is kept =
     record {
       alive = seated_alive w p s from command from control on_serving moves (ap (λ (b : Bool). if b then on_serving else on_target) on.at_serving) (sym (target_moving (coming_up w) (is_station_up w) (commanded_target s.state)))
           (alive_mobile (returns_step (line_up_at w p s moving) control is) (at_seat w p s (ap (seat_from s.serving) moves) kept.alive));
-      sits = stays sits.from_serving nothing;
+      sits = unchanged sits.from_serving nothing;
       led = kept.led;
       none_on_target = kept.none_on_target;
       apart = kept.apart;

@@ -2,11 +2,12 @@
 -- The step of a line-up that a row does, by the step that it does to the roles of channels.
 use Rattle.world_laws.proofs.Prelude.{◌≡◌, ℕ, ◌+◌, ◌≤◌, Bool, true, false, ◌&&◌, ◌||◌, not, if◌then◌else◌, List, [], ◌∷◌, ◌++◌, Option}
 use Rattle.world_laws.proofs.Prelude.{Some, None, refl, sym, ap, ◌∙◌, Channel, Place, Input, Drain, Connection, drain_at, TargetRole}
-use Rattle.world_laws.proofs.Prelude.{target_role, roles_of, commanded, completed, RemainsOpen, roles_stay, role_commands, role_completes}
+use Rattle.world_laws.proofs.Prelude.{target_role, roles_of, commanded, completed, RemainsOpen, roles_unchanged, role_commands}
+use Rattle.world_laws.proofs.Prelude.{role_completes}
 use Rattle.world_laws.proofs.Prelude.{role_goes_back, role_leaves, Row, place_of, after_complete, messages_in, controls_in, texts_in}
 use Rattle.world_laws.proofs.Prelude.{is_ended, commanded_target, lacks, some_lacks, target_items, OwnStep}
 use Rattle.world_laws.specs.LineUp.Places.{Item, Seat}
-use Rattle.world_laws.specs.OwnStep.OwnStep.{stays, tells, completes, goes_back}
+use Rattle.world_laws.specs.OwnStep.OwnStep.{unchanged, tells, completes, goes_back}
 use Rattle.world_laws.proofs.RolesAfter.{commanded_of, commanded_role, ChannelsAfter, channels_after, both_false, AreReleased}
 use Rattle.world_laws.proofs.RolesAfter.{leaves_covers}
 
@@ -17,52 +18,52 @@ pub record IsLess (before after : Place → List Item) (up : ℕ → Bool) (s : 
   pub controls : controls_in (target_items after (commanded_target s.state)) ≤ controls_in (target_items before (commanded_target s.state))
 
 -- the roles stay
-pub own_stays : {before after : Place → List Item} {up : ℕ → Bool} (s : Connection) (input : Input) (offer : Option Channel) (r : Row) {commands commands2 : ℕ} (seat : Seat) → RemainsOpen roles_stay (roles_of s) s.down input offer r → IsLess before after up s → commands2 ≤ commands
+pub own_stays : {before after : Place → List Item} {up : ℕ → Bool} (s : Connection) (input : Input) (offer : Option Channel) (r : Row) {commands commands2 : ℕ} (seat : Seat) → RemainsOpen roles_unchanged (roles_of s) s.down input offer r → IsLess before after up s → commands2 ≤ commands
     → (some_lacks after up s.draining ≡ false → some_lacks before up s.draining ≡ false) → OwnStep before after up s r.next commands commands2 seat seat
-own_stays {before} {after} {up} s input offer r seat goes less told covers =
-    let now : ChannelsAfter r.next (roles_of s) = channels_after roles_stay (roles_of s) s.down input offer r goes in
-    stays now.serving (now.target ∙ sym (commanded_role s.state)) less.serving less.texts less.controls told (λ none. covers (sym (ap (some_lacks after up) now.draining) ∙ none))
+own_stays {before} {after} {up} s input offer r seat remains less at_most covers =
+    let now : ChannelsAfter r.next (roles_of s) = channels_after roles_unchanged (roles_of s) s.down input offer r remains in
+    unchanged now.serving (now.target ∙ sym (commanded_role s.state)) less.serving less.texts less.controls at_most (λ none. covers (sym (ap (some_lacks after up) now.draining) ∙ none))
 
 -- an old channel is released
 pub own_leaves : {before after : Place → List Item} {up : ℕ → Bool} (s : Connection) (input : Input) (offer : Option Channel) (r : Row) {commands commands2 : ℕ} (seat : Seat) (at : Place) (place : ℕ) → drain_at at s.draining ≡ Some place → RemainsOpen (role_leaves place) (roles_of s) s.down input offer r → IsLess before after up s → commands2 ≤ commands
     → AreReleased before after up at s.draining → OwnStep before after up s r.next commands commands2 seat seat
-own_leaves {before} {after} {up} s input offer r seat at place found goes less told released =
-    let now = channels_after (role_leaves place) (roles_of s) s.down input offer r goes in
-    stays now.serving (now.target ∙ sym (commanded_role s.state)) less.serving less.texts less.controls told (λ none. leaves_covers before after up at place s.draining found released (sym (ap (some_lacks after up) now.draining) ∙ none))
+own_leaves {before} {after} {up} s input offer r seat at place found remains less at_most released =
+    let now = channels_after (role_leaves place) (roles_of s) s.down input offer r remains in
+    unchanged now.serving (now.target ∙ sym (commanded_role s.state)) less.serving less.texts less.controls at_most (λ none. leaves_covers before after up at place s.draining found released (sym (ap (some_lacks after up) now.draining) ∙ none))
 
 -- the mobile is commanded
 pub own_tells : {before after : Place → List Item} {up : ℕ → Bool} (s : Connection) (input : Input) (offer : Option Channel) (r : Row) {commands commands2 : ℕ} (seat : Seat) (t : TargetRole) → target_role s.state ≡ Some t → t.is_commanded ≡ false → RemainsOpen role_commands (roles_of s) s.down input offer r
     → controls_in (after (place_of s.serving)) ≤ controls_in (before (place_of s.serving)) → messages_in (after (place_of t.target.channel)) ≡ [] → commands2 ≤ 1 → (some_lacks after up s.draining ≡ false → some_lacks before up s.draining ≡ false) → OwnStep before after up s r.next commands commands2 seat seat
 unfolding commanded_of
-own_tells {before} {after} {up} s input offer r seat t role waits goes fewer nothing told covers =
-    let now = channels_after role_commands (roles_of s) s.down input offer r goes in
-    tells now.serving (commanded_role s.state ∙ ap commanded_of role ∙ ap (λ (b : Bool). if b then Some t.target else None) waits) t.target (now.target ∙ ap (λ (o : Option TargetRole). commanded_of (commanded o)) role) fewer nothing told (λ none. covers (sym (ap (some_lacks after up) now.draining) ∙ none))
+own_tells {before} {after} {up} s input offer r seat t role waits remains fewer nothing at_most covers =
+    let now = channels_after role_commands (roles_of s) s.down input offer r remains in
+    tells now.serving (commanded_role s.state ∙ ap commanded_of role ∙ ap (λ (b : Bool). if b then Some t.target else None) waits) t.target (now.target ∙ ap (λ (o : Option TargetRole). commanded_of (commanded o)) role) fewer nothing at_most (λ none. covers (sym (ap (some_lacks after up) now.draining) ∙ none))
 
 -- the change is given up
 pub own_goes_back : {before after : Place → List Item} {up : ℕ → Bool} (s : Connection) (input : Input) (offer : Option Channel) (r : Row) {commands commands2 : ℕ} (seat : Seat) (t : TargetRole) → target_role s.state ≡ Some t → t.is_commanded ≡ true → RemainsOpen role_goes_back (roles_of s) s.down input offer r
     → controls_in (after (place_of s.serving)) + 1 ≤ controls_in (before (place_of s.serving)) → commands2 ≤ commands → (some_lacks after up s.draining ≡ false → some_lacks before up s.draining ≡ false) → OwnStep before after up s r.next commands commands2 seat seat
 unfolding commanded_of
-own_goes_back {before} {after} {up} s input offer r seat t role told_to goes more told covers =
-    let now = channels_after role_goes_back (roles_of s) s.down input offer r goes in
-    goes_back t.target (commanded_role s.state ∙ ap commanded_of role ∙ ap (λ (b : Bool). if b then Some t.target else None) told_to) now.target now.serving more told (λ none. covers (sym (ap (some_lacks after up) now.draining) ∙ none))
+own_goes_back {before} {after} {up} s input offer r seat t role told_to remains more at_most covers =
+    let now = channels_after role_goes_back (roles_of s) s.down input offer r remains in
+    goes_back t.target (commanded_role s.state ∙ ap commanded_of role ∙ ap (λ (b : Bool). if b then Some t.target else None) told_to) now.target now.serving more at_most (λ none. covers (sym (ap (some_lacks after up) now.draining) ∙ none))
 
 -- one drain more
-lacks_behind : (coming : Place → List Item) (up : ℕ → Bool) (ds : List Drain) (d : Drain) → some_lacks coming up (ds ++ d ∷ []) ≡ false → (some_lacks coming up ds ≡ false) × (lacks coming up d ≡ false)
-lacks_behind coming up [] d none = (refl, (both_false (lacks coming up d) false none).0)
-lacks_behind coming up (x ∷ ds) d none =
-    let first = both_false (lacks coming up x) (some_lacks coming up (ds ++ d ∷ [])) none in
-    let rest = lacks_behind coming up ds d first.1 in
-    (ap (λ (b : Bool). b || some_lacks coming up ds) first.0 ∙ rest.0, rest.1)
+lacks_behind : (arriving : Place → List Item) (up : ℕ → Bool) (ds : List Drain) (d : Drain) → some_lacks arriving up (ds ++ d ∷ []) ≡ false → (some_lacks arriving up ds ≡ false) × (lacks arriving up d ≡ false)
+lacks_behind arriving up [] d none = (refl, (both_false (lacks arriving up d) false none).0)
+lacks_behind arriving up (x ∷ ds) d none =
+    let first = both_false (lacks arriving up x) (some_lacks arriving up (ds ++ d ∷ [])) none in
+    let rest = lacks_behind arriving up ds d first.1 in
+    (ap (λ (b : Bool). b || some_lacks arriving up ds) first.0 ∙ rest.0, rest.1)
 
 -- the target serves
 pub own_completes : {before after : Place → List Item} {up : ℕ → Bool} (s : Connection) (input : Input) (offer : Option Channel) (r : Row) {commands commands2 : ℕ} (seat : Seat) (t : TargetRole) → target_role s.state ≡ Some t → t.is_commanded ≡ true → RemainsOpen role_completes (roles_of s) s.down input offer r
     → controls_in (after (place_of t.target.channel)) + 1 ≤ controls_in (before (place_of t.target.channel)) → commands2 ≤ commands → (some_lacks after up s.draining ≡ false → some_lacks before up s.draining ≡ false) → is_ended (after (place_of s.serving)) ≡ false
     → OwnStep before after up s r.next commands commands2 seat (after_complete seat)
 unfolding commanded_of
-own_completes {before} {after} {up} s input offer r seat t role told_to goes more told covers not_ended =
-    let now = channels_after role_completes (roles_of s) s.down input offer r goes in
+own_completes {before} {after} {up} s input offer r seat t role told_to remains more at_most covers not_ended =
+    let now = channels_after role_completes (roles_of s) s.down input offer r remains in
     completes t.target (commanded_role s.state ∙ ap commanded_of role ∙ ap (λ (b : Bool). if b then Some t.target else None) told_to) (now.target ∙ ap (λ (o : Option TargetRole). commanded_of (completed o (roles_of s)).target) role)
-    (now.serving ∙ ap (λ (o : Option TargetRole). (completed o (roles_of s)).serving) role) more told
+    (now.serving ∙ ap (λ (o : Option TargetRole). (completed o (roles_of s)).serving) role) more at_most
     (λ none. let both = lacks_behind after up s.draining (record { channel = s.serving; is_done = false }) (sym (ap (some_lacks after up) (now.draining ∙ ap (λ (o : Option TargetRole). (completed o (roles_of s)).draining) role)) ∙ none) in
     (covers both.0, whole both.1)) where
       whole : not (up s.serving.station) && not (is_ended (after (place_of s.serving))) ≡ false → not (up s.serving.station) ≡ false

@@ -17,29 +17,29 @@ use Rattle.world_laws.proofs.Cutting.{condition_of}
 
 -- ---- the oldest channel holds nothing
 
-old_hold : (coming : Place → List Item) (up : ℕ → Bool) (d : Drain) (hold : List (List ℕ)) → (old_tenure coming up d hold).hold ≡ hold
-old_hold coming up d hold = by_done d.is_done where
-  by_done : (b : Bool) → (if b then ended hold else draining_tenure (up d.channel.station) (coming (place_of d.channel)) hold).hold ≡ hold
+old_hold : (arriving : Place → List Item) (up : ℕ → Bool) (d : Drain) (hold : List (List ℕ)) → (old_tenure arriving up d hold).hold ≡ hold
+old_hold arriving up d hold = by_done d.is_done where
+  by_done : (b : Bool) → (if b then ended hold else draining_tenure (up d.channel.station) (arriving (place_of d.channel)) hold).hold ≡ hold
   by_done true = refl
   by_done false = refl
 
-none_held : (draining : List Drain) (tenures : List Held) (coming : Place → List Item) (up : ℕ → Bool) → FirstIsEmpty tenures → FirstRelays true (old_tenures coming up draining tenures) (serving_hold draining tenures)
-none_held draining [] coming up first = elim first [ ]
-none_held [] (t ∷ ts) coming up first = λ _. ap (λ (held : Held). held.zero) first
-none_held (d ∷ ds) (t ∷ ts) coming up first = old_hold coming up d t.zero ∙ ap (λ (held : Held). held.zero) first
+none_held : (draining : List Drain) (tenures : List Held) (arriving : Place → List Item) (up : ℕ → Bool) → FirstIsEmpty tenures → FirstRelays true (old_tenures arriving up draining tenures) (serving_hold draining tenures)
+none_held draining [] arriving up first = elim first [ ]
+none_held [] (t ∷ ts) arriving up first = λ _. ap (λ (held : Held). held.zero) first
+none_held (d ∷ ds) (t ∷ ts) arriving up first = old_hold arriving up d t.zero ∙ ap (λ (held : Held). held.zero) first
 
 -- before CC no channel drains
-no_drain : (tenures : List Held) (coming : Place → List Item) (up : ℕ → Bool) (draining : List Drain) → draining ≡ [] → FirstRelays false (old_tenures coming up draining tenures) (serving_hold draining tenures)
-no_drain tenures coming up [] none = λ is. absurd (false≢true is)
-no_drain tenures coming up (d ∷ ds) none = absurd cc
+no_drain : (tenures : List Held) (arriving : Place → List Item) (up : ℕ → Bool) (draining : List Drain) → draining ≡ [] → FirstRelays false (old_tenures arriving up draining tenures) (serving_hold draining tenures)
+no_drain tenures arriving up [] none = λ is. absurd (false≢true is)
+no_drain tenures arriving up (d ∷ ds) none = absurd cc
 
-pub first_relays : (s : Connection) (coming : Place → List Item) (up : ℕ → Bool) → IsValid s → FirstRelays (is_confirmed s.state) (old_tenures coming up s.draining s.up.tenures) (serving_hold s.draining s.up.tenures)
-first_relays s coming up stands = by_state s.state stands.state where
-  by_state : (state : State) → IsValidState state s.draining s.down s.up.tenures s.link s.waits → FirstRelays (is_confirmed state) (old_tenures coming up s.draining s.up.tenures) (serving_hold s.draining s.up.tenures)
-  by_state WaitActivation by = no_drain s.up.tenures coming up s.draining by.0.none_drains
-  by_state WaitEstablish by = no_drain s.up.tenures coming up s.draining by.0.none_drains
-  by_state (Live reference stage) by = none_held s.draining s.up.tenures coming up by.first
-  by_state _ by = no_drain s.up.tenures coming up s.draining by.none_drains
+pub first_relays : (s : Connection) (arriving : Place → List Item) (up : ℕ → Bool) → IsValid s → FirstRelays (is_confirmed s.state) (old_tenures arriving up s.draining s.up.tenures) (serving_hold s.draining s.up.tenures)
+first_relays s arriving up valid = by_state s.state valid.state where
+  by_state : (state : State) → IsValidState state s.draining s.down s.up.tenures s.link s.waits → FirstRelays (is_confirmed state) (old_tenures arriving up s.draining s.up.tenures) (serving_hold s.draining s.up.tenures)
+  by_state WaitActivation by = no_drain s.up.tenures arriving up s.draining by.0.none_drains
+  by_state WaitEstablish by = no_drain s.up.tenures arriving up s.draining by.0.none_drains
+  by_state (Live reference stage) by = none_held s.draining s.up.tenures arriving up by.first
+  by_state _ by = no_drain s.up.tenures arriving up s.draining by.none_drains
 
 -- ---- the line
 
@@ -79,11 +79,11 @@ pub row_alive : {m : ℕ} (s next : Connection) (sent : List (List ℕ)) (link :
     → ChangePhase (is_opening next.state) (is_changing (commanded_target next.state)) commands2 seat2 (controls_in (after (place_of next.serving))) (texts_in (target_tenure after up seat2 (commanded_target next.state)).items) (controls_in (target_tenure after up seat2 (commanded_target next.state)).items) (controls_of (to_be_taken link))
     → Alive m (assembled sent link seat s.state commands (old_tenures before up s.draining s.up.tenures) (serving_tenure before up s.serving (serving_hold s.draining s.up.tenures)) (target_tenure before up seat (commanded_target s.state)) out taken)
     → Alive m (assembled sent link seat2 next.state commands2 (old_tenures after up next.draining next.up.tenures) (serving_tenure after up next.serving (serving_hold next.draining next.up.tenures)) (target_tenure after up seat2 (commanded_target next.state)) (out ++ flow relayed) taken)
-row_alive s next sent link seat seat2 commands commands2 before after up relayed out taken alone rowed stands alive = record {
+row_alive s next sent link seat seat2 commands commands2 before after up relayed out taken alone rowed phase alive = record {
   follows = follows_moved (is_intact seat2 (old_tenures after up next.draining next.up.tenures) (serving_tenure after up next.serving (serving_hold next.draining next.up.tenures)) (target_tenure after up seat2 (commanded_target next.state)))
       (moved_line taken out relayed _ _ rowed.line) rowed.intact alive.follows;
   first = first_relays next after up alone;
-  stands = stands;
+  phase = phase;
   condition = condition_of seat2 (some_lost (old_tenures after up next.draining next.up.tenures)) (not (up next.serving.station)) (target_tenure after up seat2 (commanded_target next.state)).is_lost (target_came after up seat2 (commanded_target next.state));
   bare = bare (commanded_target next.state);
 } where

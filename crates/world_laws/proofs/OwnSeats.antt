@@ -4,15 +4,15 @@ use Rattle.world_laws.proofs.Prelude.{◌≡◌, ℕ, ◌+◌, ◌≤◌, Bool, 
 use Rattle.world_laws.proofs.Prelude.{sym, ap, ◌∙◌, subst, arith, AllByRecursion, append-nil, Channel, Place, Target, Connection, is_at}
 use Rattle.world_laws.proofs.Prelude.{place_of, AirMessage, MobileSeat, Tenure, Actors, tenure_at, none-some, no-length, IsHereOrGone, remains}
 use Rattle.world_laws.proofs.Prelude.{left, after_complete, controls_in, on_serving, on_target, moving, going_down, seat_from, remembered}
-use Rattle.world_laws.proofs.Prelude.{is_opening, commanded_target, OwnStep, Sits, Leads, NoneOn, came, between}
+use Rattle.world_laws.proofs.Prelude.{is_opening, commanded_target, OwnStep, Sits, Leads, NoneOn, at_its_target, between}
 use Rattle.world_laws.specs.LineUp.Alive.{ChangePhase}
 use Rattle.world_laws.specs.LineUp.Alive.ChangePhase.{opens, rests, waits, leaves, arrives, returns}
 use Rattle.world_laws.specs.LineUp.Places.{Item, Seat}
-use Rattle.world_laws.specs.OwnStep.OwnStep.{stays as step_stays, tells, completes, goes_back}
-use Rattle.world_laws.specs.Seated.Remembers.{nothing, told}
-use Rattle.world_laws.specs.Seated.Sits.{stays, gone}
+use Rattle.world_laws.specs.OwnStep.OwnStep.{unchanged as step_unchanged, tells, completes, goes_back}
+use Rattle.world_laws.specs.Seated.Remembers.{nothing, by_command}
+use Rattle.world_laws.specs.Seated.Sits.{unchanged, gone}
 use Rattle.world_laws.proofs.Apart.{at_itself}
-use Rattle.world_laws.proofs.OwnSteps.{StandsWith}
+use Rattle.world_laws.proofs.OwnSteps.{PhaseWith}
 
 -- ---- where a change stands
 
@@ -60,22 +60,22 @@ came_over true = refl
 came_over false = refl
 
 sits_completes : {w : Actors} {serving : Channel} {t : Target} {seat : MobileSeat} → Sits w serving (Some t) seat → IsHereOrGone on_target (seat_from serving seat) → Sits w t.channel None seat × (after_complete (seat_from serving seat) ≡ seat_from t.channel seat)
-sits_completes {w} {serving} (stays is remembers) here = absurd (not_serving here (ap (λ (b : Bool). if b then on_serving else on_target) (on_itself w serving is)))
-sits_completes {w} {serving} {t} (came {tenure = tenure} is) here = (stays is nothing, came_over (is_at tenure.at serving) ∙ ap (λ (b : Bool). if b then on_serving else on_target) (sym (on_itself w t.channel is)))
+sits_completes {w} {serving} (unchanged is remembers) here = absurd (not_serving here (ap (λ (b : Bool). if b then on_serving else on_target) (on_itself w serving is)))
+sits_completes {w} {serving} {t} (at_its_target {tenure = tenure} is) here = (unchanged is nothing, came_over (is_at tenure.at serving) ∙ ap (λ (b : Bool). if b then on_serving else on_target) (sym (on_itself w t.channel is)))
 sits_completes (between from is) here = absurd (not_moving_there here refl)
 sits_completes gone here = (gone, refl)
 
 sits_goes_back : {w : Actors} {serving : Channel} {t : Target} {seat : MobileSeat} → Sits w serving (Some t) seat → is_at (place_of t.channel) serving ≡ false → IsHereOrGone on_serving (seat_from serving seat) → remembered seat ≡ 0 → Sits w serving None seat
-sits_goes_back (stays is nothing) apart here none = stays is nothing
-sits_goes_back (stays is (told by)) apart here none = absurd (omega arith)
-sits_goes_back {serving = serving} (came is) apart here none = absurd (not_target here (ap (λ (b : Bool). if b then on_serving else on_target) (ap (λ (x : Tenure). is_at x.at serving) is ∙ apart)))
+sits_goes_back (unchanged is nothing) apart here none = unchanged is nothing
+sits_goes_back (unchanged is (by_command by)) apart here none = absurd (omega arith)
+sits_goes_back {serving = serving} (at_its_target is) apart here none = absurd (not_target here (ap (λ (b : Bool). if b then on_serving else on_target) (ap (λ (x : Tenure). is_at x.at serving) is ∙ apart)))
 sits_goes_back (between from is) apart here none = absurd (not_moving here refl refl)
 sits_goes_back gone apart here none = gone
 
 sits_tells : {w : Actors} {serving : Channel} {o : Option Target} (t : Target) {seat : MobileSeat} → Sits w serving o seat → o ≡ None → Sits w serving (Some t) seat
-sits_tells t (stays is nothing) none = stays is nothing
-sits_tells t (stays is (told by)) none = absurd cc
-sits_tells t (came is) none = absurd cc
+sits_tells t (unchanged is nothing) none = unchanged is nothing
+sits_tells t (unchanged is (by_command by)) none = absurd cc
+sits_tells t (at_its_target is) none = absurd cc
 sits_tells t (between from is) none = absurd cc
 sits_tells t gone none = gone
 
@@ -98,7 +98,7 @@ pub record OwnRest (w v : Actors) (seat : MobileSeat) (s next : Connection) (bef
 -- the connection before the row
 pub record OwnBefore (w : Actors) (seat : MobileSeat) (s : Connection) (before : Place → List Item) (link : ℕ) (seat1 : Seat) : Type 0 where
   pub seen : seat1 ≡ seat_from s.serving seat
-  pub stands : StandsWith (is_opening s.state) (commanded_target s.state) (length (going_down w (place_of s.serving)) + remembered seat) seat1 (controls_in (before (place_of s.serving))) before link
+  pub phase : PhaseWith (is_opening s.state) (commanded_target s.state) (length (going_down w (place_of s.serving)) + remembered seat) seat1 (controls_in (before (place_of s.serving))) before link
   pub sits : Sits w s.serving (commanded_target s.state) seat
   pub led : AllByRecursion (λ a. Leads w a (commanded_target s.state)) (going_down w (place_of s.serving))
   pub none : NoneOn w (commanded_target s.state)
@@ -138,7 +138,7 @@ rest_tells {w} {v} {seat} {s} {next} {before} {seat1 = seat1} {link} was idle_be
   none = subst (NoneOn v) (sym to) quiet;
 } where
   idle : length (going_down w (place_of s.serving)) + remembered seat ≡ 0
-  idle = none_commanded (subst (λ (o : Option Target). StandsWith (is_opening s.state) o (length (going_down w (place_of s.serving)) + remembered seat) seat1 (controls_in (before (place_of s.serving))) before link) idle_before was.stands)
+  idle = none_commanded (subst (λ (o : Option Target). PhaseWith (is_opening s.state) o (length (going_down w (place_of s.serving)) + remembered seat) seat1 (controls_in (before (place_of s.serving))) before link) idle_before was.phase)
 
   none_before : going_down w (place_of s.serving) ≡ []
   none_before = no-length (going_down w (place_of s.serving)) (let both = idle in omega arith)
@@ -159,7 +159,7 @@ rest_completes {w} {v} {seat} {s} {next} {before} {seat1 = seat1} {link} was t c
   none = subst (NoneOn v) (sym ended) tt;
 } where
   here : IsHereOrGone on_target seat1
-  here = (all_arrived more (subst (λ (o : Option Target). StandsWith (is_opening s.state) o (length (going_down w (place_of s.serving)) + remembered seat) seat1 (controls_in (before (place_of s.serving))) before link) changed was.stands)).0
+  here = (all_arrived more (subst (λ (o : Option Target). PhaseWith (is_opening s.state) o (length (going_down w (place_of s.serving)) + remembered seat) seat1 (controls_in (before (place_of s.serving))) before link) changed was.phase)).0
 
   now_sits : Sits w t.channel None seat × (after_complete (seat_from s.serving seat) ≡ seat_from t.channel seat)
   now_sits = sits_completes (subst (λ (o : Option Target). Sits w s.serving o seat) changed was.sits) (subst (IsHereOrGone on_target) was.seen here)
@@ -181,7 +181,7 @@ rest_goes_back {w} {v} {seat} {s} {next} {before} {seat1 = seat1} {link} was t c
   none = subst (NoneOn v) (sym ended) tt;
 } where
   back : IsHereOrGone on_serving seat1 × (length (going_down w (place_of s.serving)) + remembered seat ≡ 0)
-  back = all_returned more (subst (λ (o : Option Target). StandsWith (is_opening s.state) o (length (going_down w (place_of s.serving)) + remembered seat) seat1 (controls_in (before (place_of s.serving))) before link) changed was.stands)
+  back = all_returned more (subst (λ (o : Option Target). PhaseWith (is_opening s.state) o (length (going_down w (place_of s.serving)) + remembered seat) seat1 (controls_in (before (place_of s.serving))) before link) changed was.phase)
 
   none_before : going_down w (place_of s.serving) ≡ []
   none_before = no-length (going_down w (place_of s.serving)) (let idle = back.1 in omega arith)
@@ -193,12 +193,12 @@ rest_goes_back {w} {v} {seat} {s} {next} {before} {seat1 = seat1} {link} was t c
 
 pub own_rest : {w v : Actors} {seat : MobileSeat} {s next : Connection} {before after : Place → List Item} {up : ℕ → Bool} {seat1 seat2 : Seat} {link : ℕ} → OwnBefore w seat s before link seat1 → Downs w v s next → ((t : Target) → commanded_target s.state ≡ None → commanded_target next.state ≡ Some t → going_down w (place_of t.channel) ≡ [])
     → OwnStep before after up s next 0 0 seat1 seat2 → OwnRest w v seat s next before after up seat1 seat2
-own_rest was (same downs) quiet (step_stays serving kept fewer texts controls told_now covers) = rest_stays was downs serving kept (λ now. step_stays serving kept fewer texts controls now covers)
+own_rest was (same downs) quiet (step_unchanged serving kept fewer texts controls told_now covers) = rest_stays was downs serving kept (λ now. step_unchanged serving kept fewer texts controls now covers)
 own_rest {w} {v} {s = s} was (same downs) quiet (tells serving idle t to fewer silent told_now covers) =
     rest_tells was idle serving t to [] (downs s.serving ∙ sym (append-nil (going_down w (place_of s.serving)))) (omega arith) tt (downs t.channel ∙ quiet t idle to) (λ now. tells serving idle t to fewer silent now covers)
 own_rest was (same downs) quiet (completes t changed ended serving more told_now covers) = rest_completes was t changed ended serving (omega arith) (downs t.channel) (λ now. completes t changed ended serving more now covers)
 own_rest {s = s} was (same downs) quiet (goes_back t changed ended serving more told_now covers) = rest_goes_back was t changed ended serving (omega arith) (downs s.serving) (λ now. goes_back t changed ended serving more now covers)
-own_rest was (commanded idle t to serves more downs few leads_there same_there) quiet (step_stays serving kept fewer texts controls told_now covers) = absurd (some_none (kept ∙ idle) to)
+own_rest was (commanded idle t to serves more downs few leads_there same_there) quiet (step_unchanged serving kept fewer texts controls told_now covers) = absurd (some_none (kept ∙ idle) to)
 own_rest {w} {v} {next = next} was (commanded idle t to serves more downs few leads_there same_there) quiet (tells serving idle2 t2 to2 fewer silent told_now covers) =
     rest_tells was idle serving t to more downs few leads_there (same_there ∙ quiet t idle to) (λ now. tells serving idle2 t2 to2 fewer silent now covers)
 own_rest was (commanded idle t to serves more downs few leads_there same_there) quiet (completes t2 changed ended serving fewer told_now covers) = absurd (some_none idle changed)

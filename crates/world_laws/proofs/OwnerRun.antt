@@ -101,17 +101,17 @@ acknowledged_own : (owner : Tenure → ℕ) (w : Actors) (p : Place) (number mob
 acknowledged_own owner w p number mobile m rest agrees hearing used asks first =
     let way = agrees.way hearing in
     let behind : List Rsl = rest ++ (acknowledgements p.number (base_of w p.station).messages ++ due p.number (is_active_at w p) (outbox_of w p.station)) in
-    let comes : to_come w p ≡ m ∷ behind = ap (λ (xs : List Rsl). xs ++ (acknowledgements p.number (base_of w p.station).messages ++ due p.number (is_active_at w p) (outbox_of w p.station))) first in
-    let none : behind ++ way.lost ≡ [] = one_at_most p.number number (channel_state w.controller p) (to_come w p ++ way.lost) (m ∷ []) (behind ++ way.lost) way.comes used (ap (λ (xs : List Rsl). xs ++ way.lost) comes) (λ is. absurd cc) in
+    let to_come_is : to_come w p ≡ m ∷ behind = ap (λ (xs : List Rsl). xs ++ (acknowledgements p.number (base_of w p.station).messages ++ due p.number (is_active_at w p) (outbox_of w p.station))) first in
+    let none : behind ++ way.lost ≡ [] = one_at_most p.number number (channel_state w.controller p) (to_come w p ++ way.lost) (m ∷ []) (behind ++ way.lost) way.owed used (ap (λ (xs : List Rsl). xs ++ way.lost) to_come_is) (λ is. absurd cc) in
     let nothing : behind ≡ [] = (both_empty behind way.lost (sym none)).0 in
     let parts = both_empty rest (acknowledgements p.number (base_of w p.station).messages ++ due p.number (is_active_at w p) (outbox_of w p.station)) (sym nothing) in
     let nothing_due : due p.number (is_active_at w p) (outbox_of w p.station) ≡ [] = (both_empty (acknowledgements p.number (base_of w p.station).messages) (due p.number (is_active_at w p) (outbox_of w p.station)) (sym parts.1)).1 in
     ap (λ (k : ℕ). owner (record { at = p; number = k })) (sym (nothing_is_due p.number (is_active_at w p) (spot_at w p).tenure (outbox_of w p.station) nothing_due))
-    ∙ agrees.own number mobile hearing used asks (λ down silent. absurd (let both : m ∷ behind ≡ [] = sym comes ∙ silent in cc))
+    ∙ agrees.own number mobile hearing used asks (λ down silent. absurd (let both : m ∷ behind ≡ [] = sym to_come_is ∙ silent in cc))
 
 first_heard : (w : Actors) (p : Place) (item : Item) (items : List Item) (frame : Frame) (a : ActivationAck) → w.inbox ≡ item ∷ items → item ≡ record { source = p.station; what = whats.Frame frame } → rsl_in frame ≡ Some (rsl.ChannelActivationAck a) → a.channel ≡ p.number → acknowledged_in p w.inbox ≡ rsl.ChannelActivationAck a ∷ acknowledged_in p items
-first_heard w p item items frame a stands is says same =
-    ap (acknowledged_in p) stands ∙ acks_append p.number (said p.station item) (flat_map (said p.station) items)
+first_heard w p item items frame a pending is says same =
+    ap (acknowledged_in p) pending ∙ acks_append p.number (said p.station item) (flat_map (said p.station) items)
     ∙ ap (λ (xs : List Rsl). xs ++ acknowledged_in p items)
     (ap (λ (i : Item). acknowledgements p.number (said p.station i)) is
     ∙ ap (λ (b : Bool). acknowledgements p.number (if b then option_to_list (rsl_in frame) else [])) (eq-eqb p.station p.station refl)
@@ -135,34 +135,34 @@ module _ (settings : Parameters) (owner : Tenure → ℕ) (w : Actors) (agree : 
 
   acks_lead : (at : Place) (source : ℕ) (frame : Frame) (items : List Item) (a : ActivationAck) (outs : List Out) → 1 ≤ at.station → at.station ≤ length settings.cells → source ≢ SWITCH_LINK → hears w.controller source ≡ true → w.inbox ≡ record { source = source; what = whats.Frame frame } ∷ items → rsl_in frame ≡ Some (rsl.ChannelActivationAck a) → hears w.controller at.station ≡ true → is_up w at.station ≡ true
       → AllByRecursion (LeadsOut at (place_at source a.channel) w.controller) outs → AllByRecursion (LeadsOwn owner w at (Some (tenure_at w (place_at source a.channel)))) outs
-  acks_lead at source frame items a [] least most station up stands says hearing at_up leads = tt
-  acks_lead at source frame items a (out ∷ outs) least most station up stands says hearing at_up leads = (
+  acks_lead at source frame items a [] least most station up pending says hearing at_up leads = tt
+  acks_lead at source frame items a (out ∷ outs) least most station up pending says hearing at_up leads = (
     λ tenure is d said same.
         let user = leads.0 d said same in
         let p : Place = place_at source a.channel in
         let own : owner (tenure_at w p) ≡ user.mobile = acknowledged_own owner w p user.number user.mobile (rsl.ChannelActivationAck a) (acknowledged_in p items) (agree p (not_zero source station) (within p user.number user.there)) up user.there user.asks
-        (first_heard w p (record { source = source; what = whats.Frame frame }) items frame a stands refl says refl) in
+        (first_heard w p (record { source = source; what = whats.Frame frame }) items frame a pending refl says refl) in
         let there : owner (tenure_behind w at) ≡ user.mobile = (agree at least most).own user.number user.mobile hearing user.here user.asks (λ down silent. true≢false (sym at_up ∙ down)) in
         let tenure_is : tenure_at w p ≡ tenure = (let both : Some (tenure_at w p) ≡ Some tenure = is in cc) in
         (user.number, user.here, ap owner (sym tenure_is) ∙ own ∙ sym there),
-    acks_lead at source frame items a outs least most station up stands says hearing at_up leads.1,
+    acks_lead at source frame items a outs least most station up pending says hearing at_up leads.1,
   )
 
   -- by what a station made
   message_leads : (at : Place) (source : ℕ) (frame : Frame) (items : List Item) (m : Rsl) (outs : List Out) → 1 ≤ at.station → at.station ≤ length settings.cells → source ≢ SWITCH_LINK → hears w.controller source ≡ true → w.inbox ≡ record { source = source; what = whats.Frame frame } ∷ items → rsl_in frame ≡ Some m → hears w.controller at.station ≡ true → is_up w at.station ≡ true
       → ((a : ActivationAck) → m ≡ rsl.ChannelActivationAck a → AllByRecursion (LeadsOut at (place_at source a.channel) w.controller) outs) → AllByRecursion (LeadsOwn owner w at (acknowledged_tenure w source (Some m))) outs
-  message_leads at source frame items (rsl.ChannelActivationAck a) outs least most station up stands says hearing at_up leads = acks_lead at source frame items a outs least most station up stands says hearing at_up (leads a refl)
-  message_leads at source frame items m outs least most station up stands says hearing at_up leads = none_lead owner w at None outs refl
+  message_leads at source frame items (rsl.ChannelActivationAck a) outs least most station up pending says hearing at_up leads = acks_lead at source frame items a outs least most station up pending says hearing at_up (leads a refl)
+  message_leads at source frame items m outs least most station up pending says hearing at_up leads = none_lead owner w at None outs refl
 
   frame_leads : (at : Place) (source : ℕ) (frame : Frame) (items : List Item) (up : Bool) → hears w.controller source ≡ up → 1 ≤ at.station → at.station ≤ length settings.cells → source ≢ SWITCH_LINK → w.inbox ≡ record { source = source; what = whats.Frame frame } ∷ items → IsKnown (whats.Frame frame) → hears w.controller at.station ≡ true → is_up w at.station ≡ true
       → AllByRecursion IsSent (on_what up source (whats.Frame frame) w.controller).outs → AllByRecursion (LeadsOwn owner w at (acknowledged_tenure w source (rsl_in frame))) (on_what up source (whats.Frame frame) w.controller).outs
-  frame_leads at source frame items false down least most station stands known hearing at_up sent = tt
-  frame_leads at source frame items true up least most station stands (m, is, read, no_nack) hearing at_up sent =
+  frame_leads at source frame items false down least most station pending known hearing at_up sent = tt
+  frame_leads at source frame items true up least most station pending (m, is, read, no_nack) hearing at_up sent =
       let says : rsl_in frame ≡ Some m = ap rsl_in is ∙ read_known m read in
       let word : word_of source frame ≡ rsl_word source m = ap (word_of source) is ∙ word_known source m station read in
       let c : Controller = w.controller in
       subst (λ (o : Option Rsl). AllByRecursion (LeadsOwn owner w at (acknowledged_tenure w source o)) (on_word source (word_of source frame) c).outs) (sym says)
-      (message_leads at source frame items m (on_word source (word_of source frame) c).outs least most station up stands says hearing at_up
+      (message_leads at source frame items m (on_word source (word_of source frame) c).outs least most station up pending says hearing at_up
       (λ a acks.
       let p : Place = place_at source a.channel in
       let own : word_of source frame ≡ OnChannel p (inputs.ActivationAck p) = word ∙ ap (rsl_word source) acks in
@@ -171,19 +171,19 @@ module _ (settings : Parameters) (owner : Tenure → ℕ) (w : Actors) (agree : 
 
   pub item_leads : (at : Place) (source : ℕ) (what : What) (items : List Item) → 1 ≤ at.station → at.station ≤ length settings.cells → w.inbox ≡ record { source = source; what = what } ∷ items → IsKnownItem (record { source = source; what = what }) → hears w.controller at.station ≡ true → is_up w at.station ≡ true
       → AllByRecursion IsSent (on_what (hears w.controller source) source what w.controller).outs → AllByRecursion (LeadsOwn owner w at (target_in w source what)) (on_what (hears w.controller source) source what w.controller).outs
-  item_leads at source whats.Down items least most stands known hearing at_up sent = none_lead owner w at None (on_what (hears w.controller source) source whats.Down w.controller).outs refl
-  item_leads at source (whats.Frame frame) items least most stands known hearing at_up sent = elim (source_or source) [
+  item_leads at source whats.Down items least most pending known hearing at_up sent = none_lead owner w at None (on_what (hears w.controller source) source whats.Down w.controller).outs refl
+  item_leads at source (whats.Frame frame) items least most pending known hearing at_up sent = elim (source_or source) [
     | inl switch ↦ none_lead owner w at (acknowledged_tenure w source (rsl_in frame)) (on_what (hears w.controller source) source (whats.Frame frame) w.controller).outs (ap (acknowledged_tenure w source) (known.switch switch))
-    | inr station ↦ frame_leads at source frame items (hears w.controller source) refl least most station stands (known.station station) hearing at_up sent
+    | inr station ↦ frame_leads at source frame items (hears w.controller source) refl least most station pending (known.station station) hearing at_up sent
   ]
 
   pub serves_handle : (item : Item) (items : List Item) → w.inbox ≡ item ∷ items → Lawful w.controller (Take item) → IsKnownItem item → (at : Place) → 1 ≤ at.station → at.station ≤ length settings.cells → Serves owner w at (target_in w item.source item.what) (take item w.controller) (heard_of at item)
   unfolding take
-  serves_handle item items stands laws known at least most =
+  serves_handle item items pending laws known at least most =
       serves_by owner w at least (target_in w item.source item.what) (Take item) (heard_of at item) (agree at least most) laws
       (λ hearing. item_serving at least item.source item.what w.controller (hears w.controller item.source) refl known ready
       (ap (λ (links : List Bool). is_link_up links at.station) (sym (step_goes w.controller (Take item)).links_are) ∙ hearing) (heard_before w.controller (Take item) at.station hearing))
-      (λ hearing up. item_leads at item.source item.what items least most stands known (heard_before w.controller (Take item) at.station hearing) up laws.sent)
+      (λ hearing up. item_leads at item.source item.what items least most pending known (heard_before w.controller (Take item) at.station hearing) up laws.sent)
 
   pub serves_tick : (ms : ℕ) → Lawful w.controller (Tick ms) → (at : Place) → 1 ≤ at.station → at.station ≤ length settings.cells → Serves owner w at None (tick ms w.controller) []
   serves_tick ms laws at least most =
@@ -200,16 +200,16 @@ snoc_steps P w (x ∷ xs) e all own =
 -- the actors after the events that are done
 pub serves_event : (settings : Parameters) (owner : Tenure → ℕ) (done : List Event) (w : Actors) (event : Event) → w ≡ world settings done → AreAllowed settings → AllByRecursion IsOctetStep (all_steps (new_actors settings) done) → AllByRecursion IsOctetStep (step_at w event) → AllAgree settings owner w → ServesAt settings owner w event
 unfolding ServesAt
-serves_event settings owner done w Handle is allowed octets own agree = λ item items stands.
-    let lives : w.controller ≡ (life settings (all_steps (new_actors settings) done)).next = ap (λ (x : Actors). x.controller) is ∙ FollowsTable-new settings done in
-    let came : AllByRecursion IsOctetStep (first_taken (item ∷ items)) = subst (λ (xs : List Item). AllByRecursion IsOctetStep (first_taken xs)) stands own in
-    let laws : Lawful w.controller (Take item) = subst (λ (c : Controller). Lawful c (Take item)) (sym lives) (lawful_life settings (all_steps (new_actors settings) done) (Take item) allowed octets came.0) in
-    let known : AllByRecursion IsKnownItem (item ∷ items) = subst (AllByRecursion IsKnownItem) stands (subst (λ (x : Actors). AllByRecursion IsKnownItem x.inbox) (sym is) (known_inbox settings done)) in
-    serves_handle settings owner w agree (ap (λ (c : Controller). c.settings) lives ∙ life-settings settings (all_steps (new_actors settings) done)) laws.ready item items stands laws known.0
+serves_event settings owner done w Handle is allowed octets own agree = λ item items pending.
+    let by_table : w.controller ≡ (life settings (all_steps (new_actors settings) done)).next = ap (λ (x : Actors). x.controller) is ∙ FollowsTable-new settings done in
+    let took_octets : AllByRecursion IsOctetStep (first_taken (item ∷ items)) = subst (λ (xs : List Item). AllByRecursion IsOctetStep (first_taken xs)) pending own in
+    let laws : Lawful w.controller (Take item) = subst (λ (c : Controller). Lawful c (Take item)) (sym by_table) (lawful_life settings (all_steps (new_actors settings) done) (Take item) allowed octets took_octets.0) in
+    let known : AllByRecursion IsKnownItem (item ∷ items) = subst (AllByRecursion IsKnownItem) pending (subst (λ (x : Actors). AllByRecursion IsKnownItem x.inbox) (sym is) (known_inbox settings done)) in
+    serves_handle settings owner w agree (ap (λ (c : Controller). c.settings) by_table ∙ life-settings settings (all_steps (new_actors settings) done)) laws.ready item items pending laws known.0
 serves_event settings owner done w (events.Tick ms) is allowed octets own agree =
-    let lives : w.controller ≡ (life settings (all_steps (new_actors settings) done)).next = ap (λ (x : Actors). x.controller) is ∙ FollowsTable-new settings done in
-    let laws : Lawful w.controller (Tick ms) = subst (λ (c : Controller). Lawful c (Tick ms)) (sym lives) (lawful_life settings (all_steps (new_actors settings) done) (Tick ms) allowed octets own.0) in
-    serves_tick settings owner w agree (ap (λ (c : Controller). c.settings) lives ∙ life-settings settings (all_steps (new_actors settings) done)) laws.ready ms laws
+    let by_table : w.controller ≡ (life settings (all_steps (new_actors settings) done)).next = ap (λ (x : Actors). x.controller) is ∙ FollowsTable-new settings done in
+    let laws : Lawful w.controller (Tick ms) = subst (λ (c : Controller). Lawful c (Tick ms)) (sym by_table) (lawful_life settings (all_steps (new_actors settings) done) (Tick ms) allowed octets own.0) in
+    serves_tick settings owner w agree (ap (λ (c : Controller). c.settings) by_table ∙ life-settings settings (all_steps (new_actors settings) done)) laws.ready ms laws
 serves_event settings owner done w _ is allowed octets own agree = tt
 
 pub serves_through : (settings : Parameters) (owner : Tenure → ℕ) (done rest : List Event) (w : Actors) → w ≡ world settings done → AreAllowed settings → AllByRecursion IsOctetStep (all_steps (new_actors settings) done) → AllByRecursion IsOctetStep (all_steps w rest) → ServesThrough settings owner w rest

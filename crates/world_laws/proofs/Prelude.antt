@@ -50,9 +50,10 @@ pub use Rattle.conn_rules.specs.Roles.{commanded as role_commanded, still_draini
 pub use Rattle.conn_rules.specs.Roles.ChangesRoles.{ends, goes_on, had_ended}
 pub use Rattle.conn_rules.specs.Roles.RoleEnd.{dismisses, drops, refused}
 pub use Rattle.conn_rules.specs.Roles.RoleStep.{commands, commands as role_commands, completes, completes as role_completes, goes_back}
-pub use Rattle.conn_rules.specs.Roles.RoleStep.{goes_back as role_goes_back, leaves, leaves as role_leaves, stays, stays as roles_stay}
+pub use Rattle.conn_rules.specs.Roles.RoleStep.{goes_back as role_goes_back, leaves, leaves as role_leaves, unchanged}
+pub use Rattle.conn_rules.specs.Roles.RoleStep.{unchanged as roles_unchanged}
 pub use Rattle.conn_rules.specs.Roles.RoleStep.{commands as it_commands, completes as it_completes, goes_back as it_goes_back}
-pub use Rattle.conn_rules.specs.Roles.RoleStep.{leaves as it_leaves, stays as it_stays}
+pub use Rattle.conn_rules.specs.Roles.RoleStep.{leaves as it_leaves, unchanged as it_is_unchanged}
 pub use Rattle.conn_rules.specs.Validity.{IsCarried, IsValid, IsValidState, FirstIsEmpty, IsHeldTenure}
 pub use Rattle.conn_rules.specs.Steps.{Row, done_at, dropping, row, without_station, begin, is_for_station}
 pub use Rattle.conn_rules.specs.Streams.{AreApart, Future, IsApart, IsOpen, KeepsUplink, OfRow, from_input, is_dtap, relayed, undone}
@@ -74,7 +75,7 @@ pub use Rattle.controller_model.proofs.LifeLaws.Acting.{conn_of, outs_own, row_f
 pub use Rattle.controller_model.proofs.LifeLaws.Beside.{links_with, step_goes}
 pub use Rattle.controller_model.proofs.LifeLaws.Concerning.{frame_leaves, frame_silent}
 pub use Rattle.controller_model.proofs.LifeLaws.Entries.{find_above, find_below, behind_found, found_number, remaining_is}
-pub use Rattle.controller_model.proofs.LifeLaws.Fitting.{aged_holds, fine_old, own_carried, pass_stands, Fits, IsFine, IsLinkBreak}
+pub use Rattle.controller_model.proofs.LifeLaws.Fitting.{aged_holds, fine_old, own_carried, pass_valid, Fits, IsFine, IsLinkBreak}
 pub use Rattle.controller_model.proofs.LifeLaws.Fitting.{break_carried, row_is, timer_carried}
 pub use Rattle.controller_model.proofs.LifeLaws.Keeping.{Avoids, elsewhere, from_stations, that_go_avoid}
 pub use Rattle.controller_model.proofs.LifeLaws.Lives.{life_acts, life_fits}
@@ -118,9 +119,9 @@ pub use Rattle.controller_model.specs.Life.{on_state, on_what, on_word, pong, ro
 pub use Rattle.controller_model.specs.Life.{on_expiry as expires, life, new_entry, take, tick, with_own_input}
 pub use Rattle.controller_model.specs.LifeLaws.Acts.{Acts, ActsOn, Brought, FitsNone, IsAged, IsBrought, brought_by, brought_in}
 pub use Rattle.controller_model.specs.LifeLaws.Acts.{brought_with, if_held, kept, kept_in, IsTimer, MissesOf}
-pub use Rattle.controller_model.specs.LifeLaws.Acts.Acts.{ages, goes, opens, rests}
-pub use Rattle.controller_model.specs.LifeLaws.Acts.Brought.{nothing, comes as brings_input, nothing as brings_nothing}
-pub use Rattle.controller_model.specs.LifeLaws.Acts.Brought.{passes as brings_time, comes, reports}
+pub use Rattle.controller_model.specs.LifeLaws.Acts.Acts.{ages, takes_row, opens, rests}
+pub use Rattle.controller_model.specs.LifeLaws.Acts.Brought.{nothing, of_frame as brings_input, nothing as brings_nothing}
+pub use Rattle.controller_model.specs.LifeLaws.Acts.Brought.{passes as brings_time, of_frame, reports}
 pub use Rattle.controller_model.specs.LifeLaws.End.{IsThere}
 pub use Rattle.controller_model.specs.LifeLaws.History.{connection_of, connection_of as controllers, is_for, outs_for, word_by, word_in}
 pub use Rattle.controller_model.specs.LifeLaws.History.{IsHistory, Moment, all_messages, connection_of as had_of}
@@ -182,7 +183,7 @@ pub use Rattle.world_laws.specs.Access.Coming.{AreAssigned, Assigns, AssignsBy, 
 pub use Rattle.world_laws.specs.Access.Coming.{data_by, data_up}
 pub use Rattle.world_laws.specs.Access.Requested.{AreBeside, AreForOthers, AreOneEach, AssignsAnother, HasAccess, ControllerBringsComing}
 pub use Rattle.world_laws.specs.Access.Requested.{IsBeside, NamesAnother}
-pub use Rattle.world_laws.specs.Access.Requested.HasAccess.{requests as has_requested, requests, comes as still_comes}
+pub use Rattle.world_laws.specs.Access.Requested.HasAccess.{requests as has_requested, requests, on_its_way as still_comes}
 pub use Rattle.world_laws.specs.Acknowledged.{AcksFlow, AcksTell, AllAcksTell, NoneReleases, ReleasesLast, acknowledgements_taken}
 pub use Rattle.world_laws.specs.Acknowledged.{acknowledgements_up, is_release_ack, messages_up, read_by, read_of}
 pub use Rattle.world_laws.specs.Channels.Roles.{AcknowledgementsAgree, ChannelsEnd, FreeAreSilent, IsSilent, OldChannelsEnd}
@@ -199,7 +200,7 @@ pub use Rattle.world_laws.specs.LineUp.Alive.IsHereOrGone.{left, remains}
 pub use Rattle.world_laws.specs.LineUp.BreakStep.{BreakStep, lost}
 pub use Rattle.world_laws.specs.LineUp.BreakStep.BreakStep.{breaks_old, breaks_serving, breaks_target}
 pub use Rattle.world_laws.specs.LineUp.ChangeStep.{ChangeStep, after_complete, done, ended}
-pub use Rattle.world_laws.specs.LineUp.Order.{IsInOrder, coming}
+pub use Rattle.world_laws.specs.LineUp.Order.{IsInOrder, arriving}
 pub use Rattle.world_laws.specs.LineUp.Places.{Item as Brings, Item as Items, LineUp, controls_in, controls_of, flow, fresh, holding, line}
 pub use Rattle.world_laws.specs.LineUp.Places.{messages_in, part_of, parts_of, texts_in, with_items}
 pub use Rattle.world_laws.specs.LineUp.Places.Item.{brought as brings_up, released as ends_up, released as release_ack, released}
@@ -242,7 +243,7 @@ pub use Rattle.world_laws.specs.SapiThree.{BringsBesideFlow, FlowIsOnSapiZero, I
 pub use Rattle.world_laws.specs.Seated.{AreActiveAt, IsAlone, IsElsewhere, Leads, LinedUp, NoneOn, Remembers, Sits, change_in}
 pub use Rattle.world_laws.specs.Seated.{commanded_channels}
 pub use Rattle.world_laws.specs.Seated.Leads.{leads}
-pub use Rattle.world_laws.specs.Seated.Sits.{between, came, gone as is_gone_now, gone as sits_gone, stays as sits_stays}
+pub use Rattle.world_laws.specs.Seated.Sits.{between, at_its_target, gone as is_gone_now, gone as sits_gone, unchanged as sits_unchanged}
 pub use Rattle.world_laws.specs.Staying.{AreLinedUp, BringsNothing, DeliversFirst, EndsLast, IsForOthers, IsOthers, MobilesKeepLineUps}
 pub use Rattle.world_laws.specs.Staying.{RelayLeavesOthers, StationBreaksKeepLineUps, StationsKeepLineUps, SwitchKeepsLineUps}
 pub use Rattle.world_laws.specs.Staying.{TimeLeavesOthers, carried_for, is_beside_relay}
@@ -348,8 +349,9 @@ pub use Rattle.world_model.proofs.Outboxes.{other_link}
 pub use Rattle.world_model.proofs.Outboxes.Step.{breaks}
 pub use Rattle.world_model.proofs.OwnerEvents.{Rests, beside_rests}
 pub use Rattle.world_model.proofs.OwnerItems.{IsKnown, IsKnownItem, known_inbox, IsKnown as IsKnownWhat}
-pub use Rattle.world_model.proofs.OwnerPuts.{Goes, Passes, Runs, entries_to, said_to, FitAll, FitsBeside, entry_out, goes_put, runs_kept}
-pub use Rattle.world_model.proofs.OwnerPuts.Goes.{activates, first_passes, runs, activates as goes_activates}
+pub use Rattle.world_model.proofs.OwnerPuts.{RunsThrough, Passes, Runs, entries_to, said_to, FitAll, FitsBeside, entry_out, goes_put}
+pub use Rattle.world_model.proofs.OwnerPuts.{runs_kept}
+pub use Rattle.world_model.proofs.OwnerPuts.RunsThrough.{activates, first_passes, runs, activates as goes_activates}
 pub use Rattle.world_model.proofs.OwnerPuts.Runs.{over, passes, releases}
 pub use Rattle.world_model.proofs.OwnerRuns.{Right, handle_turned, heard_of, kinds, right_new, right_step, there_of, tick-turned}
 pub use Rattle.world_model.proofs.OwnerRuns.{beside_number, new_down, owned_run, takes_number}

@@ -50,11 +50,11 @@ coming_more w u station at base messages at_is up same inbox made_now =
           ∙ ap (λ (n : ℕ). flat_map (brings_in at) w.inbox ++ made_of at.number (base_of w n).messages ++ made_of at.number messages) is
 
 told_there : (w : Actors) (v : Actors) (station : ℕ) (at : Place) (base : BaseState) (messages : List Rsl) → base.messages ≡ (base_of w station).messages ++ messages → base_of v station ≡ base → made_of at.number (base_of v station).messages ≡ made_of at.number (base_of w station).messages ++ made_of at.number messages
-told_there w v station at base messages told is = ap (λ (b : BaseState). made_of at.number b.messages) is ∙ ap (made_of at.number) told ∙ made_append at.number (base_of w station).messages messages
+told_there w v station at base messages appended is = ap (λ (b : BaseState). made_of at.number b.messages) is ∙ ap (made_of at.number) appended ∙ made_append at.number (base_of w station).messages messages
 
 pub coming_told : (w u : Actors) (station : ℕ) (at : Place) (base : BaseState) (messages : List Rsl) → at.station ≢ 0 → is_station_up w station ≡ true → SameEnds w u → u.inbox ≡ w.inbox → base.messages ≡ (base_of w station).messages ++ messages → IsMade w station at messages
     → coming_up (with_base station base u) at ≡ coming_up w at ++ added_by at station messages
-coming_told w u station at base messages at_is up same inbox told made = coming_more w u station at base messages at_is up same inbox made_now where
+coming_told w u station at base messages at_is up same inbox appended made = coming_more w u station at base messages at_is up same inbox made_now where
   v : Actors
   v = with_base station base u
 
@@ -64,16 +64,16 @@ coming_told w u station at base messages at_is up same inbox told made = coming_
 
   made_now : made_of at.number (base_of v station).messages ≡ made_of at.number (base_of w station).messages ++ made_of at.number messages
   made_now = elim (base-there u station base) [
-    | inl is ↦ told_there w v station at base messages told is
+    | inl is ↦ told_there w v station at base messages appended is
     | inr is ↦ nowhere is.0 (sym (same station) ∙ is.1) made
   ]
 
 -- the messages join what its station made, if it is there
 pub coming_told_or : (w u : Actors) (station : ℕ) (at : Place) (base : BaseState) (messages : List Rsl) → at.station ≢ 0 → is_station_up w station ≡ true → SameEnds w u → u.inbox ≡ w.inbox → base.messages ≡ (base_of w station).messages ++ messages
     → (coming_up (with_base station base u) at ≡ coming_up w at ++ added_by at station messages) ⊎ (coming_up (with_base station base u) at ≡ coming_up w at)
-coming_told_or w u station at base messages at_is up same inbox told =
+coming_told_or w u station at base messages at_is up same inbox appended =
     elim (base-there u station base) [
-      | inl is ↦ inl (coming_more w u station at base messages at_is up same inbox (told_there w (with_base station base u) station at base messages told is))
+      | inl is ↦ inl (coming_more w u station at base messages at_is up same inbox (told_there w (with_base station base u) station at base messages appended is))
       | inr is ↦ inr (coming_same w (with_base station base u) at inbox (ends is.0 is.1))
     ] where
       ends : base_of (with_base station base u) station ≡ no_station.base → base_of u station ≡ no_station.base → base_of (with_base station base u) at.station ≡ base_of w at.station
@@ -85,7 +85,7 @@ coming_told_or w u station at base messages at_is up same inbox told =
 -- messages that bring nothing
 pub coming_quiet : (w u : Actors) (station : ℕ) (at : Place) (base : BaseState) (messages : List Rsl) → at.station ≢ 0 → is_station_up w station ≡ true → SameEnds w u → u.inbox ≡ w.inbox → base.messages ≡ (base_of w station).messages ++ messages → made_of at.number messages ≡ []
     → coming_up (with_base station base u) at ≡ coming_up w at
-coming_quiet w u station at base messages at_is up same inbox told nothing = coming_told w u station at base messages at_is up same inbox told (inr nothing) ∙ ap (λ (xs : List Brought). coming_up w at ++ xs) (none (station == at.station)) ∙ append-nil (coming_up w at) where
+coming_quiet w u station at base messages at_is up same inbox appended nothing = coming_told w u station at base messages at_is up same inbox appended (inr nothing) ∙ ap (λ (xs : List Brought). coming_up w at ++ xs) (none (station == at.station)) ∙ append-nil (coming_up w at) where
   none : (b : Bool) → (if b then made_of at.number messages else []) ≡ []
   none true = nothing
   none false = refl

@@ -90,8 +90,8 @@ module _ (P : List ℕ → Type 0) where
   -- what is relayed was held, or comes with the input
   all_relayed : (sapi : Sapi) (s : Connection) (input : Input) (offer : Option Channel) (r : Row) → IsValid s → AreApart (used_channels s) → row_of s input offer ≡ Some r → IsOpen r.next.state
       → ((at : Place) → AllByRecursion P (from_input sapi input none at)) → AllByRecursion (λ t. AllByRecursion P (tenure_messages t sapi)) s.up.tenures → AllByRecursion P (relayed sapi r.outs)
-  all_relayed sapi s input offer r stands apart fits is_open each all =
-      let keeps : KeepsUplink sapi none s input r = subst (OfRow (KeepsUplink sapi none s input)) fits (row_keeps s input offer sapi none stands apart (ends_none input s.state)) in
+  all_relayed sapi s input offer r valid apart fits is_open each all =
+      let keeps : KeepsUplink sapi none s input r = subst (OfRow (KeepsUplink sapi none s input)) fits (row_keeps s input offer sapi none valid apart (ends_none input s.state)) in
       all_left P (relayed sapi r.outs) (still_to_relay sapi none r.next)
       (subst (AllByRecursion P) (sym (keeps is_open))
       (AllByRecursion-append P (still_of sapi (from_input sapi input none) s.serving s.draining s.up.tenures) (of_target (from_input sapi input none) s.state)
@@ -230,7 +230,7 @@ parts_of o s is sound = subst SoundOf is sound
 record IsKnown (c : Controller) (s : Connection) : Type 0 where
   from_one : 1 ≤ s.number
   few : s.number < 2 ^ 24
-  stands : IsValid s
+  valid : IsValid s
   there : connection_of c s.number ≡ Some s
   owns : Owns c.channels c.links s.number (roles_of s)
   parts : SoundParts s
@@ -249,7 +249,7 @@ known c s ready sound found = subst (λ (x : Connection). IsOpen x.state → IsK
     record {
       from_one = found.here.from_one;
       few = omega arith;
-      stands = found.here.stands;
+      valid = found.here.valid;
       there = there;
       owns = subst (OwnsOpen c.channels c.links e.connection.number) there (ready.holds.each e.connection.number) is_open;
       parts = parts_of (connection_of c e.connection.number) e.connection there (sound.each e.connection.number);
@@ -258,7 +258,7 @@ known c s ready sound found = subst (λ (x : Connection). IsOpen x.state → IsK
 sound_row : {c : Controller} {s : Connection} (input : Input) (offer : Option Channel) (r : Row) → IsKnown c s → row_of s input offer ≡ Some r → AllByRecursion IsSoundChannel (option_to_list offer) → IsCarried input → RefersBy input → AllByRecursion IsSound r.outs
 sound_row {s = s} input offer r known fits offered carried refers =
     let sound : IsSoundRow r = subst (OfRow IsSoundRow) fits
-    (row_sound s input offer (record { serving = known.parts.serving; zero = known.stands.down_zero; three = known.stands.down_three; up = known.stands.up_messages; refers = known.parts.refers }) known.parts.targets offered carried refers) in
+    (row_sound s input offer (record { serving = known.parts.serving; zero = known.valid.down_zero; three = known.valid.down_three; up = known.valid.up_messages; refers = known.parts.refers }) known.parts.targets offered carried refers) in
     sound.1
 
 -- the flow that goes to the switch
@@ -284,39 +284,40 @@ next_owns : (c : Controller) (r : Row) → OwnsOpen c.channels c.links r.next.nu
 next_owns c r owns there is_open = subst (OwnsOpen c.channels c.links r.next.number) there owns is_open
 
 pub frames_are_put_as_read_new : (settings : Parameters) (events : List Event) → FramesArePutAsRead settings events
-frames_are_put_as_read_new settings events s item items input offer r allowed octets own_octets stood comes =
+frames_are_put_as_read_new settings events s item items input offer r allowed octets own_octets pending addressed =
     let w : Actors = world settings events in
     let steps = all_steps (new_actors settings) events in
     let c : Controller = (life settings steps).next in
-    let lives : w.controller ≡ c = FollowsTable-new settings events in
-    let word : Word = word_of item.source comes.frame in
-    let said : IsSaidTo c word s input offer = subst (λ (d : Controller). IsSaidTo d word s input offer) lives comes.said in
+    let by_table : w.controller ≡ c = FollowsTable-new settings events in
+    let word : Word = word_of item.source addressed.frame in
+    let said : IsSaidTo c word s input offer = subst (λ (d : Controller). IsSaidTo d word s input offer) by_table addressed.said in
     let now : IsAfter c = life_after settings steps allowed in
     let ready : Ready c = ready_by c now.fits now.holds now.uses in
     let all : IsSoundAll c = life_sound settings steps allowed octets in
-    let is_open : IsOpen s.state = open_of s.state comes.requested in
+    let is_open : IsOpen s.state = open_of s.state addressed.requested in
     let one : IsKnown c s = known c s ready all (found_of ready said) is_open in
     let apart : AreApart (used_channels s) = used_apart s one.owns.apart in
-    let frame_octets : AreOctets comes.frame.body = subst IsOfOctets comes.is own_octets in
-    let sound : AllByRecursion IsSound r.outs = sound_row input offer r one comes.fits (offered said all) comes.carried (refers_input said (word_refers item.source comes.frame frame_octets)) in
-    let says : SaysBesideFlow word = subst (λ (x : What). SaysBesideFlow (word_by item.source x)) comes.is
-    (subst (AllByRecursion (λ item. SaysBesideFlow (word_by item.source item.what))) stood (says_waits settings events)).0 in
-    let held : AllByRecursion IsBesideFlow (held_up c s.number Three) = subst (λ (d : Controller). AllByRecursion IsBesideFlow (held_up d s.number Three)) lives
-    ((flow_comes_on_sapi_zero_new settings events).held allowed s.number one.from_one (subst (λ (d : Controller). IsThere (connection_of d s.number)) (sym lives) (subst IsThere (sym one.there) is_open))) in
+    let frame_octets : AreOctets addressed.frame.body = subst IsOfOctets addressed.is own_octets in
+    let sound : AllByRecursion IsSound r.outs = sound_row input offer r one addressed.fits (offered said all) addressed.carried (refers_input said (word_refers item.source addressed.frame frame_octets)) in
+    let says : SaysBesideFlow word = subst (λ (x : What). SaysBesideFlow (word_by item.source x)) addressed.is
+    (subst (AllByRecursion (λ item. SaysBesideFlow (word_by item.source item.what))) pending (says_waits settings events)).0 in
+    let held : AllByRecursion IsBesideFlow (held_up c s.number Three) = subst (λ (d : Controller). AllByRecursion IsBesideFlow (held_up d s.number Three)) by_table
+    ((flow_comes_on_sapi_zero_new settings events).held allowed s.number one.from_one (subst (λ (d : Controller). IsThere (connection_of d s.number)) (sym by_table) (subst IsThere (sym one.there) is_open))) in
     let after : IsAfter (step c (Take item)).next = run_step c (Take item) now.fits now.holds now.uses in
-    let number : r.next.number ≡ s.number = subst (OfRow (λ (q : Row). q.next.number ≡ s.number)) comes.fits (keeps_number s input offer) in
+    let number : r.next.number ≡ s.number = subst (OfRow (λ (q : Row). q.next.number ≡ s.number)) addressed.fits
+    (keeps_number s input offer) in
     let next : connection_of (step c (Take item)).next r.next.number ≡ Some r.next =
-    ap (connection_of (step c (Take item)).next) number ∙ taken_next c item comes.frame s.number r.next (ap (λ (d : Controller). is_up d item.source) (sym lives) ∙ comes.up) comes.is (word-next item.source r ready said comes.fits comes.stays_open) in
-    let owns = next_owns (step c (Take item)).next r (after.holds.each r.next.number) next comes.stays_open in
+    ap (connection_of (step c (Take item)).next) number ∙ taken_next c item addressed.frame s.number r.next (ap (λ (d : Controller). is_up d item.source) (sym by_table) ∙ addressed.up) addressed.is (word-next item.source r ready said addressed.fits addressed.remains_open) in
+    let owns = next_owns (step c (Take item)).next r (after.holds.each r.next.number) next addressed.remains_open in
     record {
-      whole = all_relayed IsLayer3 Zero s input offer r one.stands apart comes.fits comes.stays_open (brought_whole input comes.carried) (held_whole s.up.tenures one.stands.up_messages);
-      forwards = forwards_of input offer r one comes.fits sound
-          (all_relayed IsBesideFlow Three s input offer r one.stands apart comes.fits comes.stays_open (says_input said says) (beside_held c s one.there held));
+      whole = all_relayed IsLayer3 Zero s input offer r one.valid apart addressed.fits addressed.remains_open (brought_whole input addressed.carried) (held_whole s.up.tenures one.valid.up_messages);
+      forwards = forwards_of input offer r one addressed.fits sound
+          (all_relayed IsBesideFlow Three s input offer r one.valid apart addressed.fits addressed.remains_open (says_input said says) (beside_held c s one.there held));
       read = all_read s.number r.outs one.few sound;
       apart = used_apart r.next owns.apart;
       placed = owns_placed (step c (Take item)).next r.next (ready_uses (step c (Take item)).next (ready_by (step c (Take item)).next after.fits after.holds after.uses)) owns;
     }
 
 pub allowed_frames_keep_line_ups_new : (settings : Parameters) (events : List Event) → AllowedFramesKeepLineUps settings events
-allowed_frames_keep_line_ups_new settings events mobile s item items input offer r allowed octets own_octets stood comes ready lined =
-    frames_keep_line_ups_new settings events mobile s item items input offer r stood comes ready (frames_are_put_as_read_new settings events s item items input offer r allowed octets own_octets stood comes) lined
+allowed_frames_keep_line_ups_new settings events mobile s item items input offer r allowed octets own_octets pending addressed ready lined =
+    frames_keep_line_ups_new settings events mobile s item items input offer r pending addressed ready (frames_are_put_as_read_new settings events s item items input offer r allowed octets own_octets pending addressed) lined

@@ -25,7 +25,7 @@ ArePlaced cs = AllByRecursion (λ c. c.station ≢ SWITCH_LINK) cs
 pub sees_itself : (w : Actors) (s : Connection) → SeesSame w w s
 unfolding SameTenures
 sees_itself w s = record {
-  coming = all_of (λ c. coming_up w (place_of c) ≡ coming_up w (place_of c)) (used_channels s) (λ c. refl);
+  arriving = all_of (λ c. coming_up w (place_of c) ≡ coming_up w (place_of c)) (used_channels s) (λ c. refl);
   up = λ n. refl;
   serving = refl;
   target = λ t is. refl;
@@ -37,7 +37,7 @@ sees_itself w s = record {
 -- mobiles change
 pub sees_mobiles : {w u : Actors} {s : Connection} (mobiles : List Mobile) → SeesSame w u s → SeesSame w (record u { mobiles = mobiles }) s
 unfolding SameTenures
-sees_mobiles mobiles sees = record { coming = sees.coming; up = sees.up; serving = sees.serving; target = sees.target; tenures = sees.tenures; waiting = sees.waiting; taken = sees.taken }
+sees_mobiles mobiles sees = record { arriving = sees.arriving; up = sees.up; serving = sees.serving; target = sees.target; tenures = sees.tenures; waiting = sees.waiting; taken = sees.taken }
 
 -- ---- an end changes
 
@@ -48,9 +48,9 @@ down_with_base w station base at = ap (λ (spot : Spot). flat_map leading_from_a
 pub sees_told : {w u : Actors} {s : Connection} (station : ℕ) (base : BaseState) (messages : List Rsl) → ArePlaced (used_channels s) → is_station_up w station ≡ true → SameEnds w u → u.inbox ≡ w.inbox → base.messages ≡ (base_of w station).messages ++ messages → ((channel : ℕ) → made_of channel messages ≡ [])
     → SeesSame w u s → SeesSame w (with_base station base u) s
 unfolding SameTenures
-sees_told {w} {u} {s} station base messages placed up same inbox told nothing sees = record {
-  coming = all_both (λ c. c.station ≢ SWITCH_LINK) (λ c. c.station ≢ SWITCH_LINK) (λ c. coming_up (with_base station base u) (place_of c) ≡ coming_up w (place_of c)) (used_channels s)
-      (λ c c_is _. coming_quiet w u station (place_of c) base messages c_is up same inbox told (nothing c.number)) placed placed;
+sees_told {w} {u} {s} station base messages placed up same inbox appended nothing sees = record {
+  arriving = all_both (λ c. c.station ≢ SWITCH_LINK) (λ c. c.station ≢ SWITCH_LINK) (λ c. coming_up (with_base station base u) (place_of c) ≡ coming_up w (place_of c)) (used_channels s)
+      (λ c c_is _. coming_quiet w u station (place_of c) base messages c_is up same inbox appended (nothing c.number)) placed placed;
   up = sees.up;
   serving = down_with_base u station base (place_of s.serving) ∙ sees.serving;
   target = λ t is. down_with_base u station base (place_of t.channel) ∙ sees.target t is;
@@ -74,7 +74,7 @@ coming_with_spot u at spot other = coming_same u (with_spot at spot u) other ref
 pub sees_spot : {w u : Actors} {s : Connection} (at : Place) (spot : Spot) → flat_map leading_from_air spot.air ≡ flat_map leading_from_air (spot_at u at).air → spot.tenure ≡ (spot_at u at).tenure → SeesSame w u s → SeesSame w (with_spot at spot u) s
 unfolding SameTenures
 sees_spot {w} {u} {s} at spot air tenure sees = record {
-  coming = by_all (used_channels s) sees.coming;
+  arriving = by_all (used_channels s) sees.arriving;
   up = sees.up;
   serving = down_with_spot u at spot (place_of s.serving) air ∙ sees.serving;
   target = λ t is. down_with_spot u at spot (place_of t.channel) air ∙ sees.target t is;
@@ -90,7 +90,7 @@ sees_spot {w} {u} {s} at spot air tenure sees = record {
 pub sees_elsewhere : {w u : Actors} {s : Connection} (at : Place) (spot : Spot) → at.station ≢ SWITCH_LINK → ArePlaced (used_channels s) → IsElsewhere (used_channels s) at → spot.tenure ≡ (spot_at u at).tenure → SeesSame w u s → SeesSame w (with_spot at spot u) s
 unfolding SameTenures
 sees_elsewhere {w} {u} {s} at spot at_is placed elsewhere tenure sees = record {
-  coming = by_all (used_channels s) sees.coming;
+  arriving = by_all (used_channels s) sees.arriving;
   up = sees.up;
   serving = down_spot u (with_spot at spot u) (place_of s.serving) (spot-elsewhere u at spot s.serving at_is placed_rest.0 elsewhere_rest.0) refl ∙ sees.serving;
   target = λ t is. down_spot u (with_spot at spot u) (place_of t.channel) (spot-elsewhere u at spot t.channel at_is (placed_target t is).0 (elsewhere_target t is).0) refl ∙ sees.target t is;

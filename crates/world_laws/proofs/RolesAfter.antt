@@ -34,23 +34,23 @@ begun_roles (Some target) input offer roles may = (refl, refl, sym (ap commanded
 
 -- a change that begins leaves them, as its mobile isn't commanded yet
 pub channels_after : (step : RoleStep) (before : Roles) (down : HoldState) (input : Input) (offer : Option Channel) (r : Row) → RemainsOpen step before down input offer r → ChannelsAfter r.next (after_step step before)
-channels_after step before down input offer r goes =
-    let begun = begun_roles goes.begun input offer (after_step step before) goes.may in
+channels_after step before down input offer r remains =
+    let begun = begun_roles remains.begun input offer (after_step step before) remains.may in
     record {
-      serving = ap (λ (roles : Roles). roles.serving) goes.roles ∙ begun.0;
-      draining = ap (λ (roles : Roles). roles.draining) goes.roles ∙ begun.1;
-      target = commanded_role r.next.state ∙ ap (λ (roles : Roles). commanded_of roles.target) goes.roles ∙ begun.2;
+      serving = ap (λ (roles : Roles). roles.serving) remains.roles ∙ begun.0;
+      draining = ap (λ (roles : Roles). roles.draining) remains.roles ∙ begun.1;
+      target = commanded_role r.next.state ∙ ap (λ (roles : Roles). commanded_of roles.target) remains.roles ∙ begun.2;
     }
 
 -- ---- an old channel is released, and leaves
 
 -- those that leave lack nothing
-pub still_lacks : (coming : Place → List Item) (up : ℕ → Bool) (ds : List Drain) → some_lacks coming up (still_draining ds) ≡ some_lacks coming up ds
-still_lacks coming up [] = refl
-still_lacks coming up (d ∷ ds) =
+pub still_lacks : (arriving : Place → List Item) (up : ℕ → Bool) (ds : List Drain) → some_lacks arriving up (still_draining ds) ≡ some_lacks arriving up ds
+still_lacks arriving up [] = refl
+still_lacks arriving up (d ∷ ds) =
     elim (cases_Bool d.is_done) [
-      | inl done ↦ ap (λ (b : Bool). some_lacks coming up (cond b (still_draining ds) (d ∷ ds))) done ∙ still_lacks coming up ds ∙ ap (λ (b : Bool). (cond b false (not (up d.channel.station) && not (is_ended (coming (place_of d.channel))))) || some_lacks coming up ds) (sym done)
-      | inr drains ↦ ap (λ (b : Bool). some_lacks coming up (cond b (still_draining ds) (d ∷ ds))) drains
+      | inl done ↦ ap (λ (b : Bool). some_lacks arriving up (cond b (still_draining ds) (d ∷ ds))) done ∙ still_lacks arriving up ds ∙ ap (λ (b : Bool). (cond b false (not (up d.channel.station) && not (is_ended (arriving (place_of d.channel))))) || some_lacks arriving up ds) (sym done)
+      | inr drains ↦ ap (λ (b : Bool). some_lacks arriving up (cond b (still_draining ds) (d ∷ ds))) drains
     ]
 
 -- Of the channel that is released all came; of the others as much is missing as before.

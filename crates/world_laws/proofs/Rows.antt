@@ -15,12 +15,12 @@ use Rattle.mobile_end.specs.declared.mobile_end.Place.TheVariants.{OnChannel}
 use Rattle.world_laws.specs.LineUp.Alive.Follows.{goes_on}
 use Rattle.world_laws.specs.LineUp.Alive.ChangePhase.{rests}
 use Rattle.world_laws.proofs.LineUp.Ordering.{is_in_order_alive}
-use Rattle.world_laws.specs.LineUp.Places.{Seat, Tenure}
+use Rattle.world_laws.specs.LineUp.Places.{Seat, LineTenure}
 use Rattle.world_laws.specs.LineUp.Places.Item.{brought}
 use Rattle.world_model.proofs.Worlds.{on_literals}
 use Rattle.controller_model.specs.Views.{forwarded}
 use Rattle.world_laws.specs.Seated.Remembers.{nothing}
-use Rattle.world_laws.specs.Seated.Sits.{stays}
+use Rattle.world_laws.specs.Seated.Sits.{unchanged}
 use Rattle.world_laws.proofs.Ending.{ended_are_in_order_new}
 use Rattle.world_laws.proofs.Usual.{channel}
 
@@ -29,7 +29,7 @@ abbrev line_up_of : World → ℕ → ℕ → Option LineUp
 line_up_of w mobile number = option_and_then (λ p. option_map (λ e. line_up w.actors p e.connection) (entry_of w.actors.controller number)) (mobile_of w.actors mobile)
 
 -- the second message stands in the air, the third waits behind it, and nothing is missing
-abbrev second_in_air : Seat → Bool → List Tenure → Tenure → Tenure → List (List ℕ) → List (List ℕ) → LineUp
+abbrev second_in_air : Seat → Bool → List LineTenure → LineTenure → LineTenure → List (List ℕ) → List (List ℕ) → LineUp
 second_in_air seat changing old serving target out taken = record {
   sent = (hex "05 24 71") ∷ (hex "03 05") ∷ (hex "03 0f") ∷ [];
   link = record { waiting = (hex "03 8f") ∷ []; air = Reached (hex "03 45") };
@@ -237,7 +237,7 @@ spread_is_alive = record {
     anew = next at_0 (next at_1 (again refl at_1 (next at_2 (next at_3 (again refl at_3 (next at_4 (rise_over 5)))))));
   });
   first = refl;
-  stands = rests remains refl;
+  phase = rests remains refl;
   condition = sound;
   bare = refl;
 }
@@ -295,7 +295,7 @@ is_lined_up : LinedUp 4 (actors ((hex "05 24 71") ∷ (hex "03 45") ∷ [])) (mo
 unfolding on_literals forwarded
 is_lined_up = record {
   alive = spread_is_alive;
-  sits = stays refl nothing;
+  sits = unchanged refl nothing;
   led = tt;
   none_on_target = tt;
   apart = ((refl, tt), (tt, tt));
@@ -311,7 +311,7 @@ in_another_tenure : LinedUp 4 (actors ((hex "05 24 71") ∷ (hex "03 45") ∷ []
 unfolding on_literals forwarded
 in_another_tenure h = no_seat h.sits where
   no_seat : Sits (actors ((hex "05 24 71") ∷ (hex "03 45") ∷ [])) (channel 1 0x0a) None (On (record { at = place_at 1 0x0a; number = 4 }) None) → ⊥
-  no_seat (stays is remembers) = let number = ap (λ (t : ChannelTenure). t.number) is in absurd cc
+  no_seat (unchanged is remembers) = let number = ap (λ (t : ChannelTenure). t.number) is in absurd cc
 
 -- ---- outputs that are another connection's: of connection 1, whose channel is 0A of station 1
 

@@ -59,11 +59,11 @@ NoneLent w = (number : ℕ) (p : Mobile) (frame : List ℕ) → mobile_of w numb
 none_lent : (settings : Parameters) (events : List Event) → NoneLent (world settings events)
 unfolding NoneLent
 none_lent settings events number p frame found is =
-    let lives = MobilesLive-new settings events number p found in
+    let by_table = MobilesLive-new settings events number p found in
     let m : ℕ = modulus_in settings in
     let mobile : MobileState = new_mobile m in
     let calls : List Call = all_calls (new_actors settings) events number in
-    let last : frame_lent (frame_answer (after_calls mobile calls) Three) ≡ frame ∷ [] = ap (λ (e : MobileState). frame_lent (frame_answer e Three)) (sym lives.is) ∙ lent_in (frame_answer p.end Three) frame is in
+    let last : frame_lent (frame_answer (after_calls mobile calls) Three) ≡ frame ∷ [] = ap (λ (e : MobileState). frame_lent (frame_answer e Three)) (sym by_table.is) ∙ lent_in (frame_answer p.end Three) frame is in
     beside frame ((both_empty (filter is_flow_message (taken_on_three_by_calls mobile calls)) (filter is_flow_message (frame ∷ []))
     (sym (sym (filter-append is_flow_message (taken_on_three_by_calls mobile calls) (frame ∷ []))
     ∙ ap (λ (xs : List (List ℕ)). filter is_flow_message (taken_on_three_by_calls mobile calls ++ xs)) (sym last)

@@ -26,8 +26,8 @@ record Grows (p q : Mobile) : Type 0 where
 same : {p q : Mobile} → q.number ≡ p.number → q.end.sent ≡ p.end.sent → Grows p q
 same {p} number is = record { number = number; more = []; is = is ∙ sym (append-nil p.end.sent) }
 
-stays : {mobile : ℕ} {sent : List (List ℕ)} {w v : Actors} → v.mobiles ≡ w.mobiles → HasSent mobile sent w → HasSent mobile sent v
-stays {mobile} mobiles has = record { one = has.one; found = ap (λ (ms : List Mobile). find (has_number mobile) ms) mobiles ∙ has.found; more = has.more; is = has.is }
+unchanged : {mobile : ℕ} {sent : List (List ℕ)} {w v : Actors} → v.mobiles ≡ w.mobiles → HasSent mobile sent w → HasSent mobile sent v
+unchanged {mobile} mobiles has = record { one = has.one; found = ap (λ (ms : List Mobile). find (has_number mobile) ms) mobiles ∙ has.found; more = has.more; is = has.is }
 
 acts : {mobile : ℕ} {sent : List (List ℕ)} {w v : Actors} (number : ℕ) (p q : Mobile) → mobile_of w number ≡ Some p → v.mobiles ≡ put_back q w.mobiles → Grows p q → HasSent mobile sent w → HasSent mobile sent v
 acts {mobile} {sent} {w} {v} number p q acting mobiles grows has = by_number (nat_eq number mobile) refl where
@@ -88,7 +88,7 @@ grows (is_queued sapi message p may) = queues p sapi message
 grows (opens p tenure frame lent) = same refl (sent-frame p.end Zero)
 grows (lends p tenure frame lent) = same refl (sent-frame p.end Three)
 grows (is_acked sapi p) = same refl (sent-acked p.end sapi)
-grows (hears p tenure command first others seat reached stood) = same (hearing-number p first) (ap (λ (e : MobileState). e.sent) (hearing-end p first))
+grows (hears p tenure command first others seat reached pending) = same (hearing-number p first) (ap (λ (e : MobileState). e.sent) (hearing-end p first))
 grows _ = same refl refl
 
 pub sent_grows : (mobile : ℕ) (w : Actors) (event : Event) (p : Mobile) → mobile_of w mobile ≡ Some p → HasSent mobile p.end.sent (actors_after w event)
@@ -97,13 +97,13 @@ sent_grows mobile w event p found =
     event-keeps (HasSent mobile p.end.sent) w event (record {
       puts = λ u number x q acting mobiles how so. acts number x q (ap (λ (ms : List Mobile). find (has_number number) ms) mobiles ∙ acting) refl (grows how) so;
       joins = λ number initial accepts _ so. joins (connected w.modulus number initial accepts) refl so;
-      tells = λ u n message _ _ so. stays refl so;
-      spots = λ u at spot _ _ so. stays refl so;
-      pops = λ station others _ so. stays refl so;
-      activates = λ u s a _ _ so. stays refl so;
-      releases = λ u s channel _ so. stays refl so;
+      tells = λ u n message _ _ so. unchanged refl so;
+      spots = λ u at spot _ _ so. unchanged refl so;
+      pops = λ station others _ so. unchanged refl so;
+      activates = λ u s a _ _ so. unchanged refl so;
+      releases = λ u s channel _ so. unchanged refl so;
     }) (record {
-      rest = λ u inbox controller switch made links so. stays refl so;
-      next = λ source message _ so. stays refl so;
-      down = λ source _ _ so. stays refl so;
+      rest = λ u inbox controller switch made links so. unchanged refl so;
+      next = λ source message _ so. unchanged refl so;
+      down = λ source _ _ so. unchanged refl so;
     }) has

@@ -5,13 +5,13 @@ use Rattle.world_laws.proofs.Prelude.{Controller, Parameters, Event, all_steps, 
 use Rattle.world_laws.proofs.Prelude.{ConnectionsStand}
 use Rattle.controller_model.proofs.LifeLaws.Fitting.{IsFine}
 
-stands_of : (o : Option Connection) (s : Connection) → o ≡ Some s → IsFine o → IsValid s
+valid_of : (o : Option Connection) (s : Connection) → o ≡ Some s → IsFine o → IsValid s
 unfolding IsFine
-stands_of o s is fine = (subst IsFine is fine).1
+valid_of o s is fine = (subst IsFine is fine).1
 
 pub connections_stand_new : (settings : Parameters) (events : List Event) → ConnectionsStand settings events
 connections_stand_new settings events number s is =
     let steps : List Step = all_steps (new_actors settings) events in
     let c : Controller = (life settings steps).next in
-    stands_of (connection_of c number) s (subst (λ (d : Controller). connection_of d number ≡ Some s) (FollowsTable-new settings events) is)
+    valid_of (connection_of c number) s (subst (λ (d : Controller). connection_of d number ≡ Some s) (FollowsTable-new settings events) is)
     (fine_at c (life_fits settings steps 1 (omega arith)).numbered (λ n from_one. (life_fits settings steps n from_one).fine) number)

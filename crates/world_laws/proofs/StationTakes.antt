@@ -36,8 +36,8 @@ use Rattle.world_laws.proofs.Events.{world}
 -- ---- the entry is taken from the outbox
 
 outbox_sub : (w : Actors) (station : ℕ) (first : OutboxEntry) (others : List OutboxEntry) (n : ℕ) → outbox_of w station ≡ first ∷ others → Sub (outbox_of (with_outbox station others w) n) (outbox_of w n)
-outbox_sub w station first others n stood =
-    set_related (λ (a b : Link). Sub a.outbox b.outbox) (λ link. sub_itself link.outbox) w.links broken_link station n (record (link_of w station) { outbox = others }) (subst (Sub others) (sym stood) (drops (sub_itself others)))
+outbox_sub w station first others n pending =
+    set_related (λ (a b : Link). Sub a.outbox b.outbox) (λ link. sub_itself link.outbox) w.links broken_link station n (record (link_of w station) { outbox = others }) (subst (Sub others) (sym pending) (drops (sub_itself others)))
 
 up_taken : (w : Actors) (station : ℕ) (others : List OutboxEntry) → AreUp (is_station_up (with_outbox station others w)) (is_station_up w)
 up_taken w station others n = ap (λ (b : Bool). not (n == SWITCH_LINK) && b) (set-same (λ (link : Link). link.up) w.links broken_link station n (record (link_of w station) { outbox = others }) refl)
@@ -47,14 +47,14 @@ waiting_taken w station others number differs =
     ap (λ (link : Link). map (λ f. f.message) (forwarded (map (λ entry. entry.out) link.outbox) number)) (set-apart w.links broken_link station SWITCH_LINK (record (link_of w station) { outbox = others }) (λ is. differs (sym is)))
 
 down_taken : (w : Actors) (station : ℕ) (first : OutboxEntry) (others : List OutboxEntry) (at : Place) → outbox_of w station ≡ first ∷ others → Sub (going_down (with_outbox station others w) at) (going_down w at)
-down_taken w station first others at stood = sub_append (sub_itself (flat_map leading_from_air (spot_at w at).air)) (sub_flat_map (leading_from_outbox at.number) (outbox_sub w station first others at.station stood))
+down_taken w station first others at pending = sub_append (sub_itself (flat_map leading_from_air (spot_at w at).air)) (sub_flat_map (leading_from_outbox at.number) (outbox_sub w station first others at.station pending))
 
 less_taken : {w : Actors} {s : Connection} (station : ℕ) (first : OutboxEntry) (others : List OutboxEntry) → station ≢ SWITCH_LINK → outbox_of w station ≡ first ∷ others → SeesLess w (with_outbox station others w) s
-less_taken {w} {s} station first others differs stood = record {
-  coming = all_of (λ c. Grown (is_station_up w c.station) (coming_up w (place_of c)) (coming_up w (place_of c))) (used_channels s) (λ c. rests refl);
+less_taken {w} {s} station first others differs pending = record {
+  arriving = all_of (λ c. Grown (is_station_up w c.station) (coming_up w (place_of c)) (coming_up w (place_of c))) (used_channels s) (λ c. rests refl);
   up = up_taken w station others;
-  serving = down_taken w station first others (place_of s.serving) stood;
-  target = λ t is. down_taken w station first others (place_of t.channel) stood;
+  serving = down_taken w station first others (place_of s.serving) pending;
+  target = λ t is. down_taken w station first others (place_of t.channel) pending;
   on_serving = refl;
   on_target = λ t is. refl;
   waiting = waiting_taken w station others s.number differs;
@@ -65,9 +65,10 @@ less_taken {w} {s} station first others differs stood = record {
 
 less_told : {w u : Actors} {s : Connection} (station : ℕ) (base : BaseState) (messages : List Rsl) → ArePlaced (used_channels s) → is_station_up w station ≡ true → SameEnds w u → u.inbox ≡ w.inbox → base.messages ≡ (base_of w station).messages ++ messages → ((channel : ℕ) → made_of channel messages ≡ [])
     → SeesLess w u s → SeesLess w (with_base station base u) s
-less_told {w} {u} {s} station base messages placed up same inbox told nothing sees = record {
-  coming = all_both (λ c. c.station ≢ SWITCH_LINK) (λ c. c.station ≢ SWITCH_LINK) (λ c. Grown (is_station_up w c.station) (coming_up (with_base station base u) (place_of c)) (coming_up w (place_of c))) (used_channels s)
-      (λ c c_is _. rests (coming_quiet w u station (place_of c) base messages c_is up same inbox told (nothing c.number))) placed placed;
+less_told {w} {u} {s} station base messages placed up same inbox appended nothing sees = record {
+  arriving = all_both (λ c. c.station ≢ SWITCH_LINK) (λ c. c.station ≢ SWITCH_LINK) (λ c. Grown (is_station_up w c.station) (coming_up (with_base station base u) (place_of c)) (coming_up w (place_of c))) (used_channels s)
+      (λ c c_is _. rests (coming_quiet w u station (place_of c) base messages c_is up same inbox appended (nothing c.number))) placed
+      placed;
   up = sees.up;
   serving = subst (λ (entries : List AirMessage). Sub entries (going_down w (place_of s.serving))) (sym (down_with_base u station base (place_of s.serving))) sees.serving;
   target = λ t is. subst (λ (entries : List AirMessage). Sub entries (going_down w (place_of t.channel))) (sym (down_with_base u station base (place_of t.channel))) (sees.target t is);
@@ -97,7 +98,7 @@ grown_spot w u at spot (c ∷ cs) grown = (subst (λ (items : List Item). Grown 
 less_spot : {w u : Actors} {s : Connection} (at : Place) (spot : Spot) → LeadsLess spot (spot_at u at) → tenure_at (with_spot at spot u) (place_of s.serving) ≡ tenure_at u (place_of s.serving) → ((t : Target) → commanded_target s.state ≡ Some t → tenure_at (with_spot at spot u) (place_of t.channel) ≡ tenure_at u (place_of t.channel))
     → SeesLess w u s → SeesLess w (with_spot at spot u) s
 less_spot {w} {u} {s} at spot less on to sees = record {
-  coming = grown_spot w u at spot (used_channels s) sees.coming;
+  arriving = grown_spot w u at spot (used_channels s) sees.arriving;
   up = sees.up;
   serving = sub_trans (down_less u at spot (place_of s.serving) less) sees.serving;
   target = λ t is. sub_trans (down_less u at spot (place_of t.channel) less) (sees.target t is);
@@ -153,7 +154,7 @@ aired w station channel message first others =
 pub down_aired : (w : Actors) (station channel : ℕ) (message : List ℕ) (first : OutboxEntry) (others : List OutboxEntry) (c : Channel) → c.station ≢ SWITCH_LINK → is_station_up w station ≡ true → outbox_of w station ≡ first ∷ others
     → ((n : ℕ) → (channel == n) ≡ true → leading_from_outbox n first ≡ leading message first.target)
     → Sub (going_down (aired w station channel message first others) (place_of c)) (going_down w (place_of c))
-down_aired w station channel message first others c c_is up stood leads = by_both (nat_eq station c.station) (nat_eq channel c.number) refl refl where
+down_aired w station channel message first others c c_is up pending leads = by_both (nat_eq station c.station) (nat_eq channel c.number) refl refl where
   at : Place
   at = place_at station channel
 
@@ -177,11 +178,11 @@ down_aired w station channel message first others c c_is up stood leads = by_bot
       subst (λ (entries : List AirMessage). Sub (going_down (with_spot at spot u) (place_of c)) entries)
       (append_assoc (flat_map leading_from_air (spot_at w (place_of c)).air) (leading message first.target) (flat_map (leading_from_outbox c.number) others)
       ∙ ap (λ (entries : List AirMessage). flat_map leading_from_air (spot_at w (place_of c)).air ++ (entries ++ flat_map (leading_from_outbox c.number) others)) (sym (leads c.number number))
-      ∙ ap (λ (entries : List OutboxEntry). flat_map leading_from_air (spot_at w (place_of c)).air ++ flat_map (leading_from_outbox c.number) entries) (sym stood ∙ ap (outbox_of w) same))
+      ∙ ap (λ (entries : List OutboxEntry). flat_map leading_from_air (spot_at w (place_of c)).air ++ flat_map (leading_from_outbox c.number) entries) (sym pending ∙ ap (outbox_of w) same))
       (sub_append (in_air (place_of c)) (subst (λ (entries : List OutboxEntry). Sub (flat_map (leading_from_outbox c.number) entries) (flat_map (leading_from_outbox c.number) others)) (sym now_there ∙ ap (outbox_of u) same) (sub_itself (flat_map (leading_from_outbox c.number) others))))
 
   elsewhere : is_at at c ≡ false → Sub (going_down (with_spot at spot u) (place_of c)) (going_down w (place_of c))
-  elsewhere other = subst (λ (x : Spot). Sub (flat_map leading_from_air x.air ++ flat_map (leading_from_outbox c.number) (outbox_of u c.station)) (going_down w (place_of c))) (sym (spot-elsewhere u at spot c (up_right station w up).0 c_is other)) (down_taken w station first others (place_of c) stood)
+  elsewhere other = subst (λ (x : Spot). Sub (flat_map leading_from_air x.air ++ flat_map (leading_from_outbox c.number) (outbox_of u c.station)) (going_down w (place_of c))) (sym (spot-elsewhere u at spot c (up_right station w up).0 c_is other)) (down_taken w station first others (place_of c) pending)
 
   by_both : (a b : Bool) → nat_eq station c.station ≡ a → nat_eq channel c.number ≡ b → Sub (going_down (with_spot at spot u) (place_of c)) (going_down w (place_of c))
   by_both true true one two = here (eqb-true station c.station one) two
@@ -191,11 +192,11 @@ down_aired w station channel message first others c c_is up stood leads = by_bot
 less_aired : {w : Actors} {s : Connection} (station channel : ℕ) (message : List ℕ) (first : OutboxEntry) (others : List OutboxEntry) → ArePlaced (used_channels s) → is_station_up w station ≡ true → outbox_of w station ≡ first ∷ others
     → ((n : ℕ) → (channel == n) ≡ true → leading_from_outbox n first ≡ leading message first.target)
     → SeesLess w (aired w station channel message first others) s
-less_aired {w} {s} station channel message first others placed up stood leads = record {
-  coming = grown_spot w u at spot (used_channels s) taken_first.coming;
+less_aired {w} {s} station channel message first others placed up pending leads = record {
+  arriving = grown_spot w u at spot (used_channels s) taken_first.arriving;
   up = taken_first.up;
-  serving = down_aired w station channel message first others s.serving placed_rest.0 up stood leads;
-  target = λ t is. down_aired w station channel message first others t.channel (subst ArePlaced (target_in_is_so s.state t is) placed_rest.1).0 up stood leads;
+  serving = down_aired w station channel message first others s.serving placed_rest.0 up pending leads;
+  target = λ t is. down_aired w station channel message first others t.channel (subst ArePlaced (target_in_is_so s.state t is) placed_rest.1).0 up pending leads;
   on_serving = tenure_with_spot u at spot (place_of s.serving) refl;
   on_target = λ t is. tenure_with_spot u at spot (place_of t.channel) refl;
   waiting = taken_first.waiting;
@@ -211,7 +212,7 @@ less_aired {w} {s} station channel message first others placed up stood leads = 
   spot = record (spot_at w at) { air = (spot_at w at).air ++ record { message = message; target = first.target } ∷ [] }
 
   taken_first : SeesLess w u s
-  taken_first = less_taken station first others (up_right station w up).0 stood
+  taken_first = less_taken station first others (up_right station w up).0 pending
 
   placed_rest : ArePlaced (s.serving ∷ target_in s.state)
   placed_rest = all_right (λ c. c.station ≢ SWITCH_LINK) (undone s.draining) (s.serving ∷ target_in s.state) placed
@@ -235,7 +236,7 @@ grown_released w u station channel c c_is up same inbox =
 less_released : {w u : Actors} {s : Connection} (station channel : ℕ) → ArePlaced (used_channels s) → is_station_up w station ≡ true → SameEnds w u → u.inbox ≡ w.inbox → SeesLess w u s → SeesLess w (released (place_at station channel) u) s
 less_released {w} {u} {s} station channel placed up same inbox sees =
     less_same_tenure (place_at station channel) (record (spot_at u (place_at station channel)) { sapi_three_up = false; air = [] }) (sub_none _) (sym (ap (λ (x : Spot). x.tenure) (spot_with_base station (after_release (base_of u station) channel) u (place_at station channel)))) (record {
-      coming = all_both (λ c. c.station ≢ SWITCH_LINK) (λ c. c.station ≢ SWITCH_LINK) (λ c. Grown (is_station_up w c.station) (coming_up (with_base station (after_release (base_of u station) channel) u) (place_of c)) (coming_up w (place_of c))) (used_channels s)
+      arriving = all_both (λ c. c.station ≢ SWITCH_LINK) (λ c. c.station ≢ SWITCH_LINK) (λ c. Grown (is_station_up w c.station) (coming_up (with_base station (after_release (base_of u station) channel) u) (place_of c)) (coming_up w (place_of c))) (used_channels s)
           (λ c c_is _. grown_released w u station channel c c_is up same inbox) placed placed;
       up = sees.up;
       serving = subst (λ (entries : List AirMessage). Sub entries (going_down w (place_of s.serving))) (sym (down_with_base u station (after_release (base_of u station) channel) (place_of s.serving))) sees.serving;
@@ -282,7 +283,7 @@ seats_other {m} {u} {mobile} {s} q number tenure lined acts asking = by_number (
 took_keeps : {m : ℕ} {w : Actors} {mobile : ℕ} {s : Connection} (station : ℕ) (first : OutboxEntry) (others : List OutboxEntry) → AreActiveAt station w s → AreLinedUp m w mobile s → is_station_up w station ≡ true → outbox_of w station ≡ first ∷ others
     → OfTaken (λ v. AreLinedUp m v mobile s) (took station first.target (rsl_in first.out.frame) (with_outbox station others w))
 unfolding OfTaken Seats
-took_keeps {m} {w} {mobile} {s} station first others active lined up stood = by_message (rsl_in first.out.frame) refl where
+took_keeps {m} {w} {mobile} {s} station first others active lined up pending = by_message (rsl_in first.out.frame) refl where
   u : Actors
   u = with_outbox station others w
 
@@ -293,31 +294,31 @@ took_keeps {m} {w} {mobile} {s} station first others active lined up stood = by_
   placed = lined.lined.placed
 
   taken_first : SeesLess w u s
-  taken_first = less_taken station first others (up_right station w up).0 stood
+  taken_first = less_taken station first others (up_right station w up).0 pending
 
-  stays : P u
-  stays = keeps lined refl taken_first
+  unchanged : P u
+  unchanged = keeps lined refl taken_first
 
   activating : (channel : ℕ) (o : Option LinkFault) → refusal_of_activate (base_of u station) channel ≡ o → P (activated_unless o (place_at station channel) u)
   activating channel None is = keeps lined refl (less_activated station channel placed up (λ k. refl) refl is active taken_first)
-  activating channel (Some fault) is = stays
+  activating channel (Some fault) is = unchanged
 
   airing : (d_channel : ℕ) (message : List ℕ) → ((n : ℕ) → (d_channel == n) ≡ true → leading_from_outbox n first ≡ leading message first.target) → (b : Bool)
       → P (if b then with_spot (place_at station d_channel) (record (spot_at u (place_at station d_channel)) { air = (spot_at u (place_at station d_channel)).air ++ record { message = message; target = first.target } ∷ [] }) u else u)
-  airing channel message leads true = keeps lined refl (less_aired station channel message first others placed up stood leads)
-  airing channel message leads false = stays
+  airing channel message leads true = keeps lined refl (less_aired station channel message first others placed up pending leads)
+  airing channel message leads false = unchanged
 
   by_message : (o : Option Rsl) → rsl_in first.out.frame ≡ o → OfTaken P (took station first.target o u)
   by_message (Some (ChannelActivation a)) is = unless_last_leads P ((spot_at u (place_at station a.channel)).tenure == MAX_TENURE) (activated (place_at station a.channel) u) (activating a.channel (refusal_of_activate (base_of u station) a.channel) refl)
-  by_message (Some (ImmediateAssignCommand i)) is = assigned-leads P station u (rr_reading i.information) stays (λ q number channel acts asking. seats_other q number (tenure_at u (place_at station channel)) stays acts asking)
+  by_message (Some (ImmediateAssignCommand i)) is = assigned-leads P station u (rr_reading i.information) unchanged (λ q number channel acts asking. seats_other q number (tenure_at u (place_at station channel)) unchanged acts asking)
   by_message (Some (DataRequest d)) is = airing d.channel d.l3
       (λ n same. ap (leading_by n first.target) is ∙ ap (λ (b : Bool). cond b (leading d.l3 first.target) []) same) (is_active_at u (place_at station d.channel))
   by_message (Some (EstablishRequest l)) is = keeps lined refl (less_answered (is_active_at u (place_at station l.channel) && accepts (mobile_on u (tenure_at u (place_at station l.channel)))) station l.channel placed up (λ k. refl) refl taken_first)
   by_message (Some (RfChannelRelease channel)) is = keeps lined refl (less_released station channel placed up (λ k. refl) refl taken_first)
-  by_message _ is = stays
+  by_message _ is = unchanged
 
 pub stations_keep_line_ups_new : (settings : Parameters) (events : List Event) (station : ℕ) → StationsKeepLineUps settings events station
 unfolding event_after
 stations_keep_line_ups_new settings events station mobile s active lined =
     let w : Actors = world settings events in
-    after_taken (λ v. AreLinedUp _ v mobile s) (after_base_takes w station) w (base_takes_leads (λ v. AreLinedUp _ v mobile s) w station (λ first others up stood. took_keeps station first others active lined up stood)) lined
+    after_taken (λ v. AreLinedUp _ v mobile s) (after_base_takes w station) w (base_takes_leads (λ v. AreLinedUp _ v mobile s) w station (λ first others up pending. took_keeps station first others active lined up pending)) lined

@@ -78,8 +78,8 @@ abbrev held : List (List ℕ) → Held
 held messages = record { zero = messages; three = (hex "09 01") ∷ [] }
 
 -- what is on its way up from 41, and from any other channel
-abbrev coming : List Item → List Item → Place → List Item
-coming first others at = if at.number == 0x41 then first else others
+abbrev arriving : List Item → List Item → Place → List Item
+arriving first others at = if at.number == 0x41 then first else others
 
 -- whether the link of station 1 is up, and of any other
 abbrev up : Bool → Bool → ℕ → Bool
@@ -90,10 +90,10 @@ up first others station = if station == 1 then first else others
 abbrev drains : ℕ → Bool → Drain
 drains station is_done = record { channel = channel station 0x41; is_done = is_done }
 
-lacking : map (λ d. lacks (coming (brought (hex "03 45") ∷ []) (released ∷ [])) (up false true) d) (drains 1 false ∷ drains 1 true ∷ drains 2 false ∷ []) ≡ true ∷ false ∷ false ∷ []
+lacking : map (λ d. lacks (arriving (brought (hex "03 45") ∷ []) (released ∷ [])) (up false true) d) (drains 1 false ∷ drains 1 true ∷ drains 2 false ∷ []) ≡ true ∷ false ∷ false ∷ []
 lacking = refl
 
-lacks_nothing_once_released : lacks (coming (brought (hex "03 45") ∷ released ∷ []) []) (up false true) (drains 1 false) ≡ false
+lacks_nothing_once_released : lacks (arriving (brought (hex "03 45") ∷ released ∷ []) []) (up false true) (drains 1 false) ≡ false
 lacks_nothing_once_released = refl
 
 -- ---- over its channels: what comes of each, in its place
@@ -101,7 +101,7 @@ lacks_nothing_once_released = refl
 abbrev link : DataLinkState
 link = record { waiting = (hex "03 11") ∷ []; air = Given (hex "03 d0") }
 
-is_over_old_and_serving : over (coming (brought (0x0a ∷ []) ∷ []) (brought (0x0b ∷ []) ∷ [])) (up true false)
+is_over_old_and_serving : over (arriving (brought (0x0a ∷ []) ∷ []) (brought (0x0b ∷ []) ∷ [])) (up true false)
     (connection_with (Live 0x800001 Draining) (channel 1 0x0a) (drains 2 false ∷ []) (held ((hex "03 01") ∷ []) ∷ held ((hex "03 02") ∷ []) ∷ []))
     ((hex "05 24") ∷ []) link on_serving 3 ((hex "03 04") ∷ []) ((hex "03 05") ∷ []) ≡ record {
       sent = (hex "05 24") ∷ [];
@@ -127,7 +127,7 @@ changing = connection_with (Live 0x800001 (Changing to_0a)) (channel 1 0x41) [] 
 abbrev changed : Connection
 changed = connection_with (Live 0x800001 Draining) (channel 1 0x0a) (drains 1 false ∷ []) (empty_tenure ∷ empty_tenure ∷ [])
 
-target_comes : (over (coming (brought (0x0a ∷ []) ∷ []) (brought (0x0b ∷ []) ∷ [])) (up true false) changing [] link on_target 0 [] []).target ≡
+target_comes : (over (arriving (brought (0x0a ∷ []) ∷ []) (brought (0x0b ∷ []) ∷ [])) (up true false) changing [] link on_target 0 [] []).target ≡
     record { hold = []; items = brought (0x0b ∷ []) ∷ []; is_lost = false; is_done = false }
 target_comes = refl
 
@@ -136,13 +136,13 @@ target_comes = refl
 abbrev complete : List Item
 complete = brought (hex "06 29 00") ∷ []
 
-completes_the_change : OwnStep (coming [] complete) (coming [] []) (up true true) changing changed 0 0 on_target on_serving
+completes_the_change : OwnStep (arriving [] complete) (arriving [] []) (up true true) changing changed 0 0 on_target on_serving
 completes_the_change = completes to_0a refl refl refl (omega arith) (omega arith) (λ h. (refl, refl))
 
-completes_once : OwnStep (coming [] complete) (coming [] complete) (up true true) changing changed 0 0 on_target on_serving → ⊥
+completes_once : OwnStep (arriving [] complete) (arriving [] complete) (up true true) changing changed 0 0 on_target on_serving → ⊥
 completes_once (completes t is none serves fewer less none_lost) = absurd (omega (arith, fewer))
 
-tells_the_command : OwnStep (coming [] []) (coming [] []) (up true true) (connection_with (Live 0x800001 Active) (channel 1 0x41) [] (empty_tenure ∷ [])) changing 0 1 on_serving on_serving
+tells_the_command : OwnStep (arriving [] []) (arriving [] []) (up true true) (connection_with (Live 0x800001 Active) (channel 1 0x41) [] (empty_tenure ∷ [])) changing 0 1 on_serving on_serving
 tells_the_command = tells refl refl to_0a refl (omega arith) refl (omega arith) (λ h. refl)
 
 -- ---- the initial message is still to come
@@ -163,7 +163,7 @@ at_1 : Carries 4 opening_sent 1 (hex "03 45")
 at_1 = record { message = hex "03 05"; is_sent = refl; is_clear = record { is_flow = refl; cleared = refl }; carries = refl }
 
 -- with the second message on its way up behind the initial one
-opens : Opens 4 opening_sent (record { waiting = []; air = Empty }) (hex "05 24") (coming (brought (hex "03 45") ∷ []) []) (connection_with WaitConfirm (channel 1 0x41) [] (empty_tenure ∷ []))
+opens : Opens 4 opening_sent (record { waiting = []; air = Empty }) (hex "05 24") (arriving (brought (hex "03 45") ∷ []) []) (connection_with WaitConfirm (channel 1 0x41) [] (empty_tenure ∷ []))
 opens = record {
   awaits = refl;
   none_drains = refl;
@@ -172,11 +172,11 @@ opens = record {
   no_control = refl;
 }
 
-opens_with_one_tenure : Opens 4 opening_sent (record { waiting = []; air = Empty }) (hex "05 24") (coming (brought (hex "03 45") ∷ []) []) (connection_with WaitConfirm (channel 1 0x41) [] (empty_tenure ∷ empty_tenure ∷ [])) → ⊥
+opens_with_one_tenure : Opens 4 opening_sent (record { waiting = []; air = Empty }) (hex "05 24") (arriving (brought (hex "03 45") ∷ []) []) (connection_with WaitConfirm (channel 1 0x41) [] (empty_tenure ∷ empty_tenure ∷ [])) → ⊥
 opens_with_one_tenure h = let none = h.none_held in absurd cc
 
-opens_before_a_complete : Opens 4 opening_sent (record { waiting = []; air = Empty }) (hex "05 24") (coming complete []) (connection_with WaitConfirm (channel 1 0x41) [] (empty_tenure ∷ [])) → ⊥
+opens_before_a_complete : Opens 4 opening_sent (record { waiting = []; air = Empty }) (hex "05 24") (arriving complete []) (connection_with WaitConfirm (channel 1 0x41) [] (empty_tenure ∷ [])) → ⊥
 opens_before_a_complete h = let none = h.no_control in absurd cc
 
-opens_before_the_confirm : Opens 4 opening_sent (record { waiting = []; air = Empty }) (hex "05 24") (coming [] []) (connection_with (Live 0x800001 Active) (channel 1 0x41) [] (empty_tenure ∷ [])) → ⊥
+opens_before_the_confirm : Opens 4 opening_sent (record { waiting = []; air = Empty }) (hex "05 24") (arriving [] []) (connection_with (Live 0x800001 Active) (channel 1 0x41) [] (empty_tenure ∷ [])) → ⊥
 opens_before_the_confirm h = let awaits = h.awaits in absurd cc

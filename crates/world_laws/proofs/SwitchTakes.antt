@@ -43,8 +43,8 @@ forwarded-first out outs number = by_link (to_switch number out) where
   by_link false = refl
 
 waiting_first : (w : Actors) (number : ℕ) (first : OutboxEntry) (others : List OutboxEntry) → is_up w SWITCH_LINK ≡ true → outbox_of w SWITCH_LINK ≡ first ∷ others → waiting_of w number ≡ carried_for number first.out ++ waiting_of (with_outbox SWITCH_LINK others w) number
-waiting_first w number first others up stood =
-    ap (λ (entries : List OutboxEntry). map (λ f. f.message) (forwarded (map (λ entry. entry.out) entries) number)) stood
+waiting_first w number first others up pending =
+    ap (λ (entries : List OutboxEntry). map (λ f. f.message) (forwarded (map (λ entry. entry.out) entries) number)) pending
     ∙ ap (λ (fs : List Forwarded). map (λ f. f.message) fs) (forwarded-first first.out (map (λ entry. entry.out) others) number)
     ∙ map-append (λ f. f.message) (forwarded (first.out ∷ []) number) (forwarded (map (λ entry. entry.out) others) number)
     ∙ ap (λ (link : Link). carried_for number first.out ++ map (λ f. f.message) (forwarded (map (λ entry. entry.out) link.outbox) number))
@@ -56,7 +56,7 @@ waiting_first w number first others up stood =
 keeps_taking : {m : ℕ} {w : Actors} {s : Connection} (p : Mobile) (next : SwitchState) (made : List Sccp) (first : OutboxEntry) (others : List OutboxEntry) → is_up w SWITCH_LINK ≡ true → outbox_of w SWITCH_LINK ≡ first ∷ others
     → taken_in (find (is_of_peer s.number) next.connections) ≡ taken_of w s.number ++ carried_for s.number first.out → LinedUp m w p s → LinedUp m (record (with_outbox SWITCH_LINK others w) { switch = next; switch_made = made }) p s
 unfolding SameTenures
-keeps_taking {m} {w} {s} p next made first others up stood takes kept = record {
+keeps_taking {m} {w} {s} p next made first others up pending takes kept = record {
   alive = subst (Alive m) (sym (lined-same (coming_up v) (coming_up w) (is_station_up v) (is_station_up w) (going_down v (place_of s.serving)) (going_down w (place_of s.serving)) (waiting_of v s.number) (waiting_of v s.number) (taken_of v s.number) (taken_of v s.number) p p s
       (all_of (λ c. coming_up w (place_of c) ≡ coming_up w (place_of c)) (used_channels s) (λ c. refl)) up_same (down_same s.serving placed_rest.0) refl refl refl refl refl)) alive_now;
   sits = sits_same same_tenures kept.sits;
@@ -78,7 +78,7 @@ keeps_taking {m} {w} {s} p next made first others up stood takes kept = record {
   same_tenures at = refl
 
   flows_out : flow (waiting_of w s.number) ≡ flow x ++ flow (waiting_of v s.number)
-  flows_out = ap flow (waiting_first w s.number first others up stood) ∙ flow-append x (waiting_of v s.number)
+  flows_out = ap flow (waiting_first w s.number first others up pending) ∙ flow-append x (waiting_of v s.number)
 
   down_same : (c : Channel) → c.station ≢ SWITCH_LINK → going_down v (place_of c) ≡ going_down w (place_of c)
   down_same c c_is = ap (λ (link : Link). flat_map leading_from_air (spot_at w (place_of c)).air ++ flat_map (leading_from_outbox c.number) link.outbox) (set-apart w.links broken_link SWITCH_LINK c.station (record (link_of w SWITCH_LINK) { outbox = others }) c_is)
@@ -97,12 +97,12 @@ keeps_taking {m} {w} {s} p next made first others up stood takes kept = record {
 
 taking_keeps : {m : ℕ} {w : Actors} {mobile : ℕ} {s : Connection} (first : OutboxEntry) (others : List OutboxEntry) (o : Option Sccp) → is_up w SWITCH_LINK ≡ true → outbox_of w SWITCH_LINK ≡ first ∷ others → taken_of (switch_took o w) s.number ≡ taken_of w s.number ++ carried_for s.number first.out → AreLinedUp m w mobile s
     → AreLinedUp m (switch_took o (with_outbox SWITCH_LINK others w)) mobile s
-taking_keeps {w} first others None up stood takes lined = record { one = lined.one; found = lined.found; lined = keeps_taking lined.one w.switch w.switch_made first others up stood takes lined.lined }
-taking_keeps {w} first others (Some message) up stood takes lined = record { one = lined.one; found = lined.found; lined = keeps_taking lined.one (after w.switch message) (w.switch_made ++ replies w.switch.connections message) first others up stood takes lined.lined }
+taking_keeps {w} first others None up pending takes lined = record { one = lined.one; found = lined.found; lined = keeps_taking lined.one w.switch w.switch_made first others up pending takes lined.lined }
+taking_keeps {w} first others (Some message) up pending takes lined = record { one = lined.one; found = lined.found; lined = keeps_taking lined.one (after w.switch message) (w.switch_made ++ replies w.switch.connections message) first others up pending takes lined.lined }
 
 pub switch_keeps_line_ups_new : (settings : Parameters) (events : List Event) → SwitchKeepsLineUps settings events
 unfolding event_after
 switch_keeps_line_ups_new settings events mobile s delivers lined =
     let w : Actors = world settings events in
     after_taken (λ v. AreLinedUp (modulus_in settings) v mobile s) (after_switch_takes w) w
-    (switch_takes_leads (λ v. AreLinedUp (modulus_in settings) v mobile s) w (λ first others up stood. taking_keeps first others (sccp_in first.out.frame) up stood (subst (DeliversFirst w s.number) stood delivers) lined)) lined
+    (switch_takes_leads (λ v. AreLinedUp (modulus_in settings) v mobile s) w (λ first others up pending. taking_keeps first others (sccp_in first.out.frame) up pending (subst (DeliversFirst w s.number) pending delivers) lined)) lined

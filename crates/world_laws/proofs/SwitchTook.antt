@@ -40,8 +40,8 @@ does w number action = by_action action where
 -- what the switch took of a connection stays, but where it takes an entry
 quiet_takes : (w : Actors) (event : Event) (number : ℕ) → OfTaken (Took number (taken_of w number)) (event_after w event) → taken SWITCH_LINK w event ≡ [] → taken_of (actors_after w event) number ≡ taken_of w number ++ waiting_in (taken SWITCH_LINK w event) number
 unfolding forwarded
-quiet_takes w event number stays nobody =
-    after_taken (Took number (taken_of w number)) (event_after w event) w stays refl
+quiet_takes w event number unchanged nobody =
+    after_taken (Took number (taken_of w number)) (event_after w event) w unchanged refl
     ∙ sym (append-nil (taken_of w number)) ∙ ap (λ (entries : List OutboxEntry). taken_of w number ++ waiting_in entries number) (sym nobody)
 
 -- no station takes what waits for the switch

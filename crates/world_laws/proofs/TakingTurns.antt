@@ -6,7 +6,8 @@ use Rattle.world_laws.proofs.Prelude.{cases_Bool, cond-true, cond-false, eq-eqb,
 use Rattle.world_laws.proofs.Prelude.{Message, Station, IsReadOf, outs_of, change_activation}
 use Rattle.world_laws.proofs.Prelude.{rf_channel_release, Input, Target, Connection, ChangesRoles, MayBegin, RoleEnd, Roles, RoleStep}
 use Rattle.world_laws.proofs.Prelude.{TargetRole, after_step, begin_orders, end_messages, is_order, roles_of, step_by, step_orders}
-use Rattle.world_laws.proofs.Prelude.{target_channels, those_that_go, goes_on, ends, had_ended, refused, drops, dismisses, stays, commands}
+use Rattle.world_laws.proofs.Prelude.{target_channels, those_that_go, goes_on, ends, had_ended, refused, drops, dismisses, unchanged}
+use Rattle.world_laws.proofs.Prelude.{commands}
 use Rattle.world_laws.proofs.Prelude.{completes, goes_back, leaves, Row, IsOpen, AreIn, IsIn, free≢use, is_there, state_else, state_here}
 use Rattle.world_laws.proofs.Prelude.{ChannelState, Free, InUse, Releasing, place_at, place_of, state_in, with_state, Rsl, false≢true}
 use Rattle.world_laws.proofs.Prelude.{channel_release, is_to_station, target_orders, target_releases, is_for_station, still_there, channels_after}
@@ -138,7 +139,7 @@ target_turns m channels (Some t) using = by t.is_commanded where
   by false = none_in_turn m channels
 
 step_turns : (m : ℕ) (channels : States) (step : RoleStep) (roles : Roles) → IsUsing m channels roles → AreInTurn m channels (step_orders step roles)
-step_turns m channels stays roles u = none_in_turn m channels
+step_turns m channels unchanged roles u = none_in_turn m channels
 step_turns m channels commands roles u = none_in_turn m channels
 step_turns m channels completes roles u = in_turn_release m channels roles.serving u.using.0
 step_turns m channels goes_back roles u = target_turns m channels roles.target u.using.1
@@ -157,7 +158,7 @@ unfolding IsOpenFor
 released_open m channels c used is in_use = (stays_free m channels c used is.0 in_use, still_there channels (place_of used) (place_of c) (Releasing m) is.1)
 
 step_open : (m : ℕ) (channels : States) (step : RoleStep) (roles : Roles) (c : Channel) → IsUsing m channels roles → IsOpenFor channels c → IsOpenFor (fold (channels_after m) channels (step_orders step roles)) c
-step_open m channels stays roles c u is = is
+step_open m channels unchanged roles c u is = is
 step_open m channels commands roles c u is = is
 step_open m channels completes roles c u is = released_open m channels c roles.serving is u.using.0
 step_open m channels goes_back roles c u is = by roles.target u.using.1 where

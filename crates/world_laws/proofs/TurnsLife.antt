@@ -50,7 +50,7 @@ open_for channels links c offered = (offered.is_free, offered.is_in)
 
 -- what is known of an entry
 pub record IsTold (e : Entry) : Type 0 where
-  pub stands : IsValid e.connection
+  pub valid : IsValid e.connection
   pub parts : SoundParts e.connection
   pub few : e.connection.number < 2 ^ 24
 
@@ -60,9 +60,9 @@ unfolding TurnsFrom
 row_turn at c e input offer r told fits sounds carried refers using offers =
     let s : Connection = e.connection in
     let sound : IsSoundRow r = subst (OfRow IsSoundRow) fits
-    (row_sound s input offer (record { serving = told.parts.serving; zero = told.stands.down_zero; three = told.stands.down_three; up = told.stands.up_messages; refers = told.parts.refers }) told.parts.targets sounds carried refers) in
+    (row_sound s input offer (record { serving = told.parts.serving; zero = told.valid.down_zero; three = told.valid.down_three; up = told.valid.up_messages; refers = told.parts.refers }) told.parts.targets sounds carried refers) in
     all_turns s.number at c.channels r.outs (all_read s.number r.outs told.few sound.1)
-    (row_turns s.number c.channels s input offer r (changes_of s input offer r told.stands fits) using offers)
+    (row_turns s.number c.channels s input offer r (changes_of s input offer r told.valid fits) using offers)
 
 pub fitting_turn : (at : Place) (c : Controller) (otherwise : Turn) (e : Entry) (input : Input) (offer : Option Channel) (o : Option Row) → row_of e.connection input offer ≡ o → IsTold e → AllByRecursion IsSoundChannel (option_to_list offer) → IsCarried input → RefersBy input
     → (IsOpen e.connection.state → IsUsing e.connection.number c.channels (roles_of e.connection)) → ((d : Channel) → offer ≡ Some d → IsOpenFor c.channels d) → TurnsFrom at (channel_state c at) otherwise → TurnsFrom at (channel_state c at) (by_fitting otherwise e o c)
@@ -79,7 +79,7 @@ module _ (c : Controller) (ready : Ready c) (sound : IsSoundAll c) where
       let own : connection_of c e.connection.number ≡ Some e.connection = ap (option_map (λ (x : Entry). x.connection)) here.there in
       let below = here.below in
       let next = sound.next in
-      record { stands = here.stands; parts = subst SoundOf own (sound.each e.connection.number); few = omega arith }
+      record { valid = here.valid; parts = subst SoundOf own (sound.each e.connection.number); few = omega arith }
 
   uses_of : (m : ℕ) (e : Entry) → entry_of c m ≡ Some e → IsOpen e.connection.state → IsUsing e.connection.number c.channels (roles_of e.connection)
   uses_of m e there is_open = using_of c.channels c.links e.connection.number (roles_of e.connection) (owns_entry c.links c e (here_of c m e ready there).there ready.holds is_open)
@@ -208,7 +208,7 @@ module _ (c : Controller) (ready : Ready c) (sound : IsSoundAll c) (at : Place) 
   decision_turns (Move cell) put e m there same =
       let told : IsTold e = told_of c ready sound m e there in
       fitting_turn at (with_entry put c) (turn [] (with_entry put c)) put inputs.Move (handover_offer (with_entry put c) put.connection.serving cell) (row_of put.connection inputs.Move (handover_offer (with_entry put c) put.connection.serving cell)) refl
-      (record { stands = subst IsValid (sym same) told.stands; parts = subst SoundParts (sym same) told.parts; few = subst (λ (s : Connection). s.number < 2 ^ 24) (sym same) told.few })
+      (record { valid = subst IsValid (sym same) told.valid; parts = subst SoundParts (sym same) told.parts; few = subst (λ (s : Connection). s.number < 2 ^ 24) (sym same) told.few })
       (offer_list (handover_offer c put.connection.serving cell) (λ d is. offered_sound c cell c.handovers (kind_of put.connection.serving.number) d sound.cells is)) tt tt
       (subst (λ (s : Connection). IsOpen s.state → IsUsing s.number c.channels (roles_of s)) (sym same) (uses_of c ready sound m e there))
       (offers_of c ready sound cell c.handovers (kind_of put.connection.serving.number)) refl

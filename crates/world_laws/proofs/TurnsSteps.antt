@@ -3,7 +3,7 @@
 use Rattle.world_laws.proofs.Prelude.{◌≡◌, ◌≢◌, ℕ, ◌==◌, Bool, true, false, List, [], ◌∷◌, map, Option, Some}
 use Rattle.world_laws.proofs.Prelude.{None, refl, sym, ap, ◌∙◌, subst, inl, inr, AllByRecursion, cases_Bool, Channel, Place, SWITCH_LINK}
 use Rattle.world_laws.proofs.Prelude.{Input, Connection, roles_of, IsCarried, Row, IsOpen, word_by, word_in, AreRising, IsOctetStep}
-use Rattle.world_laws.proofs.Prelude.{own_carried, pass_stands, break_shut, timer_shut, Holds, owns_entry, IsSoundAll, life_sound}
+use Rattle.world_laws.proofs.Prelude.{own_carried, pass_valid, break_shut, timer_shut, Holds, owns_entry, IsSoundAll, life_sound}
 use Rattle.world_laws.proofs.Prelude.{offer_list, request_sound, RefersBy, word_from, life_ready, IsHere, Ready, ChannelState, Step}
 use Rattle.world_laws.proofs.Prelude.{Take, Word, OnChannel, request_offer, Controller, Entry, Turn, channel_state, each, entry_of}
 use Rattle.world_laws.proofs.Prelude.{turn, with_down, aged, all_aged, break_of, by_fitting, expiry, on_break, on_expiry}
@@ -48,7 +48,7 @@ Shuts input = (s : Connection) (offer : Option Channel) (r : Row) → row_of s i
 told_keeps : (links : List Bool) (at : Place) (input : Input) → IsCarried input → RefersBy input → Shuts input → (c : Controller) (e : Entry) → IsHere links c e → IsTold e → Holds links c → AreCells c → Keeps links at c (with_own_input input c e)
 unfolding TurnsFrom Shuts AreCells
 told_keeps links at input carried refers shuts c e here known holds cells = record {
-  holds = told_holds links c e input shuts here.rising here.there here.stands holds;
+  holds = told_holds links c e input shuts here.rising here.there here.valid holds;
   cells = same (row_in c e.connection input);
   turns = by (row_in c e.connection input) refl;
 } where
@@ -77,7 +77,7 @@ all_told c ready sound (x ∷ xs) there = (told_of c ready sound x.connection.nu
 down_here : (links : List Bool) (c : Controller) (source : ℕ) (xs : List Entry) → AllByRecursion (IsHere links c) xs → AllByRecursion (IsHere links (with_down source c)) xs
 down_here links c source [] here = tt
 down_here links c source (x ∷ xs) here = (
-  record { rising = here.0.rising; there = here.0.there; stands = here.0.stands; from_one = here.0.from_one; below = here.0.below; linked = here.0.linked },
+  record { rising = here.0.rising; there = here.0.there; valid = here.0.valid; from_one = here.0.from_one; below = here.0.below; linked = here.0.linked },
   down_here links c source xs here.1,
 )
 
@@ -109,7 +109,7 @@ expiry_keeps links at (Some input) due c e here known holds cells = told_keeps l
 aged_told : (ms : ℕ) (xs : List Entry) → AllByRecursion IsTold xs → AllByRecursion IsTold (map (aged ms) xs)
 aged_told ms [] all = tt
 aged_told ms (x ∷ xs) all = (
-  record { stands = pass_stands ms x.connection all.0.stands; parts = record { serving = all.0.parts.serving; targets = all.0.parts.targets; refers = all.0.parts.refers }; few = all.0.few },
+  record { valid = pass_valid ms x.connection all.0.valid; parts = record { serving = all.0.parts.serving; targets = all.0.parts.targets; refers = all.0.parts.refers }; few = all.0.few },
   aged_told ms xs all.1,
 )
 

@@ -2,7 +2,7 @@
 -- What the switch accepts of a connection that is lined up.
 use Rattle.std.specs.Prelude.{ℕ, ◌≤◌}
 use Rattle.world_laws.specs.Prelude.{Connection, Actors}
-use Rattle.world_laws.specs.LineUp.Order.{IsInOrder, coming}
+use Rattle.world_laws.specs.LineUp.Order.{IsInOrder, arriving}
 use Rattle.world_laws.specs.LineUps.{taken_of, line_up}
 use Rattle.world_laws.specs.Staying.{AreLinedUp}
 
@@ -11,4 +11,4 @@ use Rattle.world_laws.specs.Staying.{AreLinedUp}
 abbrev pub LineUpsAreInOrder : ℕ → Actors → ℕ → Connection → Type 0
 LineUpsAreInOrder m w mobile s =
     2 ≤ m → (lined : AreLinedUp m w mobile s)
-    → IsInOrder m lined.one.end.sent (taken_of w s.number) (coming (line_up w lined.one s))
+    → IsInOrder m lined.one.end.sent (taken_of w s.number) (arriving (line_up w lined.one s))

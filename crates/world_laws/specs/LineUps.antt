@@ -14,7 +14,7 @@ use Rattle.conn_rules.specs.Connection.{is_at}
 use Rattle.hold_queue.specs.ChainState.{Tenure as Held}
 use Rattle.world_laws.specs.LineUp.Alive.{some_lost}
 use Rattle.world_laws.specs.LineUp.ChangeStep.{ended}
-use Rattle.world_laws.specs.LineUp.Places.{Item, Tenure, Seat, LineUp, fresh, flow}
+use Rattle.world_laws.specs.LineUp.Places.{Item, LineTenure, Seat, LineUp, fresh, flow}
 use Rattle.world_laws.specs.LineUp.Places.Item.{brought, released}
 use Rattle.world_laws.specs.LineUp.Places.Seat.{on_serving, on_target, moving, gone}
 use Rattle.world_model.specs.declared.seat.Seat.{Seat as MobileSeat}
@@ -45,20 +45,20 @@ is_ended (brought message ∷ items) = is_ended items
 
 -- an old channel may lack something where its link broke before its RF CHANNEL RELEASE ACK was on
 -- its way
-abbrev pub draining_tenure : Bool → List Item → List (List ℕ) → Tenure
+abbrev pub draining_tenure : Bool → List Item → List (List ℕ) → LineTenure
 draining_tenure up items hold =
     record { hold = hold; items = items; is_lost = not up && not (is_ended items); is_done = false }
 
-abbrev pub old_tenure : (Place → List Item) → (ℕ → Bool) → Drain → List (List ℕ) → Tenure
-old_tenure coming up d hold =
+abbrev pub old_tenure : (Place → List Item) → (ℕ → Bool) → Drain → List (List ℕ) → LineTenure
+old_tenure arriving up d hold =
     if d.is_done then ended hold else draining_tenure (up d.channel.station)
-    (coming (place_of d.channel)) hold
+    (arriving (place_of d.channel)) hold
 
-abbrev pub old_tenures : (Place → List Item) → (ℕ → Bool) → List Drain → List Held → List Tenure
-old_tenures coming up [] holds = []
-old_tenures coming up (d ∷ ds) [] = old_tenure coming up d [] ∷ old_tenures coming up ds []
-old_tenures coming up (d ∷ ds) (held ∷ others) =
-    old_tenure coming up d held.zero ∷ old_tenures coming up ds others
+abbrev pub old_tenures : (Place → List Item) → (ℕ → Bool) → List Drain → List Held → List LineTenure
+old_tenures arriving up [] holds = []
+old_tenures arriving up (d ∷ ds) [] = old_tenure arriving up d [] ∷ old_tenures arriving up ds []
+old_tenures arriving up (d ∷ ds) (held ∷ others) =
+    old_tenure arriving up d held.zero ∷ old_tenures arriving up ds others
 
 -- the tenure behind those of old channels
 abbrev pub serving_hold : List Drain → List Held → List (List ℕ)
@@ -66,11 +66,11 @@ serving_hold draining [] = []
 serving_hold [] (held ∷ others) = held.zero
 serving_hold (d ∷ ds) (held ∷ others) = serving_hold ds others
 
-abbrev pub serving_tenure : (Place → List Item) → (ℕ → Bool) → Channel → List (List ℕ) → Tenure
-serving_tenure coming up c hold =
+abbrev pub serving_tenure : (Place → List Item) → (ℕ → Bool) → Channel → List (List ℕ) → LineTenure
+serving_tenure arriving up c hold =
     record {
       hold = hold;
-      items = coming (place_of c);
+      items = arriving (place_of c);
       is_lost = not (up c.station);
       is_done = false;
     }
@@ -87,13 +87,13 @@ abbrev pub commanded_target : State → Option Target
 commanded_target (Live reference (Changing target)) = Some target
 commanded_target _ = None
 
-abbrev pub target_tenure : (Place → List Item) → (ℕ → Bool) → Seat → Option Target → Tenure
-target_tenure coming up seat None = fresh
-target_tenure coming up seat (Some target) =
+abbrev pub target_tenure : (Place → List Item) → (ℕ → Bool) → Seat → Option Target → LineTenure
+target_tenure arriving up seat None = fresh
+target_tenure arriving up seat (Some target) =
     record {
       hold =
           [];
-      items = coming (place_of target.channel);
+      items = arriving (place_of target.channel);
       is_lost = not (up target.channel.station)
           && has_arrived seat;
       is_done = false;
@@ -136,12 +136,13 @@ abbrev pub is_confirmed : State → Bool
 is_confirmed (Live reference stage) = true
 is_confirmed _ = false
 
-abbrev pub is_intact : Seat → List Tenure → Tenure → Tenure → Bool
+abbrev pub is_intact : Seat → List LineTenure → LineTenure → LineTenure → Bool
 is_intact seat old serving target =
     not (is_gone seat) && not (some_lost old) && not serving.is_lost && not target.is_lost
 
-abbrev pub assembled : List (List ℕ) → DataLinkState → Seat → State → ℕ → List Tenure → Tenure
-    → Tenure → List (List ℕ) → List (List ℕ) → LineUp
+abbrev pub assembled : List (List ℕ) → DataLinkState → Seat → State → ℕ → List LineTenure
+    → LineTenure
+    → LineTenure → List (List ℕ) → List (List ℕ) → LineUp
 assembled sent link seat state commands old serving target out taken = record {
   sent = sent;
   link = link;
@@ -162,12 +163,12 @@ assembled sent link seat state commands old serving target out taken = record {
 -- down, and by what waits for the switch and what it took
 abbrev pub lined : (Place → List Item) → (ℕ → Bool) → List AirMessage → List (List ℕ)
     → List (List ℕ) → Mobile → Connection → LineUp
-lined coming up commands out taken p s =
+lined arriving up commands out taken p s =
     assembled p.end.sent p.end.zero (seat_from s.serving p.seat) s.state
     (length commands + remembered p.seat)
-    (old_tenures coming up s.draining s.up.tenures)
-    (serving_tenure coming up s.serving (serving_hold s.draining s.up.tenures))
-    (target_tenure coming up (seat_from s.serving p.seat) (commanded_target s.state))
+    (old_tenures arriving up s.draining s.up.tenures)
+    (serving_tenure arriving up s.serving (serving_hold s.draining s.up.tenures))
+    (target_tenure arriving up (seat_from s.serving p.seat) (commanded_target s.state))
     (flow out)
     (flow taken)
 

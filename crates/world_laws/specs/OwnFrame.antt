@@ -42,7 +42,7 @@ pub record IsFrameFor (w : Actors) (item : RelayItem) (s : Connection) (input : 
   pub said : IsSaidTo w.controller (word_of item.source frame) s input offer
   pub requested : IsRequested s.state
   pub fits : row_of s input offer ≡ Some r
-  pub stays_open : IsOpen r.next.state
+  pub remains_open : IsOpen r.next.state
   pub carried : IsCarried input
 
 -- the controller handles it for the connection, and the frame brings what the input says

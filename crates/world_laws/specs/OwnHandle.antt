@@ -38,7 +38,7 @@ BeginsTenure w _ o tenure = tenure ≡ None
 pub record HandlesFor (w : Actors) (item : RelayItem) (s : Connection) (input : Input)
     (offer : Option Channel) (r : Row) (text : List ℕ) : Type 0 where
   pub fits : row_of s input offer ≡ Some r
-  pub stays_open : IsOpen r.next.state
+  pub remains_open : IsOpen r.next.state
   pub awaits : StillAwaits s.state r.next.state
   pub outs : (take item w.controller).outs ≡ outs_of s.number r.outs
   pub carried : IsCarried input
@@ -49,7 +49,7 @@ pub record HandlesFor (w : Actors) (item : RelayItem) (s : Connection) (input : 
 
 -- What is on its way on its channels is in order, as the input finds it.
 pub record AreInOrder (w : Actors) (s : Connection) (input : Input) : Type 0 where
-  pub stands : IsValid s
+  pub valid : IsValid s
   pub switch_up : is_up w SWITCH_LINK ≡ true
   -- an RF CHANNEL RELEASE ACK comes last on an old channel, and on no other
   pub old_end : EndLast w s

@@ -81,14 +81,14 @@ seat_after _ seat = seat
 pub record TakesInput (s : Connection) (input : Input) (offer : Option Channel) (r : Row)
     (text : List ℕ) (before after : Place → List Item) (commands commands2 : ℕ) : Type 0 where
   pub fits : row_of s input offer ≡ Some r
-  pub stays_open : IsOpen r.next.state
+  pub remains_open : IsOpen r.next.state
   pub awaits : StillAwaits s.state r.next.state
-  pub stands : IsValid s
+  pub valid : IsValid s
   pub carried : IsCarried input
   pub apart : AreApart (used_channels s)
   pub finds : Finds input text before after s
   pub whole : AreLayer3 (relayed Zero r.outs)
-  pub told : CommandsAfter (step_by input (roles_of s)) commands commands2
+  pub commands_after : CommandsAfter (step_by input (roles_of s)) commands commands2
 
 -- what it relays joins what waits for the switch
 abbrev pub InputKeepsLineUp : ℕ → Connection → Input → Option Channel → Row → Type 0

@@ -20,10 +20,10 @@ use Rattle.world_laws.specs.ToCome.{AreLayer3, IsFutureOf}
 -- a mobile's messages on their way over a connection's channels, by what is on its way up from each
 abbrev pub over : (Place → List Item) → (ℕ → Bool) → Connection → List (List ℕ) → DataLinkState
     → Seat → ℕ → List (List ℕ) → List (List ℕ) → LineUp
-over coming up s sent link seat commands out taken =
-    assembled sent link seat s.state commands (old_tenures coming up s.draining s.up.tenures)
-    (serving_tenure coming up s.serving (serving_hold s.draining s.up.tenures))
-    (target_tenure coming up seat (commanded_target s.state)) out taken
+over arriving up s sent link seat commands out taken =
+    assembled sent link seat s.state commands (old_tenures arriving up s.draining s.up.tenures)
+    (serving_tenure arriving up s.serving (serving_hold s.draining s.up.tenures))
+    (target_tenure arriving up seat (commanded_target s.state)) out taken
 
 -- The row that fits an input, by which the connection stays open: what is on its way up was one
 -- message more, the input's; and the row changes the roles of channels by a step that what is on
@@ -31,9 +31,9 @@ over coming up s sent link seat commands out taken =
 pub record DoesRow (s : Connection) (input : Input) (offer : Option Channel) (r : Row)
     (before after : Place → List Item) (up : ℕ → Bool) (commands commands2 : ℕ) (seat seat2 : Seat) : Type 0 where
   pub fits : row_of s input offer ≡ Some r
-  pub stays_open : IsOpen r.next.state
+  pub remains_open : IsOpen r.next.state
   pub awaits : StillAwaits s.state r.next.state
-  pub stands : IsValid s
+  pub valid : IsValid s
   pub carried : IsCarried input
   pub apart : AreApart (used_channels s)
   pub future : Future
@@ -57,16 +57,16 @@ RowKeepsLineUp m s input offer r =
 -- The row that puts CR with the initial message: nothing is held, and the mobile's link goes on
 -- behind that message and what is on its way up behind it, where no COMPLETE or FAILURE is.
 pub record Opens (m : ℕ) (sent : List (List ℕ)) (link : DataLinkState) (initial : List ℕ)
-    (coming : Place → List Item) (s : Connection) : Type 0 where
+    (arriving : Place → List Item) (s : Connection) : Type 0 where
   pub awaits : s.state ≡ WaitConfirm
   pub none_drains : s.draining ≡ []
   pub none_held : s.up.tenures ≡ empty_tenure ∷ []
-  pub goes_on : RunsToEnd m sent (flow (initial ∷ messages_in (coming (place_of s.serving)))) link
-  pub no_control : controls_in (coming (place_of s.serving)) + controls_of (to_be_taken link) ≡ 0
+  pub goes_on : RunsToEnd m sent (flow (initial ∷ messages_in (arriving (place_of s.serving)))) link
+  pub no_control : controls_in (arriving (place_of s.serving)) + controls_of (to_be_taken link) ≡ 0
 
 -- the initial message waits for the switch
 abbrev pub OpeningLinesUp : ℕ → Type 0
 OpeningLinesUp m =
-    (sent : List (List ℕ)) (link : DataLinkState) (initial : List ℕ) (coming : Place
-    → List Item) (up : ℕ → Bool) (s : Connection) → Opens m sent link initial coming s
-    → Alive m (over coming up s sent link on_serving 0 (flow (initial ∷ [])) [])
+    (sent : List (List ℕ)) (link : DataLinkState) (initial : List ℕ) (arriving : Place
+    → List Item) (up : ℕ → Bool) (s : Connection) → Opens m sent link initial arriving s
+    → Alive m (over arriving up s sent link on_serving 0 (flow (initial ∷ [])) [])

@@ -15,13 +15,13 @@ StillAwaits state next = is_opening state ≡ true → is_opening next ≡ true
 
 -- whether something may be missing of an old channel
 abbrev pub lacks : (Place → List Item) → (ℕ → Bool) → Drain → Bool
-lacks coming up d =
+lacks arriving up d =
     if d.is_done then false else (not (up d.channel.station)
-    && not (is_ended (coming (place_of d.channel))))
+    && not (is_ended (arriving (place_of d.channel))))
 
 abbrev pub some_lacks : (Place → List Item) → (ℕ → Bool) → List Drain → Bool
-some_lacks coming up [] = false
-some_lacks coming up (d ∷ ds) = lacks coming up d || some_lacks coming up ds
+some_lacks arriving up [] = false
+some_lacks arriving up (d ∷ ds) = lacks arriving up d || some_lacks arriving up ds
 
 -- ---- what a row does
 
@@ -33,13 +33,13 @@ Covers before after up s next =
 
 -- what is on its way of the target
 abbrev pub target_items : (Place → List Item) → Option Target → List Item
-target_items coming None = []
-target_items coming (Some t) = coming (place_of t.channel)
+target_items arriving None = []
+target_items arriving (Some t) = arriving (place_of t.channel)
 
 pub data OwnStep (before after : Place → List Item) (up : ℕ → Bool) (s next : Connection)
     (commands commands2 : ℕ) : Seat → Seat → Type 0 where
   -- the channels have the roles that they had, or old ones leave
-  stays : {seat : Seat} → next.serving ≡ s.serving
+  unchanged : {seat : Seat} → next.serving ≡ s.serving
       → commanded_target next.state ≡ commanded_target s.state
       → controls_in (after (place_of s.serving)) ≤ controls_in (before (place_of s.serving))
       → texts_in (target_items after (commanded_target s.state))

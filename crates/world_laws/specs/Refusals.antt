@@ -13,7 +13,7 @@ RefusesNone _ = Unit {0}
 
 -- no refusal came, and none waits in the inbox
 pub record NoneRefuse (settings : Parameters) (events : List Event) : Type 0 where
-  pub came : AllByRecursion (λ step. RefusesNone (word_in step))
+  pub received : AllByRecursion (λ step. RefusesNone (word_in step))
       (all_steps (new_actors settings) events)
   pub waits : AllByRecursion (λ item. RefusesNone (word_by item.source item.what))
       (world settings events).inbox

@@ -24,7 +24,7 @@ SaysBesideFlow _ = Unit {0}
 
 -- no message that came on SAPI 3, waits in the inbox or is held is of the flow
 pub record FlowIsOnSapiZero (settings : Parameters) (events : List Event) : Type 0 where
-  pub came : AllByRecursion (λ step. SaysBesideFlow (word_in step))
+  pub received : AllByRecursion (λ step. SaysBesideFlow (word_in step))
       (all_steps (new_actors settings) events)
   pub waits : AllByRecursion (λ item. SaysBesideFlow (word_by item.source item.what))
       (world settings events).inbox

@@ -30,16 +30,17 @@ command_to w target =
 -- no command, or that of the change under way
 pub data Remembers (w : Actors) : Option Target → Option Command → Type 0 where
   nothing : {target : Option Target} → Remembers w target None
-  told : {target : Target} {command : Command} → command ≡ command_to w target
+  by_command : {target : Target} {command : Command} → command ≡ command_to w target
       → Remembers w (Some target) (Some command)
 
 -- It is on the serving channel; or it was commanded, and came to the target or is between both; or
 -- it is gone. All in the present tenures.
 pub data Sits (w : Actors) (serving : Channel) : Option Target → Seat → Type 0 where
-  stays : {target : Option Target} {tenure : Tenure} {command : Option Command}
+  unchanged : {target : Option Target} {tenure : Tenure} {command : Option Command}
       → tenure ≡ tenure_at w (place_of serving) → Remembers w target command →
       Sits w serving target (On tenure command)
-  came : {target : Target} {tenure : Tenure} → tenure ≡ tenure_at w (place_of target.channel)
+  at_its_target : {target : Target} {tenure : Tenure} → tenure ≡ tenure_at w
+      (place_of target.channel)
       → Sits w serving (Some target) (On tenure None)
   between : {target : Target} {from : Tenure} {command : Command}
       → from ≡ tenure_at w (place_of serving) → command ≡ command_to w target →

@@ -28,23 +28,23 @@ texts_of items = without_control (messages_in items)
 
 -- on an old channel
 abbrev pub AsOld : Future → (Place → List Item) → (ℕ → Bool) → Channel → Type 0
-AsOld future coming up c =
-    (future (place_of c) ≡ texts_of (coming (place_of c))
-    ++ mark (not (up c.station) && not (is_ended (coming (place_of c)))))
-    × AreLayer3 (texts_of (coming (place_of c)))
+AsOld future arriving up c =
+    (future (place_of c) ≡ texts_of (arriving (place_of c))
+    ++ mark (not (up c.station) && not (is_ended (arriving (place_of c)))))
+    × AreLayer3 (texts_of (arriving (place_of c)))
 
 -- on the serving channel
 abbrev pub AsServing : Future → (Place → List Item) → (ℕ → Bool) → Channel → Type 0
-AsServing future coming up c =
-    (future (place_of c) ≡ texts_of (coming (place_of c)) ++ mark (not (up c.station)))
-    × AreLayer3 (texts_of (coming (place_of c)))
+AsServing future arriving up c =
+    (future (place_of c) ≡ texts_of (arriving (place_of c)) ++ mark (not (up c.station)))
+    × AreLayer3 (texts_of (arriving (place_of c)))
 
 -- on the target, behind which nothing comes
 abbrev pub AsTarget : Future → (Place → List Item) → Option Target → Type 0
-AsTarget future coming None = Unit {0}
-AsTarget future coming (Some t) =
-    (b : Bool) × (future (place_of t.channel) ≡ texts_of (coming (place_of t.channel)) ++ mark b)
-    × AreLayer3 (texts_of (coming (place_of t.channel)))
+AsTarget future arriving None = Unit {0}
+AsTarget future arriving (Some t) =
+    (b : Bool) × (future (place_of t.channel) ≡ texts_of (arriving (place_of t.channel)) ++ mark b)
+    × AreLayer3 (texts_of (arriving (place_of t.channel)))
 
 -- what is held is whole messages, in a tenure for each old channel and the serving one
 abbrev pub AreHeld : List Drain → List Held → Type 0
@@ -52,9 +52,9 @@ AreHeld draining [] = ⊥
 AreHeld [] (t ∷ ts) = AreLayer3 t.zero
 AreHeld (d ∷ ds) (t ∷ ts) = AreLayer3 t.zero × AreHeld ds ts
 
-pub record IsFutureOf (future : Future) (coming : Place → List Item) (up : ℕ → Bool)
+pub record IsFutureOf (future : Future) (arriving : Place → List Item) (up : ℕ → Bool)
     (s : Connection) : Type 0 where
-  pub old : AllByRecursion (AsOld future coming up) (undone s.draining)
-  pub serving : AsServing future coming up s.serving
-  pub target : AsTarget future coming (commanded_target s.state)
+  pub old : AllByRecursion (AsOld future arriving up) (undone s.draining)
+  pub serving : AsServing future arriving up s.serving
+  pub target : AsTarget future arriving (commanded_target s.state)
   pub held : AreHeld s.draining s.up.tenures

@@ -163,7 +163,7 @@ pub fn line_ups_are_in_order()
 /// its mobile's upper layers sent, once and in order, and judged no gap.
 pub fn ended_connections_stay_in_order()
     ensures ends { (m : ℕ) (w : Actors) (mobile : ℕ) (s : Connection) → LineUpsMayEnd m w mobile s }
-    ensures stays { AtEvents EndedStayInOrder }
+    ensures in_order { AtEvents EndedStayInOrder }
     ensures accepted { (m : ℕ) (w : Actors) (mobile : ℕ) (number : ℕ)
         → EndedAreInOrder m w mobile number }
 {}

@@ -9,7 +9,7 @@ ghost use Rattle.mobile_end.specs.RunsToEnd.{RunsToEnd};
 ghost use Rattle.world_laws.specs.LineUp.Alive.{Alive};
 ghost use Rattle.world_laws.specs.LineUp.BreakStep.{BreakStep};
 ghost use Rattle.world_laws.specs.LineUp.ChangeStep.{ChangeStep};
-ghost use Rattle.world_laws.specs.LineUp.Order.{Ended, IsInOrder, coming};
+ghost use Rattle.world_laws.specs.LineUp.Order.{Ended, IsInOrder, arriving};
 ghost use Rattle.world_laws.specs.LineUp.Opening.{opened};
 ghost use Rattle.world_laws.specs.LineUp.Places.{Item, LineUp, controls_in, controls_of, flow};
 ghost use Rattle.world_laws.specs.LineUp.Places.{messages_in};
@@ -59,9 +59,9 @@ pub fn breaks_keep_line_up()
 /// the mobile's upper layers sent, once and in order, and judged no gap. What may still come to it
 /// continues there, or one message before. It holds for each number of numbers from 2.
 pub fn line_up_is_accepted_in_order()
-    ensures alive { (m : ℕ) (l : LineUp) → 2 ≤ m → Alive m l → IsInOrder m l.sent l.taken (coming l) }
+    ensures alive { (m : ℕ) (l : LineUp) → 2 ≤ m → Alive m l → IsInOrder m l.sent l.taken (arriving l) }
     ensures run { (m : ℕ) (before after : LineUp) → 2 ≤ m → Alive m before → Steps m before after
-        → IsInOrder m after.sent after.taken (coming after) }
+        → IsInOrder m after.sent after.taken (arriving after) }
 {}
 
 /// Once a connection closed or was removed, the order stays: when more is sent, when the switch

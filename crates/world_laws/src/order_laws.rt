@@ -41,7 +41,7 @@ pub fn connections_begin_coming()
 /// allowed, where what came was octets.
 pub fn channel_of_a_coming_one_is_quiet_down()
     ensures begins { AtEvents ChannelsBeginQuiet }
-    ensures stays { AtEvents ChannelsStayQuiet }
+    ensures quiet { AtEvents ChannelsStayQuiet }
     ensures none_go { OfRuns QuietLetsNoneGo }
 {}
 
@@ -88,7 +88,7 @@ pub fn octets_come()
 /// is lost they reach to the last message sent. So it is with settings that are allowed, where
 /// events are of octets.
 pub fn line_ups_stand()
-    ensures stands { OfRuns AllNumbersStand }
+    ensures numbers { OfRuns AllNumbersStand }
     ensures rise { OfRuns AllPlacesRise }
 {}
 

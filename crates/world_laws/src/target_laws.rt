@@ -24,6 +24,6 @@ pub fn free_channels_are_quiet()
 /// first; as long as it brought none, COMPLETE is the first that the mobile gives there. So it is
 /// with settings that are allowed, where what came was octets.
 pub fn targets_stay_fresh()
-    ensures stays { AtEvents TargetsStayFresh }
+    ensures fresh { AtEvents TargetsStayFresh }
     ensures tells { (w : Actors) (p : MobileValue) (s : Connection) → FreshTells w p s }
 {}

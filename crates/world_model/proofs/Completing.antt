@@ -16,7 +16,7 @@ use Rattle.mobile_end.specs.Calls.{begins, frame_lent, may_arrive, taken_by_call
 use Rattle.world_model.specs.Calls.{Begins, CompleteIsFirst, EachBegins, calls_at, calls_to_arrive, calls_to_return, arrives_at, arrives_with, comings, complete_of, failure_of, frame_of, seat_of, taken_at, taken_by_channel}
 use Rattle.world_model.specs.Mobiles.{complete, failure}
 use Rattle.world_model.proofs.Leads.{and_left, and_right}
-use Rattle.world_model.proofs.Mobility.{Stands, Takes, control_complete, control_failure, end_of, may_come, stands_new, takes_at}
+use Rattle.world_model.proofs.Mobility.{FitsWorld, Takes, control_complete, control_failure, end_of, may_come, fitting_new, takes_at}
 use Rattle.world_model.proofs.Repeating.{IsBetween, arriving, end_between, frame_same, place_between, returning}
 
 -- nothing was taken yet, and the message is in the air; or it was taken first
@@ -28,7 +28,7 @@ data IsLed (control : List ℕ) : List (List ℕ) → MobileState → Type 0 whe
 
 -- by a call the message stays in the air, or is taken
 data Goes (control : List ℕ) (e : MobileState) (call : Call) : Type 0 where
-  stays : taken_by_call e call ≡ [] → (after_call e call).zero.air ≡ Given control → Goes control e call
+  unchanged : taken_by_call e call ≡ [] → (after_call e call).zero.air ≡ Given control → Goes control e call
   goes : taken_by_call e call ≡ control ∷ [] → Goes control e call
 
 air-queued : (e : MobileState) (sapi : Sapi) (message : List ℕ) → (after_queue e sapi message).zero.air ≡ e.zero.air
@@ -58,9 +58,9 @@ lent_given link control is = ap (λ (air : Air). offered_message (after_load_fro
 
 goes_frame : (control : List ℕ) (e : MobileState) (stage : Stage) (place : Place) → e.stage ≡ stage → e.place ≡ place → e.zero.air ≡ Given control → Goes control e (frames Zero)
 goes_frame control e New place is at air =
-    stays (ap (λ (s : Stage). frame_lent (frame_answer_at s e.place (lent_message e.zero))) is) (ap (λ (s : Stage). (after_frame_at s e.place e Zero).zero.air) is ∙ air)
+    unchanged (ap (λ (s : Stage). frame_lent (frame_answer_at s e.place (lent_message e.zero))) is) (ap (λ (s : Stage). (after_frame_at s e.place e Zero).zero.air) is ∙ air)
 goes_frame control e Connected places.Moving is at air =
-    stays (ap (λ (s : Stage). frame_lent (frame_answer_at s e.place (lent_message e.zero))) is ∙ ap (λ (p : Place). frame_lent (frame_answer_at Connected p (lent_message e.zero))) at)
+    unchanged (ap (λ (s : Stage). frame_lent (frame_answer_at s e.place (lent_message e.zero))) is ∙ ap (λ (p : Place). frame_lent (frame_answer_at Connected p (lent_message e.zero))) at)
     (ap (λ (s : Stage). (after_frame_at s e.place e Zero).zero.air) is ∙ ap (λ (p : Place). (after_frame_at Connected p e Zero).zero.air) at ∙ air)
 goes_frame control e Connected places.OnChannel is at air =
     goes (ap (λ (s : Stage). frame_lent (frame_answer_at s e.place (lent_message e.zero))) is ∙ ap (λ (p : Place). frame_lent (frame_answer_at Connected p (lent_message e.zero))) at
@@ -81,19 +81,19 @@ air-refused e next b is = ap (λ (x : Bool). (if x then next else e).zero.air) i
 
 by_call : (control : List ℕ) (e : MobileState) (call : Call) → begins e call ≡ false → e.zero.air ≡ Given control → Goes control e call
 by_call control e (connects initial) not air =
-    stays refl (air-connects e.stage e (unless_refused (refusal_of_connect initial) e (after_connect e initial)) (air-unless (refusal_of_connect initial) e (after_connect e initial) (air-connected e initial)) ∙ air)
-by_call control e (sends sapi message) not air = stays refl (air-unless (refusal_of_send e sapi message) e (after_queue e sapi message) (air-queued e sapi message) ∙ air)
+    unchanged refl (air-connects e.stage e (unless_refused (refusal_of_connect initial) e (after_connect e initial)) (air-unless (refusal_of_connect initial) e (after_connect e initial) (air-connected e initial)) ∙ air)
+by_call control e (sends sapi message) not air = unchanged refl (air-unless (refusal_of_send e sapi message) e (after_queue e sapi message) (air-queued e sapi message) ∙ air)
 by_call control e (frames Zero) not air = goes_frame control e e.stage e.place refl refl air
-by_call control e (frames Three) not air = stays refl (air-framed-three e.stage e.place e ∙ air)
-by_call control e (acknowledges sapi) not air = stays refl (air-acked e.place sapi e control air)
-by_call control e leaves not air = stays refl air
-by_call control e (arrives text) not air = stays refl (air-refused e (after_arrival e text) (may_arrive e text) not ∙ air)
-by_call control e (gives_up text) not air = stays refl (air-refused e (after_arrival e text) (may_arrive e text) not ∙ air)
+by_call control e (frames Three) not air = unchanged refl (air-framed-three e.stage e.place e ∙ air)
+by_call control e (acknowledges sapi) not air = unchanged refl (air-acked e.place sapi e control air)
+by_call control e leaves not air = unchanged refl air
+by_call control e (arrives text) not air = unchanged refl (air-refused e (after_arrival e text) (may_arrive e text) not ∙ air)
+by_call control e (gives_up text) not air = unchanged refl (air-refused e (after_arrival e text) (may_arrive e text) not ∙ air)
 
 led_by : (control : List ℕ) (so_far : List (List ℕ)) (e : MobileState) (call : Call) → begins e call ≡ false → IsLed control so_far e → IsLed control (so_far ++ taken_by_call e call) (after_call e call)
 led_by control [] e call not (given air) = by (by_call control e call not air) where
   by : Goes control e call → IsLed control (taken_by_call e call) (after_call e call)
-  by (stays none stands) = subst (λ (xs : List (List ℕ)). IsLed control xs (after_call e call)) (sym none) (given stands)
+  by (unchanged none fitting) = subst (λ (xs : List (List ℕ)). IsLed control xs (after_call e call)) (sym none) (given fitting)
   by (goes one) = subst (λ (xs : List (List ℕ)). IsLed control xs (after_call e call)) (sym one) (taken [])
 led_by control (_ ∷ _) e call not (taken others) = taken (others ++ taken_by_call e call)
 
@@ -128,40 +128,42 @@ turns_frame m number w n done false not = turns_none (end_of m (mobile_of w numb
 turns_come : (m number : ℕ) (w : Actors) (n : ℕ) (call : List ℕ → Call) (text : Change → List ℕ) (calls : Seat → List Call) (told : Seat → Option (List ℕ))
     → ((from : Tenure) (command : Command) → calls (Moving from command) ≡ call (text command.change) ∷ []) → ((from : Tenure) (command : Command) → told (Moving from command) ≡ Some (text command.change))
     → ((change : Change) → is_control (text change) ≡ true) → ((e : MobileState) (xs : List ℕ) → after_call e (call xs) ≡ (if may_arrive e xs then after_arrival e xs else e))
-    → Stands m number w → n ≡ number → (at : IsBetween w n) → Turns (end_of m (mobile_of w number)) (calls (seat_of (mobile_of w n))) true (told (seat_of (mobile_of w n))) []
-turns_come m number w n call text calls told called said control does stands same at =
+    → FitsWorld m number w → n ≡ number → (at : IsBetween w n) → Turns (end_of m (mobile_of w number)) (calls (seat_of (mobile_of w n))) true (told (seat_of (mobile_of w n))) []
+turns_come m number w n call text calls told called said control does fitting same at =
     let e : MobileState = end_of m (mobile_of w number) in
     let xs : List ℕ = text at.command.change in
     let seat : seat_of (mobile_of w n) ≡ Moving at.from at.command = ap (λ (o : Option Mobile). seat_of o) at.found ∙ at.seat in
-    let may : may_arrive e xs ≡ true = ap (λ (x : MobileState). may_arrive x xs) (end_between m number w n same at) ∙ may_come at.p.end at.from at.command xs (place_between n stands same at ∙ ap place_in at.seat) (control at.command.change) in
+    let may : may_arrive e xs ≡ true = ap (λ (x : MobileState). may_arrive x xs) (end_between m number w n same at) ∙ may_come at.p.end at.from at.command xs (place_between n fitting same at ∙ ap place_in at.seat) (control at.command.change) in
     let air : (after_call e (call xs)).zero.air ≡ Given xs = ap (λ (x : MobileState). x.zero.air) (does e xs) ∙ air-come e (after_arrival e xs) (may_arrive e xs) may in
     subst (λ (cs : List Call). Turns e cs true (told (seat_of (mobile_of w n))) []) (sym (ap calls seat ∙ called at.from at.command))
     (subst (λ (o : Option (List ℕ)). Turns e (call xs ∷ []) true o []) (sym (ap told seat ∙ said at.from at.command)) (comes xs air))
 
-turns_arrive : (m number : ℕ) (w : Actors) (n : ℕ) (b : Bool) → (n == number) && is_some (event_after w (Arrive n)) ≡ b → Stands m number w
+turns_arrive : (m number : ℕ) (w : Actors) (n : ℕ) (b : Bool) → (n == number) && is_some (event_after w (Arrive n)) ≡ b
+    → FitsWorld m number w
     → Turns (end_of m (mobile_of w number)) (if b then calls_to_arrive (seat_of (mobile_of w n)) else []) b (complete_of (seat_of (mobile_of w n))) []
-turns_arrive m number w n true done stands =
-    turns_come m number w n (λ xs. arrives xs) complete calls_to_arrive complete_of (λ from command. refl) (λ from command. refl) control_complete (λ e xs. refl) stands
+turns_arrive m number w n true done fitting =
+    turns_come m number w n (λ xs. arrives xs) complete calls_to_arrive complete_of (λ from command. refl) (λ from command. refl) control_complete (λ e xs. refl) fitting
     (eqb-true n number (and_left (n == number) (is_some (event_after w (Arrive n))) done)) (arriving w n (and_right (n == number) (is_some (event_after w (Arrive n))) done))
-turns_arrive m number w n false not stands = turns_none (end_of m (mobile_of w number)) (complete_of (seat_of (mobile_of w n)))
+turns_arrive m number w n false not fitting = turns_none (end_of m (mobile_of w number)) (complete_of (seat_of (mobile_of w n)))
 
-turns_return : (m number : ℕ) (w : Actors) (n : ℕ) (b : Bool) → (n == number) && is_some (event_after w (Return n)) ≡ b → Stands m number w
+turns_return : (m number : ℕ) (w : Actors) (n : ℕ) (b : Bool) → (n == number) && is_some (event_after w (Return n)) ≡ b
+    → FitsWorld m number w
     → Turns (end_of m (mobile_of w number)) (if b then calls_to_return (seat_of (mobile_of w n)) else []) b (failure_of (seat_of (mobile_of w n))) []
-turns_return m number w n true done stands =
-    turns_come m number w n (λ xs. gives_up xs) failure calls_to_return failure_of (λ from command. refl) (λ from command. refl) control_failure (λ e xs. refl) stands
+turns_return m number w n true done fitting =
+    turns_come m number w n (λ xs. gives_up xs) failure calls_to_return failure_of (λ from command. refl) (λ from command. refl) control_failure (λ e xs. refl) fitting
     (eqb-true n number (and_left (n == number) (is_some (event_after w (Return n))) done)) (returning w n (and_right (n == number) (is_some (event_after w (Return n))) done))
-turns_return m number w n false not stands = turns_none (end_of m (mobile_of w number)) (failure_of (seat_of (mobile_of w n)))
+turns_return m number w n false not fitting = turns_none (end_of m (mobile_of w number)) (failure_of (seat_of (mobile_of w n)))
 
-turns_at : (m number : ℕ) (w : Actors) (event : Event) → Stands m number w → Turns (end_of m (mobile_of w number)) (calls_at w event number) (arrives_at w event number) (arrives_with w event) (taken_at w event number)
-turns_at m number w (Connect n station initial accepts) stands = turns_silent (end_of m (mobile_of w number)) (connects (Some initial)) ((n == number) && is_some (event_after w (Connect n station initial accepts))) refl refl
-turns_at m number w (Upper n sapi message) stands = turns_silent (end_of m (mobile_of w number)) (sends sapi message) ((n == number) && is_some (event_after w (Upper n sapi message))) refl refl
-turns_at m number w (AirUp n Zero) stands = turns_frame m number w n (is_some (event_after w (AirUp n Zero))) ((n == number) && is_some (event_after w (AirUp n Zero))) refl
-turns_at m number w (AirUp n Three) stands = turns_silent (end_of m (mobile_of w number)) (frames Three) ((n == number) && is_some (event_after w (AirUp n Three))) refl refl
-turns_at m number w (AirAck n sapi) stands = turns_silent (end_of m (mobile_of w number)) (acknowledges sapi) ((n == number) && is_some (event_after w (AirAck n sapi))) refl refl
-turns_at m number w (Move n) stands = turns_silent (end_of m (mobile_of w number)) leaves ((n == number) && is_some (event_after w (Move n))) refl refl
-turns_at m number w (Arrive n) stands = turns_arrive m number w n ((n == number) && is_some (event_after w (Arrive n))) refl stands
-turns_at m number w (Return n) stands = turns_return m number w n ((n == number) && is_some (event_after w (Return n))) refl stands
-turns_at m number w _ stands = turns_none (end_of m (mobile_of w number)) None
+turns_at : (m number : ℕ) (w : Actors) (event : Event) → FitsWorld m number w → Turns (end_of m (mobile_of w number)) (calls_at w event number) (arrives_at w event number) (arrives_with w event) (taken_at w event number)
+turns_at m number w (Connect n station initial accepts) fitting = turns_silent (end_of m (mobile_of w number)) (connects (Some initial)) ((n == number) && is_some (event_after w (Connect n station initial accepts))) refl refl
+turns_at m number w (Upper n sapi message) fitting = turns_silent (end_of m (mobile_of w number)) (sends sapi message) ((n == number) && is_some (event_after w (Upper n sapi message))) refl refl
+turns_at m number w (AirUp n Zero) fitting = turns_frame m number w n (is_some (event_after w (AirUp n Zero))) ((n == number) && is_some (event_after w (AirUp n Zero))) refl
+turns_at m number w (AirUp n Three) fitting = turns_silent (end_of m (mobile_of w number)) (frames Three) ((n == number) && is_some (event_after w (AirUp n Three))) refl refl
+turns_at m number w (AirAck n sapi) fitting = turns_silent (end_of m (mobile_of w number)) (acknowledges sapi) ((n == number) && is_some (event_after w (AirAck n sapi))) refl refl
+turns_at m number w (Move n) fitting = turns_silent (end_of m (mobile_of w number)) leaves ((n == number) && is_some (event_after w (Move n))) refl refl
+turns_at m number w (Arrive n) fitting = turns_arrive m number w n ((n == number) && is_some (event_after w (Arrive n))) refl fitting
+turns_at m number w (Return n) fitting = turns_return m number w n ((n == number) && is_some (event_after w (Return n))) refl fitting
+turns_at m number w _ fitting = turns_none (end_of m (mobile_of w number)) None
 
 -- ---- all these events
 
@@ -180,11 +182,11 @@ led_on : (o : Option (List ℕ)) (so_far more : List (List ℕ)) (e next end : M
 led_on None so_far more e next end is on led = tt
 led_on (Some control) so_far more e next end is on led = subst (IsLed control (so_far ++ more)) (sym is) (on control so_far led)
 
-firsts : (m number : ℕ) (w : Actors) (o : Option (List ℕ)) (so_far : List (List ℕ)) (events : List Event) → Stands m number w → Led o so_far (end_of m (mobile_of w number))
+firsts : (m number : ℕ) (w : Actors) (o : Option (List ℕ)) (so_far : List (List ℕ)) (events : List Event) → FitsWorld m number w → Led o so_far (end_of m (mobile_of w number))
     → EachBegins (comings w number o events) (taken_by_channel w number so_far events)
-firsts m number w o so_far [] stands led = (begins_led o so_far (end_of m (mobile_of w number)) led, tt)
-firsts m number w o so_far (event ∷ events) stands led =
-    by (arrives_at w event number) (arrives_with w event) (taken_at w event number) (turns_at m number w event stands) (λ p xs now. firsts m number v p xs events takes.stands now) where
+firsts m number w o so_far [] fitting led = (begins_led o so_far (end_of m (mobile_of w number)) led, tt)
+firsts m number w o so_far (event ∷ events) fitting led =
+    by (arrives_at w event number) (arrives_with w event) (taken_at w event number) (turns_at m number w event fitting) (λ p xs now. firsts m number v p xs events takes.fitting now) where
       e : MobileState
       e = end_of m (mobile_of w number)
 
@@ -192,7 +194,7 @@ firsts m number w o so_far (event ∷ events) stands led =
       v = actors_after w event
 
       takes : Takes m number w (calls_at w event number) v
-      takes = takes_at m number w event stands
+      takes = takes_at m number w event fitting
 
       by : (b : Bool) (c : Option (List ℕ)) (more : List (List ℕ)) → Turns e (calls_at w event number) b c more
           → ((p : Option (List ℕ)) (xs : List (List ℕ)) → Led p xs (end_of m (mobile_of v number)) → EachBegins (comings v number p events) (taken_by_channel v number xs events))
@@ -202,4 +204,4 @@ firsts m number w o so_far (event ∷ events) stands led =
       by false c more (goes_on follows) on = on o (so_far ++ more) (led_on o so_far more e (after_calls e (calls_at w event number)) (end_of m (mobile_of v number)) takes.ends follows led)
 
 pub complete_comes_first_new : (settings : Parameters) (events : List Event) → CompleteIsFirst settings events
-complete_comes_first_new settings events number = firsts (modulus_in settings) number (new_actors settings) None [] events (stands_new settings number) tt
+complete_comes_first_new settings events number = firsts (modulus_in settings) number (new_actors settings) None [] events (fitting_new settings number) tt

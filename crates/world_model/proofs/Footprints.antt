@@ -73,7 +73,7 @@ pub record Takes (w : Actors) (event : Event) (station : ℕ) (message : Rsl) : 
   pub first : OutboxEntry
   pub others : List OutboxEntry
   pub up : is_station_up w station ≡ true
-  pub stood : outbox_of w station ≡ first ∷ others
+  pub pending : outbox_of w station ≡ first ∷ others
   pub is : rsl_in first.out.frame ≡ Some message
 
 -- its upper layers may send this, and one may connect there with this
@@ -113,7 +113,7 @@ pub data Becomes (w : Actors) (number : ℕ) : Event → Mobile → Mobile → T
 
 -- it keeps its number
 pub became_number : {w : Actors} {number : ℕ} {event : Event} {p q : Mobile} → Becomes w number event p q → q.number ≡ p.number
-became_number (hears p tenure command first others seat reached stood) = hearing-number p first
+became_number (hears p tenure command first others seat reached pending) = hearing-number p first
 became_number _ = refl
 
 -- what a station makes, but acknowledgements
@@ -241,7 +241,7 @@ took_keeps : (P : Actors → Type 0) (w : Actors) (station : ℕ) (first : Outbo
     → OnAir P w (BaseTakes station) → is_station_up w station ≡ true → outbox_of w station ≡ first ∷ others → rsl_in first.out.frame ≡ o
     → P (with_outbox station others w) → OfTaken P (took station first.target o (with_outbox station others w))
 unfolding OfTaken Seats
-took_keeps P w station first others (Some (ChannelActivation a)) air up stood is h =
+took_keeps P w station first others (Some (ChannelActivation a)) air up pending is h =
     unless_last_leads P ((spot_at u at).tenure == MAX_TENURE) (activated at u) (by (refusal_of_activate (base_of u station) a.channel) refl) where
       u : Actors
       u = with_outbox station others w
@@ -250,12 +250,12 @@ took_keeps P w station first others (Some (ChannelActivation a)) air up stood is
       at = place_at station a.channel
 
       by : (o : Option LinkFault) → refusal_of_activate (base_of u station) a.channel ≡ o → P (activated_unless o at u)
-      by None free = air.activates u station a (record { event_is = refl; first = first; others = others; up = up; stood = stood; is = is }) free h
+      by None free = air.activates u station a (record { event_is = refl; first = first; others = others; up = up; pending = pending; is = is }) free h
       by (Some fault) free = h
-took_keeps P w station first others (Some (ImmediateAssignCommand i)) air up stood is h =
+took_keeps P w station first others (Some (ImmediateAssignCommand i)) air up pending is h =
     assigned-leads P station (with_outbox station others w) (rr_reading i.information) h
     (λ p number channel found asks. air.puts (with_outbox station others w) number p _ found refl (sits station p channel asks) h)
-took_keeps P w station first others (Some (DataRequest d)) air up stood is h = by (is_active_at u at) refl where
+took_keeps P w station first others (Some (DataRequest d)) air up pending is h = by (is_active_at u at) refl where
   u : Actors
   u = with_outbox station others w
 
@@ -263,7 +263,7 @@ took_keeps P w station first others (Some (DataRequest d)) air up stood is h = b
   at = place_at station d.channel
 
   taken : Takes w (BaseTakes station) station (DataRequest d)
-  taken = record { event_is = refl; first = first; others = others; up = up; stood = stood; is = is }
+  taken = record { event_is = refl; first = first; others = others; up = up; pending = pending; is = is }
 
   message : AirMessage
   message = record { message = d.l3; target = first.target }
@@ -271,7 +271,7 @@ took_keeps P w station first others (Some (DataRequest d)) air up stood is h = b
   by : (b : Bool) → is_active_at u at ≡ b → P (if b then with_spot at (joined_air message (spot_at u at)) u else u)
   by true active = air.spots u at _ (up_right station w up).0 (airs station d taken active) h
   by false active = h
-took_keeps P w station first others (Some (EstablishRequest l)) air up stood is h = by (is_active_at u at && accepts (mobile_on u (tenure_at u at))) where
+took_keeps P w station first others (Some (EstablishRequest l)) air up pending is h = by (is_active_at u at && accepts (mobile_on u (tenure_at u at))) where
   u : Actors
   u = with_outbox station others w
 
@@ -279,13 +279,13 @@ took_keeps P w station first others (Some (EstablishRequest l)) air up stood is 
   at = place_at station l.channel
 
   taken : Takes w (BaseTakes station) station (EstablishRequest l)
-  taken = record { event_is = refl; first = first; others = others; up = up; stood = stood; is = is }
+  taken = record { event_is = refl; first = first; others = others; up = up; pending = pending; is = is }
 
   by : (answer : Bool) → P (answered answer at u)
   by answer = air.tells _ station _ up (answers station l answer taken) (air.spots u at _ (up_right station w up).0 (asks_up station l answer taken) h)
-took_keeps P w station first others (Some (RfChannelRelease channel)) air up stood is h =
-    air.releases (with_outbox station others w) station channel (record { event_is = refl; first = first; others = others; up = up; stood = stood; is = is }) h
-took_keeps P w station first others _ air up stood is h = h
+took_keeps P w station first others (Some (RfChannelRelease channel)) air up pending is h =
+    air.releases (with_outbox station others w) station channel (record { event_is = refl; first = first; others = others; up = up; pending = pending; is = is }) h
+took_keeps P w station first others _ air up pending is h = h
 
 -- a station takes an entry, or the queues, the controller and the switch stay
 abbrev pub is_on_air : Event → Bool
@@ -307,12 +307,12 @@ air_leads P w (AirUp number sapi) is air h =
     brought_keeps P w number sapi p tenure frame air (record { found = found; command = command; seat = seat; lent = lent; reached = reached }) h)
 air_leads P w (AirAck number sapi) is air h = air_ack_leads P w number sapi (λ p found. air.puts w number p _ found refl (is_acked sapi p) h)
 air_leads P w (AirDown number) is air h =
-    air_down_leads P w number (λ p tenure command found seat reached first others stood.
-    air.puts _ number p _ found refl (hears p tenure command first others seat reached stood)
-    (reached_spot P w tenure _ air reached (goes_down tenure first others reached stood) h))
+    air_down_leads P w number (λ p tenure command found seat reached first others pending.
+    air.puts _ number p _ found refl (hears p tenure command first others seat reached pending)
+    (reached_spot P w tenure _ air reached (goes_down tenure first others reached pending) h))
 air_leads P w (AirDownLost number) is air h =
-    air_down_lost_leads P w number (λ p tenure command found seat reached first others stood.
-    air.puts _ number p _ found refl (misses p) (reached_spot P w tenure _ air reached (goes_down tenure first others reached stood) h))
+    air_down_lost_leads P w number (λ p tenure command found seat reached first others pending.
+    air.puts _ number p _ found refl (misses p) (reached_spot P w tenure _ air reached (goes_down tenure first others reached pending) h))
 air_leads P w (Move number) is air h =
     move_leads P w number (λ p tenure command found seat reached.
     air.puts _ number p _ found refl (leaves p tenure command seat reached) (reached_spot P w tenure _ air reached (is_left number tenure reached) h))
@@ -325,7 +325,7 @@ air_leads P w (Return number) is air h =
     return_leads P w number (λ p from command found seat reached.
     air.puts _ number p _ found refl (returns p from command seat reached) (reached_tell P w from _ air reached (establishes from reached) h))
 air_leads P w (BaseTakes station) is air h =
-    base_takes_leads P w station (λ first others up stood. took_keeps P w station first others (rsl_in first.out.frame) air up stood refl (air.pops station others up h))
+    base_takes_leads P w station (λ first others up pending. took_keeps P w station first others (rsl_in first.out.frame) air up pending refl (air.pops station others up h))
 air_leads P w (Report number report) is air h =
     by_mobile-leads P w number (λ p. reported w report p.seat) (λ p found. by p.seat) where
       by : (seat : Seat) → OfTaken P (reported w report seat)

@@ -107,7 +107,7 @@ becomes_sized sized (queues sapi message p may) = queue_sized p.end sapi message
 becomes_sized sized (opens p tenure frame lent) = frame_sized p.end Zero sized
 becomes_sized sized (lends p tenure frame lent) = frame_sized p.end Three sized
 becomes_sized sized (is_acked sapi p) = acked_sized p.end sapi sized
-becomes_sized sized (hears p tenure command first others seat reached stood) = subst HasSized (sym (hearing-end p first)) sized
+becomes_sized sized (hears p tenure command first others seat reached pending) = subst HasSized (sym (hearing-end p first)) sized
 becomes_sized sized (leaves p tenure command seat reached) = record { zero = sized.zero; three = sized.three }
 becomes_sized sized (arrives p from command seat reached) = arrival_sized p.end (complete command.change) (complete_l3 command.change) sized
 becomes_sized sized (returns p from command seat reached) = arrival_sized p.end (failure command.change) (failure_l3 command.change) sized

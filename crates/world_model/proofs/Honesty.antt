@@ -330,27 +330,27 @@ no_first base message none first = impossible (sym (ap first_of_messages none) �
   impossible h = absurd cc
 
 kept_by : (n : ℕ) (so_far : List Rsl) (w : Actors) (event : Event) (v : Actors) → Step n w event v → (is_up w n ≡ false → is_up v n ≡ false) → Kept n so_far w → Kept n (so_far ++ given n w event) v
-kept_by n so_far w event v (acts_then (rests same) nothing) stays (works station calls is gave) =
+kept_by n so_far w event v (acts_then (rests same) nothing) unchanged (works station calls is gave) =
     works station calls (same ∙ is) (with_nothing so_far (given n w event) nothing ∙ gave)
-kept_by n so_far w event v (acts_then (acts more up is_more none) nothing) stays (works station calls is gave) =
+kept_by n so_far w event v (acts_then (acts more up is_more none) nothing) unchanged (works station calls is gave) =
     works station (calls ++ more)
     (is_more ∙ ap (λ (b : BaseState). after_calls b more) is ∙ sym (after_calls-append (new_base station) calls more))
     (with_nothing so_far (given n w event) nothing ∙ gave ∙ sym (append-nil (messages_given (new_base station) calls))
     ∙ ap (λ (ms : List Rsl). messages_given (new_base station) calls ++ ms) (sym none ∙ ap (λ (b : BaseState). messages_given b more) is)
     ∙ sym (messages_given-append (new_base station) calls more))
-kept_by n so_far w event v (gives message first is_next gave_now) stays (works station calls is gave) =
+kept_by n so_far w event v (gives message first is_next gave_now) unchanged (works station calls is gave) =
     works station (calls ++ gives_next ∷ [])
     (is_next ∙ ap after_next is ∙ sym (after_calls-append (new_base station) calls (gives_next ∷ [])))
     (ap (λ (ms : List Rsl). so_far ++ ms) (gave_now ∙ sym (ap option_to_list (sym (ap first_message is) ∙ first)) ∙ sym (append-nil (option_to_list (first_message (after_calls (new_base station) calls)))))
     ∙ ap (λ (ms : List Rsl). ms ++ (option_to_list (first_message (after_calls (new_base station) calls)) ++ [])) gave
     ∙ sym (messages_given-append (new_base station) calls (gives_next ∷ [])))
-kept_by n so_far w event v (breaks down nothing_left nothing) stays (works station calls is gave) =
+kept_by n so_far w event v (breaks down nothing_left nothing) unchanged (works station calls is gave) =
     rested down nothing_left (λ channel. tenures_of (with_nothing so_far (given n w event) nothing ∙ gave) (so_far_tenures channel station calls))
-kept_by n so_far w event v (acts_then (rests same) nothing) stays (rested down nothing_left tenures) =
-    rested (stays down) (ap (λ (b : BaseState). b.messages) same ∙ nothing_left) (λ channel. tenures_of (with_nothing so_far (given n w event) nothing) (tenures channel))
-kept_by n so_far w event v (acts_then (acts more up is_more none) nothing) stays (rested down nothing_left tenures) = absurd (up_and_down up down)
-kept_by n so_far w event v (gives message first is_next gave_now) stays (rested down nothing_left tenures) = absurd (no_first (base_of w n) message nothing_left first)
-kept_by n so_far w event v (breaks down_now nothing_now nothing) stays (rested down nothing_left tenures) =
+kept_by n so_far w event v (acts_then (rests same) nothing) unchanged (rested down nothing_left tenures) =
+    rested (unchanged down) (ap (λ (b : BaseState). b.messages) same ∙ nothing_left) (λ channel. tenures_of (with_nothing so_far (given n w event) nothing) (tenures channel))
+kept_by n so_far w event v (acts_then (acts more up is_more none) nothing) unchanged (rested down nothing_left tenures) = absurd (up_and_down up down)
+kept_by n so_far w event v (gives message first is_next gave_now) unchanged (rested down nothing_left tenures) = absurd (no_first (base_of w n) message nothing_left first)
+kept_by n so_far w event v (breaks down_now nothing_now nothing) unchanged (rested down nothing_left tenures) =
     rested down_now nothing_now (λ channel. tenures_of (with_nothing so_far (given n w event) nothing) (tenures channel))
 
 pub kept_all : (n : ℕ) (so_far : List Rsl) (w : Actors) (events : List Event) → n ≢ 0 → Kept n so_far w → Kept n (so_far ++ all_given n w events) (actors_after_all w events)

@@ -219,8 +219,8 @@ does_leads P w (Dtap connection sapi message) h =
     air_where P (is_layer_3 message) (sent_on w connection (Transfer (dlci_for sapi) message) w.switch) (λ _. sent_on_leads P w connection (Transfer (dlci_for sapi) message) w.switch (h w.switch))
 
 pub switch_took-leads : (P : Actors → Type 0) (w : Actors) (o : Option Sccp) → P w → ((next : SwitchState) (made : List Sccp) → P (record w { switch = next; switch_made = made })) → P (switch_took o w)
-switch_took-leads P w None stays h = stays
-switch_took-leads P w (Some message) stays h = h (after w.switch message) (w.switch_made ++ replies w.switch.connections message)
+switch_took-leads P w None unchanged h = unchanged
+switch_took-leads P w (Some message) unchanged h = h (after w.switch message) (w.switch_made ++ replies w.switch.connections message)
 
 -- ---- what a station takes
 
@@ -282,8 +282,8 @@ took-leads P station target _ w h = h.nothing
 
 pub after_taken : (P : Actors → Type 0) (o : Option Actors) (w : Actors) → OfTaken P o → P w → P (unwrap_or o w)
 unfolding OfTaken
-after_taken P None w taken stays = stays
-after_taken P (Some v) w taken stays = taken
+after_taken P None w taken unchanged = unchanged
+after_taken P (Some v) w taken unchanged = taken
 
 -- ---- the controller's turn changes the controller and the links alone
 
@@ -338,8 +338,8 @@ aerial_leads P w _ is h = absurd cc
 
 -- and of a station that takes an entry, only its outbox changes beside
 pub taking_leads : (P : Actors → Type 0) (w : Actors) (station : ℕ) → ((first : OutboxEntry) (others : List OutboxEntry) → is_station_up w station ≡ true → outbox_of w station ≡ first ∷ others → (mobiles : List Mobile) (stations : List Station) → P (record (with_outbox station others w) { mobiles = mobiles; stations = stations })) → OfTaken P (after_base_takes w station)
-taking_leads P w station h = base_takes_leads P w station (λ first others up stood.
-    let all : (mobiles : List Mobile) (stations : List Station) → P (record (with_outbox station others w) { mobiles = mobiles; stations = stations }) = h first others up stood in
+taking_leads P w station h = base_takes_leads P w station (λ first others up pending.
+    let all : (mobiles : List Mobile) (stations : List Station) → P (record (with_outbox station others w) { mobiles = mobiles; stations = stations }) = h first others up pending in
     took-leads P station first.target (rsl_in first.out.frame) (with_outbox station others w) (record {
       nothing = all w.mobiles w.stations;
       activates = λ channel _. all _ _;

@@ -149,7 +149,7 @@ record Popped (link : ℕ) (w v : Actors) : Type 0 where
   first : OutboxEntry
   others : List OutboxEntry
   up : is_up w link ≡ true
-  stood : outbox_of w link ≡ first ∷ others
+  pending : outbox_of w link ≡ first ∷ others
   links : Stays (with_outbox link others w) v
 
 popped_step : (link other : ℕ) (w : Actors) (event : Event) (v : Actors) → outputs w event ≡ [] → taken link w event ≡ (if other == link then first_of (outbox_of w link) else []) → Popped other w v → Step link w event v
@@ -164,13 +164,13 @@ popped_step link other w event v none takes h =
       here : other ≡ link → taken link w event ≡ first_of (outbox_of w link) → Step link w event v
       here is takes_here =
           let now : link_of v link ≡ record (link_of w link) { outbox = h.others } = subst (λ (n : ℕ). link_of v n ≡ record (link_of w n) { outbox = h.others }) is now_there in
-          let stood : outbox_of w link ≡ h.first ∷ h.others = subst (λ (n : ℕ). outbox_of w n ≡ h.first ∷ h.others) is h.stood in
+          let pending : outbox_of w link ≡ h.first ∷ h.others = subst (λ (n : ℕ). outbox_of w n ≡ h.first ∷ h.others) is h.pending in
           goes (ap (λ (l : Link). l.up) now)
           (ap (λ (entries : List OutboxEntry). outbox_of w link ++ entries) (nothing_put link w event none)
           ∙ append-nil (outbox_of w link)
-          ∙ stood
+          ∙ pending
           ∙ ap (λ (entries : List OutboxEntry). h.first ∷ entries) (sym (ap (λ (l : Link). l.outbox) now))
-          ∙ ap (λ (entries : List OutboxEntry). first_of entries ++ outbox_of v link) (sym stood)
+          ∙ ap (λ (entries : List OutboxEntry). first_of entries ++ outbox_of v link) (sym pending)
           ∙ ap (λ (entries : List OutboxEntry). entries ++ outbox_of v link) (sym takes_here))
 
       elsewhere : nat_eq other link ≡ false → taken link w event ≡ [] → Step link w event v
@@ -192,14 +192,14 @@ takes_step link other w event None none takes h = quiet link w event w none (tak
 takes_step link other w event (Some v) none takes h = popped_step link other w event v none takes h
 
 base_takes_popped : (w : Actors) (station : ℕ) → OfTaken (Popped station w) (after_base_takes w station)
-base_takes_popped w station = taking_leads (Popped station w) w station (λ first others up stood mobiles stations.
-    record { first = first; others = others; up = and_right (not (station == SWITCH_LINK)) (is_up w station) up; stood = stood; links = refl })
+base_takes_popped w station = taking_leads (Popped station w) w station (λ first others up pending mobiles stations.
+    record { first = first; others = others; up = and_right (not (station == SWITCH_LINK)) (is_up w station) up; pending = pending; links = refl })
 
 switch_takes_popped : (w : Actors) → OfTaken (Popped SWITCH_LINK w) (after_switch_takes w)
-switch_takes_popped w = switch_takes_leads (Popped SWITCH_LINK w) w (λ first others up stood.
+switch_takes_popped w = switch_takes_leads (Popped SWITCH_LINK w) w (λ first others up pending.
     switch_took-leads (Popped SWITCH_LINK w) (with_outbox SWITCH_LINK others w) (sccp_in first.out.frame)
-    (record { first = first; others = others; up = up; stood = stood; links = refl })
-    (λ next made. record { first = first; others = others; up = up; stood = stood; links = refl }))
+    (record { first = first; others = others; up = up; pending = pending; links = refl })
+    (λ next made. record { first = first; others = others; up = up; pending = pending; links = refl }))
 
 -- ---- breaks
 

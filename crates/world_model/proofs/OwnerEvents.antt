@@ -37,8 +37,8 @@ nothing_put link w event none = by (is_up w link) where
   by false = refl
 
 -- what stands in the inbox then
-pub came : (at : Place) (w : Actors) (event : Event) → at.station ≢ SWITCH_LINK → popped w event ≡ [] → Good w → acknowledged_in at (actors_after w event).inbox ≡ acknowledged_in at w.inbox ++ acknowledgements at.number (given at.station w event)
-came at w event at_is pops good =
+pub to_come_then : (at : Place) (w : Actors) (event : Event) → at.station ≢ SWITCH_LINK → popped w event ≡ [] → Good w → acknowledged_in at (actors_after w event).inbox ≡ acknowledged_in at w.inbox ++ acknowledgements at.number (given at.station w event)
+to_come_then at w event at_is pops good =
     ap (acknowledged_in at) (sym (inbox_goes w event ∙ ap (λ (items : List Item). items ++ (actors_after w event).inbox) pops))
     ∙ ap (acknowledgements at.number) (flat_map-append (said at.station) w.inbox (pushed w event))
     ∙ acks_append at.number (flat_map (said at.station) w.inbox) (flat_map (said at.station) (pushed w event))
@@ -68,7 +68,7 @@ rests_keep owner at w event there good rests agrees = by (outbox-step n w event)
   waits = due k (is_active_at w at) (outbox_of w n)
 
   inbox : acknowledged_in at v.inbox ≡ before ++ gave
-  inbox = came at w event there.station rests.pops good
+  inbox = to_come_then at w event there.station rests.pops good
 
   -- what was given and made, before what is due
   grouped : (rest : List Rsl) → (before ++ gave) ++ (acknowledgements k (base_of v n).messages ++ rest) ≡ before ++ (acknowledgements k (given n w event ++ (base_of v n).messages) ++ rest)
@@ -82,7 +82,7 @@ rests_keep owner at w event there good rests agrees = by (outbox-step n w event)
     outbox = outbox;
     active = active;
     tenure = rests.tenure;
-    comes =
+    owed =
         ap (λ (xs : List Rsl). xs ++ (acknowledgements k (base_of v n).messages ++ due k (is_active_at v at) (outbox_of v n))) inbox
         ∙ grouped (due k (is_active_at v at) (outbox_of v n))
         ∙ ap (λ (xs : List Rsl). before ++ (xs ++ due k (is_active_at v at) (outbox_of v n))) acks
@@ -99,12 +99,12 @@ rests_keep owner at w event there good rests agrees = by (outbox-step n w event)
     outbox = ap (λ (l : Link). l.outbox) broken;
     down = ap (λ (l : Link). l.up) broken;
     made = [];
-    comes = sym (ap (λ (xs : List Rsl). xs ++ waits) comes ∙ append_assoc before made waits);
+    owed = sym (ap (λ (xs : List Rsl). xs ++ waits) owed ∙ append_assoc before made waits);
     tenure = rests.tenure ∙ ap (tenure_all k (is_active_at w at) (spot_at w at).tenure) nobody;
     controller = rests.controller;
   }) agrees where
-    comes : to_come v at ≡ before ++ made
-    comes =
+    owed : to_come v at ≡ before ++ made
+    owed =
         ap (λ (xs : List Rsl). xs ++ (acknowledgements k (base_of v n).messages ++ due k (is_active_at v at) (outbox_of v n))) inbox
         ∙ ap (λ (l : Link). (before ++ gave) ++ (acknowledgements k (base_of v n).messages ++ due k (is_active_at v at) l.outbox)) broken
         ∙ grouped []
@@ -114,12 +114,12 @@ rests_keep owner at w event there good rests agrees = by (outbox-step n w event)
     outbox = dropped;
     down = down;
     made = made;
-    comes = sym (ap (λ (xs : List Rsl). xs ++ (made ++ waits)) comes);
+    owed = sym (ap (λ (xs : List Rsl). xs ++ (made ++ waits)) owed);
     tenure = rests.tenure ∙ ap (tenure_all k (is_active_at w at) (spot_at w at).tenure) nobody;
     controller = rests.controller;
   }) agrees where
-    comes : to_come v at ≡ before
-    comes =
+    owed : to_come v at ≡ before
+    owed =
         ap (λ (xs : List Rsl). xs ++ (acknowledgements k (base_of v n).messages ++ due k (is_active_at v at) (outbox_of v n))) inbox
         ∙ ap (λ (ms : List Rsl). (before ++ acknowledgements k ms) ++ (acknowledgements k (base_of v n).messages ++ due k (is_active_at v at) (outbox_of v n))) nothing
         ∙ ap (λ (ms : List Rsl). (before ++ []) ++ (acknowledgements k ms ++ due k (is_active_at v at) (outbox_of v n))) left

@@ -21,7 +21,7 @@ pub record TakesOn (at : Place) (w : Actors) (took : List OutboxEntry) (v : Acto
   pub outbox : outbox_of w at.station ≡ took ++ outbox_of v at.station
   pub active : is_active_at v at ≡ active_all at.number (is_active_at w at) took
   pub tenure : (spot_at v at).tenure ≡ tenure_all at.number (is_active_at w at) (spot_at w at).tenure took
-  pub comes : to_come v at ≡ to_come w at
+  pub owed : to_come v at ≡ to_come w at
   pub controller : v.controller ≡ w.controller
   pub up : is_up v at.station ≡ is_up w at.station
 
@@ -51,12 +51,12 @@ agrees_takes owner at w v took takes agrees = record {
       let way = agrees.way heard in
       record {
         lost = way.lost;
-        comes = subst (λ (xs : List Rsl). IsOwed at.number (channel_state w.controller at) (xs ++ way.lost)) (sym takes.comes) way.comes;
+        owed = subst (λ (xs : List Rsl). IsOwed at.number (channel_state w.controller at) (xs ++ way.lost)) (sym takes.owed) way.owed;
         all = λ up. way.all (sym takes.up ∙ up);
         active = λ up. still_active at w v took takes ∙ way.active (sym takes.up ∙ up);
       });
   own = subst (OwnIn owner v at) (sym takes.controller) (λ number mobile heard used asks reaches.
-      ap owner (still_tenure at w v took takes) ∙ agrees.own number mobile heard used asks (λ down silent. reaches (takes.up ∙ down) (takes.comes ∙ silent)));
+      ap owner (still_tenure at w v took takes) ∙ agrees.own number mobile heard used asks (λ down silent. reaches (takes.up ∙ down) (takes.owed ∙ silent)));
 }
 
 -- ---- its link breaks: of what was to come what stands in the inbox is left
@@ -65,21 +65,21 @@ pub record Loses (at : Place) (w v : Actors) : Type 0 where
   pub outbox : outbox_of v at.station ≡ []
   pub down : is_up v at.station ≡ false
   pub made : List Rsl
-  pub comes : to_come w at ≡ to_come v at ++ (made ++ due at.number (is_active_at w at) (outbox_of w at.station))
+  pub owed : to_come w at ≡ to_come v at ++ (made ++ due at.number (is_active_at w at) (outbox_of w at.station))
   pub tenure : (spot_at v at).tenure ≡ (spot_at w at).tenure
   pub controller : v.controller ≡ w.controller
 
 -- of a channel in use one acknowledgement comes at most
 pub one_at_most : (channel number : ℕ) (state : ChannelState) (all xs ys : List Rsl) → IsOwed channel state all → state ≡ InUse number → all ≡ xs ++ ys → xs ≢ [] → ys ≡ []
-one_at_most channel number state all [] ys comes used is some = absurd (some refl)
-one_at_most channel number (InUse n) (one ∷ []) (x ∷ xs) ys comes used is some = (both_empty xs ys (tail_same is)).1 where
+one_at_most channel number state all [] ys owed used is some = absurd (some refl)
+one_at_most channel number (InUse n) (one ∷ []) (x ∷ xs) ys owed used is some = (both_empty xs ys (tail_same is)).1 where
   tail_same : {a b : Rsl} {others more : List Rsl} → a ∷ others ≡ b ∷ more → others ≡ more
   tail_same same = cc
-one_at_most channel number (InUse n) (one ∷ two ∷ rest) (x ∷ xs) ys comes used is some = absurd (never comes refl) where
+one_at_most channel number (InUse n) (one ∷ two ∷ rest) (x ∷ xs) ys owed used is some = absurd (never owed refl) where
   never : {l : List Rsl} → IsOwed channel (InUse n) l → l ≡ one ∷ two ∷ rest → ⊥
   never began same = absurd cc
   never begins same = absurd cc
-one_at_most channel number _ _ _ ys comes used is some = absurd cc
+one_at_most channel number _ _ _ ys owed used is some = absurd cc
 
 pub agrees_lost : (owner : Tenure → ℕ) (at : Place) (w v : Actors) → Loses at w v → Agrees owner w at → Agrees owner v at
 agrees_lost owner at w v loses agrees = record {
@@ -88,23 +88,23 @@ agrees_lost owner at w v loses agrees = record {
       let way = agrees.way heard in
       record {
         lost = rest ++ way.lost;
-        comes = subst (IsOwed at.number (channel_state w.controller at)) (whole way.lost) way.comes;
+        owed = subst (IsOwed at.number (channel_state w.controller at)) (whole way.lost) way.owed;
         all = λ up. absurd (false_true (sym loses.down ∙ up));
         active = λ up. absurd (false_true (sym loses.down ∙ up));
       });
   own = subst (OwnIn owner v at) (sym loses.controller) (λ number mobile heard used asks reaches.
       let way = agrees.way heard in
-      let gone : rest ++ way.lost ≡ [] = one_at_most at.number number (channel_state w.controller at) (to_come w at ++ way.lost) (to_come v at) (rest ++ way.lost) way.comes used (whole way.lost) (reaches loses.down) in
+      let gone : rest ++ way.lost ≡ [] = one_at_most at.number number (channel_state w.controller at) (to_come w at ++ way.lost) (to_come v at) (rest ++ way.lost) way.owed used (whole way.lost) (reaches loses.down) in
       let none : due at.number (is_active_at w at) (outbox_of w at.station) ≡ [] = (both_empty loses.made (due at.number (is_active_at w at) (outbox_of w at.station)) (sym (both_empty rest way.lost (sym gone)).0)).1 in
       ap (λ (n : ℕ). owner (record { at = at; number = n }))
       (ap (tenure_all at.number (is_active_at v at) (spot_at v at).tenure) loses.outbox ∙ loses.tenure ∙ sym (nothing_is_due at.number (is_active_at w at) (spot_at w at).tenure (outbox_of w at.station) none))
-      ∙ agrees.own number mobile heard used asks (λ down silent. reaches loses.down (both_empty (to_come v at) rest (sym silent ∙ loses.comes)).0));
+      ∙ agrees.own number mobile heard used asks (λ down silent. reaches loses.down (both_empty (to_come v at) rest (sym silent ∙ loses.owed)).0));
 } where
   rest : List Rsl
   rest = loses.made ++ due at.number (is_active_at w at) (outbox_of w at.station)
 
   whole : (lost : List Rsl) → to_come w at ++ lost ≡ to_come v at ++ (rest ++ lost)
-  whole lost = ap (λ (xs : List Rsl). xs ++ lost) loses.comes ∙ append_assoc (to_come v at) rest lost
+  whole lost = ap (λ (xs : List Rsl). xs ++ lost) loses.owed ∙ append_assoc (to_come v at) rest lost
 
   false_true : false ≡ true → ⊥
   false_true is = absurd cc

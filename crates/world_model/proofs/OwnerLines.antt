@@ -93,7 +93,7 @@ AllAgree-new settings owner at least most =
       line = subst (AreFitting owner at (is_active_at w at) (spot_at w at).tenure) (sym empty) tt;
       way = λ _. record {
         lost = [];
-        comes = subst (λ (state : ChannelState). IsOwed at.number state (to_come w at ++ [])) (sym free) (subst (λ (xs : List Rsl). IsOwed at.number Free (xs ++ [])) (sym silent) nothing);
+        owed = subst (λ (state : ChannelState). IsOwed at.number state (to_come w at ++ [])) (sym free) (subst (λ (xs : List Rsl). IsOwed at.number Free (xs ++ [])) (sym silent) nothing);
         all = λ _. refl;
         active = λ _. ap (active_all at.number (is_active_at w at)) empty ∙ start.1 ∙ sym (ap is_in_use free);
       };

@@ -29,10 +29,10 @@ pub data Runs (at : Place) : ChannelState → List Out → ChannelState → Type
   releases : {number : ℕ} {end : ChannelState} {out : Out} {outs : List Out} → said_to at out ≡ Some (RfChannelRelease at.number) → Runs at (Releasing number) outs end → Runs at (InUse number) (out ∷ outs) end
 
 -- or a free one is activated, once
-pub data Goes (at : Place) : ChannelState → List Out → ChannelState → Type 0 where
-  runs : {state end : ChannelState} {outs : List Out} → Runs at state outs end → Goes at state outs end
-  first_passes : {state end : ChannelState} {out : Out} {outs : List Out} → Passes at.number (said_to at out) → Goes at state outs end → Goes at state (out ∷ outs) end
-  activates : {number : ℕ} {end : ChannelState} {out : Out} {outs : List Out} (a : Activation) → said_to at out ≡ Some (ChannelActivation a) → a.channel ≡ at.number → at.number < CHANNEL_NUMBERS → Runs at (InUse number) outs end → Goes at Free (out ∷ outs) end
+pub data RunsThrough (at : Place) : ChannelState → List Out → ChannelState → Type 0 where
+  runs : {state end : ChannelState} {outs : List Out} → Runs at state outs end → RunsThrough at state outs end
+  first_passes : {state end : ChannelState} {out : Out} {outs : List Out} → Passes at.number (said_to at out) → RunsThrough at state outs end → RunsThrough at state (out ∷ outs) end
+  activates : {number : ℕ} {end : ChannelState} {out : Out} {outs : List Out} (a : Activation) → said_to at out ≡ Some (ChannelActivation a) → a.channel ≡ at.number → at.number < CHANNEL_NUMBERS → Runs at (InUse number) outs end → RunsThrough at Free (out ∷ outs) end
 
 pub runs_kept : {at : Place} {state end : ChannelState} {outs : List Out} (number : ℕ) → Runs at state outs end → end ≡ InUse number → state ≡ InUse number
 runs_kept number over is = is
@@ -55,7 +55,7 @@ FitsOut owner at tenure target out = FitsBeside owner at tenure (entry_of target
 
 record Passing (owner : Tenure → ℕ) (at : Place) (active : Bool) (tenure : ℕ) (target : Option Tenure) (o : Option Rsl) : Type 0 where
   asks : acknowledgement at.number active o ≡ []
-  stays : is_active_then at.number active o ≡ active
+  unchanged : is_active_then at.number active o ≡ active
   same : tenure_then at.number active tenure o ≡ tenure
   fits : FitsTenure owner at active tenure target o
 
@@ -64,7 +64,7 @@ passing owner at active tenure target (Some (ChannelActivation a)) beside fits =
     let miss : (a.channel == at.number) ≡ false = ne_eqb a.channel at.number beside in
     record {
       asks = ap (λ (b : Bool). if b && not active then activation_ack at.number ∷ [] else []) miss;
-      stays = ap (λ (b : Bool). active || b) miss ∙ or-false active;
+      unchanged = ap (λ (b : Bool). active || b) miss ∙ or-false active;
       same = ap (λ (b : Bool). if b && not active then tenure + 1 else tenure) miss;
       fits = λ is. absurd (beside is);
     }
@@ -72,26 +72,27 @@ passing owner at active tenure target (Some (RfChannelRelease number)) beside fi
     let miss : (number == at.number) ≡ false = ne_eqb number at.number beside in
     record {
       asks = ap (λ (b : Bool). if b then RfChannelReleaseAck at.number ∷ [] else []) miss;
-      stays = ap (λ (b : Bool). not b && active) miss;
+      unchanged = ap (λ (b : Bool). not b && active) miss;
       same = refl;
       fits = tt;
     }
-passing owner at active tenure target (Some (ImmediateAssignCommand i)) beside fits = record { asks = refl; stays = refl; same = refl; fits = fits }
-passing owner at active tenure target (Some (DataRequest d)) beside fits = record { asks = refl; stays = refl; same = refl; fits = fits }
-passing owner at active tenure target _ beside fits = record { asks = refl; stays = refl; same = refl; fits = tt }
+passing owner at active tenure target (Some (ImmediateAssignCommand i)) beside fits = record { asks = refl; unchanged = refl; same = refl; fits = fits }
+passing owner at active tenure target
+    (Some (DataRequest d)) beside fits = record { asks = refl; unchanged = refl; same = refl; fits = fits }
+passing owner at active tenure target _ beside fits = record { asks = refl; unchanged = refl; same = refl; fits = tt }
 
 -- ---- what entries do behind what waits
 
 pub record Works (owner : Tenure → ℕ) (at : Place) (active : Bool) (tenure : ℕ) (entries : List OutboxEntry) (state end : ChannelState) (last : ℕ) : Type 0 where
   pub fits : AreFitting owner at active tenure entries
-  pub comes : (xs : List Rsl) → IsOwed at.number state xs → IsOwed at.number end (xs ++ due at.number active entries)
+  pub owed : (xs : List Rsl) → IsOwed at.number state xs → IsOwed at.number end (xs ++ due at.number active entries)
   pub active_then : active_all at.number active entries ≡ is_in_use end
   pub tenure_then : tenure_all at.number active tenure entries ≡ last
 
 works_over : (owner : Tenure → ℕ) (at : Place) (active : Bool) (tenure : ℕ) (state : ChannelState) → active ≡ is_in_use state → Works owner at active tenure [] state state tenure
 works_over owner at active tenure state is = record {
   fits = tt;
-  comes = λ xs comes. subst (IsOwed at.number state) (sym (append-nil xs)) comes;
+  owed = λ xs owed. subst (IsOwed at.number state) (sym (append-nil xs)) owed;
   active_then = is;
   tenure_then = refl;
 }
@@ -100,16 +101,16 @@ works_behind : (owner : Tenure → ℕ) (at : Place) (active : Bool) (tenure : �
 works_behind owner at active tenure x entries state end last p works =
     let o : Option Rsl = rsl_in x.out.frame in
     record {
-      fits = (p.fits, subst (λ (b : Bool). AreFitting owner at b (tenure_then at.number active tenure o) entries) (sym p.stays) (subst (λ (n : ℕ). AreFitting owner at active n entries) (sym p.same) works.fits));
-      comes = λ xs comes. subst (λ (ys : List Rsl). IsOwed at.number end (xs ++ ys)) (sym (ap (λ (ys : List Rsl). ys ++ due at.number (is_active_then at.number active o) entries) p.asks ∙ ap (λ (b : Bool). due at.number b entries) p.stays)) (works.comes xs comes);
-      active_then = ap (λ (b : Bool). active_all at.number b entries) p.stays ∙ works.active_then;
-      tenure_then = ap (λ (b : Bool). tenure_all at.number b (tenure_then at.number active tenure o) entries) p.stays ∙ ap (λ (n : ℕ). tenure_all at.number active n entries) p.same ∙ works.tenure_then;
+      fits = (p.fits, subst (λ (b : Bool). AreFitting owner at b (tenure_then at.number active tenure o) entries) (sym p.unchanged) (subst (λ (n : ℕ). AreFitting owner at active n entries) (sym p.same) works.fits));
+      owed = λ xs owed. subst (λ (ys : List Rsl). IsOwed at.number end (xs ++ ys)) (sym (ap (λ (ys : List Rsl). ys ++ due at.number (is_active_then at.number active o) entries) p.asks ∙ ap (λ (b : Bool). due at.number b entries) p.unchanged)) (works.owed xs owed);
+      active_then = ap (λ (b : Bool). active_all at.number b entries) p.unchanged ∙ works.active_then;
+      tenure_then = ap (λ (b : Bool). tenure_all at.number b (tenure_then at.number active tenure o) entries) p.unchanged ∙ ap (λ (n : ℕ). tenure_all at.number active n entries) p.same ∙ works.tenure_then;
     }
 
 released_comes : (k number : ℕ) (state : ChannelState) (xs : List Rsl) → state ≡ InUse number → IsOwed k state xs → IsOwed k (Releasing number) (xs ++ RfChannelReleaseAck k ∷ [])
 released_comes k number (InUse m) xs is began = ends
 released_comes k number (InUse m) xs is begins = begins_and_ends
-released_comes k number _ xs is comes = absurd cc
+released_comes k number _ xs is owed = absurd cc
 
 -- a release of a channel that is in use
 works_release : (owner : Tenure → ℕ) (at : Place) (number tenure : ℕ) (x : OutboxEntry) (entries : List OutboxEntry) (end : ChannelState) → rsl_in x.out.frame ≡ Some (RfChannelRelease at.number) → Works owner at false tenure entries (Releasing number) end tenure → Works owner at true tenure (x ∷ entries) (InUse number) end tenure
@@ -123,10 +124,10 @@ works_release owner at number tenure x entries end says works =
         subst (FitsTenure owner at true tenure x.target) (sym says) tt,
         subst (λ (b : Bool). AreFitting owner at b (tenure_then at.number true tenure (rsl_in x.out.frame)) entries) (sym off) (subst (λ (n : ℕ). AreFitting owner at false n entries) (sym same) works.fits),
       );
-      comes = λ xs comes.
+      owed = λ xs owed.
           subst (IsOwed at.number end) (append_assoc xs (RfChannelReleaseAck at.number ∷ []) (due at.number false entries)
           ∙ sym (ap (λ (ys : List Rsl). xs ++ (ys ++ due at.number (is_active_then at.number true (rsl_in x.out.frame)) entries)) asks ∙ ap (λ (b : Bool). xs ++ (RfChannelReleaseAck at.number ∷ [] ++ due at.number b entries)) off))
-          (works.comes (xs ++ RfChannelReleaseAck at.number ∷ []) (released_comes at.number number (InUse number) xs refl comes));
+          (works.owed (xs ++ RfChannelReleaseAck at.number ∷ []) (released_comes at.number number (InUse number) xs refl owed));
       active_then = ap (λ (b : Bool). active_all at.number b entries) off ∙ works.active_then;
       tenure_then = ap (λ (b : Bool). tenure_all at.number b (tenure_then at.number true tenure (rsl_in x.out.frame)) entries) off ∙ ap (λ (n : ℕ). tenure_all at.number false n entries) same ∙ works.tenure_then;
     }
@@ -146,10 +147,10 @@ works_activation owner at number tenure last x a entries end says is few works =
         subst (FitsTenure owner at false tenure x.target) (sym says) (λ _. (refl, few)),
         subst (λ (b : Bool). AreFitting owner at b (tenure_then at.number false tenure (rsl_in x.out.frame)) entries) (sym on) (subst (λ (n : ℕ). AreFitting owner at true n entries) (sym next) works.fits),
       );
-      comes = λ xs comes.
+      owed = λ xs owed.
           subst (IsOwed at.number end) (append_assoc xs (activation_ack at.number ∷ []) (due at.number true entries)
           ∙ sym (ap (λ (ys : List Rsl). xs ++ (ys ++ due at.number (is_active_then at.number false (rsl_in x.out.frame)) entries)) asks ∙ ap (λ (b : Bool). xs ++ (activation_ack at.number ∷ [] ++ due at.number b entries)) on))
-          (works.comes (xs ++ activation_ack at.number ∷ []) (began_comes at.number number xs comes));
+          (works.owed (xs ++ activation_ack at.number ∷ []) (began_comes at.number number xs owed));
       active_then = ap (λ (b : Bool). active_all at.number b entries) on ∙ works.active_then;
       tenure_then = ap (λ (b : Bool). tenure_all at.number b (tenure_then at.number false tenure (rsl_in x.out.frame)) entries) on ∙ ap (λ (n : ℕ). tenure_all at.number true n entries) next ∙ works.tenure_then;
     }
@@ -216,7 +217,7 @@ pub record Puts (owner : Tenure → ℕ) (at : Place) (active : Bool) (tenure : 
 abbrev pub FitAll : (Tenure → ℕ) → Place → Option Tenure → ℕ → ChannelState → List Out → Type 0
 FitAll owner at target tenure state outs = (number : ℕ) → (number ≡ tenure) ⊎ (state ≡ Free) → AllByRecursion (FitsOut owner at number target) outs
 
-pub goes_put : (owner : Tenure → ℕ) (at : Place) (target : Option Tenure) (tenure : ℕ) {state end : ChannelState} {outs : List Out} → Goes at state outs end → FitAll owner at target tenure state outs → (active : Bool) → active ≡ is_in_use state → Puts owner at active tenure (entries_to at target outs) state end
+pub goes_put : (owner : Tenure → ℕ) (at : Place) (target : Option Tenure) (tenure : ℕ) {state end : ChannelState} {outs : List Out} → RunsThrough at state outs end → FitAll owner at target tenure state outs → (active : Bool) → active ≡ is_in_use state → Puts owner at active tenure (entries_to at target outs) state end
 goes_put owner at target tenure (runs all) fits active is = record {
   last = tenure;
   works = runs_work owner at target tenure all (fits tenure (inl refl)) active is;
@@ -245,16 +246,16 @@ goes_put owner at target tenure {end} (activates {number} {out} {outs} a says ch
 -- ---- where the link is down, nothing is put, and what was to come is lost
 
 runs_lost : {at : Place} {state end : ChannelState} {outs : List Out} → Runs at state outs end → (xs lost : List Rsl) → IsOwed at.number state (xs ++ lost) → (more : List Rsl) × IsOwed at.number end (xs ++ more)
-runs_lost over xs lost comes = (lost, comes)
-runs_lost (passes beside rest) xs lost comes = runs_lost rest xs lost comes
-runs_lost {at} (releases {number} says rest) xs lost comes =
+runs_lost over xs lost owed = (lost, owed)
+runs_lost (passes beside rest) xs lost owed = runs_lost rest xs lost owed
+runs_lost {at} (releases {number} says rest) xs lost owed =
     runs_lost rest xs (lost ++ RfChannelReleaseAck at.number ∷ [])
-    (subst (IsOwed at.number (Releasing number)) (append_assoc xs lost (RfChannelReleaseAck at.number ∷ [])) (released_comes at.number number (InUse number) (xs ++ lost) refl comes))
+    (subst (IsOwed at.number (Releasing number)) (append_assoc xs lost (RfChannelReleaseAck at.number ∷ [])) (released_comes at.number number (InUse number) (xs ++ lost) refl owed))
 
-pub goes_lost : {at : Place} {state end : ChannelState} {outs : List Out} → Goes at state outs end → (xs lost : List Rsl) → IsOwed at.number state (xs ++ lost) → ((more : List Rsl) × IsOwed at.number end (xs ++ more)) × (((number : ℕ) → end ≡ InUse number → state ≡ InUse number) ⊎ (state ≡ Free))
-goes_lost (runs all) xs lost comes = (runs_lost all xs lost comes, inl (λ number is. runs_kept number all is))
-goes_lost (first_passes beside rest) xs lost comes = goes_lost rest xs lost comes
-goes_lost {at} (activates {number} a says channel few rest) xs lost comes = (
-  runs_lost rest xs (lost ++ activation_ack at.number ∷ []) (subst (IsOwed at.number (InUse number)) (append_assoc xs lost (activation_ack at.number ∷ [])) (began_comes at.number number (xs ++ lost) comes)),
+pub goes_lost : {at : Place} {state end : ChannelState} {outs : List Out} → RunsThrough at state outs end → (xs lost : List Rsl) → IsOwed at.number state (xs ++ lost) → ((more : List Rsl) × IsOwed at.number end (xs ++ more)) × (((number : ℕ) → end ≡ InUse number → state ≡ InUse number) ⊎ (state ≡ Free))
+goes_lost (runs all) xs lost owed = (runs_lost all xs lost owed, inl (λ number is. runs_kept number all is))
+goes_lost (first_passes beside rest) xs lost owed = goes_lost rest xs lost owed
+goes_lost {at} (activates {number} a says channel few rest) xs lost owed = (
+  runs_lost rest xs (lost ++ activation_ack at.number ∷ []) (subst (IsOwed at.number (InUse number)) (append_assoc xs lost (activation_ack at.number ∷ [])) (began_comes at.number number (xs ++ lost) owed)),
   inr refl,
 )

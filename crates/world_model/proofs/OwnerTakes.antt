@@ -41,7 +41,7 @@ took_spots station target o u all = took-leads HaveSpots station target o u (rec
 pub takes_spots : (w : Actors) (station : ℕ) → HaveSpots w → HaveSpots (actors_after w (BaseTakes station))
 unfolding event_after
 takes_spots w station all = after_taken HaveSpots (after_base_takes w station) w
-    (base_takes_leads HaveSpots w station (λ first others up stood. took_spots station first.target (rsl_in first.out.frame) (with_outbox station others w) all)) all
+    (base_takes_leads HaveSpots w station (λ first others up pending. took_spots station first.target (rsl_in first.out.frame) (with_outbox station others w) all)) all
 
 -- ---- the number of a tenure
 
@@ -151,7 +151,7 @@ lead_on P Q h (Some v) leads = h v leads
 own_takes : (owner : Tenure → ℕ) (at : Place) (w : Actors) (o : Option Actors) → o ≡ after_base_takes w at.station → IsThere at w → HaveSpots w → Agrees owner w at → (spot_at (unwrap_or o w) at).tenure ≡ tenure_all at.number (is_active_at w at) (spot_at w at).tenure (if is_some o then first_of (outbox_of w at.station) else [])
 unfolding OfTaken HasTenure
 own_takes owner at w o is there all agrees = subst (λ (p : Option Actors). (spot_at (unwrap_or p w) at).tenure ≡ tenure_all at.number (is_active_at w at) (spot_at w at).tenure (if is_some p then first_of (outbox_of w at.station) else [])) (sym is)
-    (of_taken (after_base_takes w at.station) (base_takes_leads OwnTook w at.station (λ first others up stood. lift first others stood))) where
+    (of_taken (after_base_takes w at.station) (base_takes_leads OwnTook w at.station (λ first others up pending. lift first others pending))) where
       OwnTook : Actors → Type 0
       OwnTook v = (spot_at v at).tenure ≡ tenure_all at.number (is_active_at w at) (spot_at w at).tenure (first_of (outbox_of w at.station))
 
@@ -160,15 +160,15 @@ own_takes owner at w o is there all agrees = subst (λ (p : Option Actors). (spo
       of_taken (Some v) leads = leads
 
       lift : (first : OutboxEntry) (others : List OutboxEntry) → outbox_of w at.station ≡ first ∷ others → OfTaken OwnTook (took at.station first.target (rsl_in first.out.frame) (with_outbox at.station others w))
-      lift first others stood =
-          lead_on (HasTenure at.station (with_outbox at.station others w) at (rsl_in first.out.frame)) OwnTook (λ v now. now ∙ ap (tenure_all at.number (is_active_at w at) (spot_at w at).tenure) (sym (ap first_of stood)))
+      lift first others pending =
+          lead_on (HasTenure at.station (with_outbox at.station others w) at (rsl_in first.out.frame)) OwnTook (λ v now. now ∙ ap (tenure_all at.number (is_active_at w at) (spot_at w at).tenure) (sym (ap first_of pending)))
           (took at.station first.target (rsl_in first.out.frame) (with_outbox at.station others w))
           (took_tenure at.station at.number first.target (rsl_in first.out.frame) (with_outbox at.station others w) there.station there.among all
-          (λ a activates same. ((subst (FitsTenure owner at (is_active_at w at) (spot_at w at).tenure first.target) activates (subst (AreFitting owner at (is_active_at w at) (spot_at w at).tenure) stood agrees.line).0) same).1))
+          (λ a activates same. ((subst (FitsTenure owner at (is_active_at w at) (spot_at w at).tenure first.target) activates (subst (AreFitting owner at (is_active_at w at) (spot_at w at).tenure) pending agrees.line).0) same).1))
 
 pub kept_controller : (w : Actors) (s : ℕ) → (actors_after w (BaseTakes s)).controller ≡ w.controller
 unfolding event_after
-kept_controller w s = after_taken Kept (after_base_takes w s) w (base_takes_leads Kept w s (λ first others up stood. kept first others)) refl where
+kept_controller w s = after_taken Kept (after_base_takes w s) w (base_takes_leads Kept w s (λ first others up pending. kept first others)) refl where
   Kept : Actors → Type 0
   Kept v = v.controller ≡ w.controller
 
@@ -190,7 +190,7 @@ taken_tenure owner at w s there all agrees = elim (cases_Bool (nat_eq s at.stati
       own_takes owner at w (after_base_takes w s) (ap (after_base_takes w) same) there all agrees
       ∙ ap (tenure_all at.number (is_active_at w at) (spot_at w at).tenure) (sym (ap (λ (b : Bool). if b then (if is_some (after_base_takes w s) then first_of (outbox_of w at.station) else []) else []) hit))
   | inr miss ↦
-      after_taken (OtherTenure w at) (after_base_takes w s) w (base_takes_leads (OtherTenure w at) w s (λ first others up stood.
+      after_taken (OtherTenure w at) (after_base_takes w s) w (base_takes_leads (OtherTenure w at) w s (λ first others up pending.
       other_tenure at s w there.station (up_right s w up).0 (λ same. eqb-false s at.station miss (sym same)) first.target (rsl_in first.out.frame) (with_outbox s others w) refl)) refl
       ∙ ap (tenure_all at.number (is_active_at w at) (spot_at w at).tenure) (sym (ap (λ (b : Bool). if b then (if is_some (after_base_takes w s) then first_of (outbox_of w at.station) else []) else []) miss))
 ]

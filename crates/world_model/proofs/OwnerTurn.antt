@@ -7,7 +7,7 @@ use Rattle.world_model.proofs.Prelude.{Tenure, nothing, began, begins, ends, beg
 use Rattle.world_model.proofs.Prelude.{base_of, is_active_at, is_up, outbox_of, spot_at}
 use Rattle.world_model.specs.OwnerLines.{Agrees, AreFitting, IsOwed, IsOnItsWay, acknowledged_in, active_behind, asker, is_in_use, tenure_all, tenure_behind, to_come}
 use Rattle.world_model.proofs.OwnerLines.{fitting_append, tenure-append}
-use Rattle.world_model.proofs.OwnerPuts.{FitAll, Goes, Puts, entries_to, goes_lost, goes_put}
+use Rattle.world_model.proofs.OwnerPuts.{FitAll, RunsThrough, Puts, entries_to, goes_lost, goes_put}
 use Rattle.world_model.proofs.Outboxes.{both_empty}
 use Rattle.world_model.proofs.Piping.{active-append, due-append}
 
@@ -47,9 +47,9 @@ comes_one k m (Releasing number) all rest begins_and_ends is =
     subst (λ (x : Rsl). IsOwed k (hear (x ∷ []) (Releasing number)) rest) first (subst (IsOwed k (Releasing number)) others ends)
 
 comes_heard : (k : ℕ) (heard : List Rsl) (state : ChannelState) (rest : List Rsl) → IsOne heard → IsOwed k state (heard ++ rest) → IsOwed k (hear heard state) rest
-comes_heard k heard state rest (inl none) comes = subst (λ (h : List Rsl). IsOwed k (hear h state) rest) (sym none) (subst (λ (h : List Rsl). IsOwed k state (h ++ rest)) none comes)
-comes_heard k heard state rest (inr (m, one)) comes =
-    subst (λ (h : List Rsl). IsOwed k (hear h state) rest) (sym one) (comes_one k m state (heard ++ rest) rest comes (ap (λ (h : List Rsl). h ++ rest) one))
+comes_heard k heard state rest (inl none) owed = subst (λ (h : List Rsl). IsOwed k (hear h state) rest) (sym none) (subst (λ (h : List Rsl). IsOwed k state (h ++ rest)) none owed)
+comes_heard k heard state rest (inr (m, one)) owed =
+    subst (λ (h : List Rsl). IsOwed k (hear h state) rest) (sym one) (comes_one k m state (heard ++ rest) rest owed (ap (λ (h : List Rsl). h ++ rest) one))
 
 -- ---- a turn, in the world
 
@@ -70,7 +70,7 @@ pub record Turned (w v : Actors) (at : Place) (target : Option Tenure) (t : Turn
 pub record Serves (owner : Tenure → ℕ) (w : Actors) (at : Place) (target : Option Tenure) (t : Turn) (heard : List Rsl) : Type 0 where
   pub hearing : hears t.next at.station ≡ true → hears w.controller at.station ≡ true
   pub silent : hears t.next at.station ≡ false → entries_to at target t.outs ≡ []
-  pub goes : hears t.next at.station ≡ true → Goes at (hear heard (channel_state w.controller at)) t.outs (channel_state t.next at)
+  pub moves : hears t.next at.station ≡ true → RunsThrough at (hear heard (channel_state w.controller at)) t.outs (channel_state t.next at)
   pub fits : hears t.next at.station ≡ true → is_up w at.station ≡ true → FitAll owner at target (tenure_behind w at).number (hear heard (channel_state w.controller at)) t.outs
   pub users : (number mobile : ℕ) → asker t.next number ≡ Some mobile → channel_state w.controller at ≡ InUse number → asker w.controller number ≡ Some mobile
 
@@ -99,8 +99,9 @@ module _ (owner : Tenure → ℕ) (w v : Actors) (at : Place) (target : Option T
   active_same : is_active_at v at ≡ is_active_at w at
   active_same = ap (λ (b : BaseState). is_active b.active k) turned.base
 
-  came : to_come w at ≡ heard ++ rest
-  came = ap (λ (xs : List Rsl). xs ++ (acknowledgements k (base_of w n).messages ++ due k (is_active_at w at) (outbox_of w n))) turned.inbox
+  to_come_is : to_come w at ≡ heard ++ rest
+  to_come_is = ap (λ (xs : List Rsl). xs ++ (acknowledgements k (base_of w n).messages ++ due k (is_active_at w at) (outbox_of w n)))
+      turned.inbox
       ∙ append_assoc heard (acknowledged_in at v.inbox) (acknowledgements k (base_of w n).messages ++ due k (is_active_at w at) (outbox_of w n))
 
   comes_then : to_come v at ≡ rest ++ due k (active_behind w at) turned.entries
@@ -123,13 +124,13 @@ module _ (owner : Tenure → ℕ) (w v : Actors) (at : Place) (target : Option T
 
   -- what comes after the acknowledgement was taken
   heard_comes : (way : IsOnItsWay w at state) → IsOwed k (hear heard state) (rest ++ way.lost)
-  heard_comes way = comes_heard k heard state (rest ++ way.lost) turned.one (subst (IsOwed k state) (ap (λ (xs : List Rsl). xs ++ way.lost) came ∙ append_assoc heard rest way.lost) way.comes)
+  heard_comes way = comes_heard k heard state (rest ++ way.lost) turned.one (subst (IsOwed k state) (ap (λ (xs : List Rsl). xs ++ way.lost) to_come_is ∙ append_assoc heard rest way.lost) way.owed)
 
   -- ---- the link is up, and the controller hears it
 
   put_up : hears t.next n ≡ true → is_up w n ≡ true → Puts owner at (active_behind w at) (tenure_behind w at).number (entries_to at target t.outs) (hear heard state) (channel_state t.next at)
   put_up hearing up =
-      goes_put owner at target (tenure_behind w at).number (serves.goes hearing) (serves.fits hearing up) (active_behind w at)
+      goes_put owner at target (tenure_behind w at).number (serves.moves hearing) (serves.fits hearing up) (active_behind w at)
       ((agrees.way (serves.hearing hearing)).active up ∙ sym (hear-use heard state))
 
   line_of : (es : List OutboxEntry) → turned.entries ≡ es → AreFitting owner at (active_behind w at) (tenure_behind w at).number es → AreFitting owner at (is_active_at v at) (spot_at v at).tenure (outbox_of v n)
@@ -151,17 +152,17 @@ module _ (owner : Tenure → ℕ) (w v : Actors) (at : Place) (target : Option T
       let before : IsOwed k (hear heard state) rest = subst (IsOwed k (hear heard state)) (ap (λ (xs : List Rsl). rest ++ xs) (way.all up) ∙ append-nil rest) (heard_comes way) in
       record {
         lost = [];
-        comes = subst (IsOwed k (channel_state t.next at)) (sym (append-nil (to_come v at) ∙ comes_then ∙ ap (λ (es : List OutboxEntry). rest ++ due k (active_behind w at) es) (turned.joins up))) (puts.works.comes rest before);
+        owed = subst (IsOwed k (channel_state t.next at)) (sym (append-nil (to_come v at) ∙ comes_then ∙ ap (λ (es : List OutboxEntry). rest ++ due k (active_behind w at) es) (turned.joins up))) (puts.works.owed rest before);
         all = λ _. refl;
         active = λ _. active_then ∙ ap (active_all k (active_behind w at)) (turned.joins up) ∙ puts.works.active_then;
       }
   way_by hearing false down =
       let way = agrees.way (serves.hearing hearing) in
-      let lost = (goes_lost (serves.goes hearing) rest way.lost (heard_comes way)).0 in
+      let lost = (goes_lost (serves.moves hearing) rest way.lost (heard_comes way)).0 in
       let same : to_come v at ≡ rest = comes_then ∙ ap (λ (es : List OutboxEntry). rest ++ due k (active_behind w at) es) (turned.down down) ∙ append-nil rest in
       record {
         lost = lost.0;
-        comes = subst (λ (xs : List Rsl). IsOwed k (channel_state t.next at) (xs ++ lost.0)) (sym same) lost.1;
+        owed = subst (λ (xs : List Rsl). IsOwed k (channel_state t.next at) (xs ++ lost.0)) (sym same) lost.1;
         all = λ up. absurd (false_true (sym down ∙ sym turned.up ∙ up));
         active = λ up. absurd (false_true (sym down ∙ sym turned.up ∙ up));
       }
@@ -182,14 +183,14 @@ module _ (owner : Tenure → ℕ) (w v : Actors) (at : Place) (target : Option T
   own_by number mobile hearing used asks reaches false down =
       let way = agrees.way (serves.hearing hearing) in
       let same : to_come v at ≡ rest = comes_then ∙ ap (λ (es : List OutboxEntry). rest ++ due k (active_behind w at) es) (turned.down down) ∙ append-nil rest in
-      elim (goes_lost (serves.goes hearing) rest way.lost (heard_comes way)).1 [
+      elim (goes_lost (serves.moves hearing) rest way.lost (heard_comes way)).1 [
         | inl kept ↦ own_kept number mobile hearing asks (kept number used) (tenure_then ∙ ap (tenure_all k (active_behind w at) (tenure_behind w at).number) (turned.down down))
-            (λ gone silent. reaches (turned.up ∙ gone) (same ∙ (both_empty heard rest (sym silent ∙ came)).1))
+            (λ gone silent. reaches (turned.up ∙ gone) (same ∙ (both_empty heard rest (sym silent ∙ to_come_is)).1))
         | inr free ↦ absurd (reaches (turned.up ∙ down) (same ∙ (both_empty rest way.lost (sym (none_free (rest ++ way.lost) (hear heard state) free (heard_comes way)))).0))
       ] where
         none_free : (xs : List Rsl) (now : ChannelState) → now ≡ Free → IsOwed k now xs → xs ≡ []
         none_free xs Free is nothing = refl
-        none_free xs _ is comes = absurd cc
+        none_free xs _ is owed = absurd cc
 
   pub turn_agrees : Agrees owner v at
   turn_agrees = record {

@@ -115,13 +115,13 @@ map_taken h (Some v) leads = h v leads
 record Took (n k : ℕ) (w v : Actors) : Type 0 where
   first : OutboxEntry
   others : List OutboxEntry
-  stood : outbox_of w n ≡ first ∷ others
+  pending : outbox_of w n ≡ first ∷ others
   answers : Answers k (base_of w n) (base_of v n) (rsl_in first.out.frame)
 
 own_takes : (n k : ℕ) (w : Actors) → n - 1 < length w.stations → OfTaken (Took n k w) (after_base_takes w n)
 unfolding AnswersAt
-own_takes n k w there = base_takes_leads (Took n k w) w n (λ first others up stood.
-    map_taken {P = AnswersAt n k (with_outbox n others w) (rsl_in first.out.frame)} (λ v answers. record { first = first; others = others; stood = stood; answers = answers }) (took n first.target (rsl_in first.out.frame) (with_outbox n others w))
+own_takes n k w there = base_takes_leads (Took n k w) w n (λ first others up pending.
+    map_taken {P = AnswersAt n k (with_outbox n others w) (rsl_in first.out.frame)} (λ v answers. record { first = first; others = others; pending = pending; answers = answers }) (took n first.target (rsl_in first.out.frame) (with_outbox n others w))
     (took_answers n k first.target (rsl_in first.out.frame) (with_outbox n others w) there))
 
 other_takes : (n s k : ℕ) (w : Actors) → n ≢ 0 → n ≢ s → OfTaken (Quiet n k w) (after_base_takes w s)
@@ -138,7 +138,7 @@ own_flows : (n k : ℕ) (w : Actors) (o : Option Actors) → taken n w (BaseTake
 unfolding OfTaken
 own_flows n k w None takes h = quiet_flows n k w (BaseTakes n) w refl takes (quiet_base refl)
 own_flows n k w (Some v) takes h =
-    let one : taken n w (BaseTakes n) ≡ h.first ∷ [] = takes ∙ ap first_of h.stood in
+    let one : taken n w (BaseTakes n) ≡ h.first ∷ [] = takes ∙ ap first_of h.pending in
     flows
     (h.answers.acks ∙ ap (λ (ms : List Rsl). acknowledgements k (base_of w n).messages ++ ms) (sym (append-nil (acknowledgement k (is_active (base_of w n).active k) (rsl_in h.first.out.frame))))
     ∙ ap (λ (entries : List OutboxEntry). acknowledgements k (base_of w n).messages ++ due k (is_active (base_of w n).active k) entries) (sym one))
@@ -200,7 +200,7 @@ works_begins : (k : ℕ) (gave made : List Rsl) (ds : List Rsl) → acknowledgem
 works_begins k gave made ds is = (acknowledgements k made, sym (acks_append k gave made) ∙ is)
 
 kept_by : (n k : ℕ) (gave : List Rsl) (took_so_far : List OutboxEntry) (w : Actors) (event : Event) (v : Actors) → Step n k w event v → (is_up w n ≡ false → is_up v n ≡ false) → (is_up w n ≡ false → outbox_of w n ≡ [] → (taken n w event ≡ []) × (outbox_of v n ≡ [])) → Kept n k gave took_so_far w → Kept n k (gave ++ given n w event) (took_so_far ++ taken n w event) v
-kept_by n k gave took_so_far w event v (flows all active) stays empties (works made on) =
+kept_by n k gave took_so_far w event v (flows all active) unchanged empties (works made on) =
     works
     (ap (acknowledgements k) (append_assoc gave (given n w event) (base_of v n).messages)
     ∙ acks_append k gave (given n w event ++ (base_of v n).messages)
@@ -210,21 +210,21 @@ kept_by n k gave took_so_far w event v (flows all active) stays empties (works m
     ∙ ap (λ (b : Bool). due k false took_so_far ++ due k b (taken n w event)) on
     ∙ sym (due-append k false took_so_far (taken n w event)))
     (active ∙ ap (λ (b : Bool). active_all k b (taken n w event)) on ∙ sym (active-append k false took_so_far (taken n w event)))
-kept_by n k gave took_so_far w event v (stops down left dropped nothing nobody) stays empties (works made on) =
+kept_by n k gave took_so_far w event v (stops down left dropped nothing nobody) unchanged empties (works made on) =
     rested down dropped (ap (acknowledgements k) left)
     (subst (λ (ms : List Rsl). IsPrefix (acknowledgements k ms) (due k false (took_so_far ++ taken n w event))) (sym (ap (λ (ms : List Rsl). gave ++ ms) nothing ∙ append-nil gave))
     (subst (λ (es : List OutboxEntry). IsPrefix (acknowledgements k gave) (due k false es)) (sym (ap (λ (es : List OutboxEntry). took_so_far ++ es) nobody ∙ append-nil took_so_far))
     (works_begins k gave (base_of w n).messages (due k false took_so_far) made)))
-kept_by n k gave took_so_far w event v (flows all active) stays empties (rested down dropped left begins) =
+kept_by n k gave took_so_far w event v (flows all active) unchanged empties (rested down dropped left begins) =
     let gone : (taken n w event ≡ []) × (outbox_of v n ≡ []) = empties down dropped in
     let none : acknowledgements k (given n w event ++ (base_of v n).messages) ≡ [] =
     all ∙ ap (λ (es : List OutboxEntry). acknowledgements k (base_of w n).messages ++ due k (is_active (base_of w n).active k) es) gone.0 ∙ append-nil (acknowledgements k (base_of w n).messages) ∙ left in
     let parts : (acknowledgements k (given n w event) ≡ []) × (acknowledgements k (base_of v n).messages ≡ []) =
     both_empty (acknowledgements k (given n w event)) (acknowledgements k (base_of v n).messages) (sym none ∙ acks_append k (given n w event) (base_of v n).messages) in
-    rested (stays down) gone.1 parts.1
+    rested (unchanged down) gone.1 parts.1
     (subst (λ (ms : List Rsl). IsPrefix ms (due k false (took_so_far ++ taken n w event))) (sym (acks_append k gave (given n w event) ∙ ap (λ (ms : List Rsl). acknowledgements k gave ++ ms) parts.0 ∙ append-nil (acknowledgements k gave)))
     (subst (λ (es : List OutboxEntry). IsPrefix (acknowledgements k gave) (due k false es)) (sym (ap (λ (es : List OutboxEntry). took_so_far ++ es) gone.0 ∙ append-nil took_so_far)) begins))
-kept_by n k gave took_so_far w event v (stops down left dropped nothing nobody) stays empties (rested down_before dropped_before left_before begins) =
+kept_by n k gave took_so_far w event v (stops down left dropped nothing nobody) unchanged empties (rested down_before dropped_before left_before begins) =
     rested down dropped (ap (acknowledgements k) left)
     (subst (λ (ms : List Rsl). IsPrefix (acknowledgements k ms) (due k false (took_so_far ++ taken n w event))) (sym (ap (λ (ms : List Rsl). gave ++ ms) nothing ∙ append-nil gave))
     (subst (λ (es : List OutboxEntry). IsPrefix (acknowledgements k gave) (due k false es)) (sym (ap (λ (es : List OutboxEntry). took_so_far ++ es) nobody ∙ append-nil took_so_far)) begins))

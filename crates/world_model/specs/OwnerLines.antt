@@ -122,7 +122,7 @@ is_in_use _ = false
 -- all of it comes while the station's link is up, and else its beginning
 pub record IsOnItsWay (w : Actors) (at : Place) (state : ChannelState) : Type 0 where
   pub lost : List Rsl
-  pub comes : IsOwed at.number state (to_come w at ++ lost)
+  pub owed : IsOwed at.number state (to_come w at ++ lost)
   pub all : is_up w at.station ≡ true → lost ≡ []
   pub active : is_up w at.station ≡ true → active_behind w at ≡ is_in_use state
 

@@ -23,7 +23,7 @@ use Rattle.controller_model.specs.declared.forwarded.Forwarded.{Forwarded}
 use Rattle.controller_model.specs.declared.step.Step.{Step}
 use Rattle.controller_model.specs.Life.{step}
 use Rattle.controller_model.specs.LifeLaws.Acts.{Acts, ActsOn, IsAged, IsBrought, brought_in, kept, kept_in}
-use Rattle.controller_model.specs.LifeLaws.Acts.Acts.{ages, goes, opens, rests}
+use Rattle.controller_model.specs.LifeLaws.Acts.Acts.{ages, takes_row, opens, rests}
 use Rattle.controller_model.specs.LifeLaws.History.{connection_of, outs_for}
 use Rattle.controller_model.specs.LifeLaws.Seen.{messages_on}
 use Rattle.controller_model.specs.LifeLaws.Sending.{IsSent}
@@ -67,7 +67,7 @@ fate_by c st s next after up was now put (ages old x by_time is aged silent is_n
     subst (λ (y : Connection). Fate c st s y) same (waits_on like.serving (subst IsEarlyIn (sym like.state) early))
 fate_by c st s next after up was now put (opens is linked channel request delay none_brought none put_is is_now) there leads outs early =
     absurd (none-some s (sym none ∙ there))
-fate_by c st s next after up was now put (goes old s1 input offer r is aged brought_it fits put_is is_now) there leads outs early =
+fate_by c st s next after up was now put (takes_row old s1 input offer r is aged brought_it fits put_is is_now) there leads outs early =
     by (early_row s1 input offer r (subst IsEarlyIn (sym like.state) early) fits) where
       like : IsLike s s1
       like = aged_like s s1 (subst (λ (o : Connection). IsAged o s1) (same_Some _ _ (sym is ∙ there)) aged)

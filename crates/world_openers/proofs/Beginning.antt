@@ -135,7 +135,7 @@ become_begins initial (is_acked sapi p) begins = record {
   first = λ is. same_first (acked_same p.end sapi) (begins.first is);
   still = begins.still;
 }
-become_begins initial (hears p tenure command first others seat reached stood) begins = record {
+become_begins initial (hears p tenure command first others seat reached pending) begins = record {
   first = λ is. same_first (ap (λ (e : MobileState). to_be_taken e.zero) (hearing-end p first))
       (begins.first (sym (hearing-opens p first) ∙ is));
   still = λ is. hearing_still p first (begins.still (sym (hearing-opens p first) ∙ is));

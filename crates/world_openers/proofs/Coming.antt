@@ -190,19 +190,19 @@ module _ (settings : Parameters) (done : List Event) (P : List ℕ → Type 0) (
   turned target st u = turn_leads (λ v. initials_up v at ≡ initials_up u at) target (step w.controller st) u (λ links. refl)
 
   behind : (item : Item) (items : List Item) → w.inbox ≡ item ∷ items → Sub (initials_up (record w { inbox = items }) at) (initials_up w at)
-  behind item items stood =
+  behind item items pending =
       sub_flat_map (initial_by at.number) (sub_append
-      (subst (λ (xs : List Item). Sub (flat_map (read_of at.station) items) (flat_map (read_of at.station) xs)) (sym stood)
+      (subst (λ (xs : List Item). Sub (flat_map (read_of at.station) items) (flat_map (read_of at.station) xs)) (sym pending)
       (sub_behind (read_of at.station item) (flat_map (read_of at.station) items)))
       (sub_itself (base_of w at.station).messages))
 
   handle_comes : Ahead → Comes (actors_after w events.Handle)
   unfolding event_after
-  handle_comes h = after_taken Comes (event_after w events.Handle) w (handle_leads Comes w (λ item items stood.
+  handle_comes h = after_taken Comes (event_after w events.Handle) w (handle_leads Comes w (λ item items pending.
       let target : Option Tenure = target_of w item.source item.what in
       let u : Actors = record w { inbox = items } in
       turn_comes (steps.Take item) (with_turn target (take item w.controller) u) h (controller-is target (take item w.controller) u)
-      (subst (AllByRecursion P) (sym (turned target (steps.Take item) u)) (sub_all P (behind item items stood) h.all)))) (unchanged h)
+      (subst (AllByRecursion P) (sym (turned target (steps.Take item) u)) (sub_all P (behind item items pending) h.all)))) (unchanged h)
 
   tick_comes : (ms : ℕ) → Ahead → Comes (actors_after w (events.Tick ms))
   unfolding event_after

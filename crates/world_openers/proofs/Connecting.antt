@@ -60,13 +60,13 @@ puts_knows {w} {u} {event} {known} k number p q acts same how knows = by (nat_eq
       connected_with
       (become_begins initial how (subst (BeginsWith initial) (same_Some _ _ (sym found ∙ ap (mobile_of u) (sym is) ∙ acts_there)) begins))
 
-  stays : mobile_of (with_mobile q u) k ≡ mobile_of u k → Knows u known k → Knows (with_mobile q u) known k
-  stays there (never none unknown) = never (there ∙ none) unknown
-  stays there (once x initial found connected_with begins) = once x initial (there ∙ found) connected_with begins
+  unchanged : mobile_of (with_mobile q u) k ≡ mobile_of u k → Knows u known k → Knows (with_mobile q u) known k
+  unchanged there (never none unknown) = never (there ∙ none) unknown
+  unchanged there (once x initial found connected_with begins) = once x initial (there ∙ found) connected_with begins
 
   by : (b : Bool) → nat_eq number k ≡ b → Knows (with_mobile q u) known k
   by true hit = own (eqb-true number k hit) knows
-  by false miss = stays (back_other q u.mobiles k (λ is. eqb-false number k miss (sym q_number ∙ is))) knows
+  by false miss = unchanged (back_other q u.mobiles k (λ is. eqb-false number k miss (sym q_number ∙ is))) knows
 
 moved : {w v : Actors} {known : Option (List ℕ)} {k : ℕ} → v.mobiles ≡ w.mobiles → Knows w known k → Knows v known k
 moved {k = k} same (never none unknown) = never (ap (λ (ms : List Mobile). find (has_number k) ms) same ∙ none) unknown

@@ -25,7 +25,7 @@ use Rattle.world_model.specs.AcceptedList.{accepted_list}
 use Rattle.ruled_relay.specs.declared.item.Item.{Item}
 use Rattle.settings.specs.Parameters.{AreAllowed, Parameters}
 use Rattle.world_laws.specs.Access.Requested.{HasAccess}
-use Rattle.world_laws.specs.Access.Requested.HasAccess.{comes, goes, requests}
+use Rattle.world_laws.specs.Access.Requested.HasAccess.{on_its_way, no_more, requests}
 use Rattle.world_laws.specs.AccountedFor.{IsBeyondAsking, IsUnconfirmed, IsUnknownForGood, initials_up}
 use Rattle.world_laws.specs.Ended.{DeliversAt}
 use Rattle.world_laws.specs.LineUps.{is_of_peer, taken_in, taken_of, waiting_of}
@@ -37,7 +37,7 @@ use Rattle.world_laws.specs.Order.Order.{opener_of}
 use Rattle.world_laws.specs.Order.Standing.{IsComingTo, Standing}
 use Rattle.world_laws.specs.Order.Standing.OnceDown.{cut, silent}
 use Rattle.world_laws.specs.Order.Standing.Standing.{once_down, while_up}
-use Rattle.world_laws.specs.Order.Standing.WhileUp.{coming, ended, lives, unborn, unheard}
+use Rattle.world_laws.specs.Order.Standing.WhileUp.{coming, ended, lined_up, unborn, unknown_for_good}
 use Rattle.world_laws.specs.OthersFrame.{IsHad, TookOctets}
 use Rattle.world_laws.specs.References.Taken.{IsEarlyIn, IsUnknownToSwitch}
 use Rattle.world_laws.specs.Runs.{world}
@@ -197,7 +197,7 @@ module _ (settings : Parameters) (done : List Event) (event : Event) (number : �
   record Asks (s : Connection) : Type 0 where
     initial : List ℕ
     rest : List (List ℕ)
-    came : initials_up w (place_of s.serving) ≡ initial ∷ rest
+    on_way_up : initials_up w (place_of s.serving) ≡ initial ∷ rest
     waits : waiting_of v s.number ≡ initial ∷ []
     untaken : taken_of v s.number ≡ taken_of w s.number
 
@@ -229,14 +229,14 @@ module _ (settings : Parameters) (done : List Event) (number : ℕ) where
       → Asks settings done events.Handle number s
   handle_asks s next h had early up none now state = by here.inbox refl where
     then_is : (items : List Item) → here.inbox ≡ items → actors_after here events.Handle ≡ unwrap_or (handled items here) here
-    then_is items stood = handled_is settings done number s items stood
+    then_is items pending = handled_is settings done number s items pending
 
     by : (items : List Item) → here.inbox ≡ items → Asks settings done events.Handle number s
-    by [] stood =
+    by [] pending =
         let same : s ≡ next =
-        same_Some _ _ (sym had.there ∙ ap (λ (x : Actors). connection_of x.controller s.number) (sym (then_is [] stood)) ∙ now) in
+        same_Some _ _ (sym had.there ∙ ap (λ (x : Actors). connection_of x.controller s.number) (sym (then_is [] pending)) ∙ now) in
         absurd (subst IsEarlyIn (ap (λ (x : Connection). x.state) same ∙ state) early)
-    by (item ∷ items) stood = by_fate (fate settings done (steps.Take item) s next had.from_one early had.there (sym leads ∙ now)) where
+    by (item ∷ items) pending = by_fate (fate settings done (steps.Take item) s next had.from_one early had.there (sym leads ∙ now)) where
       target : Option Tenure
       target = target_of here item.source item.what
 
@@ -244,25 +244,25 @@ module _ (settings : Parameters) (done : List Event) (number : ℕ) where
       u = record here { inbox = items }
 
       leads : connection_of (actors_after here events.Handle).controller s.number ≡ connection_of (take item here.controller).next s.number
-      leads = ap (λ (x : Actors). connection_of x.controller s.number) (then_is (item ∷ items) stood)
+      leads = ap (λ (x : Actors). connection_of x.controller s.number) (then_is (item ∷ items) pending)
           ∙ ap (λ (c : Controller). connection_of c s.number) (controller-is target (take item here.controller) u)
 
       own : IsOctetStep (steps.Take item)
-      own = (subst (λ (xs : List Item). AllByRecursion IsOctetStep (first_taken xs)) stood
+      own = (subst (λ (xs : List Item). AllByRecursion IsOctetStep (first_taken xs)) pending
           (step_octets settings done events.Handle number h)).0
 
       by_fate : Fate here.controller (steps.Take item) s next → Asks settings done events.Handle number s
       by_fate (waits_on same still) = absurd (subst IsEarlyIn state still)
       by_fate (asks_now place initial serving state brought_it at puts) =
           let opens =
-          opens_with_item settings done number s item items place initial stood
+          opens_with_item settings done number s item items place initial pending
           (opening_of here.controller s.number item place initial brought_it) at in
           let sent = sends_at settings done number s (steps.Take item) h.allowed (before_octets settings done events.Handle number h) own in
           record {
             initial = initial;
             rest = initials_up u (place_of s.serving);
-            came = opens.one;
-            waits = ap (λ (x : Actors). waiting_of x s.number) (then_is (item ∷ items) stood)
+            on_way_up = opens.one;
+            waits = ap (λ (x : Actors). waiting_of x s.number) (then_is (item ∷ items) pending)
                 ∙ asked_waits target (take item here.controller) u s.number serving initial had.from_one up none puts sent;
             untaken =
                 switch_stays here events.Handle s.number tt
@@ -378,7 +378,7 @@ module _ (settings : Parameters) (done : List Event) (event : Event) (number : �
         → AllByRecursion (λ x. was mobile0 ≡ Some x) (initials_up old (place_of s.serving))
         → HasAccess (IsComingTo n) n new mobile0 s.number
         → AllByRecursion (λ x. now mobile ≡ Some x) (initials_up new (place_of next.serving))
-    still mobile0 s is coming_before all (comes again same comes_now) =
+    still mobile0 s is coming_before all (on_its_way again same comes_now) =
         let same_one : again ≡ next = same_there again next (same ∙ is) next_is comes_now.0.had.there had.there in
         let whose : mobile0 ≡ mobile = sym comes_now.0.asked ∙ ap (λ (x : Connection). x.request.access) same_one ∙ is_coming.0.asked in
         all_known settings done event number mobile (initials_up new (place_of next.serving))
@@ -389,7 +389,7 @@ module _ (settings : Parameters) (done : List Event) (event : Event) (number : �
     still mobile0 s is coming_before all (requests asks same state lives_on served_now) =
         let same_one : asks ≡ next = same_there asks next (same ∙ is) next_is lives_on.had.there had.there in
         absurd (subst IsEarlyIn (ap (λ (x : Connection). x.state) (sym same_one) ∙ state) is_coming.0.early)
-    still mobile0 s is coming_before all (goes gone) =
+    still mobile0 s is coming_before all (no_more gone) =
         absurd (gone (subst IsThere (sym (ap (connection_of new.controller) (is ∙ sym next_is) ∙ had.there)) had.is_open))
 
     by : Standing n old first number → AllByRecursion (λ x. now mobile ≡ Some x) (initials_up new (place_of next.serving))
@@ -397,10 +397,10 @@ module _ (settings : Parameters) (done : List Event) (event : Event) (number : �
         begun (connections_begin_new settings done event number h.allowed h.octets h.from_one past)
     by (while_up up_now (coming mobile0 s unopened is coming_before)) =
         still mobile0 s is coming_before (kept.ahead up_before unopened mobile0 s is coming_before)
-        (h.at.came mobile0 s up_before coming_before)
-    by (while_up up_now (lives mobile0 s opened is l fresh)) = absurd (no_opener opened)
+        (h.at.has_access mobile0 s up_before coming_before)
+    by (while_up up_now (lined_up mobile0 s opened is l fresh)) = absurd (no_opener opened)
     by (while_up up_now (ended mobile0 opened past gone has)) = absurd (no_opener opened)
-    by (while_up up_now (unheard u)) =
+    by (while_up up_now (unknown_for_good u)) =
         let beyond : IsUnknownForGood new number = h.at.stays_unheard number h.from_one u in
         absurd (early_beyond next.state is_coming.0.early
         (subst IsUnconfirmed (ap (connection_of new.controller) (sym next_is) ∙ had.there) beyond.unconfirmed))
@@ -416,7 +416,7 @@ module _ (settings : Parameters) (done : List Event) (event : Event) (number : �
       let asks : Asks settings done event number s =
       asks_by settings done number s next
       (kind old number event) h coming_before.0.had coming_before.0.early up unknown.none_waits there state in
-      let said : was mobile ≡ Some asks.initial = (subst (AllByRecursion (λ x. was mobile ≡ Some x)) asks.came all).0 in
+      let said : was mobile ≡ Some asks.initial = (subst (AllByRecursion (λ x. was mobile ≡ Some x)) asks.on_way_up all).0 in
       let untaken : taken_of new s.number ≡ [] = asks.untaken ∙ ap taken_in unknown.none_taken in
       says asks.initial [] (stays_known settings done event number mobile asks.initial said)
       (ap (λ (k : ℕ). taken_of new k ++ waiting_of new k) (sym is) ∙ ap (λ (xs : List (List ℕ)). xs ++ waiting_of new s.number) untaken
@@ -441,18 +441,18 @@ module _ (settings : Parameters) (done : List Event) (event : Event) (number : �
     begun (not_yet past) = absurd (nobody (served_absent new number (none_given_then settings done event number past)))
     begun (begins s is is_coming) = absurd (asking s.request.access s is is_coming)
 
-    came : (mobile0 : ℕ) (s : Connection) → s.number ≡ number → is_up old SWITCH_LINK ≡ true → IsComingTo n old mobile0 s
+    has_access : (mobile0 : ℕ) (s : Connection) → s.number ≡ number → is_up old SWITCH_LINK ≡ true → IsComingTo n old mobile0 s
         → AllByRecursion (λ x. was mobile0 ≡ Some x) (initials_up old (place_of s.serving))
         → HasAccess (IsComingTo n) n new mobile0 s.number → Heard (now mobile) new number
-    came mobile0 s is up coming_before all (comes again same comes_now) = absurd (asking mobile0 again (same ∙ is) comes_now)
-    came mobile0 s is up coming_before all (requests next same state lives_on served_on) =
+    has_access mobile0 s is up coming_before all (on_its_way again same comes_now) = absurd (asking mobile0 again (same ∙ is) comes_now)
+    has_access mobile0 s is up coming_before all (requests next same state lives_on served_on) =
         let there : connection_of new.controller s.number ≡ Some next = ap (connection_of new.controller) (sym same) ∙ lives_on.had.there in
         let whose : mobile0 ≡ mobile =
         same_Some _ _
         (sym served_on ∙ sym (served-confirming new next state) ∙ sym (served_there new next.number next lives_on.had.there)
         ∙ ap (served_by new) (same ∙ is) ∙ served_now) in
         subst (λ (k : ℕ). Heard (now k) new number) whose (asks_heard mobile0 s next is h coming_before all up there state)
-    came mobile0 s is up coming_before all (goes gone) =
+    has_access mobile0 s is up coming_before all (no_more gone) =
         refused (h.at.goes_unheard number h.from_one
         (subst (λ (k : ℕ). IsAsking (connection_of old.controller k)) is
         (asking_at old s.number s coming_before.0.had.there (early_asking s.state coming_before.0.early)))
@@ -461,10 +461,11 @@ module _ (settings : Parameters) (done : List Event) (event : Event) (number : �
     by : Standing n old first number → Heard (now mobile) new number
     by (while_up up (unborn unopened past)) = begun (h.at.begun number h.from_one up past)
     by (while_up up (coming mobile0 s unopened is coming_before)) =
-        came mobile0 s is up coming_before (kept.ahead up unopened mobile0 s is coming_before) (h.at.came mobile0 s up coming_before)
-    by (while_up up (lives mobile0 s opened is l fresh)) = absurd (no_opener opened)
+        has_access mobile0 s is up coming_before (kept.ahead up unopened mobile0 s is coming_before)
+        (h.at.has_access mobile0 s up coming_before)
+    by (while_up up (lined_up mobile0 s opened is l fresh)) = absurd (no_opener opened)
     by (while_up up (ended mobile0 opened past gone has)) = absurd (no_opener opened)
-    by (while_up up (unheard u)) = refused (h.at.stays_unheard number h.from_one u)
+    by (while_up up (unknown_for_good u)) = refused (h.at.stays_unheard number h.from_one u)
     by (once_down down (silent at)) =
         lost (down_after SWITCH_LINK old event down) (silent_then settings done event number down (ap taken_in at.none_taken))
     by (once_down down (cut mobile0 opened has waits)) = absurd (no_opener opened)

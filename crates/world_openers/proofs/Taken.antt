@@ -31,7 +31,7 @@ use Rattle.world_laws.proofs.Events.{snoc_actors}
 use Rattle.world_laws.proofs.Order.Controllers.{octets_front}
 use Rattle.world_laws.proofs.Order.Modulus.{all_numbered, all_set}
 use Rattle.world_laws.proofs.Order.SwitchDown.{SwitchKind, switch_kind}
-use Rattle.world_laws.proofs.Order.SwitchDown.SwitchKind.{does, stays, takes}
+use Rattle.world_laws.proofs.Order.SwitchDown.SwitchKind.{does, unchanged, takes}
 use Rattle.world_laws.proofs.References.Always.{names_always_agree_new}
 use Rattle.world_laws.proofs.References.FirstTaken.{first-own}
 use Rattle.world_laws.proofs.References.Taking.{nothing_heeded}
@@ -60,20 +60,21 @@ addressed_heeded reference over _ to = absurd to
 
 agreed_heeded : (w : Actors) (n : ℕ) (r : Read) (rest : List Read) → reads_of n (outbox_of w SWITCH_LINK) ≡ r ∷ rest → Agrees w n
     → IsHeeded r
-agreed_heeded w n r rest stood (is_unasked un unknown) = (nothing_heeded r (subst AreNothing stood unknown.quiet).0).0
-agreed_heeded w n r rest stood (is_unheard has unknown) = (nothing_heeded r (subst AreNothing stood unknown.quiet).0).0
-agreed_heeded w n r rest stood (is_asking has way) = asks_heeded n r rest (subst (AsksOnce n) stood way.once)
-agreed_heeded w n r rest stood (is_known past known) =
+agreed_heeded w n r rest pending (is_unasked un unknown) = (nothing_heeded r (subst AreNothing pending unknown.quiet).0).0
+agreed_heeded w n r rest pending (is_unheard has unknown) = (nothing_heeded r (subst AreNothing pending unknown.quiet).0).0
+agreed_heeded w n r rest pending (is_asking has way) = asks_heeded n r rest (subst (AsksOnce n) pending way.once)
+agreed_heeded w n r rest pending (is_known past known) =
     addressed_heeded (REFERENCE_BASE + (known.place + 1)) (is_over known.of.stage) r
-    (subst (λ (xs : List Read). Runs (REFERENCE_BASE + (known.place + 1)) (is_over known.of.stage) xs known.last) stood known.runs).0
+    (subst (λ (xs : List Read). Runs (REFERENCE_BASE + (known.place + 1)) (is_over known.of.stage) xs known.last) pending known.runs).0
 
 first_heeded : (w : Actors) (first : OutboxEntry) (others : List OutboxEntry) → NamesAgree w → outbox_of w SWITCH_LINK ≡ first ∷ others
     → IsHeeded (reads first.out)
-first_heeded w first others agree stood = by first.out.conn refl where
+first_heeded w first others agree pending = by first.out.conn refl where
   by : (n : ℕ) → first.out.conn ≡ n → IsHeeded (reads first.out)
-  by zero is = subst IsHeeded (sym ((subst (AllByRecursion (λ entry. _)) stood agree.right).0.beside is)) tt
+  by zero is = subst IsHeeded (sym ((subst (AllByRecursion (λ entry. _)) pending agree.right).0.beside is)) tt
   by (suc n) is =
-      agreed_heeded w (suc n) (reads first.out) (reads_of (suc n) others) (ap (reads_of (suc n)) stood ∙ first-own (suc n) first others is)
+      agreed_heeded w (suc n) (reads first.out) (reads_of (suc n) others)
+      (ap (reads_of (suc n)) pending ∙ first-own (suc n) first others is)
       (agree.each (suc n) (omega arith))
 
 -- ---- it took something
@@ -173,16 +174,16 @@ does_has w (Dtap connection sapi message) all = by (is_layer_3 message) where
 
 takes_has : (w : Actors) (up : Bool) (entries : List OutboxEntry) → NamesAgree w → outbox_of w SWITCH_LINK ≡ entries → SwitchHas w
     → SwitchHas (unwrap_or (if up then switch_took_first entries w else None) w)
-takes_has w false entries agree stood all = all
-takes_has w true [] agree stood all = all
-takes_has w true (first ∷ others) agree stood all =
-    took_has (sccp_in first.out.frame) (with_outbox SWITCH_LINK others w) (first_heeded w first others agree stood) all
+takes_has w false entries agree pending all = all
+takes_has w true [] agree pending all = all
+takes_has w true (first ∷ others) agree pending all =
+    took_has (sccp_in first.out.frame) (with_outbox SWITCH_LINK others w) (first_heeded w first others agree pending) all
 
 has_by : {w : Actors} {event : Event} → NamesAgree w → SwitchKind w event → SwitchHas w → SwitchHas (actors_after w event)
 unfolding event_after
 has_by {w} agree takes all = takes_has w (is_up w SWITCH_LINK) (outbox_of w SWITCH_LINK) agree refl all
 has_by {w} agree (does action) all = does_has w action all
-has_by agree (stays same) all = subst (λ (s : SwitchState). AllHave s.connections) (sym same) all
+has_by agree (unchanged same) all = subst (λ (s : SwitchState). AllHave s.connections) (sym same) all
 
 pub switch_has : (settings : Parameters) (events : List Event) → AreAllowed settings → TookOctets settings events
     → AllByRecursion HasTaken (world settings events).switch.connections

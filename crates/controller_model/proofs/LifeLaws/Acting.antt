@@ -3,7 +3,8 @@
 use Rattle.controller_model.proofs.Prelude.{◌≡◌, Bool, ◌≢◌, ℕ, ◌==◌, List, [], ◌∷◌, ◌++◌, find, Option, Some, option_map, refl, sym, subst}
 use Rattle.controller_model.proofs.Prelude.{ap, ◌∙◌, inl, inr, true≢false, cases_Bool, cond-true, cond-false, eqb-true, eq-eqb, ne_eqb}
 use Rattle.controller_model.proofs.Prelude.{Channel, Message, Station, Out, outs_of, Input, State, Removed, Connection, Row, OfRow, row_of}
-use Rattle.controller_model.proofs.Prelude.{Acts, Brought, IsBrought, FitsNone, kept, kept_in, rests, goes, is_for, outs_for, connection_of}
+use Rattle.controller_model.proofs.Prelude.{Acts, Brought, IsBrought, FitsNone, kept, kept_in, rests, takes_row, is_for, outs_for}
+use Rattle.controller_model.proofs.Prelude.{connection_of}
 use Rattle.controller_model.proofs.Prelude.{AreRising, Controller, Entry, Turn, has_number, entry_of, by_row, entry_after}
 use Rattle.conn_messages.specs.Out.{out_of}
 use Rattle.controller_model.proofs.LifeLaws.Entries.{entry_kept, back_over, back_found}
@@ -76,7 +77,7 @@ row_does number next up brought c e x input offer r rising there fits by before 
           record {
             put = r.outs;
             outs = subst (λ (n : ℕ). outs_for n (outs_of e.connection.number r.outs) ≡ outs_of n r.outs) (sym same) (outs_own e.connection.number r.outs);
-            acts = goes e.connection e.connection input offer r (own same) ([], refl) (by same) fits refl (subst (λ (n : ℕ). connection_of (by_row e r c).next n ≡ kept r.next) (sym same) (row_found c e x r rising keeps there));
+            acts = takes_row e.connection e.connection input offer r (own same) ([], refl) (by same) fits refl (subst (λ (n : ℕ). connection_of (by_row e r c).next n ≡ kept r.next) (sym same) (row_found c e x r rising keeps there));
           }
       | inr miss ↦
           let differ : number ≢ e.connection.number = λ same. absurd (true≢false (sym (eq-eqb number e.connection.number same) ∙ miss)) in

@@ -89,19 +89,20 @@ abbrev pub links_after : Controller → Step → List Bool
 links_after c (Take item) = links_with (is_up c item.source) item.source item.what c
 links_after c (Tick ms) = c.links
 
-pub record Goes (c : Controller) (links : List Bool) (next : Controller) : Type 0 where
+pub record KeepsRest (c : Controller) (links : List Bool) (next : Controller) : Type 0 where
   pub settings : next.settings ≡ c.settings
   pub links_are : next.links ≡ links
   pub numbers : c.next_number ≤ next.next_number
 
-going : (c next : Controller) → IsBeside c next → Goes c c.links next
+going : (c next : Controller) → IsBeside c next → KeepsRest c c.links next
 going c next beside = record { settings = beside.settings; links_are = beside.links; numbers = beside.numbers }
 
-without : (b : Bool) (source : ℕ) (c : Controller) (links : List Bool) (next : Controller) → Goes c links next → Goes c links (if b then next else freed_station source next)
+without : (b : Bool) (source : ℕ) (c : Controller) (links : List Bool) (next : Controller) → KeepsRest c links next → KeepsRest c links (if b then next else freed_station source next)
 without true source c links next goes = goes
 without false source c links next goes = record { settings = goes.settings; links_are = goes.links_are; numbers = goes.numbers }
 
-what_goes : (up : Bool) (source : ℕ) (what : What) (c : Controller) → Goes c (links_with up source what c) (on_what up source what c).next
+what_goes : (up : Bool) (source : ℕ) (what : What) (c : Controller) → KeepsRest c (links_with up source what c)
+    (on_what up source what c).next
 what_goes true source (whats.Frame frame) c = going c (on_word source (word_of source frame) c).next (of_word source (word_of source frame) c)
 what_goes true source whats.Down c =
     let down : Controller = with_down source c in
@@ -111,7 +112,7 @@ what_goes true source whats.Down c =
 what_goes false source (whats.Frame frame) c = going c (ignoring c).next (same c (ignoring c).next refl refl refl)
 what_goes false source whats.Down c = going c (ignoring c).next (same c (ignoring c).next refl refl refl)
 
-pub step_goes : (c : Controller) (s : Step) → Goes c (links_after c s) (step c s).next
+pub step_goes : (c : Controller) (s : Step) → KeepsRest c (links_after c s) (step c s).next
 unfolding take tick
 step_goes c (Take item) = what_goes (is_up c item.source) item.source item.what c
 step_goes c (Tick ms) =

@@ -187,7 +187,7 @@ nothing_while_away = record {
   away = λ is sapi. refl;
   serving = tt;
   over = λ closed. record { relays = λ sapi. refl; hands = λ sapi. refl };
-  stays = λ low closed is. closed tt;
+  remains_away = λ low closed is. closed tt;
   cleared = λ low. tt;
 }
 
@@ -219,7 +219,7 @@ may_begin = record {
   away = λ is sapi. absurd is;
   serving = (tt, tt);
   over = λ closed. absurd (closed tt);
-  stays = λ low closed is. let below : 9 < 9 = low in absurd (omega (arith, below));
+  remains_away = λ low closed is. let below : 9 < 9 = low in absurd (omega (arith, below));
   cleared = λ low. let below : 9 < 9 = low in absurd (omega (arith, below));
 }
 
@@ -249,7 +249,7 @@ before_a_clear = (
     away = λ is sapi. absurd is;
     serving = ((λ is_dtap. (refl, refl)), tt);
     over = λ closed. absurd (closed tt);
-    stays = λ low closed is. closed tt;
+    remains_away = λ low closed is. closed tt;
     cleared = λ low. tt;
   },
   tt,

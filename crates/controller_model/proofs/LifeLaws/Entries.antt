@@ -38,7 +38,7 @@ back_all Q e (x ∷ xs) all = back_cases (AllByRecursion (λ (x : Entry). Q x.co
 remaining_rising : (state : State) (e : Entry) (xs : List Entry) → AllByRecursion (IsAbove e.connection.number) xs → AreRising xs → AreRising (remaining state e ++ xs)
 remaining_rising state e xs above rising = elim (remaining_is state e) [
   | inl gone ↦ subst (λ (ys : List Entry). AreRising (ys ++ xs)) (sym gone.0) rising
-  | inr stays ↦ subst (λ (ys : List Entry). AreRising (ys ++ xs)) (sym stays.0) (above, rising)
+  | inr unchanged ↦ subst (λ (ys : List Entry). AreRising (ys ++ xs)) (sym unchanged.0) (above, rising)
 ]
 
 pub back_rising : (e : Entry) (xs : List Entry) → AreRising xs → AreRising (put_back e xs)
@@ -76,7 +76,7 @@ found_number n (x ∷ xs) e is = elim (cases_Bool (has_number n x)) [
 pub remaining_over : (n : ℕ) (state : State) (e : Entry) (xs : List Entry) → n ≢ e.connection.number → find (has_number n) (remaining state e ++ xs) ≡ find (has_number n) xs
 remaining_over n state e xs other = elim (remaining_is state e) [
   | inl gone ↦ ap (λ (ys : List Entry). find (has_number n) (ys ++ xs)) gone.0
-  | inr stays ↦ ap (λ (ys : List Entry). find (has_number n) (ys ++ xs)) stays.0 ∙ find_behind n e xs other
+  | inr unchanged ↦ ap (λ (ys : List Entry). find (has_number n) (ys ++ xs)) unchanged.0 ∙ find_behind n e xs other
 ]
 
 pub back_over : (n : ℕ) (e : Entry) (xs : List Entry) → n ≢ e.connection.number → find (has_number n) (put_back e xs) ≡ find (has_number n) xs
@@ -88,7 +88,7 @@ back_over n e (x ∷ xs) other = back_cases (λ (ys : List Entry). find (has_num
 remaining_found : (state : State) (e : Entry) (xs : List Entry) → AllByRecursion (IsAbove e.connection.number) xs → find (has_number e.connection.number) (remaining state e ++ xs) ≡ entry_kept state e
 remaining_found state e xs above = elim (remaining_is state e) [
   | inl gone ↦ ap (λ (ys : List Entry). find (has_number e.connection.number) (ys ++ xs)) gone.0 ∙ find_above e.connection.number xs above ∙ sym gone.1
-  | inr stays ↦ ap (λ (ys : List Entry). find (has_number e.connection.number) (ys ++ xs)) stays.0 ∙ find_here e.connection.number e xs refl ∙ sym stays.1
+  | inr unchanged ↦ ap (λ (ys : List Entry). find (has_number e.connection.number) (ys ++ xs)) unchanged.0 ∙ find_here e.connection.number e xs refl ∙ sym unchanged.1
 ]
 
 -- the entry itself, unless it is removed

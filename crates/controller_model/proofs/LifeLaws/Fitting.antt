@@ -5,7 +5,8 @@ use Rattle.controller_model.proofs.Prelude.{refl, sym, subst, ap, ◌∙◌, inl
 use Rattle.controller_model.proofs.Prelude.{eq-eqb, Message, SWITCH_LINK, Input, Drain, State, Removed, Connection, IsCarried, IsValid, Row}
 use Rattle.controller_model.proofs.Prelude.{OfRow, on_switch_down, after_pass, What, Parameters, IsValid-new, DrainTime, drained_after, Acts}
 use Rattle.controller_model.proofs.Prelude.{IsAged, passed, Brought, IsBrought, IsTimer, if_held, brought_by, brought_with, brought_in}
-use Rattle.controller_model.proofs.Prelude.{kept_in, ages, rests, opens, goes, nothing, comes, reports, breaks, passes, connection_of}
+use Rattle.controller_model.proofs.Prelude.{kept_in, ages, rests, opens, takes_row, nothing, of_frame, reports, breaks, passes}
+use Rattle.controller_model.proofs.Prelude.{connection_of}
 use Rattle.controller_model.proofs.Prelude.{IsNumbered, is_link_up, Step, Take, Tick, Word, OnChannel, OnConnection, Controller, is_up}
 use Rattle.controller_model.proofs.Prelude.{channel_state, holder, new_controller, break_of, step, word_of}
 use Rattle.conn_rules.proofs.StandingTable.{IsValid-row}
@@ -22,17 +23,17 @@ drain_time : (ms : ℕ) (draining : List Drain) (drained : ℕ) → DrainTime dr
 drain_time ms [] drained time = time
 drain_time ms (d ∷ ds) drained time = tt
 
-pub pass_stands : (ms : ℕ) (s : Connection) → IsValid s → IsValid (after_pass ms s)
-pass_stands ms s stands = record {
-  state = stands.state;
-  down_limit = stands.down_limit;
-  up_limit = stands.up_limit;
-  down_within = stands.down_within;
-  up_within = stands.up_within;
-  down_zero = stands.down_zero;
-  down_three = stands.down_three;
-  up_messages = stands.up_messages;
-  drain_time = drain_time ms s.draining s.drained stands.drain_time;
+pub pass_valid : (ms : ℕ) (s : Connection) → IsValid s → IsValid (after_pass ms s)
+pass_valid ms s valid = record {
+  state = valid.state;
+  down_limit = valid.down_limit;
+  up_limit = valid.up_limit;
+  down_within = valid.down_within;
+  up_within = valid.up_within;
+  down_zero = valid.down_zero;
+  down_three = valid.down_three;
+  up_messages = valid.up_messages;
+  drain_time = drain_time ms s.draining s.drained valid.drain_time;
 }
 
 -- what a time keeps, all times keep
@@ -46,15 +47,15 @@ aged_holds P keeps old s aged holds = subst P (sym aged.1) (aged_keeps P keeps o
 -- ---- what is brought
 
 pub IsCarriedIn : Brought → Type 0
-IsCarriedIn (comes input) = IsCarried input
+IsCarriedIn (of_frame input) = IsCarried input
 IsCarriedIn _ = Unit {0}
 
 held_carried : (number : ℕ) (o : Option ℕ) (input : Input) → IsCarried input → IsCarriedIn (if_held number o input)
 unfolding IsCarriedIn
 held_carried number None input carried = tt
 held_carried number (Some holder) input carried = elim (cases_Bool (holder == number)) [
-  | inl hit ↦ subst IsCarriedIn (sym (cond-true _ (comes input) nothing hit)) carried
-  | inr miss ↦ subst IsCarriedIn (sym (cond-false _ (comes input) nothing miss)) tt
+  | inl hit ↦ subst IsCarriedIn (sym (cond-true _ (of_frame input) nothing hit)) carried
+  | inr miss ↦ subst IsCarriedIn (sym (cond-false _ (of_frame input) nothing miss)) tt
 ]
 
 by_carried : (c : Controller) (number : ℕ) (word : Word) → IsCarriedBy word → IsCarriedIn (brought_by c number word)
@@ -107,8 +108,8 @@ with_break true c number source (whats.Frame frame) = by (word_of source frame)
     held : (o : Option ℕ) (input : Input) → IsBreak (if_held number o input)
     held None input = tt
     held (Some holder) input = elim (cases_Bool (holder == number)) [
-      | inl hit ↦ subst IsBreak (sym (cond-true _ (comes input) nothing hit)) tt
-      | inr miss ↦ subst IsBreak (sym (cond-false _ (comes input) nothing miss)) tt
+      | inl hit ↦ subst IsBreak (sym (cond-true _ (of_frame input) nothing hit)) tt
+      | inr miss ↦ subst IsBreak (sym (cond-false _ (of_frame input) nothing miss)) tt
     ]
 
     by : (word : Word) → IsBreak (brought_by c number word)
@@ -126,9 +127,9 @@ in_break c number (Tick ms) = tt
 brought_carried : (brought : Brought) (input : Input) → IsCarriedIn brought → IsBreak brought → IsBrought brought input → IsCarried input
 unfolding IsCarriedIn IsBreak
 brought_carried nothing input carried own is = absurd is
-brought_carried (comes came) input carried own is = subst IsCarried (sym is) carried
+brought_carried (of_frame arrived) input carried own is = subst IsCarried (sym is) carried
 brought_carried reports input carried own is = subst IsCarried (sym is) tt
-brought_carried (breaks came) input carried own is = subst IsCarried (sym is) (break_carried came own)
+brought_carried (breaks arrived) input carried own is = subst IsCarried (sym is) (break_carried arrived own)
 brought_carried passes input carried own is = timer_carried input is
 
 -- ---- a connection that is there
@@ -143,24 +144,24 @@ IsFine (Some s) = IsPresent s.state × IsValid s
 
 kept_fine : (state : State) (s : Connection) → s.state ≡ state → IsValid s → IsFine (kept_in state s)
 unfolding IsFine IsPresent
-kept_fine Removed s is stands = tt
-kept_fine _ s is stands = (subst IsPresent (sym is) tt, stands)
+kept_fine Removed s is valid = tt
+kept_fine _ s is valid = (subst IsPresent (sym is) tt, valid)
 
 FinePart : Connection → Type 0
 FinePart s = IsPresent s.state × IsValid s
 
 pub fine_old : (before : Option Connection) (old s : Connection) → before ≡ Some old → IsAged old s → IsFine before → IsPresent s.state × IsValid s
 unfolding IsFine FinePart
-fine_old before old s is aged fine = aged_holds (λ (c : Connection). IsPresent c.state × IsValid c) (λ ms c holds. (holds.0, pass_stands ms c holds.1)) old s aged (subst IsFine is fine)
+fine_old before old s is aged fine = aged_holds (λ (c : Connection). IsPresent c.state × IsValid c) (λ ms c holds. (holds.0, pass_valid ms c holds.1)) old s aged (subst IsFine is fine)
 
 pub fine_after : (number next : ℕ) (up : Bool) (brought : Brought) (before after : Option Connection) (put : List Message) → Acts number next up brought before put after → IsCarriedIn brought → IsBreak brought → IsFine before → IsFine after
 unfolding IsFine IsPresent
 fine_after number next up brought before after put (rests silent same none) carried own fine = subst IsFine (sym same) fine
 fine_after number next up brought before after put (ages old s is_time is aged silent same) carried own fine = subst IsFine (sym same) (fine_old before old s is aged fine)
 fine_after number next up brought before after put (opens begins is_up channel request delay is_nothing is put_is same) carried own fine = subst IsFine (sym same) (tt, IsValid-new number channel request delay)
-fine_after number next up brought before after put (goes old s input offer r is aged by fits put_is same) carried own fine =
-    let stands : IsValid r.next = subst (OfRow (λ (q : Row). IsValid q.next)) fits (IsValid-row s input offer (fine_old before old s is aged fine).1 (brought_carried brought input carried own by)) in
-    subst IsFine (sym same) (kept_fine r.next.state r.next refl stands)
+fine_after number next up brought before after put (takes_row old s input offer r is aged by fits put_is same) carried own fine =
+    let valid : IsValid r.next = subst (OfRow (λ (q : Row). IsValid q.next)) fits (IsValid-row s input offer (fine_old before old s is aged fine).1 (brought_carried brought input carried own by)) in
+    subst IsFine (sym same) (kept_fine r.next.state r.next refl valid)
 
 -- ---- the link of the switch
 
@@ -183,7 +184,7 @@ gone_after number next up None after put (rests silent same none) fine = same
 gone_after number next up (Some s) after put (rests silent same none) fine = absurd (never_none s.state s (fine_old (Some s) s s refl ([], refl) fine).0 none.1)
 gone_after number next up before after put (ages old s is_time is aged silent same) fine = absurd cc
 gone_after number next up before after put (opens begins linked_up channel request delay is_nothing none_before put_is same) fine = absurd cc
-gone_after number next up before after put (goes old s input offer r is aged by fits put_is same) fine =
+gone_after number next up before after put (takes_row old s input offer r is aged by fits put_is same) fine =
     let gone : r.next.state ≡ Removed = removed_by s.state s r (subst (λ (i : Input). row_of s i offer ≡ Some r) by fits) in
     same ∙ ap (λ (state : State). kept_in state r.next) gone
 
@@ -205,7 +206,7 @@ linked_after : (number next : ℕ) (up : Bool) (brought : Brought) (before after
 linked_after number next up brought before after put (rests silent same none) linked = subst (IsLinked up) (sym same) linked
 linked_after number next up brought before after put (ages old s is_time is aged silent same) linked = linked_from up before after old is linked
 linked_after number next up brought before after put (opens begins linked_up channel request delay is_nothing none_before put_is same) linked = some_linked up after linked_up
-linked_after number next up brought before after put (goes old s input offer r is aged by fits put_is same) linked = linked_from up before after old is linked
+linked_after number next up brought before after put (takes_row old s input offer r is aged by fits put_is same) linked = linked_from up before after old is linked
 
 -- ---- a controller, for one connection
 

@@ -4,10 +4,11 @@ use Rattle.controller_model.proofs.Prelude.{◌≡◌, ℕ, ◌==◌, ◌&&◌, 
 use Rattle.controller_model.proofs.Prelude.{None, refl, sym, subst, ap, ◌∙◌, append_assoc, append-nil, cond-true, eq-eqb, flat_map-append}
 use Rattle.controller_model.proofs.Prelude.{Channel, Place, Message, AreAway, Input, Drain, Preparing, Changing, State, Live, Target}
 use Rattle.controller_model.proofs.Prelude.{Connection, is_at, TargetRole, Roles, RoleStep, RemainsOpen, after_step, awaits_at, changes_by}
-use Rattle.controller_model.proofs.Prelude.{roles_of, step_by, target_channels, target_role, with_target, stays, commands, completes}
+use Rattle.controller_model.proofs.Prelude.{roles_of, step_by, target_channels, target_role, with_target, unchanged, commands, completes}
 use Rattle.controller_model.proofs.Prelude.{goes_back, leaves, IsValid, Row, AreApart, Future, IsApart, IsOpen, OfRow, from_input, of_target}
 use Rattle.controller_model.proofs.Prelude.{relayed, still_of, undone, used_channels, Sapi, Zero, Three, HeldTenure, all_behind}
-use Rattle.controller_model.proofs.Prelude.{away_of_other, Ends, KeepsUplink, of_prepared, on_channel, relayed_by, row_of, used_in, Tenure}
+use Rattle.controller_model.proofs.Prelude.{away_of_other, Ends, KeepsUplink, of_prepared, on_channel, relayed_by, row_of, used_in}
+use Rattle.controller_model.proofs.Prelude.{ServedTenure}
 use Rattle.controller_model.proofs.Prelude.{is_on, is_same, place_of}
 use Rattle.conn_rules.proofs.UplinkTable.{row_keeps}
 use Rattle.conn_rules.specs.declared.input.Input.TheVariants as inputs
@@ -15,26 +16,26 @@ use Rattle.controller_model.proofs.LifeLaws.Tenures.{NoneOn, clear, joined_clear
 
 -- ---- a connection that serves, and its tenures
 
-abbrev pub Serves : Channel → List Tenure → Type 0
+abbrev pub Serves : Channel → List ServedTenure → Type 0
 Serves serving [] = ⊥
 Serves serving (t ∷ old) = (t.is_over ≡ false) × (t.place ≡ place_of serving)
 
-abbrev pub older : List Tenure → List Tenure
+abbrev pub older : List ServedTenure → List ServedTenure
 older [] = []
 older (t ∷ old) = old
 
 -- The youngest tenure is that of the serving channel; older ones that aren't over are on old
 -- channels; and what was relayed, then what is still to be relayed, is what came, then what may
 -- still come.
-pub record Follows (s : Connection) (put : List Message) (ts : List Tenure) : Type 0 where
+pub record Follows (s : Connection) (put : List Message) (ts : List ServedTenure) : Type 0 where
   pub serves : Serves s.serving ts
   pub old : (at : Place) → AreAway at (undone s.draining) → NoneOn at (older ts)
   pub up : (sapi : Sapi) (f : Future) → relayed sapi put ++ still_of sapi f s.serving s.draining s.up.tenures ≡ joined_with sapi f ts
 
-pub serving_off : (at : Place) (serving : Channel) (t : Tenure) → t.is_over ≡ false → t.place ≡ place_of serving → is_at at serving ≡ false → is_on at t ≡ false
+pub serving_off : (at : Place) (serving : Channel) (t : ServedTenure) → t.is_over ≡ false → t.place ≡ place_of serving → is_at at serving ≡ false → is_on at t ≡ false
 serving_off at serving t is place away = ap (λ (b : Bool). not b && is_same t.place at) is ∙ ap (λ (p : Place). is_same p at) place ∙ same_false at serving away
 
-pub none_on : (s : Connection) (put : List Message) (ts : List Tenure) (at : Place) → Follows s put ts → AreAway at (undone s.draining) → is_at at s.serving ≡ false → NoneOn at ts
+pub none_on : (s : Connection) (put : List Message) (ts : List ServedTenure) (at : Place) → Follows s put ts → AreAway at (undone s.draining) → is_at at s.serving ≡ false → NoneOn at ts
 none_on s put [] at follows away here = tt
 none_on s put (t ∷ old) at follows away here = (serving_off at s.serving t follows.serves.0 follows.serves.1 here, follows.old at away)
 
@@ -65,7 +66,7 @@ role_killed f (Some t) killed = killed_none f t.is_commanded (on_channel f t.tar
 
 pub step_killed : (f : Future) (step : RoleStep) (roles : Roles) (target : Option TargetRole) → Killed f target → role_target f (after_step step (record roles { target = target })).target ≡ []
 unfolding role_target Killed
-step_killed f stays roles target killed = role_killed f target killed
+step_killed f unchanged roles target killed = role_killed f target killed
 step_killed f commands roles None killed = refl
 step_killed f commands roles (Some t) killed = killed
 step_killed f completes roles None killed = refl
@@ -100,17 +101,17 @@ prepared_killed f _ killed = refl
 
 pub keeps : (sapi : Sapi) (s : Connection) (input : Input) (offer : Option Channel) (r : Row) (f : Future) → IsValid s → AreApart (used_channels s) → Ends f s.state input → row_of s input offer ≡ Some r → IsOpen r.next.state →
     relayed sapi r.outs ++ (still_of sapi f r.next.serving r.next.draining r.next.up.tenures ++ of_target f r.next.state) ≡ still_of sapi (from_input sapi input f) s.serving s.draining s.up.tenures ++ of_target (from_input sapi input f) s.state
-keeps sapi s input offer r f stands apart ends is there = subst (OfRow (KeepsUplink sapi f s input)) is (row_keeps s input offer sapi f stands apart ends) there
+keeps sapi s input offer r f valid apart ends is there = subst (OfRow (KeepsUplink sapi f s input)) is (row_keeps s input offer sapi f valid apart ends) there
 
 pub quiet_keeps : (sapi : Sapi) (s : Connection) (input : Input) (offer : Option Channel) (r : Row) (f : Future) → IsValid s → AreApart (used_channels s) → Ends f s.state input → row_of s input offer ≡ Some r → IsOpen r.next.state → RemainsOpen (step_by input (roles_of s)) (roles_of s) s.down input offer r → from_input sapi input f ≡ f → Killed f (target_role s.state) →
     relayed sapi r.outs ++ still_of sapi f r.next.serving r.next.draining r.next.up.tenures ≡ still_of sapi f s.serving s.draining s.up.tenures
-quiet_keeps sapi s input offer r f stands apart ends is there on same killed =
+quiet_keeps sapi s input offer r f valid apart ends is there on same killed =
     let next : of_target f r.next.state ≡ [] =
     of_target_role f r.next.state ∙ ap (λ (roles : Roles). role_target f roles.target) on.roles
     ∙ begun_killed f on.begun (after_step (step_by input (roles_of s)) (roles_of s)) (step_killed f (step_by input (roles_of s)) (roles_of s) (target_role s.state) killed) in
     let now : of_target f s.state ≡ [] = of_target_role f s.state ∙ role_killed f (target_role s.state) killed in
     ap (λ (xs : List (List ℕ)). relayed sapi r.outs ++ xs) (sym (append-nil (still_of sapi f r.next.serving r.next.draining r.next.up.tenures)) ∙ ap (λ (xs : List (List ℕ)). still_of sapi f r.next.serving r.next.draining r.next.up.tenures ++ xs) (sym next))
-    ∙ keeps sapi s input offer r f stands apart ends is there
+    ∙ keeps sapi s input offer r f valid apart ends is there
     ∙ ap (λ (g : Future). still_of sapi g s.serving s.draining s.up.tenures ++ of_target g s.state) same
     ∙ ap (λ (xs : List (List ℕ)). still_of sapi f s.serving s.draining s.up.tenures ++ xs) now
     ∙ append-nil (still_of sapi f s.serving s.draining s.up.tenures)
@@ -148,9 +149,9 @@ if_same true one other roles h k = h
 if_same false one other roles h k = k
 
 plain_same : (input : Input) (roles : Roles) → IsPlain input → SameChannels roles (after_step (step_by input roles) roles)
-plain_same (inputs.ActivationAck at) roles plain = if_same (awaits_at at roles.target) commands stays roles (record { serving = refl; draining = refl }) (record { serving = refl; draining = refl })
-plain_same (inputs.ActivationNack at) roles plain = if_same (awaits_at at roles.target) goes_back stays roles (record { serving = refl; draining = refl }) (record { serving = refl; draining = refl })
-plain_same (inputs.Failure at change cause) roles plain = if_same (is_at at roles.serving && changes_by change roles.target) goes_back stays roles (record { serving = refl; draining = refl }) (record { serving = refl; draining = refl })
+plain_same (inputs.ActivationAck at) roles plain = if_same (awaits_at at roles.target) commands unchanged roles (record { serving = refl; draining = refl }) (record { serving = refl; draining = refl })
+plain_same (inputs.ActivationNack at) roles plain = if_same (awaits_at at roles.target) goes_back unchanged roles (record { serving = refl; draining = refl }) (record { serving = refl; draining = refl })
+plain_same (inputs.Failure at change cause) roles plain = if_same (is_at at roles.serving && changes_by change roles.target) goes_back unchanged roles (record { serving = refl; draining = refl }) (record { serving = refl; draining = refl })
 plain_same (inputs.Complete at change cause) roles plain = absurd plain
 plain_same (inputs.ReleaseAck at) roles plain = absurd plain
 plain_same _ roles plain = record { serving = refl; draining = refl }
@@ -187,7 +188,7 @@ still_kill sapi f s (Some t) serving ds ts apart same less =
     let away = target_away s (Some t) apart t refl in
     still_clear sapi (place_of t.target.channel) f serving ds ts (less (place_of t.target.channel) away.0) (ap (is_at (place_of t.target.channel)) same ∙ away.1)
 
-pub joined_kill : (sapi : Sapi) (f : Future) (s : Connection) (put : List Message) (ts : List Tenure) (target : Option TargetRole) → AreApart (undone s.draining ++ s.serving ∷ target_channels target) → Follows s put ts → joined_with sapi (kill target f) ts ≡ joined_with sapi f ts
+pub joined_kill : (sapi : Sapi) (f : Future) (s : Connection) (put : List Message) (ts : List ServedTenure) (target : Option TargetRole) → AreApart (undone s.draining ++ s.serving ∷ target_channels target) → Follows s put ts → joined_with sapi (kill target f) ts ≡ joined_with sapi f ts
 joined_kill sapi f s put ts None apart follows = refl
 joined_kill sapi f s put ts (Some t) apart follows =
     let away = target_away s (Some t) apart t refl in
@@ -200,8 +201,8 @@ relayed_append sapi xs ys = flat_map-append (relayed_by sapi) xs ys
 pub joins : (sapi : Sapi) (before put : List Message) (next now : List (List ℕ)) → relayed sapi put ++ next ≡ now → relayed sapi (before ++ put) ++ next ≡ relayed sapi before ++ now
 joins sapi before put next now is = ap (λ (xs : List (List ℕ)). xs ++ next) (relayed_append sapi before put) ∙ append_assoc (relayed sapi before) (relayed sapi put) next ∙ ap (λ (xs : List (List ℕ)). relayed sapi before ++ xs) is
 
-pub plain_follows : (s : Connection) (input : Input) (offer : Option Channel) (r : Row) (before : List Message) (ts : List Tenure) → IsValid s → AreApart (used_channels s) → AreApart (used_in (roles_of s)) → row_of s input offer ≡ Some r → IsOpen r.next.state → RemainsOpen (step_by input (roles_of s)) (roles_of s) s.down input offer r → IsPlain input → Follows s before ts → Follows r.next (before ++ r.outs) ts
-plain_follows s input offer r before ts stands apart roles_apart is there on plain follows =
+pub plain_follows : (s : Connection) (input : Input) (offer : Option Channel) (r : Row) (before : List Message) (ts : List ServedTenure) → IsValid s → AreApart (used_channels s) → AreApart (used_in (roles_of s)) → row_of s input offer ≡ Some r → IsOpen r.next.state → RemainsOpen (step_by input (roles_of s)) (roles_of s) s.down input offer r → IsPlain input → Follows s before ts → Follows r.next (before ++ r.outs) ts
+plain_follows s input offer r before ts valid apart roles_apart is there on plain follows =
     let step : RoleStep = step_by input (roles_of s) in
     let one = plain_same input (roles_of s) plain in
     let two = begun_same on.begun (after_step step (roles_of s)) in
@@ -213,7 +214,7 @@ plain_follows s input offer r before ts stands apart roles_apart is there on pla
       up = λ sapi f.
           let g : Future = kill (target_role s.state) f in
           let killed = kill_kills (target_role s.state) f in
-          let quiet = quiet_keeps sapi s input offer r g stands apart (plain_ends input g s.state plain killed) is there on (plain_future sapi input g plain) killed in
+          let quiet = quiet_keeps sapi s input offer r g valid apart (plain_ends input g s.state plain killed) is there on (plain_future sapi input g plain) killed in
           ap (λ (xs : List (List ℕ)). relayed sapi (before ++ r.outs) ++ xs) (sym (still_kill sapi f s (target_role s.state) r.next.serving r.next.draining r.next.up.tenures roles_apart serving (λ at away. subst (λ (ds : List Drain). AreAway at (undone ds)) (sym draining) away)))
           ∙ joins sapi before r.outs (still_of sapi g r.next.serving r.next.draining r.next.up.tenures) (still_of sapi g s.serving s.draining s.up.tenures) quiet
           ∙ follows.up sapi g ∙ joined_kill sapi f s before ts (target_role s.state) roles_apart follows;

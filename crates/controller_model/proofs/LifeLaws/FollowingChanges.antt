@@ -5,10 +5,11 @@ use Rattle.controller_model.proofs.Prelude.{sym, subst, ap, ◌∙◌, inl, inr,
 use Rattle.controller_model.proofs.Prelude.{and_parts, Change, Assignment, Handover, Channel, Place, Message, AreAway, drain_at_drains}
 use Rattle.controller_model.proofs.Prelude.{same_place, Input, Drain, Stage, Changing, State, WaitEstablish, WaitConfirm, Live, Connection}
 use Rattle.controller_model.proofs.Prelude.{is_at, tenure_at, TargetRole, Roles, RoleStep, RemainsOpen, after_step, changes_by, roles_of}
-use Rattle.controller_model.proofs.Prelude.{step_by, target_channels, target_role, stays, completes, IsValid, Row, failing, AreApart, Future}
+use Rattle.controller_model.proofs.Prelude.{step_by, target_channels, target_role, unchanged, completes, IsValid, Row, failing, AreApart, Future}
 use Rattle.controller_model.proofs.Prelude.{IsApart, IsOpen, from_input, of_target, relayed, still_of, undone, used_channels, complete}
 use Rattle.controller_model.proofs.Prelude.{dtap_in, on_complete, on_dtap, EQUIPMENT_FAILURE, Sapi, Zero, Three, away_of, drain_behind_away}
-use Rattle.controller_model.proofs.Prelude.{is_target_at, same_change, used_in, Tenure, begin_next, beginning, of_sapi, performs, place_of}
+use Rattle.controller_model.proofs.Prelude.{is_target_at, same_change, used_in, ServedTenure, begin_next, beginning, of_sapi, performs}
+use Rattle.controller_model.proofs.Prelude.{place_of}
 use Rattle.conn_rules.specs.declared.input.Input.TheVariants as inputs
 use Rattle.conn_rules.specs.Table.{row_of}
 use Rattle.controller_model.proofs.LifeLaws.Following.{Follows, Serves, begun_same, begun_killed, joins, keeps, none_on, of_target_role, role_target}
@@ -49,8 +50,8 @@ complete_is s at change cause offer r is = complete_by s.state s refl at change 
 
 pub completes_step : (s : Connection) (at : Place) (change : Change) (cause : _) (r : Row) → Completes s at change r → step_by (inputs.Complete at change cause) (roles_of s) ≡ completes
 completes_step s at change cause r c =
-    ap (λ (target : Option TargetRole). if (is_target_at at target && changes_by change target) then completes else stays) c.target
-    ∙ cond-true _ completes stays (ap (λ (b : Bool). b && (c.t.is_commanded && same_change change c.t.target.change)) c.here ∙ ap (λ (b : Bool). b && same_change change c.t.target.change) c.commanded ∙ c.alike)
+    ap (λ (target : Option TargetRole). if (is_target_at at target && changes_by change target) then completes else unchanged) c.target
+    ∙ cond-true _ completes unchanged (ap (λ (b : Bool). b && (c.t.is_commanded && same_change change c.t.target.change)) c.here ∙ ap (λ (b : Bool). b && same_change change c.t.target.change) c.commanded ∙ c.alike)
 
 undone_next : (ds : List Drain) (serving : Channel) (at : Place) → AreAway at (undone (ds ++ record { channel = serving; is_done = false } ∷ [])) → AreAway at (undone ds) × (is_at at serving ≡ false)
 undone_next [] serving at away = (tt, away.0)
@@ -61,14 +62,14 @@ undone_next (d ∷ ds) serving at away = by d.is_done away (λ rest. undone_next
     by true away others = others away
     by false away others = let rest = others away.1 in ((away.0, rest.0), rest.1)
 
-begins : (ts : List Tenure) (serving : Channel) (b : Bool) (at : Place) → Serves serving ts → b ≡ true → begin_next ts b at ≡ beginning at [] ∷ ts
+begins : (ts : List ServedTenure) (serving : Channel) (b : Bool) (at : Place) → Serves serving ts → b ≡ true → begin_next ts b at ≡ beginning at [] ∷ ts
 begins [] serving b at serves is = absurd serves
 begins (t ∷ old) serving b at serves is = cond-true _ _ _ is
 
-pub complete_follows : (s : Connection) (at : Place) (change : Change) (cause : _) (offer : Option Channel) (r : Row) (before : List Message) (ts : List Tenure) → IsValid s → AreApart (used_channels s) → row_of s (inputs.Complete at change cause) offer ≡ Some r → IsOpen r.next.state →
+pub complete_follows : (s : Connection) (at : Place) (change : Change) (cause : _) (offer : Option Channel) (r : Row) (before : List Message) (ts : List ServedTenure) → IsValid s → AreApart (used_channels s) → row_of s (inputs.Complete at change cause) offer ≡ Some r → IsOpen r.next.state →
     RemainsOpen (step_by (inputs.Complete at change cause) (roles_of s)) (roles_of s) s.down (inputs.Complete at change cause) offer r → Follows s before ts → Follows r.next (before ++ r.outs) (begin_next ts (performs r.outs) at)
 unfolding role_target
-complete_follows s at change cause offer r before ts stands apart is there on follows =
+complete_follows s at change cause offer r before ts valid apart is there on follows =
     let input : Input = inputs.Complete at change cause in
     let c = complete_is s at change cause offer r is in
     let step = completes_step s at change cause r c in
@@ -91,7 +92,7 @@ complete_follows s at change cause offer r before ts stands apart is there on fo
           of_target_role f s.state ∙ ap (role_target f) c.target ∙ cond-true _ _ _ c.commanded ∙ ap f (sym place) in
           let all : relayed sapi r.outs ++ still_of sapi f r.next.serving r.next.draining r.next.up.tenures ≡ still_of sapi f s.serving s.draining s.up.tenures ++ f at =
           ap (λ (xs : List (List ℕ)). relayed sapi r.outs ++ xs) (sym (append-nil (still_of sapi f r.next.serving r.next.draining r.next.up.tenures)) ∙ ap (λ (xs : List (List ℕ)). still_of sapi f r.next.serving r.next.draining r.next.up.tenures ++ xs) (sym next))
-          ∙ keeps sapi s input offer r f stands apart tt is there
+          ∙ keeps sapi s input offer r f valid apart tt is there
           ∙ ap (λ (g : Future). still_of sapi g s.serving s.draining s.up.tenures ++ of_target g s.state) (plain sapi f)
           ∙ ap (λ (xs : List (List ℕ)). still_of sapi f s.serving s.draining s.up.tenures ++ xs) now in
           joins sapi before r.outs (still_of sapi f r.next.serving r.next.draining r.next.up.tenures) (still_of sapi f s.serving s.draining s.up.tenures ++ f at) all

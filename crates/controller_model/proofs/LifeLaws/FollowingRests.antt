@@ -3,7 +3,8 @@
 use Rattle.controller_model.proofs.Prelude.{◌≡◌, ◌≢◌, ℕ, Bool, true, false, List, [], ◌∷◌, ◌++◌, map, Some, refl, sym, subst, ap, ◌∙◌}
 use Rattle.controller_model.proofs.Prelude.{inl, inr, true≢false, cases_Bool, AllByRecursion, Channel, Place, Message, AreAway, same_place}
 use Rattle.controller_model.proofs.Prelude.{Input, Connection, is_at, roles_of, target_channels, undone, Zero, all_behind, AreIn, Owns}
-use Rattle.controller_model.proofs.Prelude.{is_link_up, used_in, Tenure, acknowledged, after_input, begin_next, heard, ChannelState, InUse}
+use Rattle.controller_model.proofs.Prelude.{is_link_up, used_in, ServedTenure, acknowledged, after_input, begin_next, heard, ChannelState}
+use Rattle.controller_model.proofs.Prelude.{InUse}
 use Rattle.controller_model.proofs.Prelude.{Releasing, holder, state_in}
 use Rattle.conn_rules.specs.declared.input.Input.TheVariants as inputs
 use Rattle.controller_model.proofs.LifeLaws.Following.{Follows, none_on, older}
@@ -13,20 +14,20 @@ use Rattle.controller_model.proofs.LifeLaws.Tenures.{NoneOn, ended_none, heard_n
 abbrev States : Type 0
 States = List (List ChannelState)
 
-pub not_begun : (ts : List Tenure) (at : Place) → begin_next ts false at ≡ ts
+pub not_begun : (ts : List ServedTenure) (at : Place) → begin_next ts false at ≡ ts
 not_begun [] at = refl
 not_begun (t ∷ ts) at = refl
 
-pub older_none : (at : Place) (ts : List Tenure) → NoneOn at (older ts) → acknowledged at ts ≡ ts
+pub older_none : (at : Place) (ts : List ServedTenure) → NoneOn at (older ts) → acknowledged at ts ≡ ts
 older_none at [] away = refl
-older_none at (t ∷ old) away = ap (λ (us : List Tenure). t ∷ us) (ended_none at old away)
+older_none at (t ∷ old) away = ap (λ (us : List ServedTenure). t ∷ us) (ended_none at old away)
 
-older_of : (at : Place) (ts : List Tenure) → NoneOn at ts → NoneOn at (older ts)
+older_of : (at : Place) (ts : List ServedTenure) → NoneOn at ts → NoneOn at (older ts)
 older_of at [] away = tt
 older_of at (t ∷ old) away = away.1
 
 -- with nothing put, on a channel that no tenure is on
-pub none_after : (at : Place) (input : Input) (ts : List Tenure) → IsAtPlace at input → NoneOn at ts → after_input input [] ts ≡ ts
+pub none_after : (at : Place) (input : Input) (ts : List ServedTenure) → IsAtPlace at input → NoneOn at ts → after_input input [] ts ≡ ts
 none_after at (inputs.Dtap place of message) ts is away = subst (λ (p : Place). map (heard p of message) ts ≡ ts) (sym is) (heard_none of at message ts away)
 none_after at (inputs.ReleaseAck place) ts is away = subst (λ (p : Place). acknowledged p ts ≡ ts) (sym is) (older_none at ts (older_of at ts away))
 none_after at (inputs.Complete place change cause) ts is away = not_begun ts place
@@ -44,7 +45,7 @@ state_away channels at state n (c ∷ cs) held other all = (
   state_away channels at state n cs held other all.1,
 )
 
-pub other_none : (channels : States) (links : List Bool) (n : ℕ) (s : Connection) (before : List Message) (at : Place) (ts : List Tenure) → Owns channels links n (roles_of s) → holder (state_in channels at) ≢ Some n → Follows s before ts → NoneOn at ts
+pub other_none : (channels : States) (links : List Bool) (n : ℕ) (s : Connection) (before : List Message) (at : Place) (ts : List ServedTenure) → Owns channels links n (roles_of s) → holder (state_in channels at) ≢ Some n → Follows s before ts → NoneOn at ts
 other_none channels links n s before at ts owns other follows =
     none_on s before ts at follows (state_away channels at (Releasing n) n (undone s.draining) refl other owns.releasing)
     (state_away channels at (InUse n) n (s.serving ∷ target_channels (roles_of s).target) refl other owns.using).0
@@ -64,7 +65,7 @@ front : (at : Place) (xs ys : List Channel) → AreAway at (xs ++ ys) → AreAwa
 front at [] ys away = tt
 front at (x ∷ xs) ys away = (away.0, front at xs ys away.1)
 
-pub down_none : (channels : States) (links : List Bool) (n : ℕ) (s : Connection) (before : List Message) (at : Place) (ts : List Tenure) → Owns channels links n (roles_of s) → is_link_up links at.station ≡ false → Follows s before ts → NoneOn at ts
+pub down_none : (channels : States) (links : List Bool) (n : ℕ) (s : Connection) (before : List Message) (at : Place) (ts : List ServedTenure) → Owns channels links n (roles_of s) → is_link_up links at.station ≡ false → Follows s before ts → NoneOn at ts
 down_none channels links n s before at ts owns down follows =
     let away = link_away links at (used_in (roles_of s)) down owns.linked in
     none_on s before ts at follows (front at (undone s.draining) (s.serving ∷ target_channels (roles_of s).target) away)

@@ -12,7 +12,7 @@ use Rattle.controller_model.proofs.Prelude.{on_connection_failure, on_downlink, 
 use Rattle.controller_model.proofs.Prelude.{on_establish_confirm, on_establish_indication, on_expiry, on_failure, on_move, on_refused}
 use Rattle.controller_model.proofs.Prelude.{on_release_ack, on_release_indication, on_released, on_station_down, on_switch_down, release_in}
 use Rattle.controller_model.proofs.Prelude.{Sapi, Zero, Three, HeldTenure, INITIAL_LIMIT, changes_roles_row, ChangesRolesBy, requests}
-use Rattle.controller_model.proofs.Prelude.{used_in, Tenure, after_input, begin_first, beginning, of_sapi, place_of, empty_tenure}
+use Rattle.controller_model.proofs.Prelude.{used_in, ServedTenure, after_input, begin_first, beginning, of_sapi, place_of, empty_tenure}
 use Rattle.conn_rules.specs.declared.input.Input.TheVariants as inputs
 use Rattle.conn_rules.specs.Table.{row_of}
 use Rattle.controller_model.proofs.LifeLaws.Following.{Follows, plain_follows, relayed_append}
@@ -70,14 +70,14 @@ activation_open s _ offer r is there = absurd cc
 pub record Accesses (s : Connection) (input : Input) (r : Row) : Type 0 where
   pub at : Place
   pub initial : List ℕ
-  pub comes : input ≡ inputs.EstablishIndication at Zero (Some initial)
+  pub establishes : input ≡ inputs.EstablishIndication at Zero (Some initial)
   pub here : is_at at s.serving ≡ true
   pub is : r ≡ row (complete_layer3 s.serving initial ∷ []) (enter WaitConfirm s)
 
 access_by : (s : Connection) (at : Place) (message : Option (List ℕ)) (r : Row) → is_at at s.serving ≡ true → access message s ≡ r → IsOpen r.next.state → Accesses s (inputs.EstablishIndication at Zero message) r
 access_by s at None r here is there = absurd (subst (λ (q : Row). IsOpen q.next.state) (sym is) there)
 access_by s at (Some initial) r here is there = elim (cases_Bool (nat_le (length initial) INITIAL_LIMIT)) [
-  | inl hit ↦ record { at = at; initial = initial; comes = refl; here = here; is = sym is ∙ cond-true _ (row (complete_layer3 s.serving initial ∷ []) (enter WaitConfirm s)) (dropping s) hit }
+  | inl hit ↦ record { at = at; initial = initial; establishes = refl; here = here; is = sym is ∙ cond-true _ (row (complete_layer3 s.serving initial ∷ []) (enter WaitConfirm s)) (dropping s) hit }
   | inr miss ↦ absurd (subst (λ (q : Row). IsOpen q.next.state) (sym is ∙ cond-false _ (row (complete_layer3 s.serving initial ∷ []) (enter WaitConfirm s)) (dropping s) miss) there)
 ]
 
@@ -94,14 +94,15 @@ access_open s _ offer r is there = absurd cc
 
 -- ---- from access on
 
-abbrev pub UpIn : State → Connection → List Message → List Tenure → Type 0
+abbrev pub UpIn : State → Connection → List Message → List ServedTenure → Type 0
 UpIn WaitActivation s put ts = (ts ≡ []) × ((sapi : Sapi) → relayed sapi put ≡ [])
 UpIn WaitEstablish s put ts = (ts ≡ []) × ((sapi : Sapi) → relayed sapi put ≡ [])
 UpIn WaitConfirm s put ts = Follows s put ts
 UpIn (Live reference stage) s put ts = Follows s put ts
 UpIn _ s put ts = ⊥
 
-live_up : (state : State) (s : Connection) (put : List Message) (ts : List Tenure) → IsLive state → Follows s put ts → UpIn state s put ts
+live_up : (state : State) (s : Connection) (put : List Message) (ts : List ServedTenure) → IsLive state → Follows s put ts
+    → UpIn state s put ts
 live_up (Live reference stage) s put ts live follows = follows
 live_up (Closed clearing) s put ts live follows = live
 live_up Removed s put ts live follows = live
@@ -148,49 +149,50 @@ ack_found (Live reference stage) s at offer r is = release_found (drain_at at s.
 ack_found _ s at offer r is = absurd cc
 
 pub going : (s : Connection) (input : Input) (offer : Option Channel) (r : Row) → IsValid s → row_of s input offer ≡ Some r → IsOpen r.next.state → RemainsOpen (step_by input (roles_of s)) (roles_of s) s.down input offer r
-going s input offer r stands is there = by (subst (ChangesRolesBy s input offer) is (changes_roles_row s input offer stands))
+going s input offer r valid is there = by (subst (ChangesRolesBy s input offer) is (changes_roles_row s input offer valid))
   where
     by : ChangesRoles s input offer r → RemainsOpen (step_by input (roles_of s)) (roles_of s) s.down input offer r
     by (goes_on was_open is_open on) = on
     by (ends was_open closed over) = absurd (closed there)
     by (had_ended was_shut closed nothing) = absurd (closed there)
 
-pub serving_row : (s : Connection) (input : Input) (offer : Option Channel) (r : Row) (before : List Message) (ts : List Tenure) → (s.state ≡ WaitConfirm) ⊎ IsLive s.state → IsValid s → AreApart (used_channels s) → AreApart (used_in (roles_of s)) → row_of s input offer ≡ Some r → IsOpen r.next.state → Follows s before ts → Follows r.next (before ++ r.outs) (after_input input r.outs ts)
+pub serving_row : (s : Connection) (input : Input) (offer : Option Channel) (r : Row) (before : List Message) (ts : List ServedTenure) → (s.state ≡ WaitConfirm) ⊎ IsLive s.state → IsValid s → AreApart (used_channels s) → AreApart (used_in (roles_of s)) → row_of s input offer ≡ Some r → IsOpen r.next.state → Follows s before ts → Follows r.next (before ++ r.outs) (after_input input r.outs ts)
 unfolding row_by
-serving_row s (inputs.Dtap at of message) offer r before ts in_it stands apart roles_apart is there follows =
-    dtap_follows s at of message offer r before ts stands apart roles_apart (dtap_off s at of message offer r roles_apart is there) is there (going s (inputs.Dtap at of message) offer r stands is there) follows
-serving_row s (inputs.Complete at change cause) offer r before ts in_it stands apart roles_apart is there follows =
-    complete_follows s at change cause offer r before ts stands apart is there (going s (inputs.Complete at change cause) offer r stands is there) follows
-serving_row s (inputs.ReleaseAck at) offer r before ts in_it stands apart roles_apart is there follows =
+serving_row s (inputs.Dtap at of message) offer r before ts in_it valid apart roles_apart is there follows =
+    dtap_follows s at of message offer r before ts valid apart roles_apart (dtap_off s at of message offer r roles_apart is there) is there (going s (inputs.Dtap at of message) offer r valid is there) follows
+serving_row s (inputs.Complete at change cause) offer r before ts in_it valid apart roles_apart is there follows =
+    complete_follows s at change cause offer r before ts valid apart is there (going s (inputs.Complete at change cause) offer r valid is there) follows
+serving_row s (inputs.ReleaseAck at) offer r before ts in_it valid apart roles_apart is there follows =
     let found = ack_found s.state s at offer r (sym (row_is_by s (inputs.ReleaseAck at) offer) ∙ is) in
-    release_follows s at found.0 offer r before ts stands apart roles_apart found.1 is there (going s (inputs.ReleaseAck at) offer r stands is there) follows
-serving_row s (inputs.EstablishIndication at Zero message) offer r before ts in_it stands apart roles_apart is there follows =
+    release_follows s at found.0 offer r before ts valid apart roles_apart found.1 is there (going s (inputs.ReleaseAck at) offer r valid is there) follows
+serving_row s (inputs.EstablishIndication at Zero message) offer r before ts in_it valid apart roles_apart is there follows =
     absurd (no_access s.state s at message r in_it (sym (row_is_by s (inputs.EstablishIndication at Zero message) offer) ∙ is))
-serving_row s input offer r before ts in_it stands apart roles_apart is there follows =
-    plain_follows s input offer r before ts stands apart roles_apart is there (going s input offer r stands is there) tt follows
+serving_row s input offer r before ts in_it valid apart roles_apart is there follows =
+    plain_follows s input offer r before ts valid apart roles_apart is there (going s input offer r valid is there) tt follows
 
-pub row_up : (state : State) (s : Connection) → s.state ≡ state → (input : Input) (offer : Option Channel) (r : Row) (before : List Message) (ts : List Tenure) → IsValid s → AreApart (used_channels s) → AreApart (used_in (roles_of s)) → row_of s input offer ≡ Some r → IsOpen r.next.state → UpIn state s before ts → UpIn r.next.state r.next (before ++ r.outs) (after_input input r.outs ts)
-row_up WaitActivation s same input offer r before ts stands apart roles_apart is there up =
+pub row_up : (state : State) (s : Connection) → s.state ≡ state → (input : Input) (offer : Option Channel) (r : Row) (before : List Message) (ts : List ServedTenure) → IsValid s → AreApart (used_channels s) → AreApart (used_in (roles_of s)) → row_of s input offer ≡ Some r → IsOpen r.next.state → UpIn state s before ts → UpIn r.next.state r.next (before ++ r.outs) (after_input input r.outs ts)
+row_up WaitActivation s same input offer r before ts valid apart roles_apart is there up =
     let next : Next WaitActivation input r.next.state r.outs = subst (λ (state : State). Next state input r.next.state r.outs) same (subst (OfRow (Advances s.state input)) is (advances s input offer) there) in
     subst (λ (state : State). UpIn state r.next (before ++ r.outs) (after_input input r.outs ts)) (sym next.0) (
       ap (after_input input r.outs) up.0 ∙ early_none input r.outs next.1,
       silent_more before r.outs up.1 (activation_open s input offer r (ap (λ (state : State). row_by state s input offer) (sym same) ∙ sym (row_is_by s input offer) ∙ is) there),
     )
-row_up WaitEstablish s same input offer r before ts stands apart roles_apart is there up =
+row_up WaitEstablish s same input offer r before ts valid apart roles_apart is there up =
     let a = access_open s input offer r (ap (λ (state : State). row_by state s input offer) (sym same) ∙ sym (row_is_by s input offer) ∙ is) there in
-    let bare = (by_state WaitEstablish s same stands).0 in
+    let bare = (by_state WaitEstablish s same valid).0 in
     subst (λ (q : Row). UpIn q.next.state q.next (before ++ q.outs) (after_input input q.outs ts)) (sym a.is)
-    (subst (λ (i : Input). Follows (enter WaitConfirm s) (before ++ complete_layer3 s.serving a.initial ∷ []) (after_input i (complete_layer3 s.serving a.initial ∷ []) ts)) (sym a.comes)
-    (subst (λ (us : List Tenure). Follows (enter WaitConfirm s) (before ++ complete_layer3 s.serving a.initial ∷ []) (begin_first true a.at a.initial us)) (sym up.0)
+    (subst (λ (i : Input). Follows (enter WaitConfirm s) (before ++ complete_layer3 s.serving a.initial ∷ []) (after_input i (complete_layer3 s.serving a.initial ∷ []) ts)) (sym a.establishes)
+    (subst (λ (us : List ServedTenure). Follows (enter WaitConfirm s) (before ++ complete_layer3 s.serving a.initial ∷ []) (begin_first true a.at a.initial us)) (sym up.0)
     (accessed s before a.at a.initial bare.none_drains bare.one_tenure a.here up.1)))
-row_up WaitConfirm s same input offer r before ts stands apart roles_apart is there up =
+row_up WaitConfirm s same input offer r before ts valid apart roles_apart is there up =
     let next : Next WaitConfirm input r.next.state r.outs = subst (λ (state : State). Next state input r.next.state r.outs) same (subst (OfRow (Advances s.state input)) is (advances s input offer) there) in
-    let follows = serving_row s input offer r before ts (inl same) stands apart roles_apart is there up in
+    let follows = serving_row s input offer r before ts (inl same) valid apart roles_apart is there up in
     elim next.1 [
-      | inl stays ↦ subst (λ (state : State). UpIn state r.next (before ++ r.outs) (after_input input r.outs ts)) (sym stays.0) follows
-      | inr lives ↦ live_up r.next.state r.next (before ++ r.outs) (after_input input r.outs ts) lives.0 follows
+      | inl unchanged ↦ subst (λ (state : State). UpIn state r.next (before ++ r.outs) (after_input input r.outs ts))
+          (sym unchanged.0) follows
+      | inr is_live ↦ live_up r.next.state r.next (before ++ r.outs) (after_input input r.outs ts) is_live.0 follows
     ]
-row_up (Live reference stage) s same input offer r before ts stands apart roles_apart is there up =
+row_up (Live reference stage) s same input offer r before ts valid apart roles_apart is there up =
     let next : Next (Live reference stage) input r.next.state r.outs = subst (λ (state : State). Next state input r.next.state r.outs) same (subst (OfRow (Advances s.state input)) is (advances s input offer) there) in
-    live_up r.next.state r.next (before ++ r.outs) (after_input input r.outs ts) next (serving_row s input offer r before ts (inr (subst IsLive (sym same) tt)) stands apart roles_apart is there up)
-row_up _ s same input offer r before ts stands apart roles_apart is there up = absurd up
+    live_up r.next.state r.next (before ++ r.outs) (after_input input r.outs ts) next (serving_row s input offer r before ts (inr (subst IsLive (sym same) tt)) valid apart roles_apart is there up)
+row_up _ s same input offer r before ts valid apart roles_apart is there up = absurd up

@@ -7,8 +7,9 @@ use Rattle.controller_model.proofs.Prelude.{access_activation, Input, Complete, 
 use Rattle.controller_model.proofs.Prelude.{Closed, Removed, Connection, new_connection, Row, IsHandedTo, IsChanging, IsOpen, OfRow, IsValid}
 use Rattle.controller_model.proofs.Prelude.{after_pass, Sapi, Zero, Three, Parameters, or_cases, fold-append, AllByRecursion-so, AreParting}
 use Rattle.controller_model.proofs.Prelude.{IsParting, Does, IsReleaseComplete, OnlyReleases, handed, row_of, Acts, Brought, IsAged}
-use Rattle.controller_model.proofs.Prelude.{IsBrought, brought_in, kept_in, ages, goes, opens, rests, GoToServing, HasNoStream, IsAway}
-use Rattle.controller_model.proofs.Prelude.{IsThere, OnlyReleasesAfter, Moment, all_messages, connection_of, word_in, Tenure, after_input}
+use Rattle.controller_model.proofs.Prelude.{IsBrought, brought_in, kept_in, ages, takes_row, opens, rests, GoToServing, HasNoStream, IsAway}
+use Rattle.controller_model.proofs.Prelude.{IsThere, OnlyReleasesAfter, Moment, all_messages, connection_of, word_in, ServedTenure}
+use Rattle.controller_model.proofs.Prelude.{after_input}
 use Rattle.controller_model.proofs.Prelude.{after_moment, after_word, service, Step, Word, Controller, is_up, new_controller, place_of}
 use Rattle.controller_model.proofs.Prelude.{life, step, DataRequest}
 use Rattle.std.proofs.lemmas.List.Folds.{list_any-append}
@@ -33,7 +34,7 @@ use Rattle.controller_model.proofs.LifeLaws.Turns.{step_does}
 
 -- ---- what was put, and the connection
 
-abbrev pub ServesOf : ℕ → ℕ → List Tenure → Option Connection → Type 0
+abbrev pub ServesOf : ℕ → ℕ → List ServedTenure → Option Connection → Type 0
 ServesOf number next ts None = next ≤ number → ts ≡ []
 ServesOf number next ts (Some s) = ServesIn s.state s ts
 
@@ -43,7 +44,7 @@ IsClearedIn (Some s) = s.state ≡ Closed Complete
 
 -- While a change goes on the mobile is away; the first tenure is that of the serving channel; CLEAR
 -- COMPLETE was put for a connection that is cleared or gone.
-pub record Agrees (number next : ℕ) (changes : Bool) (ts : List Tenure) (clear : Bool) (o : Option Connection) : Type 0 where
+pub record Agrees (number next : ℕ) (changes : Bool) (ts : List ServedTenure) (clear : Bool) (o : Option Connection) : Type 0 where
   pub away : changes ≡ true → IsAway o
   pub serves : ServesOf number next ts o
   pub cleared : clear ≡ true → (number < next) × IsClearedIn o
@@ -67,22 +68,22 @@ changing_kept _ s is changing = changing
 aged_changing : (old s : Connection) → IsAged old s → IsChanging old.state → IsChanging s.state
 aged_changing old s aged changing = subst IsChanging (sym (same_state old s aged)) changing
 
-pass_serves : (state : State) (ms : ℕ) (s : Connection) (ts : List Tenure) → ServesIn state s ts → ServesIn state (after_pass ms s) ts
+pass_serves : (state : State) (ms : ℕ) (s : Connection) (ts : List ServedTenure) → ServesIn state s ts → ServesIn state (after_pass ms s) ts
 pass_serves (Closed clearing) ms s ts serves = tt
 pass_serves Removed ms s ts serves = tt
 pass_serves _ ms s ts serves = serves
 
-aged_serves : (old s : Connection) (ts : List Tenure) → IsAged old s → ServesIn old.state old ts → ServesIn s.state s ts
+aged_serves : (old s : Connection) (ts : List ServedTenure) → IsAged old s → ServesIn old.state old ts → ServesIn s.state s ts
 aged_serves old s ts aged serves = aged_holds (λ (c : Connection). ServesIn c.state c ts) (λ ms c holds. pass_serves c.state ms c ts holds) old s aged serves
 
 -- ---- each step
 
 -- nothing is put, and it stays
-rest_serves : (number next later : ℕ) (o : Option Connection) (word : Word) (ts : List Tenure) → next ≤ later → ServesOf number next ts o → ServesOf number later (after_word word [] ts) o
+rest_serves : (number next later : ℕ) (o : Option Connection) (word : Word) (ts : List ServedTenure) → next ≤ later → ServesOf number next ts o → ServesOf number later (after_word word [] ts) o
 rest_serves number next later None word ts more serves = λ less. ap (after_word word []) (serves (omega arith)) ∙ word_none word [] refl
 rest_serves number next later (Some s) word ts more serves = quiet_serves s.state s word ts serves
 
-rest_agrees : (number next later : ℕ) (changes : Bool) (ts : List Tenure) (cleared : Bool) (word : Word) (broken : Bool) (o : Option Connection) → next ≤ later → Agrees number next changes ts cleared o → Agrees number later (changed word broken changes []) (after_word word [] ts) (cleared || false) o
+rest_agrees : (number next later : ℕ) (changes : Bool) (ts : List ServedTenure) (cleared : Bool) (word : Word) (broken : Bool) (o : Option Connection) → next ≤ later → Agrees number next changes ts cleared o → Agrees number later (changed word broken changes []) (after_word word [] ts) (cleared || false) o
 rest_agrees number next later changes ts cleared word broken o more agrees = record {
   away = λ is. agrees.away (went_on word broken changes [] (begins_only word [] refl) is).0;
   serves = rest_serves number next later o word ts more agrees.serves;
@@ -94,7 +95,7 @@ rest_agrees number next later changes ts cleared word broken o more agrees = rec
     or_none false is = is
 
 -- time passes
-aged_agrees : (number next : ℕ) (changes : Bool) (ts : List Tenure) (cleared : Bool) (old s : Connection) → IsAged old s → Agrees number next changes ts cleared (Some old) → Agrees number next changes ts cleared (Some s)
+aged_agrees : (number next : ℕ) (changes : Bool) (ts : List ServedTenure) (cleared : Bool) (old s : Connection) → IsAged old s → Agrees number next changes ts cleared (Some old) → Agrees number next changes ts cleared (Some s)
 aged_agrees number next changes ts cleared old s aged agrees = record {
   away = λ is. aged_changing old s aged (agrees.away is);
   serves = aged_serves old s ts aged agrees.serves;
@@ -121,12 +122,12 @@ row_changing s input offer r word broken changes fits says away is = elim (or_ca
 removed_cleared : (state : State) (s : Connection) → state ≡ Removed → IsClearedIn (kept_in state s)
 removed_cleared state s is = subst (λ (state : State). IsClearedIn (kept_in state s)) (sym is) tt
 
-row_agrees : (number next later : ℕ) (changes : Bool) (ts : List Tenure) (cleared : Bool) (word : Word) (broken : Bool) (s : Connection) (input : Input) (offer : Option Channel) (r : Row) → number < next → next ≤ later → IsValid s → SaysInput word broken input → row_of s input offer ≡ Some r →
+row_agrees : (number next later : ℕ) (changes : Bool) (ts : List ServedTenure) (cleared : Bool) (word : Word) (broken : Bool) (s : Connection) (input : Input) (offer : Option Channel) (r : Row) → number < next → next ≤ later → IsValid s → SaysInput word broken input → row_of s input offer ≡ Some r →
     Agrees number next changes ts cleared (Some s) → Agrees number later (changed word broken changes r.outs) (after_word word r.outs ts) (cleared || list_any is_clear_complete r.outs) (kept_in r.next.state r.next)
-row_agrees number next later changes ts cleared word broken s input offer r less more stands says fits agrees = record {
+row_agrees number next later changes ts cleared word broken s input offer r less more valid says fits agrees = record {
   away = λ is. changing_kept r.next.state r.next refl (row_changing s input offer r word broken changes fits says agrees.away is);
-  serves = subst (λ (us : List Tenure). ServesOf number later us (kept_in r.next.state r.next)) (sym (tenures_are word broken input r.outs ts says))
-      (kept_holds (ServesOf number later (after_input input r.outs ts)) r.next.state r.next (λ none. absurd (omega arith)) (row_serves s input offer r ts stands fits agrees.serves));
+  serves = subst (λ (us : List ServedTenure). ServesOf number later us (kept_in r.next.state r.next)) (sym (tenures_are word broken input r.outs ts says))
+      (kept_holds (ServesOf number later (after_input input r.outs ts)) r.next.state r.next (λ none. absurd (omega arith)) (row_serves s input offer r ts valid fits agrees.serves));
   cleared = λ is. (
     omega arith,
     elim (or_cases cleared (list_any is_clear_complete r.outs) is) [
@@ -136,7 +137,7 @@ row_agrees number next later changes ts cleared word broken s input offer r less
   );
 }
 
-pub acts_place : (number next later : ℕ) (up : Bool) (brought : Brought) (before after : Option Connection) (put : List Message) (changes : Bool) (ts : List Tenure) (cleared : Bool) (word : Word) (broken : Bool) → Acts number next up brought before put after → next ≤ later → IsBegun number next before → IsFine before →
+pub acts_place : (number next later : ℕ) (up : Bool) (brought : Brought) (before after : Option Connection) (put : List Message) (changes : Bool) (ts : List ServedTenure) (cleared : Bool) (word : Word) (broken : Bool) → Acts number next up brought before put after → next ≤ later → IsBegun number next before → IsFine before →
     ((input : Input) → IsBrought brought input → SaysInput word broken input) → Agrees number next changes ts cleared before → Agrees number later (changed word broken changes put) (after_word word put ts) (cleared || list_any is_clear_complete put) after
 acts_place number next later up brought before after put changes ts cleared word broken (rests silent same none) more begins fine says agrees =
     subst (Agrees number later (changed word broken changes put) (after_word word put ts) (cleared || list_any is_clear_complete put)) (sym same)
@@ -157,7 +158,7 @@ acts_place number next later up brought before after put changes ts cleared word
         | inr clears ↦ absurd (true≢false (sym clears))
       ];
     }))
-acts_place number next later up brought before after put changes ts cleared word broken (goes old s input offer r is aged by fits put_is same) more begins fine says agrees =
+acts_place number next later up brought before after put changes ts cleared word broken (takes_row old s input offer r is aged by fits put_is same) more begins fine says agrees =
     let less : number < next = some_begun number next before old is begins in
     subst (Agrees number later (changed word broken changes put) (after_word word put ts) (cleared || list_any is_clear_complete put)) (sym same)
     (subst (λ (ms : List Message). Agrees number later (changed word broken changes ms) (after_word word ms ts) (cleared || list_any is_clear_complete ms) (kept_in r.next.state r.next)) (sym put_is)
@@ -175,7 +176,7 @@ acts_parting : (number next : ℕ) (up : Bool) (brought : Brought) (before after
 acts_parting number next up brought before after put (rests silent same none) over = subst AreParting (sym silent) tt
 acts_parting number next up brought before after put (ages old s is_time is aged silent same) over = subst AreParting (sym silent) tt
 acts_parting number next up brought before after put (opens begins linked channel request delay is_nothing none put_is same) over = absurd (over (subst IsThere (sym same) tt))
-acts_parting number next up brought before after put (goes old s input offer r is aged by fits put_is same) over =
+acts_parting number next up brought before after put (takes_row old s input offer r is aged by fits put_is same) over =
     subst AreParting (sym put_is) (of (subst (OfRow (Does s.state s input)) fits (Does-row s input offer)))
   where
     shut : IsOpen r.next.state → ⊥
@@ -213,8 +214,8 @@ early_by WaitActivation s same input offer r fits was_open early =
     subst (OfRow HandsNone) (ap (λ (state : State). row_by state s input offer) (sym same) ∙ sym (row_is_by s input offer) ∙ fits) (early_row s input offer) (early_open r.next.state early)
 early_by WaitEstablish s same input offer r fits was_open early = absurd (subst IsEarly (next_in WaitEstablish s same input offer r fits (early_open r.next.state early)).0 early)
 early_by WaitConfirm s same input offer r fits was_open early = elim (next_in WaitConfirm s same input offer r fits (early_open r.next.state early)).1 [
-  | inl stays ↦ absurd (subst IsEarly stays.0 early)
-  | inr lives ↦ absurd (not_early r.next.state lives.0 early)
+  | inl unchanged ↦ absurd (subst IsEarly unchanged.0 early)
+  | inr is_live ↦ absurd (not_early r.next.state is_live.0 early)
 ]
 early_by (Live reference stage) s same input offer r fits was_open early = absurd (not_early r.next.state (next_in (Live reference stage) s same input offer r fits (early_open r.next.state early)) early)
 early_by _ s same input offer r fits was_open early = absurd was_open
@@ -227,7 +228,7 @@ acts_early number next up brought before after put (opens begins linked channel 
     of : (sapi : Sapi) → handed sapi (access_activation channel ∷ []) ≡ []
     of Zero = refl
     of Three = refl
-acts_early number next up brought before after put (goes old s input offer r is aged by fits put_is same) early sapi =
+acts_early number next up brought before after put (takes_row old s input offer r is aged by fits put_is same) early sapi =
     let next_early = early_kept r.next.state r.next (subst IsEarlyIn same early) in
     ap (handed sapi) put_is ∙ early_by s.state s refl input offer r fits (was s input offer r fits (early_open r.next.state next_early)) next_early sapi
 
@@ -239,21 +240,21 @@ goes_on_place c at m is to = subst (λ (p : Place). IsHandedOn p m) (sym is) (of
     of (Station station (DataRequest request)) to = to
     of _ to = tt
 
-on_first : (c : Channel) (ts : List Tenure) (put : List Message) → first_place ts ≡ Some (place_of c) → AllByRecursion (IsHandedTo c) put → AreHandedOn ts put
+on_first : (c : Channel) (ts : List ServedTenure) (put : List Message) → first_place ts ≡ Some (place_of c) → AllByRecursion (IsHandedTo c) put → AreHandedOn ts put
 on_first c [] put is all = absurd cc
 on_first c (t ∷ old) put is all = AllByRecursion-so (IsHandedTo c) (IsHandedOn t.place) (λ m. goes_on_place c t.place m (some is)) put all
   where
     some : (let o : Option Place = Some t.place in o) ≡ Some (place_of c) → t.place ≡ place_of c
     some is = cc
 
-on_none : (ts : List Tenure) (put : List Message) → ts ≡ [] → ((sapi : Sapi) → handed sapi put ≡ []) → AreHandedOn ts put
-on_none ts put is none = subst (λ (us : List Tenure). AreHandedOn us put) (sym is) none
+on_none : (ts : List ServedTenure) (put : List Message) → ts ≡ [] → ((sapi : Sapi) → handed sapi put ≡ []) → AreHandedOn ts put
+on_none ts put is none = subst (λ (us : List ServedTenure). AreHandedOn us put) (sym is) none
 
-after_end : (ts : List Tenure) (put : List Message) → ((sapi : Sapi) → handed sapi put ≡ []) → AreParting put → AreHandedOn ts put
+after_end : (ts : List ServedTenure) (put : List Message) → ((sapi : Sapi) → handed sapi put ≡ []) → AreParting put → AreHandedOn ts put
 after_end [] put none parting = none
 after_end (t ∷ old) put none parting = AllByRecursion-so IsParting (IsHandedOn t.place) (parting_handed t.place) put parting
 
-serves_put : (number next : ℕ) (ts : List Tenure) (after : Option Connection) (put : List Message) → ServesOf number next ts after → GoToServing after put → (IsEarlyIn after → (sapi : Sapi) → handed sapi put ≡ []) → ((IsThere after → ⊥) → HasNoStream put) → ((IsThere after → ⊥) → AreParting put) → AreHandedOn ts put
+serves_put : (number next : ℕ) (ts : List ServedTenure) (after : Option Connection) (put : List Message) → ServesOf number next ts after → GoToServing after put → (IsEarlyIn after → (sapi : Sapi) → handed sapi put ≡ []) → ((IsThere after → ⊥) → HasNoStream put) → ((IsThere after → ⊥) → AreParting put) → AreHandedOn ts put
 serves_put number next ts None put serves all early over parting = after_end ts put (over (λ there. there)).hands (parting (λ there. there))
 serves_put number next ts (Some s) put serves all early over parting = by s.state serves early over parting
   where
@@ -291,7 +292,7 @@ placed_run number c from_one fits earlier (s ∷ ss) agrees =
     (step_says_input c number s) agrees in
     let agrees_after : Agrees number next.next_number (changes_after (earlier ++ m ∷ [])) (service (earlier ++ m ∷ [])) (is_cleared (earlier ++ m ∷ [])) after =
     subst (λ (b : Bool). Agrees number next.next_number (changes_after (earlier ++ m ∷ [])) (service (earlier ++ m ∷ [])) b after) (sym (cleared_moment earlier m))
-    (subst (λ (ts : List Tenure). Agrees number next.next_number (changes_after (earlier ++ m ∷ [])) ts (is_cleared earlier || list_any is_clear_complete does.put) after) (sym (fold_moment after_moment [] earlier m))
+    (subst (λ (ts : List ServedTenure). Agrees number next.next_number (changes_after (earlier ++ m ∷ [])) ts (is_cleared earlier || list_any is_clear_complete does.put) after) (sym (fold_moment after_moment [] earlier m))
     (subst (λ (b : Bool). Agrees number next.next_number b (after_word (word_in s) does.put (service earlier)) (is_cleared earlier || list_any is_clear_complete does.put) after) (sym (fold_moment with_change false earlier m)) then_agrees)) in (
       record {
         held = λ is. silence.away (agrees_after.away is);

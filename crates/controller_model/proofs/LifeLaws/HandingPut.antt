@@ -49,7 +49,7 @@ others s = record {
   refuses = λ reference own. tt;
   asks = λ reference cause own is. tt;
   clears = λ reference own may. absurd may;
-  answers = λ source told. tt;
+  answers = λ source known. tt;
 }
 
 pub other_row : (s : Connection) (input : Input) (offer : Option Channel) → NoClear input → OfRow PutsOther (row_of s input offer)

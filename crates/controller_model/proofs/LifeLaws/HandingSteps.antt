@@ -3,7 +3,8 @@
 use Rattle.controller_model.proofs.Prelude.{◌≡◌, ◌⊎◌, ℕ, ◌==◌, ◌&&◌, ◌||◌, Bool, true, false, if◌then◌else◌, List, Option, Some, None, refl}
 use Rattle.controller_model.proofs.Prelude.{sym, subst, ap, ◌∙◌, inl, inr, cases_Bool, cond-true, cond-false, list_any, Place, Message}
 use Rattle.controller_model.proofs.Prelude.{SWITCH_LINK, Input, What, or_left, or_right, Brought, IsBrought, IsTimer, brought_by}
-use Rattle.controller_model.proofs.Prelude.{brought_in, brought_with, if_held, nothing, comes, word_by, word_in, Tenure, after_input}
+use Rattle.controller_model.proofs.Prelude.{brought_in, brought_with, if_held, nothing, of_frame, word_by, word_in, ServedTenure}
+use Rattle.controller_model.proofs.Prelude.{after_input}
 use Rattle.controller_model.proofs.Prelude.{after_word, Step, Take, Tick, Word, Nothing, OnChannel, Reports, OnConnection, Controller}
 use Rattle.controller_model.proofs.Prelude.{channel_state, holder, is_up, break_of, word_of}
 use Rattle.conn_rules.specs.declared.input.Input.TheVariants as inputs
@@ -57,20 +58,20 @@ switch_elsewhere inputs.CipherModeCommand of = (tt, λ down. down)
 switch_elsewhere inputs.ClearCommand of = (tt, λ down. down)
 switch_elsewhere _ of = absurd of
 
-held_is : (number : ℕ) (o : Option ℕ) (came input : Input) → IsBrought (if_held number o came) input → input ≡ came
-held_is number None came input brought = absurd brought
-held_is number (Some holder) came input brought = elim (cases_Bool (holder == number)) [
-  | inl hit ↦ subst (λ (b : Brought). IsBrought b input) (cond-true _ (comes came) nothing hit) brought
-  | inr miss ↦ absurd (subst (λ (b : Brought). IsBrought b input) (cond-false _ (comes came) nothing miss) brought)
+held_is : (number : ℕ) (o : Option ℕ) (arrived input : Input) → IsBrought (if_held number o arrived) input → input ≡ arrived
+held_is number None arrived input brought = absurd brought
+held_is number (Some holder) arrived input brought = elim (cases_Bool (holder == number)) [
+  | inl hit ↦ subst (λ (b : Brought). IsBrought b input) (cond-true _ (of_frame arrived) nothing hit) brought
+  | inr miss ↦ absurd (subst (λ (b : Brought). IsBrought b input) (cond-false _ (of_frame arrived) nothing miss) brought)
 ]
 
 word_says : (c : Controller) (number source : ℕ) (word : Word) (broken : Bool) → IsFrom source word → (input : Input) → IsBrought (brought_by c number word) input → SaysInput word broken input
-word_says c number source (OnChannel at came) broken from input brought =
-    let is = held_is number (holder (channel_state c at)) came input brought in
+word_says c number source (OnChannel at arrived) broken from input brought =
+    let is = held_is number (holder (channel_state c at)) arrived input brought in
     inl (at, ap (OnChannel at) (sym is), subst (IsAtPlace at) (sym is) from.1)
-word_says c number source (OnConnection destination came) broken from input brought =
-    let is = held_is number (Some destination) came input brought in
-    let other = switch_elsewhere came from.1 in
+word_says c number source (OnConnection destination arrived) broken from input brought =
+    let is = held_is number (Some destination) arrived input brought in
+    let other = switch_elsewhere arrived from.1 in
     inr (tt, subst IsElsewhere (sym is) other.0, λ down. absurd (other.1 (subst IsSwitchDown is down)))
 word_says c number source (Reports at of report) broken from input brought =
     inr (tt, subst IsElsewhere (sym brought) tt, λ down. absurd (subst IsSwitchDown brought down))
@@ -106,7 +107,7 @@ off_channel test (OnChannel at input) put none = absurd none
 off_channel test _ put none = refl
 
 pub begins_is : (word : Word) (broken : Bool) (input : Input) (put : List Message) → SaysInput word broken input → on_channel begins_by word put ≡ begins_by input put
-begins_is word broken input put (inl came) = ap (λ (w : Word). on_channel begins_by w put) came.1
+begins_is word broken input put (inl arrived) = ap (λ (w : Word). on_channel begins_by w put) arrived.1
 begins_is word broken input put (inr other) = off_channel begins_by word put other.0 ∙ sym (begins_none input put other.1)
 
 -- no COMMAND, no change
@@ -115,14 +116,14 @@ begins_only (OnChannel at (inputs.ActivationAck place)) put none = none
 begins_only _ put none = refl
 
 answered : (word : Word) (broken : Bool) (input : Input) (put : List Message) → SaysInput word broken input → (IsElsewhere input → ⊥) → answers_by input put ≡ true → (on_channel answers_by word put || (list_any is_clear put || broken)) ≡ true
-answered word broken input put (inl came) here is = or_left _ _ (ap (λ (w : Word). on_channel answers_by w put) came.1 ∙ is)
+answered word broken input put (inl arrived) here is = or_left _ _ (ap (λ (w : Word). on_channel answers_by w put) arrived.1 ∙ is)
 answered word broken input put (inr other) here is = absurd (here other.1)
 
 cleared : (word : Word) (broken : Bool) (put : List Message) → list_any is_clear put ≡ true → (on_channel answers_by word put || (list_any is_clear put || broken)) ≡ true
 cleared word broken put is = or_right _ _ (or_left _ _ is)
 
 broke : (word : Word) (broken : Bool) (put : List Message) → SaysInput word broken inputs.SwitchDown → (on_channel answers_by word put || (list_any is_clear put || broken)) ≡ true
-broke word broken put (inl came) = absurd came.2
+broke word broken put (inl arrived) = absurd arrived.2
 broke word broken put (inr other) = or_right _ _ (or_right _ _ (other.2 tt))
 
 pub ends_is : (word : Word) (broken : Bool) (input : Input) (put : List Message) → SaysInput word broken input → EndsBy input put → (on_channel answers_by word put || (list_any is_clear put || broken)) ≡ true
@@ -133,17 +134,17 @@ ends_is word broken _ put says is = cleared word broken put is
 
 -- ---- the tenures
 
-none_tenures : (input : Input) (put : List Message) (ts : List Tenure) → IsElsewhere input → ts ≡ after_input input put ts
+none_tenures : (input : Input) (put : List Message) (ts : List ServedTenure) → IsElsewhere input → ts ≡ after_input input put ts
 none_tenures (inputs.EstablishIndication at sapi message) put ts other = absurd other
 none_tenures (inputs.Complete at change cause) put ts other = absurd other
 none_tenures (inputs.Dtap at sapi message) put ts other = absurd other
 none_tenures (inputs.ReleaseAck at) put ts other = absurd other
 none_tenures _ put ts other = refl
 
-off_tenures : (word : Word) (put : List Message) (ts : List Tenure) → NoChannel word → after_word word put ts ≡ ts
+off_tenures : (word : Word) (put : List Message) (ts : List ServedTenure) → NoChannel word → after_word word put ts ≡ ts
 off_tenures (OnChannel at input) put ts none = absurd none
 off_tenures _ put ts none = refl
 
-pub tenures_are : (word : Word) (broken : Bool) (input : Input) (put : List Message) (ts : List Tenure) → SaysInput word broken input → after_word word put ts ≡ after_input input put ts
-tenures_are word broken input put ts (inl came) = ap (λ (w : Word). after_word w put ts) came.1
+pub tenures_are : (word : Word) (broken : Bool) (input : Input) (put : List Message) (ts : List ServedTenure) → SaysInput word broken input → after_word word put ts ≡ after_input input put ts
+tenures_are word broken input put ts (inl arrived) = ap (λ (w : Word). after_word w put ts) arrived.1
 tenures_are word broken input put ts (inr other) = off_tenures word put ts other.0 ∙ none_tenures input put ts other.1

@@ -86,32 +86,32 @@ first = hex "05 01"
 abbrev second : List ℕ
 second = hex "03 02"
 
-abbrev came : List (List ℕ) → List (List ℕ) → Switched
-came received handed = record { requested = true; confirmed = true; came = received; received = received; handed = handed }
+abbrev arrived : List (List ℕ) → List (List ℕ) → Switched
+arrived received handed = record { requested = true; confirmed = true; arrived = received; received = received; handed = handed }
 
 -- a message of radio resource management is held with them
 abbrev holding : Connection
 holding = record own { down = record { limit = 32; zero = hex "06 12" ∷ second ∷ []; three = hex "09 03" ∷ [] } }
 
-conserves : ConservesDownlink (came (first ∷ second ∷ []) (first ∷ [])) Zero (Some holding)
+conserves : ConservesDownlink (arrived (first ∷ second ∷ []) (first ∷ [])) Zero (Some holding)
 conserves is = refl
 
-conserves_on_sapi_3 : ConservesDownlink (came (first ∷ hex "09 03" ∷ []) (first ∷ [])) Three (Some holding)
+conserves_on_sapi_3 : ConservesDownlink (arrived (first ∷ hex "09 03" ∷ []) (first ∷ [])) Three (Some holding)
 conserves_on_sapi_3 is = refl
 
-not_in_another_order : ConservesDownlink (came (second ∷ first ∷ []) (first ∷ [])) Zero (Some holding) → ⊥
+not_in_another_order : ConservesDownlink (arrived (second ∷ first ∷ []) (first ∷ [])) Zero (Some holding) → ⊥
 not_in_another_order same = absurd (cc (same tt))
 
-not_with_one_lost : ConservesDownlink (came (first ∷ second ∷ []) []) Zero (Some holding) → ⊥
+not_with_one_lost : ConservesDownlink (arrived (first ∷ second ∷ []) []) Zero (Some holding) → ⊥
 not_with_one_lost same = absurd (cc (same tt))
 
-not_with_one_more : ConservesDownlink (came (first ∷ []) (first ∷ [])) Zero (Some holding) → ⊥
+not_with_one_more : ConservesDownlink (arrived (first ∷ []) (first ∷ [])) Zero (Some holding) → ⊥
 not_with_one_more same = absurd (cc (same tt))
 
-not_once_closed : ConservesDownlink (came (first ∷ []) []) Zero (Some (connection (Closed (Asked 5))))
+not_once_closed : ConservesDownlink (arrived (first ∷ []) []) Zero (Some (connection (Closed (Asked 5))))
 not_once_closed is = absurd is
 
-not_of_none : ConservesDownlink (came (first ∷ []) []) Zero None
+not_of_none : ConservesDownlink (arrived (first ∷ []) []) Zero None
 not_of_none = tt
 
 -- ---- the laws, where nothing came

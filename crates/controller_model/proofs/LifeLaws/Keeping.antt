@@ -6,7 +6,8 @@ use Rattle.controller_model.proofs.Prelude.{Message, Station, Request, Data, Rel
 use Rattle.controller_model.proofs.Prelude.{AllByRecursion-append, AllByRecursion-filter, Input, Target, Connection, TargetRole, Roles}
 use Rattle.controller_model.proofs.Prelude.{RoleStep, RoleEnd, ChangesRoles, MayBegin, roles_of, after_step, step_by, step_orders}
 use Rattle.controller_model.proofs.Prelude.{begin_orders, end_messages, target_channels, those_that_go, to_stations, orders, goes_on, ends}
-use Rattle.controller_model.proofs.Prelude.{had_ended, refused, drops, dismisses, stays, commands, completes, goes_back, leaves, IsValid}
+use Rattle.controller_model.proofs.Prelude.{had_ended, refused, drops, dismisses, unchanged, commands, completes, goes_back, leaves}
+use Rattle.controller_model.proofs.Prelude.{IsValid}
 use Rattle.controller_model.proofs.Prelude.{Row, IsOpen, serving_after, Report, Decision, Stay, Move, RequestReference, row_of, AreIn}
 use Rattle.controller_model.proofs.Prelude.{Sdcch, ChannelState, Free, InUse, Releasing, Word, Asks, OnChannel, Reports, OnConnection}
 use Rattle.controller_model.proofs.Prelude.{access_channel, handover_offer, kind_of, request_offer, Controller, Entry, Turn, turn, ignoring}
@@ -67,7 +68,7 @@ abbrev pub AreElsewhere : Place → Roles → Type 0
 AreElsewhere at roles = AllByRecursion (λ (c : Channel). place_of c ≢ at) (roles.serving ∷ target_channels roles.target)
 
 pub step_avoids : (at : Place) (step : RoleStep) (roles : Roles) (target : Option TargetRole) → AreElsewhere at (record roles { target = target }) → AllByRecursion (Avoids at) (step_orders step (record roles { target = target }))
-step_avoids at stays roles target away = tt
+step_avoids at unchanged roles target away = tt
 step_avoids at commands roles target away = tt
 step_avoids at completes roles target away = (away.0, tt)
 step_avoids at goes_back roles None away = tt
@@ -125,10 +126,10 @@ own_elsewhere links c e n there holds at is is_open = elsewhere c.channels e.con
 -- the channels are those of the controller, one perhaps freed
 row_keeps : (links : List Bool) (c : Controller) (channels : States) (e : Entry) (input : Input) (offer : Option Channel) (r : Row) (n : ℕ) → n ≢ e.connection.number → IsValid e.connection → IsElsewhere c n e → row_of e.connection input offer ≡ Some r → Keeps n c.channels channels →
     ((d : Channel) → offer ≡ Some d → state_in channels (place_of d) ≡ Free) → Keeps n c.channels (fold (channels_after e.connection.number) channels r.outs)
-row_keeps links c channels e input offer r n differ stands own fits keeps offered = record {
+row_keeps links c channels e input offer r n differ valid own fits keeps offered = record {
   still = λ at is.
       let now = keeps.still at is in
-      fold_avoids e.connection.number at channels r.outs (row_avoids at e.connection input offer r (changes_of e.connection input offer r stands fits) (own at is)
+      fold_avoids e.connection.number at channels r.outs (row_avoids at e.connection input offer r (changes_of e.connection input offer r valid fits) (own at is)
       (λ d is_offer same. free≢release n (sym (offered d is_offer) ∙ ap (state_in channels) same ∙ now))) ∙ now;
   was = λ at is. elim (fold_release e.connection.number n at channels r.outs is) [
     | inl own ↦ absurd (differ own)
@@ -138,8 +139,8 @@ row_keeps links c channels e input offer r n differ stands own fits keeps offere
 
 fitting_keeps : (links : List Bool) (c d : Controller) (otherwise : Turn) (e : Entry) (input : Input) (offer : Option Channel) (o : Option Row) (n : ℕ) → row_of e.connection input offer ≡ o → n ≢ e.connection.number → IsValid e.connection → IsElsewhere c n e → Keeps n c.channels d.channels →
     ((f : Channel) → offer ≡ Some f → state_in d.channels (place_of f) ≡ Free) → Keeps n c.channels otherwise.next.channels → Keeps n c.channels (by_fitting otherwise e o d).next.channels
-fitting_keeps links c d otherwise e input offer None n is differ stands own keeps offered same = same
-fitting_keeps links c d otherwise e input offer (Some r) n is differ stands own keeps offered same = row_keeps links c d.channels e input offer r n differ stands own is keeps offered
+fitting_keeps links c d otherwise e input offer None n is differ valid own keeps offered same = same
+fitting_keeps links c d otherwise e input offer (Some r) n is differ valid own keeps offered same = row_keeps links c d.channels e input offer r n differ valid own is keeps offered
 
 -- ---- words
 
@@ -149,7 +150,7 @@ other_entry c m n e differ there same = differ (same ∙ found_number m c.entrie
 concerning_keeps : (n m : ℕ) (input : Input) (c : Controller) (o : Option Entry) → n ≢ m → entry_of c m ≡ o → Ready c → Keeps n c.channels (concerning input c o).next.channels
 concerning_keeps n m input c None differ there ready = keeps_same n c.channels
 concerning_keeps n m input c (Some e) differ there ready =
-    fitting_keeps c.links c c (ignoring c) e input (request_offer c e.connection input) (row_in c e.connection input) n refl (other_entry c m n e differ there) (here_of c m e ready there).stands (own_elsewhere c.links c e n (here_of c m e ready there).there ready.holds) (keeps_same n c.channels)
+    fitting_keeps c.links c c (ignoring c) e input (request_offer c e.connection input) (row_in c e.connection input) n refl (other_entry c m n e differ there) (here_of c m e ready there).valid (own_elsewhere c.links c e n (here_of c m e ready there).there ready.holds) (keeps_same n c.channels)
     (λ f is. (assignment_offers c (serving_after e.connection (row_of e.connection input None)) f ready.holds.shaped is).is_free) (keeps_same n c.channels)
 
 freed_keeps : (n : ℕ) (at : Place) (c : Controller) → channel_state c at ≢ Releasing n → Keeps n c.channels (freed at c).channels
@@ -161,7 +162,7 @@ freed_keeps n at c other = record {
 too_keeps : (n m : ℕ) (at : Place) (input : Input) (c : Controller) (o : Option Entry) → n ≢ m → channel_state c at ≢ Releasing n → entry_of c m ≡ o → Ready c → Keeps n c.channels (concerning_too input (freed at c) o).next.channels
 too_keeps n m at input c None differ other there ready = freed_keeps n at c other
 too_keeps n m at input c (Some e) differ other there ready =
-    fitting_keeps c.links c (freed at c) (turn [] (freed at c)) e input (request_offer (freed at c) e.connection input) (row_in (freed at c) e.connection input) n refl (other_entry c m n e differ there) (here_of c m e ready there).stands (own_elsewhere c.links c e n (here_of c m e ready there).there ready.holds) (freed_keeps n at c other)
+    fitting_keeps c.links c (freed at c) (turn [] (freed at c)) e input (request_offer (freed at c) e.connection input) (row_in (freed at c) e.connection input) n refl (other_entry c m n e differ there) (here_of c m e ready there).valid (own_elsewhere c.links c e n (here_of c m e ready there).there ready.holds) (freed_keeps n at c other)
     (λ f is. (assignment_offers (freed at c) (serving_after e.connection (row_of e.connection input None)) f (freed_shaped at c ready.holds.shaped) is).is_free) (freed_keeps n at c other)
 
 on_freed_keeps : (n m : ℕ) (b : Bool) (at : Place) (input : Input) (c : Controller) (o : Option Entry) → n ≢ m → channel_state c at ≢ Releasing n → entry_of c m ≡ o → Ready c → Keeps n c.channels (on_freed b at input c o).next.channels
@@ -201,7 +202,7 @@ report_keeps n m at of report c (Some e) differ there ready = if_keeps n (measur
     by Stay = keeps_same n c.channels
     by (Move cell) =
         let here = here_of c m e ready there in
-        fitting_keeps c.links c (with_entry put c) (turn [] (with_entry put c)) put inputs.Move (handover_offer (with_entry put c) put.connection.serving cell) (row_of put.connection inputs.Move (handover_offer (with_entry put c) put.connection.serving cell)) n refl (other_entry c m n e differ there) here.stands (own_elsewhere c.links c e n here.there ready.holds) (keeps_same n c.channels)
+        fitting_keeps c.links c (with_entry put c) (turn [] (with_entry put c)) put inputs.Move (handover_offer (with_entry put c) put.connection.serving cell) (row_of put.connection inputs.Move (handover_offer (with_entry put c) put.connection.serving cell)) n refl (other_entry c m n e differ there) here.valid (own_elsewhere c.links c e n here.there ready.holds) (keeps_same n c.channels)
         (λ f is. (offered_free (with_entry put c) c.links cell c.handovers (kind_of put.connection.serving.number) f refl ready.holds.shaped is).is_free) (keeps_same n c.channels)
 
 report_on_keeps : (n : ℕ) (at : Place) (of : ℕ) (report : Report) (c : Controller) (state : ChannelState) → holder state ≢ Some n → Ready c → Keeps n c.channels (on_report at of report c (entry_at c state)).next.channels

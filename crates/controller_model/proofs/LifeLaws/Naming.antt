@@ -26,14 +26,14 @@ module _ (c : Channel) (q : RequestReference) where
     refuses = λ reference own. tt;
     asks = λ reference cause own is. tt;
     clears = λ reference own may. tt;
-    answers = λ source told. tt;
+    answers = λ source known. tt;
   }
 
   same : Enters (free (Unit {0})) (λ state request. request ≡ q)
   same = record {
     establishes = λ before request is. is;
     confirms = λ before request is. is;
-    lives = λ before request reference stage is own. is;
+    once_live = λ before request reference stage is own. is;
     due = λ before request cause is small. is;
     asks = λ before request reference is own. is;
     clears = λ before request is. is;

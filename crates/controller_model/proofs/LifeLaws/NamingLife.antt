@@ -2,7 +2,8 @@
 -- What each step puts names the mobile that asked; so in every life.
 use Rattle.controller_model.proofs.Prelude.{◌≡◌, ℕ, ◌≤◌, List, [], Option, Some, None, refl, sym, subst, Channel, Message, SWITCH_LINK}
 use Rattle.controller_model.proofs.Prelude.{State, Removed, Connection, Row, OfRow, Parameters, row_of, Acts, Brought, IsAged, brought_in}
-use Rattle.controller_model.proofs.Prelude.{kept_in, ages, goes, opens, rests, connection_of, NamesItsMobile, NamesOf, SameRequest, Step}
+use Rattle.controller_model.proofs.Prelude.{kept_in, ages, takes_row, opens, rests, connection_of, NamesItsMobile, NamesOf, SameRequest}
+use Rattle.controller_model.proofs.Prelude.{Step}
 use Rattle.controller_model.proofs.Prelude.{Controller, is_up, life, step}
 use Rattle.controller_model.proofs.LifeLaws.Fitting.{aged_holds}
 use Rattle.controller_model.proofs.LifeLaws.Lives.{life_fits}
@@ -35,7 +36,7 @@ acts_names number next up brought before after put (rests silent same none) = no
 acts_names number next up brought before after put (ages old s is_time is aged silent same) = none_named before put silent
 acts_names number next up brought before after put (opens begins linked channel request delay is_nothing none put_is same) =
     subst (λ (o : Option Connection). NamesOf o put) (sym none) (subst (NamesOf None) (sym put_is) (λ c q. tt, tt))
-acts_names number next up brought before after put (goes old s input offer r is aged by fits put_is same) =
+acts_names number next up brought before after put (takes_row old s input offer r is aged by fits put_is same) =
     subst (λ (o : Option Connection). NamesOf o put) (sym is) (subst (NamesOf (Some old)) (sym put_is) (named_by old s input offer r aged fits).1)
 
 acts_stays : (number next : ℕ) (up : _) (brought : Brought) (before after : Option Connection) (put : List Message) → Acts number next up brought before put after → SameRequest before after
@@ -43,7 +44,7 @@ acts_stays number next up brought before after put (rests silent same none) = su
 acts_stays number next up brought before after put (ages old s is_time is aged silent same) =
     subst (SameRequest before) (sym same) (subst (λ (o : Option Connection). SameRequest o (Some s)) (sym is) (aged_request old s aged))
 acts_stays number next up brought before after put (opens begins linked channel request delay is_nothing none put_is same) = subst (λ (o : Option Connection). SameRequest o after) (sym none) tt
-acts_stays number next up brought before after put (goes old s input offer r is aged by fits put_is same) =
+acts_stays number next up brought before after put (takes_row old s input offer r is aged by fits put_is same) =
     subst (SameRequest before) (sym same) (subst (λ (o : Option Connection). SameRequest o (kept_in r.next.state r.next)) (sym is) (kept_request r.next.state old r.next (named_by old s input offer r aged fits).0))
 
 pub life_names : (p : Parameters) (steps : List Step) (s : Step) (number : ℕ) → 1 ≤ number → NamesItsMobile number (life p steps).next s
@@ -56,5 +57,5 @@ life_names p steps s number from_one =
       put = does.put;
       outs = does.outs;
       names = acts_names number c.next_number (is_up c SWITCH_LINK) (brought_in c number s) before after does.put does.acts;
-      stays = acts_stays number c.next_number (is_up c SWITCH_LINK) (brought_in c number s) before after does.put does.acts;
+      keeps_request = acts_stays number c.next_number (is_up c SWITCH_LINK) (brought_in c number s) before after does.put does.acts;
     }

@@ -3,7 +3,7 @@
 use Rattle.controller_model.proofs.Prelude.{◌≡◌, ◌⊎◌, ℕ, ◌≤◌, ◌<◌, Bool, if◌then◌else◌, List, [], ◌∷◌, ◌++◌, filter, fold, Option, Some}
 use Rattle.controller_model.proofs.Prelude.{None, refl, sym, subst, ap, ◌∙◌, inl, inr, arith, append-nil, cases_Bool, cond-true, cond-false}
 use Rattle.controller_model.proofs.Prelude.{Message, Connection, IsOpen, is_dtap, Sapi, Zero, Three, messages, Parameters, handed, rejects}
-use Rattle.controller_model.proofs.Prelude.{Acts, Brought, brought_in, ages, rests, opens, goes, ConservesDownlink, IsPart, Switched}
+use Rattle.controller_model.proofs.Prelude.{Acts, Brought, brought_in, ages, rests, opens, takes_row, ConservesDownlink, IsPart, Switched}
 use Rattle.controller_model.proofs.Prelude.{counted, nothing_switched, switched, with_moment, IsThere, Moment, connection_of, Step}
 use Rattle.controller_model.proofs.Prelude.{Controller, each, new_controller, step}
 use Rattle.controller_model.proofs.LifeLaws.DownlinkLife.{agree_step, conserved, moments_of, new_agrees}
@@ -50,11 +50,11 @@ part_front (x ∷ xs) ys (z ∷ zs) (inr others) = inr (part_front (x ∷ xs) ys
 -- what was handed is some of what came; and so is what wasn't rejected, while the connection is
 -- there
 pub record IsOrdered (a : Switched) (o : Option Connection) : Type 0 where
-  pub handed : IsPart a.handed a.came
-  pub received : IsThere o → IsPart a.received a.came
+  pub handed : IsPart a.handed a.arrived
+  pub received : IsThere o → IsPart a.received a.arrived
 
 open_there : (o : Option Connection) (s : Connection) → o ≡ Some s → IsOpen s.state → IsThere o
-open_there o s is stands = subst IsThere (sym is) stands
+open_there o s is valid = subst IsThere (sym is) valid
 
 there_open : (o : Option Connection) (s : Connection) → o ≡ Some s → IsThere o → IsOpen s.state
 there_open o s is there = subst IsThere is there
@@ -71,27 +71,27 @@ was_there sapi number next up brought before after put a (ages old now is_time i
     inl (open_there before old is (subst IsOpen (same_state old now aged) (there_open after now same there)))
 was_there sapi number next up brought before after put a (opens begins_as linked_up channel request delay is_nothing none_before put_is same) agrees there =
     inr (subst (AgreesDown sapi number next a) none_before agrees (omega arith))
-was_there sapi number next up brought before after put a (goes old c input offer r is aged by fits put_is same) agrees there =
+was_there sapi number next up brought before after put a (takes_row old c input offer r is aged by fits put_is same) agrees there =
     inl (open_there before old is (subst IsOpen (same_state old c aged) (was c input offer r fits (kept_there r.next.state r.next (subst IsThere same there)))))
 
-received_part : (number : ℕ) (sapi : Sapi) (a : Switched) (m : Moment) → IsPart a.handed a.came → IsPart a.received a.came → IsPart (with_moment number sapi a m).received (with_moment number sapi a m).came
-received_part number Zero a m handed received = part_both a.received a.came (counted number Zero a m) received
+received_part : (number : ℕ) (sapi : Sapi) (a : Switched) (m : Moment) → IsPart a.handed a.arrived → IsPart a.received a.arrived → IsPart (with_moment number sapi a m).received (with_moment number sapi a m).arrived
+received_part number Zero a m handed received = part_both a.received a.arrived (counted number Zero a m) received
 received_part number Three a m handed received = elim (cases_Bool (rejects m.messages)) [
-  | inl hit ↦ subst (λ (xs : List (List ℕ)). IsPart xs (a.came ++ counted number Three a m)) (sym (cond-true _ _ _ hit)) (part_more a.handed a.came (counted number Three a m) handed)
-  | inr miss ↦ subst (λ (xs : List (List ℕ)). IsPart xs (a.came ++ counted number Three a m)) (sym (cond-false _ _ _ miss)) (part_both a.received a.came (counted number Three a m) received)
+  | inl hit ↦ subst (λ (xs : List (List ℕ)). IsPart xs (a.arrived ++ counted number Three a m)) (sym (cond-true _ _ _ hit)) (part_more a.handed a.arrived (counted number Three a m) handed)
+  | inr miss ↦ subst (λ (xs : List (List ℕ)). IsPart xs (a.arrived ++ counted number Three a m)) (sym (cond-false _ _ _ miss)) (part_both a.received a.arrived (counted number Three a m) received)
 ]
 
-new_part : (number : ℕ) (sapi : Sapi) (a : Switched) (m : Moment) → a ≡ nothing_switched → IsPart (with_moment number sapi a m).received (with_moment number sapi a m).came
-new_part number sapi a m is = subst (λ (b : Switched). IsPart (with_moment number sapi b m).received (with_moment number sapi b m).came) (sym is) (received_part number sapi nothing_switched m tt tt)
+new_part : (number : ℕ) (sapi : Sapi) (a : Switched) (m : Moment) → a ≡ nothing_switched → IsPart (with_moment number sapi a m).received (with_moment number sapi a m).arrived
+new_part number sapi a m is = subst (λ (b : Switched). IsPart (with_moment number sapi b m).received (with_moment number sapi b m).arrived) (sym is) (received_part number sapi nothing_switched m tt tt)
 
-held_part : (sapi : Sapi) (b : Switched) (after : Option Connection) → ConservesDownlink b sapi after → IsThere after → IsPart b.received b.came → IsPart b.handed b.came
+held_part : (sapi : Sapi) (b : Switched) (after : Option Connection) → ConservesDownlink b sapi after → IsThere after → IsPart b.received b.arrived → IsPart b.handed b.arrived
 held_part sapi b None kept there received = absurd there
 held_part sapi b (Some s) kept there received =
-    part_front b.handed (filter is_dtap (messages s.down sapi)) b.came (subst (λ (xs : List (List ℕ)). IsPart xs b.came) (sym (kept there)) received)
+    part_front b.handed (filter is_dtap (messages s.down sapi)) b.arrived (subst (λ (xs : List (List ℕ)). IsPart xs b.arrived) (sym (kept there)) received)
 
-none_handed : (number : ℕ) (sapi : Sapi) (a : Switched) (m : Moment) → handed sapi m.messages ≡ [] → IsPart a.handed a.came → IsPart (with_moment number sapi a m).handed (with_moment number sapi a m).came
+none_handed : (number : ℕ) (sapi : Sapi) (a : Switched) (m : Moment) → handed sapi m.messages ≡ [] → IsPart a.handed a.arrived → IsPart (with_moment number sapi a m).handed (with_moment number sapi a m).arrived
 none_handed number sapi a m none part =
-    subst (λ (xs : List (List ℕ)). IsPart xs (a.came ++ counted number sapi a m)) (sym (ap (λ (xs : List (List ℕ)). a.handed ++ xs) none ∙ append-nil a.handed)) (part_more a.handed a.came (counted number sapi a m) part)
+    subst (λ (xs : List (List ℕ)). IsPart xs (a.arrived ++ counted number sapi a m)) (sym (ap (λ (xs : List (List ℕ)). a.handed ++ xs) none ∙ append-nil a.handed)) (part_more a.handed a.arrived (counted number sapi a m) part)
 
 ordered_step : (number : ℕ) (sapi : Sapi) (a : Switched) (before after : Option Connection) (m : Moment) → (IsThere after → IsThere before ⊎ (a ≡ nothing_switched)) → ConservesDownlink (with_moment number sapi a m) sapi after →
     ((IsThere after → ⊥) → handed sapi m.messages ≡ []) → IsOrdered a before → IsOrdered (with_moment number sapi a m) after
@@ -103,7 +103,7 @@ ordered_step number sapi a before after m began kept over ordered = record {
   received = received;
 }
   where
-    received : IsThere after → IsPart (with_moment number sapi a m).received (with_moment number sapi a m).came
+    received : IsThere after → IsPart (with_moment number sapi a m).received (with_moment number sapi a m).arrived
     received there = elim (began there) [
       | inl was ↦ received_part number sapi a m ordered.handed (ordered.received was)
       | inr fresh ↦ new_part number sapi a m fresh
@@ -127,6 +127,6 @@ ordered_run sapi number c from_one fits a (s ∷ ss) agrees ordered =
     ordered)
 
 pub handed_in_order : (p : Parameters) (steps : List Step) (number : ℕ) (from_one : 1 ≤ number) (sapi : Sapi) →
-    IsPart (switched number sapi (moments_of number (new_controller p) from_one (new_fits number p) steps)).handed (switched number sapi (moments_of number (new_controller p) from_one (new_fits number p) steps)).came
+    IsPart (switched number sapi (moments_of number (new_controller p) from_one (new_fits number p) steps)).handed (switched number sapi (moments_of number (new_controller p) from_one (new_fits number p) steps)).arrived
 handed_in_order p steps number from_one sapi =
     (ordered_run sapi number (new_controller p) from_one (new_fits number p) nothing_switched steps (new_agrees sapi number p) (record { handed = tt; received = λ there. tt })).handed

@@ -224,7 +224,7 @@ acknowledges = from_station 1 (hex "08 22 01 41 08 00 00")
 
 names_the_one_that_asked : NamesItsMobile 7 waiting acknowledges
 unfolding on_literals
-names_the_one_that_asked = record { put = immediate_assign_command (channel 1 0x41) (record { access = 0x0b; frame = 3 }) 2 ∷ []; outs = refl; names = ((2, refl), tt); stays = refl }
+names_the_one_that_asked = record { put = immediate_assign_command (channel 1 0x41) (record { access = 0x0b; frame = 3 }) 2 ∷ []; outs = refl; names = ((2, refl), tt); keeps_request = refl }
 
 puts_one_frame : (named : NamesItsMobile 7 waiting acknowledges) → outs_of 7 named.put ≡
     record { to = 1; conn = 7; frame = record { stream = 0x00; body = hex "0c 16 01 90 2b 17 2d 06 3f 00 41 20 14 0b 00 03 02 00 2b 2b 2b 2b 2b 2b 2b 2b 2b 2b 2b" } } ∷ []
@@ -238,4 +238,4 @@ names_by_what_was named = named.names
 -- the request before and after the step
 keeps_the_request : (named : NamesItsMobile 7 waiting acknowledges) → SameRequest (Some own) (Some (record own { state = WaitEstablish }))
 unfolding on_literals
-keeps_the_request named = named.stays
+keeps_the_request named = named.keeps_request

@@ -5,7 +5,7 @@ use Rattle.controller_model.proofs.Prelude.{◌++◌, fold, Option, Some, None, 
 use Rattle.controller_model.proofs.Prelude.{cases_Bool, cond-true, cond-false, eqb-true, eq-eqb, and_parts, AllByRecursion, Channel, Place}
 use Rattle.controller_model.proofs.Prelude.{rf_channel_release, AllByRecursion-append, AreAway, drain_at_drains, same_place, Input, Drain}
 use Rattle.controller_model.proofs.Prelude.{Target, is_at, drain_at, TargetRole, Roles, RoleStep, after_step, step_by, step_orders}
-use Rattle.controller_model.proofs.Prelude.{target_channels, with_target, leaves_at, MayBegin, stays, commands, completes, goes_back}
+use Rattle.controller_model.proofs.Prelude.{target_channels, with_target, leaves_at, MayBegin, unchanged, commands, completes, goes_back}
 use Rattle.controller_model.proofs.Prelude.{leaves, done_at, AreApart, IsApart, undone, undone-still_draining, DrainsAt, all_away}
 use Rattle.controller_model.proofs.Prelude.{apart_first, apart_rest, drain_away, apart_behind, IsNew, AreIn, Owns, is_link_up, used_in}
 use Rattle.controller_model.proofs.Prelude.{ChannelState, Free, InUse, Releasing, channels_after, place_of, state_in, with_state}
@@ -142,7 +142,7 @@ HasTarget _ _ = Unit {0}
 pub own_step : (channels : States) (links : List Bool) (n : ℕ) (step : RoleStep) (roles : Roles) (target : Option TargetRole) → HasTarget step target → Owns channels links n (record roles { target = target }) →
     Owns (fold (channels_after n) channels (step_orders step (record roles { target = target }))) links n (after_step step (record roles { target = target }))
 unfolding HasTarget
-own_step channels links n stays roles target has owns = owns
+own_step channels links n unchanged roles target has owns = owns
 own_step channels links n commands roles None has owns = owns
 own_step channels links n commands roles (Some t) has owns = with_states channels channels links n commands (record roles { target = Some t }) owns owns.using owns.releasing
 own_step channels links n completes roles None has owns = absurd has

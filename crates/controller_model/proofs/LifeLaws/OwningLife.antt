@@ -8,7 +8,8 @@ use Rattle.controller_model.proofs.Prelude.{AllByRecursion-append, by_state, Inp
 use Rattle.controller_model.proofs.Prelude.{State, WaitActivation, WaitEstablish, WaitConfirm, Live, Closed, Removed, Connection, Roles}
 use Rattle.controller_model.proofs.Prelude.{roles_of, target_channels, target_role, IsValid, Row, IsOpen, undone, row_if, on_drain_expiry}
 use Rattle.controller_model.proofs.Prelude.{on_expiry, on_station_down, on_switch_down, What, AreAllowed, CellParameters, Parameters}
-use Rattle.controller_model.proofs.Prelude.{length-replicate, drains_at, targets, is_some_draining, Acts, IsTimer, ages, goes, opens, rests}
+use Rattle.controller_model.proofs.Prelude.{length-replicate, drains_at, targets, is_some_draining, Acts, IsTimer, ages, takes_row, opens}
+use Rattle.controller_model.proofs.Prelude.{rests}
 use Rattle.controller_model.proofs.Prelude.{breaks, connection_of, IsNumbered, AreRising, IsAbove, AreIn, Owns, OwnsOpen, is_link_up}
 use Rattle.controller_model.proofs.Prelude.{used_in, LinkedOf, ChannelState, Free, InUse, Releasing, CHANNEL_NUMBERS, Step, Take, Tick}
 use Rattle.controller_model.proofs.Prelude.{request_offer, Controller, Entry, Turn, turn, each, entry_of, free_channels, freed_station}
@@ -18,7 +19,7 @@ use Rattle.conn_rules.specs.declared.input.Input.TheVariants as inputs
 use Rattle.conn_rules.specs.Table.{row_of}
 use Rattle.controller_model.proofs.LifeLaws.Beside.{links_with, other_link, step_goes}
 use Rattle.controller_model.proofs.LifeLaws.Entries.{find_above}
-use Rattle.controller_model.proofs.LifeLaws.Fitting.{Fits, IsFine, IsLinkBreak, IsLinked, IsPresent, new_fits, step_fits, never_none, own_carried, pass_stands, row_is}
+use Rattle.controller_model.proofs.LifeLaws.Fitting.{Fits, IsFine, IsLinkBreak, IsLinked, IsPresent, new_fits, step_fits, never_none, own_carried, pass_valid, row_is}
 use Rattle.controller_model.proofs.LifeLaws.OwningSteps.{HasNumbers, IsRow, IsShaped, owns_kept}
 use Rattle.controller_model.proofs.LifeLaws.OwningWords.{AllStand, Holds, fitting_holds, word_holds}
 use Rattle.controller_model.proofs.LifeLaws.Places.{all_set, length_set}
@@ -78,8 +79,8 @@ break_shut _ break s offer r is = absurd break
 -- ---- one connection after the other
 
 pub told_holds : (links : List Bool) (c : Controller) (e : Entry) (input : Input) → ((s : Connection) (offer : Option Channel) (r : Row) → row_of s input offer ≡ Some r → IsOpen r.next.state → ⊥) → AreRising c.entries → entry_of c e.connection.number ≡ Some e → IsValid e.connection → Holds links c → Holds links (with_own_input input c e).next
-told_holds links c e input shut rising there stands holds =
-    fitting_holds links c (turn [] c) e input (request_offer c e.connection input) (row_in c e.connection input) refl rising there stands holds
+told_holds links c e input shut rising there valid holds =
+    fitting_holds links c (turn [] c) e input (request_offer c e.connection input) (row_in c e.connection input) refl rising there valid holds
     (λ r is is_open channel offered. absurd (shut e.connection (request_offer c e.connection input) r is is_open)) holds
 
 each_holds : (links : List Bool) (f : Controller → Entry → Turn) → ((c : Controller) (e : Entry) → AreRising c.entries → AreRising (f c e).next.entries) → ((m : ℕ) (c : Controller) (e : Entry) → m ≢ e.connection.number → entry_of (f c e).next m ≡ entry_of c m) →
@@ -147,16 +148,16 @@ early_away s station q none alone is =
     (away_from station s.serving (none_if (s.serving.station == station) q is), subst (AllByRecursion (IsAwayFrom station)) (sym alone) tt)
 
 down_away : (state : State) (s : Connection) (station : ℕ) → s.state ≡ state → IsValid s → IsOpen state → on_station_down state s station ≡ None → AllByRecursion (IsAwayFrom station) (used_in (roles_of s))
-down_away WaitActivation s station is stands is_open none =
-    early_away s station _ (by_state WaitActivation s is stands).0.none_drains (ap (λ (state : State). target_channels (target_role state)) is) none
-down_away WaitEstablish s station is stands is_open none =
-    early_away s station _ (by_state WaitEstablish s is stands).0.none_drains (ap (λ (state : State). target_channels (target_role state)) is) none
-down_away WaitConfirm s station is stands is_open none =
-    early_away s station _ (by_state WaitConfirm s is stands).none_drains (ap (λ (state : State). target_channels (target_role state)) is) none
-down_away (Live reference stage) s station is stands is_open none =
+down_away WaitActivation s station is valid is_open none =
+    early_away s station _ (by_state WaitActivation s is valid).0.none_drains (ap (λ (state : State). target_channels (target_role state)) is) none
+down_away WaitEstablish s station is valid is_open none =
+    early_away s station _ (by_state WaitEstablish s is valid).0.none_drains (ap (λ (state : State). target_channels (target_role state)) is) none
+down_away WaitConfirm s station is valid is_open none =
+    early_away s station _ (by_state WaitConfirm s is valid).none_drains (ap (λ (state : State). target_channels (target_role state)) is) none
+down_away (Live reference stage) s station is valid is_open none =
     subst (λ (state : State). AllByRecursion (IsAwayFrom station) (undone s.draining ++ s.serving ∷ target_channels (target_role state))) (sym is)
     (live_away s station reference stage (none_if (s.serving.station == station || targets station stage || drains_at station s.draining) _ none))
-down_away _ s station is stands is_open none = absurd is_open
+down_away _ s station is valid is_open none = absurd is_open
 
 -- the channels of another station stay
 down_in : (channels : States) (station : ℕ) (row : List ChannelState) (state : ChannelState) (cs : List Channel) → AllByRecursion (IsAwayFrom station) cs → AreIn channels state cs → AreIn (set channels station row) state cs
@@ -191,13 +192,13 @@ open_present _ is_open = tt
 -- no row fits a break: it is that of a station, and none of its channels are there
 break_away : (source : ℕ) (s : Connection) (offer : Option Channel) → IsValid s → IsOpen s.state → row_of s (break_of source) offer ≡ None → ((source == SWITCH_LINK) ≡ false) × AllByRecursion (IsAwayFrom source) (used_in (roles_of s))
 unfolding row_of
-break_away source s offer stands is_open none = elim (cases_Bool (source == SWITCH_LINK)) [
+break_away source s offer valid is_open none = elim (cases_Bool (source == SWITCH_LINK)) [
   | inl switch ↦
       let is : break_of source ≡ inputs.SwitchDown = cond-true _ inputs.SwitchDown (inputs.StationDown source) switch in
       absurd (never_none s.state s (open_present s.state is_open) (subst (λ (i : Input). row_of s i offer ≡ None) is none))
   | inr station ↦
       let is : break_of source ≡ inputs.StationDown source = cond-false _ inputs.SwitchDown (inputs.StationDown source) station in
-      (station, down_away s.state s source refl stands is_open (subst (λ (i : Input). row_of s i offer ≡ None) is none))
+      (station, down_away s.state s source refl valid is_open (subst (λ (i : Input). row_of s i offer ≡ None) is none))
 ]
 
 -- after the break of a link
@@ -206,7 +207,7 @@ break_owns : (b : Bool) (number next source : ℕ) (up : Bool) (channels : State
 unfolding IsFine
 break_owns b number next source up channels links row before after put is (ages old s is_time was aged silent same) fine owns = absurd cc
 break_owns b number next source up channels links row before after put is (opens begins linked channel request delay is_nothing none put_is same) fine owns = absurd cc
-break_owns b number next source up channels links row before after put is (goes old s input offer r was aged by fits put_is same) fine owns =
+break_owns b number next source up channels links row before after put is (takes_row old s input offer r was aged by fits put_is same) fine owns =
     subst (OwnsOpen (if b then channels else set channels source row) (set links source false) number) (sym same)
     (owns_kept (if b then channels else set channels source row) (set links source false) number r.next.state r.next (λ is_open. absurd (break_shut (break_of source) (own_carried source) s offer r (subst (λ (i : Input). row_of s i offer ≡ Some r) by fits) is_open)))
 break_owns b number next source up channels links row None after put is (rests silent same none) fine owns = subst (OwnsOpen (if b then channels else set channels source row) (set links source false) number) (sym same) tt
@@ -252,7 +253,7 @@ break_holds source c numbered fine holds =
     let tame = told_tame 1 1 true (break_of source) in
     let there = all_found c.entries numbered.rising in
     let last : Controller = (each f down c.entries).next in
-    let told_all : Holds c.links last = each_holds c.links f tame.rising tame.leaves (λ d e rising found stands owns. told_holds c.links d e (break_of source) (break_shut (break_of source) (own_carried source)) rising found stands owns) down c.entries numbered.rising numbered.rising there
+    let told_all : Holds c.links last = each_holds c.links f tame.rising tame.leaves (λ d e rising found valid owns. told_holds c.links d e (break_of source) (break_shut (break_of source) (own_carried source)) rising found valid owns) down c.entries numbered.rising numbered.rising there
     (all_stand c c.entries (fine_stand c fine) there) (record { shaped = holds.shaped; each = holds.each }) in
     broken_holds (source == SWITCH_LINK) source c.links last told_all
     (λ n.
@@ -267,12 +268,12 @@ what_holds false source (whats.Frame frame) c numbered fine holds = record { sha
 what_holds false source whats.Down c numbered fine holds = record { shaped = holds.shaped; each = holds.each }
 
 pub expiry_holds : (links : List Bool) (o : Option Input) (c : Controller) (e : Entry) → IsDue o → AreRising c.entries → entry_of c e.connection.number ≡ Some e → IsValid e.connection → Holds links c → Holds links (expires o c e).next
-expiry_holds links None c e due rising there stands holds = holds
-expiry_holds links (Some input) c e due rising there stands holds = told_holds links c e input (timer_shut input due) rising there stands holds
+expiry_holds links None c e due rising there valid holds = holds
+expiry_holds links (Some input) c e due rising there valid holds = told_holds links c e input (timer_shut input due) rising there valid holds
 
 pub aged_stand : (ms : ℕ) (xs : List Entry) → AllByRecursion (λ (x : Entry). IsValid x.connection) xs → AllByRecursion (λ (x : Entry). IsValid x.connection) (map (aged ms) xs)
 aged_stand ms [] all = tt
-aged_stand ms (x ∷ xs) all = (pass_stands ms x.connection all.0, aged_stand ms xs all.1)
+aged_stand ms (x ∷ xs) all = (pass_valid ms x.connection all.0, aged_stand ms xs all.1)
 
 pub aged_owns : (channels : States) (links : List Bool) (n ms : ℕ) (o : Option Entry) → OwnsOpen channels links n (option_map (λ (e : Entry). e.connection) o) → OwnsOpen channels links n (option_map (λ (e : Entry). e.connection) (option_map (aged ms) o))
 aged_owns channels links n ms None owns = tt
@@ -284,7 +285,7 @@ tick_holds ms c numbered fine holds =
     let old : Controller = all_aged ms c in
     let order = aged_rising ms c.entries numbered.rising in
     let tame = timed_tame 1 1 true in
-    each_holds c.links timed tame.rising tame.leaves (λ d e rising found stands owns. expiry_holds c.links (expiry d.settings.timers e.connection) d e (expiry_own _ _) rising found stands owns) old old.entries order order (all_found old.entries order)
+    each_holds c.links timed tame.rising tame.leaves (λ d e rising found valid owns. expiry_holds c.links (expiry d.settings.timers e.connection) d e (expiry_own _ _) rising found valid owns) old old.entries order order (all_found old.entries order)
     (aged_stand ms c.entries (all_stand c c.entries (fine_stand c fine) (all_found c.entries numbered.rising)))
     (record { shaped = holds.shaped; each = λ n. subst (OwnsOpen c.channels c.links n) (sym (ap (option_map (λ (e : Entry). e.connection)) (all_age n ms c))) (aged_owns c.channels c.links n ms (entry_of c n) (holds.each n)) })
 

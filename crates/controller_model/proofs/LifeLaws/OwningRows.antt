@@ -7,7 +7,7 @@ use Rattle.controller_model.proofs.Prelude.{ReleaseComplete, change_activation, 
 use Rattle.controller_model.proofs.Prelude.{AllByRecursion-filter, Input, Target, Connection, TargetRole, Roles, RoleStep, ChangesRoles}
 use Rattle.controller_model.proofs.Prelude.{RemainsOpen, RoleEnd, roles_of, after_step, step_by, step_orders, begin_orders, with_target}
 use Rattle.controller_model.proofs.Prelude.{end_messages, those_that_go, to_stations, is_order, orders, MayBegin, goes_on, ends, had_ended}
-use Rattle.controller_model.proofs.Prelude.{refused, drops, dismisses, stays, commands, completes, goes_back, leaves, Row, is_for_station, IsOpen}
+use Rattle.controller_model.proofs.Prelude.{refused, drops, dismisses, unchanged, commands, completes, goes_back, leaves, Row, is_for_station, IsOpen}
 use Rattle.controller_model.proofs.Prelude.{fold-append, is_to_station, Owns, ChannelState, Free, InUse, Releasing, channels_after}
 use Rattle.controller_model.proofs.Prelude.{place_at, place_of, state_in, with_state}
 use Rattle.conn_rules.specs.declared.input.Input.TheVariants as inputs
@@ -119,7 +119,7 @@ mine_activation m channels Assignment c is = free is
 mine_activation m channels Handover c is = free is
 
 mine_step : (m : ℕ) (channels : States) (step : RoleStep) (roles : Roles) (target : Option TargetRole) (links : List Bool) → Owns channels links m (record roles { target = target }) → AllByRecursion (IsMineOrder m channels) (step_orders step (record roles { target = target }))
-mine_step m channels stays roles target links owns = tt
+mine_step m channels unchanged roles target links owns = tt
 mine_step m channels commands roles target links owns = tt
 mine_step m channels completes roles target links owns = (mine_release_of m channels roles.serving owns.using.0, tt)
 mine_step m channels goes_back roles None links owns = tt
@@ -152,7 +152,7 @@ in_use_used : (channels : States) (at : Place) (m : ℕ) → state_in channels a
 in_use_used channels at m is same = let both : InUse m ≡ Free = sym is ∙ same in absurd cc
 
 offered_step : (m : ℕ) (channels : States) (links : List Bool) (step : RoleStep) (roles : Roles) (target : Option TargetRole) (c : Channel) → Owns channels links m (record roles { target = target }) → IsOffered channels links c → IsOffered (fold (channels_after m) channels (step_orders step (record roles { target = target }))) links c
-offered_step m channels links stays roles target c owns offered = offered
+offered_step m channels links unchanged roles target c owns offered = offered
 offered_step m channels links commands roles target c owns offered = offered
 offered_step m channels links completes roles target c owns offered = offered_after m channels links c roles.serving (Releasing m) (in_use_used channels (place_of roles.serving) m owns.using.0) offered
 offered_step m channels links goes_back roles None c owns offered = offered

@@ -5,7 +5,8 @@ use Rattle.controller_model.proofs.Prelude.{length, find, fold, set, slice_get, 
 use Rattle.controller_model.proofs.Prelude.{subst, ap, ◌∙◌, inl, inr, arith, true≢false, cases_Bool, cond-true, cond-false, and_parts}
 use Rattle.controller_model.proofs.Prelude.{option_and_then_some, AllByRecursion, Channel, Place, Message, Station, Input, State, Removed}
 use Rattle.controller_model.proofs.Prelude.{Connection, drain_at, is_at, TargetRole, Roles, RoleEnd, ChangesRoles, end_messages, roles_of}
-use Rattle.controller_model.proofs.Prelude.{awaits_at, changes_by, step_by, leaves_at, goes_on, ends, had_ended, stays, commands, completes}
+use Rattle.controller_model.proofs.Prelude.{awaits_at, changes_by, step_by, leaves_at, goes_on, ends, had_ended, unchanged, commands}
+use Rattle.controller_model.proofs.Prelude.{completes}
 use Rattle.controller_model.proofs.Prelude.{goes_back, Row, IsOpen, OfRow, CellParameters, Parameters, slice_get_within, is_target_at}
 use Rattle.controller_model.proofs.Prelude.{row_of, kept_in, connection_of, AreRising, Owns, OwnsOpen, is_link_up, ChannelKind}
 use Rattle.controller_model.proofs.Prelude.{ChannelState, Free, InUse, Releasing, CHANNEL_NUMBERS, channel_in, channel_of_kind, first_free}
@@ -105,26 +106,27 @@ pub has_target : (input : Input) (roles : Roles) → HasTarget (step_by input ro
 unfolding HasTarget
 has_target (inputs.ActivationAck at) roles = by (awaits_at at roles.target) roles.target
   where
-    by : (b : Bool) (target : Option TargetRole) → HasTarget (if b then commands else stays) target
+    by : (b : Bool) (target : Option TargetRole) → HasTarget (if b then commands else unchanged) target
     by true None = tt
     by _ _ = tt
 has_target (inputs.ActivationNack at) roles = by (awaits_at at roles.target) roles.target
   where
-    by : (b : Bool) (target : Option TargetRole) → HasTarget (if b then goes_back else stays) target
+    by : (b : Bool) (target : Option TargetRole) → HasTarget (if b then goes_back else unchanged) target
     by true None = tt
     by _ _ = tt
 has_target (inputs.Complete at change cause) roles = by roles.target
   where
-    by : (target : Option TargetRole) → HasTarget (if (is_target_at at target && changes_by change target) then completes else stays) target
+    by : (target : Option TargetRole) → HasTarget
+        (if (is_target_at at target && changes_by change target) then completes else unchanged) target
     by None = tt
     by (Some t) = of (is_target_at at (Some t) && changes_by change (Some t))
       where
-        of : (b : Bool) → HasTarget (if b then completes else stays) (Some t)
+        of : (b : Bool) → HasTarget (if b then completes else unchanged) (Some t)
         of true = tt
         of false = tt
 has_target (inputs.Failure at change cause) roles = by (is_at at roles.serving && changes_by change roles.target) roles.target
   where
-    by : (b : Bool) (target : Option TargetRole) → HasTarget (if b then goes_back else stays) target
+    by : (b : Bool) (target : Option TargetRole) → HasTarget (if b then goes_back else unchanged) target
     by true None = tt
     by _ _ = tt
 has_target (inputs.ReleaseAck at) roles = by (drain_at at roles.draining) roles.target
@@ -134,7 +136,7 @@ has_target (inputs.ReleaseAck at) roles = by (drain_at at roles.draining) roles.
     by _ _ = tt
 has_target _ roles = by roles.target
   where
-    by : (target : Option TargetRole) → HasTarget stays target
+    by : (target : Option TargetRole) → HasTarget unchanged target
     by None = tt
     by (Some t) = tt
 

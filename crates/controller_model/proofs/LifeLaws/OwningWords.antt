@@ -5,7 +5,7 @@ use Rattle.controller_model.proofs.Prelude.{sym, subst, ap, ◌∙◌, true≢fa
 use Rattle.controller_model.proofs.Prelude.{Preparing, State, WaitActivation, Live}
 use Rattle.controller_model.proofs.Prelude.{Removed, Connection, drain_at, emptied, is_at, TargetRole, Roles, RoleStep}
 use Rattle.controller_model.proofs.Prelude.{ChangesRoles, roles_of, target_role, after_step, awaits_at, end_messages, step_by, step_orders}
-use Rattle.controller_model.proofs.Prelude.{leaves_at, stays, goes_back, IsValid, Row, row, IsOpen, row_if, refuse, on_activation_nack}
+use Rattle.controller_model.proofs.Prelude.{leaves_at, unchanged, goes_back, IsValid, Row, row, IsOpen, row_if, refuse, on_activation_nack}
 use Rattle.controller_model.proofs.Prelude.{serving_after, Report, Decision, Stay, Move, RequestReference, is_some, changes_roles_row}
 use Rattle.controller_model.proofs.Prelude.{ChangesRolesBy, target_orders, connection_of, IsNumbered, AreRising, Owns, OwnsOpen, Sdcch, Tch}
 use Rattle.controller_model.proofs.Prelude.{ChannelState, Free, InUse, Releasing, Word, Nothing, Ping, Asks, OnChannel, Reports}
@@ -36,14 +36,14 @@ pub owns_entry : (links : List Bool) (c : Controller) (e : Entry) → entry_of c
 owns_entry links c e there holds = subst (OwnsOpen c.channels links e.connection.number) (ap (option_map (λ (x : Entry). x.connection)) there) (holds.each e.connection.number)
 
 pub changes_of : (s : Connection) (input : Input) (offer : Option Channel) (r : Row) → IsValid s → row_of s input offer ≡ Some r → ChangesRoles s input offer r
-changes_of s input offer r stands is = subst (ChangesRolesBy s input offer) is (changes_roles_row s input offer stands)
+changes_of s input offer r valid is = subst (ChangesRolesBy s input offer) is (changes_roles_row s input offer valid)
 
 -- ---- a row of a frame
 
 pub usual_row : (links : List Bool) (c : Controller) (e : Entry) (input : Input) (offer : Option Channel) (r : Row) → entry_of c e.connection.number ≡ Some e → IsValid e.connection → Holds links c → row_of e.connection input offer ≡ Some r →
     (IsOpen r.next.state → (channel : Channel) → offer ≡ Some channel → IsOffered c.channels links channel) → RowOwns e.connection.number c.channels links e.connection input offer r
-usual_row links c e input offer r there stands holds is offers = record {
-  changes = changes_of e.connection input offer r stands is;
+usual_row links c e input offer r there valid holds is offers = record {
+  changes = changes_of e.connection input offer r valid is;
   steps = λ was_open is_open. step_owns e.connection.number c.channels links (step_by input (roles_of e.connection)) (roles_of e.connection) (has_target input (roles_of e.connection)) (owns_entry links c e there holds was_open);
   mine = λ was_open end. ends_mine e.connection.number c.channels links (roles_of e.connection) end (owns_entry links c e there holds was_open);
   offers = offers;
@@ -51,10 +51,10 @@ usual_row links c e input offer r there stands holds is offers = record {
 
 pub fitting_holds : (links : List Bool) (c : Controller) (otherwise : Turn) (e : Entry) (input : Input) (offer : Option Channel) (o : Option Row) → row_of e.connection input offer ≡ o → AreRising c.entries → entry_of c e.connection.number ≡ Some e → IsValid e.connection → Holds links c →
     ((r : Row) → o ≡ Some r → IsOpen r.next.state → (channel : Channel) → offer ≡ Some channel → IsOffered c.channels links channel) → Holds links otherwise.next → Holds links (by_fitting otherwise e o c).next
-fitting_holds links c otherwise e input offer None is rising there stands holds offers same = same
-fitting_holds links c otherwise e input offer (Some r) is rising there stands holds offers same = record {
+fitting_holds links c otherwise e input offer None is rising there valid holds offers same = same
+fitting_holds links c otherwise e input offer (Some r) is rising there valid holds offers same = record {
   shaped = shaped_fold c.settings e.connection.number c.channels r.outs holds.shaped;
-  each = by_row_owns links c e e input offer r rising there is (usual_row links c e input offer r there stands holds is (offers r refl)) (λ n differ. holds.each n);
+  each = by_row_owns links c e e input offer r rising there is (usual_row links c e input offer r there valid holds is (offers r refl)) (λ n differ. holds.each n);
 }
 
 pub assignment_offers : (c : Controller) (serving channel : Channel) → IsShaped c.settings c.channels → assignment_offer c serving ≡ Some channel → IsOffered c.channels c.links channel
@@ -67,9 +67,9 @@ pub at_number : (c : Controller) (m : ℕ) (e : Entry) → entry_of c m ≡ Some
 at_number c m e there = subst (λ (n : ℕ). entry_of c n ≡ Some e) (sym (found_number m c.entries e there)) there
 
 pub concerning_holds : (c : Controller) (input : Input) (m : ℕ) (o : Option Entry) → entry_of c m ≡ o → AreRising c.entries → ((e : Entry) → o ≡ Some e → IsValid e.connection) → Holds c.links c → Holds c.links (concerning input c o).next
-concerning_holds c input m None there rising stands holds = ignoring_holds c.links c holds
-concerning_holds c input m (Some e) there rising stands holds =
-    fitting_holds c.links c (ignoring c) e input (request_offer c e.connection input) (row_in c e.connection input) refl rising (at_number c m e there) (stands e refl) holds
+concerning_holds c input m None there rising valid holds = ignoring_holds c.links c holds
+concerning_holds c input m (Some e) there rising valid holds =
+    fitting_holds c.links c (ignoring c) e input (request_offer c e.connection input) (row_in c e.connection input) refl rising (at_number c m e there) (valid e refl) holds
     (λ r is is_open channel offered. assignment_offers c (serving_after e.connection (row_of e.connection input None)) channel holds.shaped offered) (ignoring_holds c.links c holds)
 
 -- ---- a channel is freed first
@@ -92,8 +92,8 @@ freed_other c links at n k (Some s) differ held owns = λ is_open.
 freed_row : (c : Controller) (e : Entry) (at : Place) (input : Input) (offer : Option Channel) (r : Row) → entry_of c e.connection.number ≡ Some e → IsValid e.connection → Holds c.links c → row_of e.connection input offer ≡ Some r →
     (IsOpen e.connection.state → IsOpen r.next.state → StepOwns e.connection.number (with_state at Free c.channels) c.links (step_by input (roles_of e.connection)) (roles_of e.connection)) →
     (IsOpen r.next.state → (channel : Channel) → offer ≡ Some channel → IsOffered (with_state at Free c.channels) c.links channel) → RowOwns e.connection.number (with_state at Free c.channels) c.links e.connection input offer r
-freed_row c e at input offer r there stands holds is steps offers = record {
-  changes = changes_of e.connection input offer r stands is;
+freed_row c e at input offer r there valid holds is steps offers = record {
+  changes = changes_of e.connection input offer r valid is;
   steps = steps;
   mine = λ was_open end. orders_after e.connection.number c.channels at Free (end_messages end (roles_of e.connection)) (free refl) (ends_mine e.connection.number c.channels c.links (roles_of e.connection) end (owns_entry c.links c e there holds was_open));
   offers = offers;
@@ -108,14 +108,14 @@ freed_shaped at c shaped = shaped_set c.settings c.channels at Free shaped
 
 -- by RELEASE ACK
 acknowledged_holds : (at : Place) (c : Controller) (k : ℕ) (o : Option Entry) → channel_state c at ≡ Releasing k → entry_of c k ≡ o → AreRising c.entries → ((e : Entry) → o ≡ Some e → IsValid e.connection) → Holds c.links c → Holds c.links (concerning_too (inputs.ReleaseAck at) (freed at c) o).next
-acknowledged_holds at c k None state there rising stands holds = record {
+acknowledged_holds at c k None state there rising valid holds = record {
   shaped = freed_shaped at c holds.shaped;
   each = λ n. decide_same n k (OwnsOpen (with_state at Free c.channels) c.links n (connection_of c n))
       (λ same. subst (λ (m : ℕ). OwnsOpen (with_state at Free c.channels) c.links m (connection_of c m)) (sym same)
       (subst (OwnsOpen (with_state at Free c.channels) c.links k) (sym (ap (option_map (λ (x : Entry). x.connection)) there)) tt))
       (λ differ. freed_other c c.links at n k (connection_of c n) differ (ap holder state) (holds.each n));
 }
-acknowledged_holds at c k (Some e) state there rising stands holds = by (row_in (freed at c) e.connection (inputs.ReleaseAck at)) refl
+acknowledged_holds at c k (Some e) state there rising valid holds = by (row_in (freed at c) e.connection (inputs.ReleaseAck at)) refl
   where
     by : (o : Option Row) → row_of e.connection (inputs.ReleaseAck at) (request_offer (freed at c) e.connection (inputs.ReleaseAck at)) ≡ o → Holds c.links (by_fitting (turn [] (freed at c)) e o (freed at c)).next
     by None none = record {
@@ -125,7 +125,7 @@ acknowledged_holds at c k (Some e) state there rising stands holds = by (row_in 
           (subst (OwnsOpen (with_state at Free c.channels) c.links k) (sym (ap (option_map (λ (x : Entry). x.connection)) there))
           (λ is_open.
           let own = subst (OwnsOpen c.channels c.links k) (ap (option_map (λ (x : Entry). x.connection)) there) (holds.each k) is_open in
-          let stay : step_by (inputs.ReleaseAck at) (roles_of e.connection) ≡ stays = subst (ChangesRolesBy e.connection (inputs.ReleaseAck at) (request_offer (freed at c) e.connection (inputs.ReleaseAck at))) none (changes_roles_row e.connection (inputs.ReleaseAck at) (request_offer (freed at c) e.connection (inputs.ReleaseAck at)) (stands e refl)) in
+          let stay : step_by (inputs.ReleaseAck at) (roles_of e.connection) ≡ unchanged = subst (ChangesRolesBy e.connection (inputs.ReleaseAck at) (request_offer (freed at c) e.connection (inputs.ReleaseAck at))) none (changes_roles_row e.connection (inputs.ReleaseAck at) (request_offer (freed at c) e.connection (inputs.ReleaseAck at)) (valid e refl)) in
           subst (λ (step : RoleStep). Owns (with_state at Free c.channels) c.links k (after_step step (roles_of e.connection))) stay
           (acknowledged_owns c.channels c.links k k at (roles_of e.connection) state own))))
           (λ differ. freed_other c c.links at n k (connection_of c n) differ (ap holder state) (holds.each n));
@@ -133,7 +133,7 @@ acknowledged_holds at c k (Some e) state there rising stands holds = by (row_in 
     by (Some r) is = record {
       shaped = shaped_fold c.settings e.connection.number (with_state at Free c.channels) r.outs (freed_shaped at c holds.shaped);
       each = by_row_owns c.links (freed at c) e e (inputs.ReleaseAck at) (request_offer (freed at c) e.connection (inputs.ReleaseAck at)) r rising (at_number c k e there) is
-          (freed_row c e at (inputs.ReleaseAck at) (request_offer (freed at c) e.connection (inputs.ReleaseAck at)) r (at_number c k e there) (stands e refl) holds is
+          (freed_row c e at (inputs.ReleaseAck at) (request_offer (freed at c) e.connection (inputs.ReleaseAck at)) r (at_number c k e there) (valid e refl) holds is
           (λ was_open is_open. silent_owns e.connection.number (with_state at Free c.channels) c.links (step_by (inputs.ReleaseAck at) (roles_of e.connection)) (roles_of e.connection) (leaves_silent (drain_at at e.connection.draining) (roles_of e.connection))
           (acknowledged_owns c.channels c.links e.connection.number k at (roles_of e.connection) state (owns_entry c.links c e (at_number c k e there) holds was_open)))
           (λ is_open channel offered. assignment_offers (freed at c) (serving_after e.connection (row_of e.connection (inputs.ReleaseAck at) None)) channel (freed_shaped at c holds.shaped) offered))
@@ -176,7 +176,7 @@ refused_steps : (c : Controller) (e : Entry) (at : Place) → Owns c.channels c.
 unfolding Awaits
 refused_steps c e at owns awaits =
     let roles : Roles = roles_of e.connection in
-    let is : step_by (inputs.ActivationNack at) roles ≡ goes_back = cond-true _ goes_back stays awaits.4 in
+    let is : step_by (inputs.ActivationNack at) roles ≡ goes_back = cond-true _ goes_back unchanged awaits.4 in
     let silent : step_orders goes_back roles ≡ [] = ap target_orders awaits.1 ∙ cond-false _ _ _ awaits.2 in
     subst (λ (step : RoleStep). StepOwns e.connection.number (with_state at Free c.channels) c.links step roles) (sym is)
     (silent_owns e.connection.number (with_state at Free c.channels) c.links goes_back roles silent
@@ -185,19 +185,19 @@ refused_steps c e at owns awaits =
 
 refused_by : (at : Place) (c : Controller) (k : ℕ) (e : Entry) (o : Option Row) → row_of e.connection (inputs.ActivationNack at) (request_offer (freed at c) e.connection (inputs.ActivationNack at)) ≡ o → holder (channel_state c at) ≡ Some k → entry_of c k ≡ Some e → fits (Some e) (inputs.ActivationNack at) ≡ true → AreRising c.entries → IsValid e.connection → Holds c.links c → Holds c.links (by_fitting (turn [] (freed at c)) e o (freed at c)).next
 unfolding row_of
-refused_by at c k e None none held there fitting rising stands holds = absurd (nack_fits e.connection.state e.connection at (request_offer (freed at c) e.connection (inputs.ActivationNack at)) fitting none)
-refused_by at c k e (Some r) is held there fitting rising stands holds = record {
+refused_by at c k e None none held there fitting rising valid holds = absurd (nack_fits e.connection.state e.connection at (request_offer (freed at c) e.connection (inputs.ActivationNack at)) fitting none)
+refused_by at c k e (Some r) is held there fitting rising valid holds = record {
   shaped = shaped_fold c.settings e.connection.number (with_state at Free c.channels) r.outs (freed_shaped at c holds.shaped);
   each = by_row_owns c.links (freed at c) e e (inputs.ActivationNack at) (request_offer (freed at c) e.connection (inputs.ActivationNack at)) r rising (at_number c k e there) is
-      (freed_row c e at (inputs.ActivationNack at) (request_offer (freed at c) e.connection (inputs.ActivationNack at)) r (at_number c k e there) stands holds is
+      (freed_row c e at (inputs.ActivationNack at) (request_offer (freed at c) e.connection (inputs.ActivationNack at)) r (at_number c k e there) valid holds is
       (λ was_open is_open. refused_steps c e at (owns_entry c.links c e (at_number c k e there) holds was_open) (nack_awaits e.connection.state e.connection at (request_offer (freed at c) e.connection (inputs.ActivationNack at)) r is is_open))
       (λ is_open channel offered. assignment_offers (freed at c) (serving_after e.connection (row_of e.connection (inputs.ActivationNack at) None)) channel (freed_shaped at c holds.shaped) offered))
       (λ n differ. freed_other c c.links at n k (connection_of c n) (λ same. differ (same ∙ sym (found_number k c.entries e there))) held (holds.each n));
 }
 
 refused_holds : (at : Place) (c : Controller) (k : ℕ) (o : Option Entry) → holder (channel_state c at) ≡ Some k → entry_of c k ≡ o → fits o (inputs.ActivationNack at) ≡ true → AreRising c.entries → ((e : Entry) → o ≡ Some e → IsValid e.connection) → Holds c.links c → Holds c.links (concerning_too (inputs.ActivationNack at) (freed at c) o).next
-refused_holds at c k None held there fitting rising stands holds = absurd (true≢false (sym fitting))
-refused_holds at c k (Some e) held there fitting rising stands holds = refused_by at c k e (row_in (freed at c) e.connection (inputs.ActivationNack at)) refl held there fitting rising (stands e refl) holds
+refused_holds at c k None held there fitting rising valid holds = absurd (true≢false (sym fitting))
+refused_holds at c k (Some e) held there fitting rising valid holds = refused_by at c k e (row_in (freed at c) e.connection (inputs.ActivationNack at)) refl held there fitting rising (valid e refl) holds
 
 -- ---- what comes on a channel
 
@@ -214,22 +214,22 @@ free_holds true at input c is holds = freed_free at c is holds
 free_holds false at input c is holds = ignoring_holds c.links c holds
 
 nack_holds : (b : Bool) (at : Place) (c : Controller) (k : ℕ) (o : Option Entry) → fits o (inputs.ActivationNack at) ≡ b → holder (channel_state c at) ≡ Some k → entry_of c k ≡ o → AreRising c.entries → ((e : Entry) → o ≡ Some e → IsValid e.connection) → Holds c.links c → Holds c.links (on_freed b at (inputs.ActivationNack at) c o).next
-nack_holds true at c k o fitting held there rising stands holds = refused_holds at c k o held there fitting rising stands holds
-nack_holds false at c k o fitting held there rising stands holds = concerning_holds c (inputs.ActivationNack at) k o there rising stands holds
+nack_holds true at c k o fitting held there rising valid holds = refused_holds at c k o held there fitting rising valid holds
+nack_holds false at c k o fitting held there rising valid holds = concerning_holds c (inputs.ActivationNack at) k o there rising valid holds
 
 using_holds : (at : Place) (input : Input) (c : Controller) (k : ℕ) (o : Option Entry) → IsAtPlace at input → channel_state c at ≡ InUse k → entry_of c k ≡ o → AreRising c.entries → ((e : Entry) → o ≡ Some e → IsValid e.connection) → Holds c.links c → Holds c.links (on_state (InUse k) at input c o).next
-using_holds at (inputs.ActivationNack place) c k o is state there rising stands holds =
+using_holds at (inputs.ActivationNack place) c k o is state there rising valid holds =
     subst (λ (p : Place). Holds c.links (on_state (InUse k) at (inputs.ActivationNack p) c o).next) (sym is)
-    (nack_holds (fits o (inputs.ActivationNack at)) at c k o refl (ap holder state) there rising stands holds)
-using_holds at input c k o is state there rising stands holds = concerning_holds c input k o there rising stands holds
+    (nack_holds (fits o (inputs.ActivationNack at)) at c k o refl (ap holder state) there rising valid holds)
+using_holds at input c k o is state there rising valid holds = concerning_holds c input k o there rising valid holds
 
 releasing_holds : (at : Place) (input : Input) (c : Controller) (k : ℕ) (o : Option Entry) → IsAtPlace at input → channel_state c at ≡ Releasing k → entry_of c k ≡ o → AreRising c.entries → ((e : Entry) → o ≡ Some e → IsValid e.connection) → Holds c.links c → Holds c.links (on_state (Releasing k) at input c o).next
-releasing_holds at (inputs.ReleaseAck place) c k o is state there rising stands holds =
-    subst (λ (p : Place). Holds c.links (on_state (Releasing k) at (inputs.ReleaseAck p) c o).next) (sym is) (acknowledged_holds at c k o state there rising stands holds)
-releasing_holds at (inputs.ActivationNack place) c k o is state there rising stands holds =
+releasing_holds at (inputs.ReleaseAck place) c k o is state there rising valid holds =
+    subst (λ (p : Place). Holds c.links (on_state (Releasing k) at (inputs.ReleaseAck p) c o).next) (sym is) (acknowledged_holds at c k o state there rising valid holds)
+releasing_holds at (inputs.ActivationNack place) c k o is state there rising valid holds =
     subst (λ (p : Place). Holds c.links (on_state (Releasing k) at (inputs.ActivationNack p) c o).next) (sym is)
-    (nack_holds (fits o (inputs.ActivationNack at)) at c k o refl (ap holder state) there rising stands holds)
-releasing_holds at input c k o is state there rising stands holds = concerning_holds c input k o there rising stands holds
+    (nack_holds (fits o (inputs.ActivationNack at)) at c k o refl (ap holder state) there rising valid holds)
+releasing_holds at input c k o is state there rising valid holds = concerning_holds c input k o there rising valid holds
 
 -- all connections stand
 unfoldable pub AllStand : Controller → Type 0
@@ -271,21 +271,21 @@ if_holds false c t holds after = ignoring_holds c.links c holds
 -- ---- a report
 
 decision_holds : (d : Decision) (c : Controller) (e : Entry) → AreRising c.entries → entry_of c e.connection.number ≡ Some e → IsValid e.connection → Holds c.links c → Holds c.links (on_decision d c e).next
-decision_holds Stay c e rising there stands holds = holds
-decision_holds (Move cell) c e rising there stands holds =
-    fitting_holds c.links c (turn [] c) e inputs.Move (handover_offer c e.connection.serving cell) (row_of e.connection inputs.Move (handover_offer c e.connection.serving cell)) refl rising there stands holds
+decision_holds Stay c e rising there valid holds = holds
+decision_holds (Move cell) c e rising there valid holds =
+    fitting_holds c.links c (turn [] c) e inputs.Move (handover_offer c e.connection.serving cell) (row_of e.connection inputs.Move (handover_offer c e.connection.serving cell)) refl rising there valid holds
     (λ r is is_open channel offered. offered_free c c.links cell c.handovers (kind_of e.connection.serving.number) channel refl holds.shaped offered) holds
 
 report_holds : (at : Place) (of : ℕ) (report : Report) (c : Controller) (m : ℕ) (o : Option Entry) → entry_of c m ≡ o → AreRising c.entries → ((e : Entry) → o ≡ Some e → IsValid e.connection) → Holds c.links c → Holds c.links (on_report at of report c o).next
-report_holds at of report c m None there rising stands holds = ignoring_holds c.links c holds
-report_holds at of report c m (Some e) there rising stands holds =
+report_holds at of report c m None there rising valid holds = ignoring_holds c.links c holds
+report_holds at of report c m (Some e) there rising valid holds =
     if_holds (measures at e) c (measured of report c e) holds
     (λ measuring.
     let put : Entry = with_report of report e in
     let c' : Controller = with_entry put c in
     let own = at_number c m e there in
     let found : entry_of c' e.connection.number ≡ Some put = back_found put e c.entries rising own ∙ measured_stays e.connection.state put (and_parts (is_at at e.connection.serving) (is_measured e.connection.state) measuring).1 in
-    decision_holds (decision_over put.averages.settings put.averages.reports of) c' put (back_rising put c.entries rising) found (stands e refl)
+    decision_holds (decision_over put.averages.settings put.averages.reports of) c' put (back_rising put c.entries rising) found (valid e refl)
     (record {
       shaped = holds.shaped;
       each = λ n. decide_same n e.connection.number (OwnsOpen c.channels c.links n (connection_of c' n))

@@ -8,7 +8,7 @@ use Rattle.controller_model.proofs.Prelude.{Input, State, Closed, Removed, Targe
 use Rattle.controller_model.proofs.Prelude.{RoleStep, after_step, begin_orders, channels_in, end_messages, roles_of, step_by, step_orders}
 use Rattle.controller_model.proofs.Prelude.{target_channels, with_target, goes_on, ends, had_ended, Row, IsOpen, SWITCH_LINK, Frame}
 use Rattle.controller_model.proofs.Prelude.{RslFault, Rsl, rsl_text, AreAllowed, Parameters, eqb-false, IsPutOn, Using, used_after, Acts}
-use Rattle.controller_model.proofs.Prelude.{Brought, brought_in, kept_in, ages, goes, opens, rests, connection_of, is_for, outs_for}
+use Rattle.controller_model.proofs.Prelude.{Brought, brought_in, kept_in, ages, takes_row, opens, rests, connection_of, is_for, outs_for}
 use Rattle.controller_model.proofs.Prelude.{OwnsOpen, used_by, ChannelState, InUse, Step, Take, Ping, Controller, channel_state, is_up}
 use Rattle.controller_model.proofs.Prelude.{place_at, place_of, state_in, life, step, concerned, word_of, DataMessage, rsl_reading}
 use Rattle.std.proofs.Common.{eq-eqb}
@@ -62,10 +62,10 @@ acts_pass number next up brought before after put at (rests silent same none) fi
 acts_pass number next up brought before after put at (ages old s is_time is aged silent same) fine was now = subst (AllByRecursion (Avoids at)) (sym silent) tt
 acts_pass number next up brought before after put at (opens begins linked channel request delay is_nothing none put_is same) fine was now =
     subst (AllByRecursion (Avoids at)) (sym put_is) ((subst (UsesElsewhere at) same now tt).0, tt)
-acts_pass number next up brought before after put at (goes old s input offer r is aged by fits put_is same) fine was now =
-    let stands = (fine_old before old s is aged fine).1 in
+acts_pass number next up brought before after put at (takes_row old s input offer r is aged by fits put_is same) fine was now =
+    let valid = (fine_old before old s is aged fine).1 in
     subst (AllByRecursion (Avoids at)) (sym put_is)
-    (row_passes at s input offer r (changes_of s input offer r stands fits)
+    (row_passes at s input offer r (changes_of s input offer r valid fits)
     (aged_holds (λ (c : Connection). IsOpen c.state → AreElsewhere at (roles_of c)) (λ ms c away. away) old s aged (subst (UsesElsewhere at) is was))
     (λ is_open. subst (UsesElsewhere at) (same ∙ stays_there r.next.state r.next is_open) now is_open))
 

@@ -2,7 +2,8 @@
 -- A step puts the messages of a connection on its own channels.
 use Rattle.controller_model.proofs.Prelude.{◌≡◌, ℕ, ◌≤◌, List, [], Option, Some, None, refl, sym, subst, Channel, Message, SWITCH_LINK}
 use Rattle.controller_model.proofs.Prelude.{Connection, ArePutOn, channels_in_use, Row, AreApart, IsOpen, OfRow, used_channels, AreAllowed}
-use Rattle.controller_model.proofs.Prelude.{Parameters, PutsOnOwn, Using, uses_of, Acts, Brought, IsAged, brought_in, ages, goes, opens}
+use Rattle.controller_model.proofs.Prelude.{Parameters, PutsOnOwn, Using, uses_of, Acts, Brought, IsAged, brought_in, ages, takes_row}
+use Rattle.controller_model.proofs.Prelude.{opens}
 use Rattle.controller_model.proofs.Prelude.{rests, connection_of, OwnsOpen, KeepsToChannels, used_by, Step, Controller, is_up, life}
 use Rattle.conn_rules.proofs.PutRows.{puts_on_own}
 use Rattle.controller_model.proofs.LifeLaws.Fitting.{IsFine, aged_holds, fine_old}
@@ -44,9 +45,9 @@ unfolding ApartOf
 acts_placed number next up brought before after put (rests silent same none) fine apart = nothing_put (used_by before) put silent
 acts_placed number next up brought before after put (ages old s is_time is aged silent same) fine apart = nothing_put (used_by before) put silent
 acts_placed number next up brought before after put (opens begins linked channel request delay is_nothing none put_is same) fine apart = subst (ArePutOn (used_by before)) (sym put_is) (tt, tt)
-acts_placed number next up brought before after put (goes old s input offer r is aged by fits put_is same) fine apart =
-    let stands = (fine_old before old s is aged fine).1 in
-    let own : PutsOnOwn s r.outs = subst (OfRow (λ (q : Row). PutsOnOwn s q.outs)) fits (puts_on_own s input offer stands (aged_apart old s aged (some_apart before old is apart))) in
+acts_placed number next up brought before after put (takes_row old s input offer r is aged by fits put_is same) fine apart =
+    let valid = (fine_old before old s is aged fine).1 in
+    let own : PutsOnOwn s r.outs = subst (OfRow (λ (q : Row). PutsOnOwn s q.outs)) fits (puts_on_own s input offer valid (aged_apart old s aged (some_apart before old is apart))) in
     subst (λ (o : Option Connection). ArePutOn (used_by o) put) (sym is)
     (subst (λ (cs : List Channel). ArePutOn (uses_of cs) put) (aged_uses old s aged) (subst (ArePutOn (uses_of (channels_in_use s))) (sym put_is) own))
 

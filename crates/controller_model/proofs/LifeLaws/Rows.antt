@@ -2,7 +2,7 @@
 -- The definitions at literal values.
 use Rattle.controller_model.proofs.Prelude.{inl, inr, ◌≡◌, ℕ, true, false, List, [], ◌∷◌, set, codes, refl, Management, hex}
 use Rattle.controller_model.proofs.Prelude.{CompleteLayer3Information, Channel, Message, Request, Data, channel_release, handing, Zero}
-use Rattle.controller_model.proofs.Prelude.{Three, Parameters, SapiNReject, brought_in, nothing, comes, breaks, passes, IsPart, switched}
+use Rattle.controller_model.proofs.Prelude.{Three, Parameters, SapiNReject, brought_in, nothing, of_frame, breaks, passes, IsPart, switched}
 use Rattle.controller_model.proofs.Prelude.{Moment, outs_for, InUse, Releasing, Step, Take, Tick, Controller, free_channels, new_controller}
 use Rattle.conn_rules.specs.declared.input.Input.TheVariants as inputs
 use Rattle.controller_model.proofs.LifeLaws.OnLiterals.{on_literals}
@@ -58,7 +58,7 @@ of_sapi_0 : switched 1 Zero
     ≡ record {
       requested = true;
       confirmed = true;
-      came = hex "05 03" ∷ hex "03 07" ∷ [];
+      arrived = hex "05 03" ∷ hex "03 07" ∷ [];
       received = hex "05 03" ∷ hex "03 07" ∷ [];
       handed = hex "05 03" ∷ [];
     }
@@ -67,7 +67,7 @@ of_sapi_0 = refl
 
 -- CC counts after CR alone
 confirmed_too_soon : switched 1 Zero (moment confirm_1 [] ∷ moment (Tick 1) (request ∷ []) ∷ moment (zero_1 (hex "05 02")) [] ∷ [])
-    ≡ record { requested = true; confirmed = false; came = []; received = []; handed = [] }
+    ≡ record { requested = true; confirmed = false; arrived = []; received = []; handed = [] }
 unfolding on_literals zero_1 confirm_1 from_switch request
 confirmed_too_soon = refl
 
@@ -81,7 +81,7 @@ rejected : switched 1 Three
     ≡ record {
       requested = true;
       confirmed = true;
-      came = hex "09 01" ∷ hex "09 02" ∷ hex "09 03" ∷ [];
+      arrived = hex "09 01" ∷ hex "09 02" ∷ hex "09 03" ∷ [];
       received = hex "09 01" ∷ hex "09 03" ∷ [];
       handed = hex "09 01" ∷ [];
     }
@@ -90,7 +90,7 @@ rejected = refl
 
 not_rejected : switched 1 Zero (moment (Tick 1) (request ∷ []) ∷ moment confirm_1 [] ∷ moment (zero_1 (hex "05 02")) []
     ∷ moment (Tick 2) (reject ∷ []) ∷ [])
-    ≡ record { requested = true; confirmed = true; came = hex "05 02" ∷ []; received = hex "05 02" ∷ []; handed = [] }
+    ≡ record { requested = true; confirmed = true; arrived = hex "05 02" ∷ []; received = hex "05 02" ∷ []; handed = [] }
 unfolding on_literals zero_1 confirm_1 from_switch request reject
 not_rejected = refl
 
@@ -158,11 +158,11 @@ busy : Controller
 busy = record (new_controller settings) { channels = free_channels ∷ set (set free_channels 0x41 (InUse 7)) 0x0a (Releasing 7) ∷ [] }
 
 to_its_connection : brought_in busy 7 (from_station 1 (hex "03 02 01 41 02 00 0b 00 02 03 45"))
-    ≡ comes (inputs.Dtap (record { station = 1; number = 0x41 }) Zero (hex "03 45"))
+    ≡ of_frame (inputs.Dtap (record { station = 1; number = 0x41 }) Zero (hex "03 45"))
 unfolding on_literals busy from_station settings
 to_its_connection = refl
 
-acknowledged : brought_in busy 7 (from_station 1 (hex "08 33 01 0a")) ≡ comes (inputs.ReleaseAck (record { station = 1; number = 0x0a }))
+acknowledged : brought_in busy 7 (from_station 1 (hex "08 33 01 0a")) ≡ of_frame (inputs.ReleaseAck (record { station = 1; number = 0x0a }))
 unfolding on_literals busy from_station settings
 acknowledged = refl
 
@@ -174,7 +174,7 @@ to_nobody_on_a_free_channel : brought_in busy 7 (from_station 1 (hex "08 33 01 4
 unfolding on_literals busy from_station settings
 to_nobody_on_a_free_channel = refl
 
-confirmed : brought_in busy 1 confirm_1 ≡ comes (inputs.ConnectionConfirm 0x800001)
+confirmed : brought_in busy 1 confirm_1 ≡ of_frame (inputs.ConnectionConfirm 0x800001)
 unfolding on_literals busy confirm_1 from_switch settings
 confirmed = refl
 

@@ -4,7 +4,7 @@ use Rattle.controller_model.proofs.Prelude.{◌≡◌, Bool, ℕ, ◌≤◌, ◌
 use Rattle.controller_model.proofs.Prelude.{AllByRecursion, Message, SWITCH_LINK, Input, State, Closed, Removed, Complete, Connection, Row}
 use Rattle.controller_model.proofs.Prelude.{OfRow, IsOpen, IsChanging, IsHandedTo, Sapi, Zero, Three, IsFinal-row, IsSilent-row}
 use Rattle.controller_model.proofs.Prelude.{KeepsDownlink-row, IsSilent, IsFinal, OnlyReleases, KeepsDownlink, handed, row_of, Acts}
-use Rattle.controller_model.proofs.Prelude.{Brought, IsAged, kept, kept_in, brought_in, ages, rests, opens, goes, IsThere, HasNoStream}
+use Rattle.controller_model.proofs.Prelude.{Brought, IsAged, kept, kept_in, brought_in, ages, rests, opens, takes_row, IsThere, HasNoStream}
 use Rattle.controller_model.proofs.Prelude.{IsAway, GoToServing, OnlyReleasesAfter, KeepsSilence, IsSilentThrough, connection_of, Step}
 use Rattle.controller_model.proofs.Prelude.{Controller, is_up, step}
 use Rattle.controller_model.proofs.LifeLaws.Beside.{step_goes}
@@ -58,7 +58,7 @@ acts_away : (number next : ℕ) (up : Bool) (brought : Brought) (before after : 
 acts_away number next up brought before after put (rests silent same none) away sapi = (silent_put put silent).hands sapi
 acts_away number next up brought before after put (ages old s is_time is aged silent same) away sapi = (silent_put put silent).hands sapi
 acts_away number next up brought before after put (opens begins linked channel request delay is_nothing none put_is same) away sapi = absurd (subst IsAway same away)
-acts_away number next up brought before after put (goes old s input offer r is aged by fits put_is same) away sapi =
+acts_away number next up brought before after put (takes_row old s input offer r is aged by fits put_is same) away sapi =
     ap (handed sapi) put_is ∙ of sapi (subst (OfRow IsSilent) fits (IsSilent-row s input offer) (kept_away r.next.state r.next (subst IsAway same away)))
   where
     of : (sapi : Sapi) → (handed Zero r.outs ≡ []) × (handed Three r.outs ≡ []) → handed sapi r.outs ≡ []
@@ -70,7 +70,7 @@ acts_serving number next up brought before after put (rests silent same none) fi
 acts_serving number next up brought before after put (ages old s is_time is aged silent same) fine = subst (GoToServing after) (sym silent) (goes_nowhere after)
 acts_serving number next up brought before after put (opens begins linked channel request delay is_nothing none put_is same) fine =
     subst (λ (o : Option Connection). GoToServing o put) (sym same) (subst (λ (ms : List Message). AllByRecursion (IsHandedTo channel) ms) (sym put_is) (tt, tt))
-acts_serving number next up brought before after put (goes old s input offer r is aged by fits put_is same) fine =
+acts_serving number next up brought before after put (takes_row old s input offer r is aged by fits put_is same) fine =
     let keeps = subst (OfRow (KeepsDownlink Zero s input)) fits (KeepsDownlink-row Zero s input offer (fine_old before old s is aged fine).1) in
     subst (λ (o : Option Connection). GoToServing o put) (sym same) (subst (GoToServing (kept r.next)) (sym put_is)
     (serving_kept r.next.state r.next r.outs refl (final_row s input offer r fits).hands keeps.serving))
@@ -79,7 +79,7 @@ acts_over : (number next : ℕ) (up : Bool) (brought : Brought) (before after : 
 acts_over number next up brought before after put (rests silent same none) over = silent_put put silent
 acts_over number next up brought before after put (ages old s is_time is aged silent same) over = silent_put put silent
 acts_over number next up brought before after put (opens begins linked channel request delay is_nothing none put_is same) over = absurd (over (subst IsThere (sym same) tt))
-acts_over number next up brought before after put (goes old s input offer r is aged by fits put_is same) over =
+acts_over number next up brought before after put (takes_row old s input offer r is aged by fits put_is same) over =
     let final = final_row s input offer r fits in
     let shut : IsOpen r.next.state → ⊥ = λ is_open. over (subst IsThere (sym same) (there_kept r.next.state r.next refl is_open)) in
     subst HasNoStream (sym put_is) (record { relays = final.relays shut; hands = final.hands shut })
@@ -89,8 +89,8 @@ acts_stays number next up brought before after put (rests silent same none) less
 acts_stays number next up brought before after put (ages old s is_time is aged silent same) less over there =
     over (subst IsThere (sym is) (subst IsOpen (same_state old s aged) (subst IsThere same there)))
 acts_stays number next up brought before after put (opens begins linked channel request delay is_nothing none put_is same) less over there = absurd (omega arith)
-acts_stays number next up brought before after put (goes old s input offer r is aged by fits put_is same) less over there =
-    (final_row s input offer r fits).stays (λ is_open. over (subst IsThere (sym is) (subst IsOpen (same_state old s aged) is_open))) (kept_there r.next.state r.next (subst IsThere same there))
+acts_stays number next up brought before after put (takes_row old s input offer r is aged by fits put_is same) less over there =
+    (final_row s input offer r fits).remains_closed (λ is_open. over (subst IsThere (sym is) (subst IsOpen (same_state old s aged) is_open))) (kept_there r.next.state r.next (subst IsThere same there))
 
 releases_nothing : (state : State) → OnlyReleases state []
 releases_nothing (Closed Complete) = tt
@@ -104,7 +104,7 @@ acts_cleared : (number next : ℕ) (up : Bool) (brought : Brought) (before after
 acts_cleared number next up brought before after put (rests silent same none) less = subst (OnlyReleasesAfter before) (sym silent) (none_releases before)
 acts_cleared number next up brought before after put (ages old s is_time is aged silent same) less = subst (OnlyReleasesAfter before) (sym silent) (none_releases before)
 acts_cleared number next up brought before after put (opens begins linked channel request delay is_nothing none put_is same) less = absurd (omega arith)
-acts_cleared number next up brought before after put (goes old s input offer r is aged by fits put_is same) less =
+acts_cleared number next up brought before after put (takes_row old s input offer r is aged by fits put_is same) less =
     subst (λ (o : Option Connection). OnlyReleasesAfter o put) (sym is) (subst (OnlyReleases old.state) (sym put_is)
     (subst (λ (state : State). OnlyReleases state r.outs) (same_state old s aged) (final_row s input offer r fits).cleared))
 
@@ -118,7 +118,7 @@ step_silence number c s from_one fits =
       away = acts_away number c.next_number (is_up c SWITCH_LINK) brought before after does.put does.acts;
       serving = acts_serving number c.next_number (is_up c SWITCH_LINK) brought before after does.put does.acts fits.fine;
       over = acts_over number c.next_number (is_up c SWITCH_LINK) brought before after does.put does.acts;
-      stays = acts_stays number c.next_number (is_up c SWITCH_LINK) brought before after does.put does.acts;
+      remains_away = acts_stays number c.next_number (is_up c SWITCH_LINK) brought before after does.put does.acts;
       cleared = acts_cleared number c.next_number (is_up c SWITCH_LINK) brought before after does.put does.acts;
     }
 
@@ -130,9 +130,10 @@ stays_silent number c (s ∷ ss) from_one fits less over =
     let does = step_does number c s from_one fits.numbered in
     let now = step_silence number c s from_one fits in
     let numbers = (step_goes c s).numbers in
-    let rest = stays_silent number (step c s).next ss from_one (step_fits number c s from_one fits) (omega arith) (now.stays less over) in
+    let rest = stays_silent number (step c s).next ss from_one (step_fits number c s from_one fits) (omega arith)
+    (now.remains_away less over) in
     record {
       moments = record { taken = s; messages = does.put } ∷ rest.moments;
       history = (refl, does.outs, rest.history);
-      silent = (now.over (now.stays less over), rest.silent);
+      silent = (now.over (now.remains_away less over), rest.silent);
     }

@@ -133,7 +133,7 @@ request_sound c s input cells d is = offered_sound c (serving_after s (row_of s 
 row_parts : (links : List Bool) (c : Controller) (e : Entry) (input : Input) (offer : Option Channel) (r : Row) → IsHere links c e → SoundParts e.connection → row_of e.connection input offer ≡ Some r → ((d : Channel) → offer ≡ Some d → IsSoundChannel d) → IsCarried input → RefersBy input → AllByRecursion IsSound r.outs × SoundParts r.next
 row_parts links c e input offer r here sound fits offered carried refers =
     let s : Connection = e.connection in
-    let in_row : IsSoundRow r = subst (OfRow IsSoundRow) fits (row_sound s input offer (record { serving = sound.serving; zero = here.stands.down_zero; three = here.stands.down_three; up = here.stands.up_messages; refers = sound.refers }) sound.targets (offer_list offer offered) carried refers) in
+    let in_row : IsSoundRow r = subst (OfRow IsSoundRow) fits (row_sound s input offer (record { serving = sound.serving; zero = here.valid.down_zero; three = here.valid.down_three; up = here.valid.up_messages; refers = sound.refers }) sound.targets (offer_list offer offered) carried refers) in
     let within : (r.next.number ≡ s.number) × IsSoundChannel r.next.serving × AllByRecursion IsSoundChannel (target_in r.next.state) = subst (OfRow (λ (q : Row). (q.next.number ≡ s.number) × IsSoundChannel q.next.serving × AllByRecursion IsSoundChannel (target_in q.next.state))) fits (all_within IsSoundChannel IsSoundChannel s input offer s.number (refl, sound.serving, sound.targets) sound.targets (offer_list offer offered)) in
     (in_row.1, record { serving = within.1; targets = within.2; refers = in_row.0 })
 
@@ -181,7 +181,7 @@ too_sound at c input m (Some e) there ready sound carried refers =
     let here = here_of c m e ready there in
     let all : IsSoundAll (freed at c) = record { each = sound.each; cells = sound.cells; next = sound.next } in
     fitting_sound c.links (freed at c) (turn [] (freed at c)) e input (request_offer (freed at c) e.connection input) (row_in (freed at c) e.connection input) refl
-    (record { rising = here.rising; there = here.there; stands = here.stands; from_one = here.from_one; below = here.below; linked = here.linked }) all (request_sound (freed at c) e.connection input sound.cells) carried refers (quiet_sound (freed at c) all)
+    (record { rising = here.rising; there = here.there; valid = here.valid; from_one = here.from_one; below = here.below; linked = here.linked }) all (request_sound (freed at c) e.connection input sound.cells) carried refers (quiet_sound (freed at c) all)
 
 freed_sound : (b : Bool) (at : Place) (c : Controller) (input : Input) (m : ℕ) (o : Option Entry) → entry_of c m ≡ o → Ready c → IsSoundAll c → IsCarried input → RefersBy input → SoundTurn (on_freed b at input c o)
 freed_sound true at c input m o there ready sound carried refers = too_sound at c input m o there ready sound carried refers
@@ -236,7 +236,7 @@ report_sound at of report c m (Some e) there ready sound =
     let here = here_of c m e ready there in
     let found : entry_of c' e.connection.number ≡ Some put = back_found put e c.entries here.rising here.there ∙ measured_stays e.connection.state put (and_parts (is_at at e.connection.serving) (is_measured e.connection.state) measuring).1 in
     decision_sound c.links (decision_over put.averages.settings put.averages.reports of) c' put
-    (record { rising = back_rising put c.entries here.rising; there = found; stands = here.stands; from_one = here.from_one; below = here.below; linked = here.linked })
+    (record { rising = back_rising put c.entries here.rising; there = found; valid = here.valid; from_one = here.from_one; below = here.below; linked = here.linked })
     (record {
       each = λ n. decide_same n e.connection.number (SoundOf (connection_of c' n))
           (λ is. subst (λ (k : ℕ). SoundOf (connection_of c' k)) (sym is) (subst SoundOf (ap (option_map (λ (x : Entry). x.connection)) here.there ∙ sym (ap (option_map (λ (x : Entry). x.connection)) found)) (sound.each e.connection.number)))
@@ -366,7 +366,7 @@ break_sound source c ready sound =
     down_here : (xs : List Entry) → AllByRecursion (IsHere c.links c) xs → AllByRecursion (IsHere c.links (with_down source c)) xs
     down_here [] here = tt
     down_here (x ∷ xs) here = (
-      record { rising = here.0.rising; there = here.0.there; stands = here.0.stands; from_one = here.0.from_one; below = here.0.below; linked = here.0.linked },
+      record { rising = here.0.rising; there = here.0.there; valid = here.0.valid; from_one = here.0.from_one; below = here.0.below; linked = here.0.linked },
       down_here xs here.1,
     )
 

@@ -60,7 +60,7 @@ unfolding Refers
 refers = record {
   establishes = λ before request is. tt;
   confirms = λ before request is. tt;
-  lives = λ before request reference stage is own. own;
+  once_live = λ before request reference stage is own. own;
   due = λ before request cause is small. tt;
   asks = λ before request reference is own. own;
   clears = λ before request is. tt;

@@ -7,7 +7,7 @@ use Rattle.controller_model.proofs.Prelude.{access_activation, Input, State, Wai
 use Rattle.controller_model.proofs.Prelude.{Removed, Connection, new_connection, IsValid, Row, OfRow, IsOpen, is_dtap, Sapi, Zero, Three}
 use Rattle.controller_model.proofs.Prelude.{messages, What, IsFinal-row, KeepsDownlink-row, IsFinal, KeepsDownlink, handed, received_by}
 use Rattle.controller_model.proofs.Prelude.{rejects, without_rejected, row_of, Acts, Brought, IsAged, IsBrought, IsTimer, FitsNone}
-use Rattle.controller_model.proofs.Prelude.{brought_by, brought_with, brought_in, if_held, kept_in, ages, rests, opens, goes, nothing}
+use Rattle.controller_model.proofs.Prelude.{brought_by, brought_with, brought_in, if_held, kept_in, ages, rests, opens, takes_row, nothing}
 use Rattle.controller_model.proofs.Prelude.{comes_with, reports, breaks, passes, Switched, confirms, is_confirm, left_over}
 use Rattle.controller_model.proofs.Prelude.{nothing_switched, requests, with_moment, word_by, word_in, Step, Take, Tick, Word, OnChannel}
 use Rattle.controller_model.proofs.Prelude.{OnConnection, Controller, is_up, channel_state, holder, word_of}
@@ -21,16 +21,16 @@ use Rattle.ruled_relay.specs.declared.item.What.TheVariants as whats
 
 -- ---- what the word of a step says is what the step brings
 
-abbrev pub came : Sapi → Brought → List (List ℕ)
-came sapi (comes_with input) = filter is_dtap (received_by sapi input)
-came sapi _ = []
+abbrev pub arrived : Sapi → Brought → List (List ℕ)
+arrived sapi (comes_with input) = filter is_dtap (received_by sapi input)
+arrived sapi _ = []
 
 abbrev pub is_confirming : Brought → Bool
 is_confirming (comes_with input) = is_confirm input
 is_confirming _ = false
 
 pub record SaysSo (number : ℕ) (word : Word) (brought : Brought) : Type 0 where
-  pub came_is : (sapi : Sapi) → dtap_received number sapi word ≡ came sapi brought
+  pub came_is : (sapi : Sapi) → dtap_received number sapi word ≡ arrived sapi brought
   pub confirms_is : confirms number word ≡ is_confirming brought
 
 at_place_up : (at : _) (input : Input) → IsAtPlace at input → NotDown input
@@ -91,8 +91,8 @@ with_brought : Sapi → Brought → List Message → Switched → Switched
 with_brought sapi brought put a = record {
   requested = a.requested || requests put;
   confirmed = a.confirmed || (a.requested && is_confirming brought);
-  came = a.came ++ (if a.confirmed then came sapi brought else []);
-  received = left_over sapi put a.handed (a.received ++ (if a.confirmed then came sapi brought else []));
+  arrived = a.arrived ++ (if a.confirmed then arrived sapi brought else []);
+  received = left_over sapi put a.handed (a.received ++ (if a.confirmed then arrived sapi brought else []));
   handed = a.handed ++ handed sapi put;
 }
 
@@ -100,7 +100,7 @@ by_brought : (number : ℕ) (sapi : Sapi) (a : Switched) (s : Step) (put : List 
 unfolding with_brought
 by_brought number sapi a s put brought says =
     ap (λ (xs : List (List ℕ)). record (with_moment number sapi a (record { taken = s; messages = put })) {
-      came = a.came ++ (if a.confirmed then xs else []);
+      arrived = a.arrived ++ (if a.confirmed then xs else []);
       received = left_over sapi put a.handed (a.received ++ (if a.confirmed then xs else []));
     }) (says.came_is sapi)
     ∙ ap (λ (b : Bool). record (with_brought sapi brought put a) { confirmed = a.confirmed || (a.requested && b) }) says.confirms_is
@@ -125,7 +125,7 @@ none_left : (sapi : Sapi) (h x : List (List ℕ)) → left_over sapi [] h x ≡ 
 none_left Zero h x = refl
 none_left Three h x = refl
 
-live_came : (s : Connection) (sapi : Sapi) (brought : Brought) → IsLive s.state → FitsNone brought (Some s) → came sapi brought ≡ []
+live_came : (s : Connection) (sapi : Sapi) (brought : Brought) → IsLive s.state → FitsNone brought (Some s) → arrived sapi brought ≡ []
 live_came s sapi (comes_with (inputs.Downlink of message)) live none = absurd (downlink_fits s of message none.0 live none.1)
 live_came s sapi (comes_with input) live none = ap (filter is_dtap) (received_none sapi input (up input none))
   where
@@ -157,7 +157,7 @@ rest_flags Removed sapi brought a none flags = absurd flags
 rest_flags _ sapi brought a none flags = (ap (λ (x : Bool). x || false) flags.0, ap (λ (x : Bool). x || (a.requested && is_confirming brought)) flags.1 ∙ ap (λ (x : Bool). x && is_confirming brought) flags.0)
 
 -- what came counts from CC on
-none_counts : (state : State) (s : Connection) → s.state ≡ state → (sapi : Sapi) (brought : Brought) (a : Switched) → FitsNone brought (Some s) → Flags state a → (if a.confirmed then came sapi brought else []) ≡ []
+none_counts : (state : State) (s : Connection) → s.state ≡ state → (sapi : Sapi) (brought : Brought) (a : Switched) → FitsNone brought (Some s) → Flags state a → (if a.confirmed then arrived sapi brought else []) ≡ []
 none_counts (Live reference stage) s is sapi brought a none flags = cond-true _ _ _ flags.1 ∙ live_came s sapi brought (subst IsLive (sym is) tt) none
 none_counts (Closed clearing) s is sapi brought a none flags = absurd flags
 none_counts Removed s is sapi brought a none flags = absurd flags
@@ -169,7 +169,7 @@ rest_held s sapi brought a none flags held =
     ap (λ (xs : List (List ℕ)). xs ++ filter is_dtap (messages s.down sapi)) (append-nil a.handed)
     ∙ held ∙ sym (append-nil a.received)
     ∙ ap (λ (xs : List (List ℕ)). a.received ++ xs) (sym (none_counts s.state s refl sapi brought a none flags))
-    ∙ sym (none_left sapi a.handed (a.received ++ (if a.confirmed then came sapi brought else [])))
+    ∙ sym (none_left sapi a.handed (a.received ++ (if a.confirmed then arrived sapi brought else [])))
 
 -- ---- a row
 
@@ -194,18 +194,18 @@ confirming_is passes input break is = of input is
 none_received : (sapi : Sapi) (input : Input) → NotDown input → [] ≡ filter is_dtap (received_by sapi input)
 none_received sapi input up = ap (filter is_dtap) (sym (received_none sapi input up))
 
-came_is_received : (sapi : Sapi) (brought : Brought) (input : Input) → IsBreak brought → IsBrought brought input → came sapi brought ≡ filter is_dtap (received_by sapi input)
+arrived_is_received : (sapi : Sapi) (brought : Brought) (input : Input) → IsBreak brought → IsBrought brought input → arrived sapi brought ≡ filter is_dtap (received_by sapi input)
 unfolding IsBreak
-came_is_received sapi nothing input break is = absurd is
-came_is_received sapi (comes_with brought) input break is = ap (λ (i : Input). filter is_dtap (received_by sapi i)) (sym is)
-came_is_received sapi reports input break is = none_received sapi input (subst NotDown (sym is) tt)
-came_is_received sapi (breaks brought) input break is = none_received sapi input (subst NotDown (sym is) (of brought break))
+arrived_is_received sapi nothing input break is = absurd is
+arrived_is_received sapi (comes_with brought) input break is = ap (λ (i : Input). filter is_dtap (received_by sapi i)) (sym is)
+arrived_is_received sapi reports input break is = none_received sapi input (subst NotDown (sym is) tt)
+arrived_is_received sapi (breaks brought) input break is = none_received sapi input (subst NotDown (sym is) (of brought break))
   where
     of : (brought : Input) → IsLinkBreak brought → NotDown brought
     of inputs.SwitchDown break = tt
     of (inputs.StationDown station) break = tt
     of _ break = absurd break
-came_is_received sapi passes input break is = none_received sapi input (of input is)
+arrived_is_received sapi passes input break is = none_received sapi input (of input is)
   where
     of : (input : Input) → IsTimer input → NotDown input
     of inputs.Expiry timer = tt
@@ -227,16 +227,16 @@ row_flags WaitEstablish next sapi brought input put a conf goes_on flags =
     subst (λ (n : State). Flags n (with_brought sapi brought put a)) (sym goes_on.0)
     (or_so a.requested false (requests put) true flags.0 goes_on.1, or_so a.confirmed false (a.requested && is_confirming brought) false flags.1 (ap (λ (x : Bool). x && is_confirming brought) flags.0))
 row_flags WaitConfirm next sapi brought input put a conf goes_on flags = elim goes_on.1 [
-  | inl stays ↦ subst (λ (n : State). Flags n (with_brought sapi brought put a)) (sym stays.0)
-      (ap (λ (x : Bool). x || requests put) flags.0, or_so a.confirmed false (a.requested && is_confirming brought) false flags.1 (and_so a.requested true (is_confirming brought) false flags.0 (conf ∙ stays.1)))
-  | inr lives ↦ live_flags next (with_brought sapi brought put a) lives.0
-      (ap (λ (x : Bool). x || requests put) flags.0, or_so a.confirmed false (a.requested && is_confirming brought) true flags.1 (and_so a.requested true (is_confirming brought) true flags.0 (conf ∙ lives.1)))
+  | inl unchanged ↦ subst (λ (n : State). Flags n (with_brought sapi brought put a)) (sym unchanged.0)
+      (ap (λ (x : Bool). x || requests put) flags.0, or_so a.confirmed false (a.requested && is_confirming brought) false flags.1 (and_so a.requested true (is_confirming brought) false flags.0 (conf ∙ unchanged.1)))
+  | inr is_live ↦ live_flags next (with_brought sapi brought put a) is_live.0
+      (ap (λ (x : Bool). x || requests put) flags.0, or_so a.confirmed false (a.requested && is_confirming brought) true flags.1 (and_so a.requested true (is_confirming brought) true flags.0 (conf ∙ is_live.1)))
 ]
 row_flags (Live reference stage) next sapi brought input put a conf goes_on flags =
     live_flags next (with_brought sapi brought put a) goes_on (ap (λ (x : Bool). x || requests put) flags.0, ap (λ (x : Bool). x || (a.requested && is_confirming brought)) flags.1)
 row_flags _ next sapi brought input put a conf goes_on flags = absurd flags
 
-row_counts : (state next : State) (sapi : Sapi) (brought : Brought) (input : Input) (put : List Message) (a : Switched) → came sapi brought ≡ filter is_dtap (received_by sapi input) → Next state input next put → Flags state a → (if a.confirmed then came sapi brought else []) ≡ filter is_dtap (received_by sapi input)
+row_counts : (state next : State) (sapi : Sapi) (brought : Brought) (input : Input) (put : List Message) (a : Switched) → arrived sapi brought ≡ filter is_dtap (received_by sapi input) → Next state input next put → Flags state a → (if a.confirmed then arrived sapi brought else []) ≡ filter is_dtap (received_by sapi input)
 row_counts WaitConfirm next sapi brought input put a is goes_on flags = cond-false _ _ _ flags.1 ∙ none_received sapi input goes_on.0
 row_counts (Live reference stage) next sapi brought input put a is goes_on flags = cond-true _ _ _ flags.1 ∙ is
 row_counts (Closed clearing) next sapi brought input put a is goes_on flags = absurd flags
@@ -254,25 +254,25 @@ pub first_empty : (xs ys : List (List ℕ)) → xs ++ ys ≡ [] → xs ≡ []
 first_empty [] ys is = refl
 first_empty (x ∷ xs) ys is = absurd cc
 
-still_held : (before now held after came received : List (List ℕ)) → now ++ after ≡ held ++ came → before ++ held ≡ received → (before ++ now) ++ after ≡ received ++ came
-still_held before now held after came received keeps is =
-    append_assoc before now after ∙ ap (λ (xs : List (List ℕ)). before ++ xs) keeps ∙ sym (append_assoc before held came) ∙ ap (λ (xs : List (List ℕ)). xs ++ came) is
+still_held : (before now held after arrived received : List (List ℕ)) → now ++ after ≡ held ++ arrived → before ++ held ≡ received → (before ++ now) ++ after ≡ received ++ arrived
+still_held before now held after arrived received keeps is =
+    append_assoc before now after ∙ ap (λ (xs : List (List ℕ)). before ++ xs) keeps ∙ sym (append_assoc before held arrived) ∙ ap (λ (xs : List (List ℕ)). xs ++ arrived) is
 
-row_held : (sapi : Sapi) (put : List Message) (before now held after came received : List (List ℕ)) → now ++ after ≡ without_rejected sapi put (held ++ came) → before ++ held ≡ received → (before ++ now) ++ after ≡ left_over sapi put before (received ++ came)
-row_held Zero put before now held after came received keeps is = still_held before now held after came received keeps is
-row_held Three put before now held after came received keeps is = elim (cases_Bool (rejects put)) [
+row_held : (sapi : Sapi) (put : List Message) (before now held after arrived received : List (List ℕ)) → now ++ after ≡ without_rejected sapi put (held ++ arrived) → before ++ held ≡ received → (before ++ now) ++ after ≡ left_over sapi put before (received ++ arrived)
+row_held Zero put before now held after arrived received keeps is = still_held before now held after arrived received keeps is
+row_held Three put before now held after arrived received keeps is = elim (cases_Bool (rejects put)) [
   | inl hit ↦
       let none : now ++ after ≡ [] = keeps ∙ cond-true _ _ _ hit in
       append_assoc before now after ∙ ap (λ (xs : List (List ℕ)). before ++ xs) none ∙ append-nil before ∙ sym (cond-true _ _ _ hit)
-  | inr miss ↦ still_held before now held after came received (keeps ∙ cond-false _ _ _ miss) is ∙ sym (cond-false _ _ _ miss)
+  | inr miss ↦ still_held before now held after arrived received (keeps ∙ cond-false _ _ _ miss) is ∙ sym (cond-false _ _ _ miss)
 ]
 
 row_agrees : (s : Connection) (input : Input) (offer : Option Channel) (r : Row) (sapi : Sapi) (brought : Brought) (a : Switched) → IsValid s → IsBreak brought → IsBrought brought input → row_of s input offer ≡ Some r → IsOpen r.next.state → Flags s.state a → IsHeld sapi a s → Flags r.next.state (with_brought sapi brought r.outs a) × IsHeld sapi (with_brought sapi brought r.outs a) r.next
 unfolding with_brought
-row_agrees s input offer r sapi brought a stands break by fits there flags held =
+row_agrees s input offer r sapi brought a valid break by fits there flags held =
     let goes_on : Next s.state input r.next.state r.outs = subst (OfRow (Advances s.state input)) fits (advances s input offer) there in
-    let keeps = (subst (OfRow (KeepsDownlink sapi s input)) fits (KeepsDownlink-row sapi s input offer stands)).stream there in
-    let counts = row_counts s.state r.next.state sapi brought input r.outs a (came_is_received sapi brought input break by) goes_on flags in (
+    let keeps = (subst (OfRow (KeepsDownlink sapi s input)) fits (KeepsDownlink-row sapi s input offer valid)).stream there in
+    let counts = row_counts s.state r.next.state sapi brought input r.outs a (arrived_is_received sapi brought input break by) goes_on flags in (
       row_flags s.state r.next.state sapi brought input r.outs a (confirming_is brought input break by) goes_on flags,
       row_held sapi r.outs a.handed (handed sapi r.outs) (filter is_dtap (messages s.down sapi)) (filter is_dtap (messages r.next.down sapi)) (filter is_dtap (received_by sapi input)) a.received
           (keeps ∙ ap (without_rejected sapi r.outs) (filter_append (messages s.down sapi) (received_by sapi input))) held
@@ -327,8 +327,8 @@ unfolding IsLinked
 linked_true up o s is linked = subst (IsLinked up) is linked
 
 open_by : (s : Connection) (state : State) → s.state ≡ state → (input : Input) (offer : Option Channel) (r : Row) → IsFinal s r → IsOpen r.next.state → IsOpen state
-open_by s (Closed clearing) is input offer r final there = final.stays (subst IsOpen is) there
-open_by s Removed is input offer r final there = final.stays (subst IsOpen is) there
+open_by s (Closed clearing) is input offer r final there = final.remains_closed (subst IsOpen is) there
+open_by s Removed is input offer r final there = final.remains_closed (subst IsOpen is) there
 open_by s _ is input offer r final there = tt
 
 pub was : (s : Connection) (input : Input) (offer : Option Channel) (r : Row) → row_of s input offer ≡ Some r → IsOpen r.next.state → IsOpen s.state
@@ -356,7 +356,7 @@ acts_agree sapi number next later up brought before after put a s (opens begins_
     ∙ ap (λ (ms : List Message). with_moment number sapi nothing_switched (record { taken = s; messages = ms })) put_is ∙ begun number sapi s channel in
     subst (λ (b : Switched). AgreesDown sapi number later b after) (sym moment)
     (subst (AgreesDown sapi number later nothing_switched) (sym same) (λ there. ((refl, refl), new_held number sapi channel request delay)))
-acts_agree sapi number next later up brought before after put a s (goes old c input offer r is aged by fits put_is same) more begins fine linked break says agrees =
+acts_agree sapi number next later up brought before after put a s (takes_row old c input offer r is aged by fits put_is same) more begins fine linked break says agrees =
     let less : number < next = some_begun number next before old is begins in
     let moment : with_moment number sapi a (record { taken = s; messages = put }) ≡ with_brought sapi brought r.outs a =
     ap (λ (ms : List Message). with_moment number sapi a (record { taken = s; messages = ms })) put_is ∙ by_brought number sapi a s r.outs brought (says (linked_true up before old is linked)) in

@@ -5,7 +5,8 @@ use Rattle.controller_model.proofs.Prelude.{fold, map, Option, Some, None, optio
 use Rattle.controller_model.proofs.Prelude.{AllByRecursion, Message, Out, SWITCH_LINK, Input, Connection, Row, after_pass, Channel, Place}
 use Rattle.controller_model.proofs.Prelude.{Report, Decision, Stay, Move, What, RequestReference, row_of, Acts, IsAged, passed, Brought}
 use Rattle.controller_model.proofs.Prelude.{IsBrought, IsTimer, FitsNone, brought_with, brought_in, nothing, breaks, passes, ages, rests}
-use Rattle.controller_model.proofs.Prelude.{opens, goes, outs_for, connection_of, IsNumbered, AreRising, IsAbove, IsBelow, Step, Take, Tick}
+use Rattle.controller_model.proofs.Prelude.{opens, takes_row, outs_for, connection_of, IsNumbered, AreRising, IsAbove, IsBelow, Step}
+use Rattle.controller_model.proofs.Prelude.{Take, Tick}
 use Rattle.controller_model.proofs.Prelude.{Word, Nothing, Ping, Asks, OnChannel, Reports, OnConnection, access_channel, request_offer}
 use Rattle.controller_model.proofs.Prelude.{Controller, Entry, Turn, turn, each, ignoring, has_number, entry_of, put_back, with_entry}
 use Rattle.controller_model.proofs.Prelude.{with_down, freed, freed_station, channel_state, is_up, by_row, by_fitting, row_in, concerning}
@@ -173,11 +174,11 @@ aged_acts : (number next : ℕ) (up : Bool) (ms : ℕ) (o : Option Connection) (
 aged_acts number next up ms None put after (rests silent same none) = rests silent same tt
 aged_acts number next up ms None put after (ages old s brought is aged silent same) = absurd cc
 aged_acts number next up ms None put after (opens begins linked_up channel request delay brought is put_is same) = absurd cc
-aged_acts number next up ms None put after (goes old s input offer r is aged by fits put_is same) = absurd cc
+aged_acts number next up ms None put after (takes_row old s input offer r is aged by fits put_is same) = absurd cc
 aged_acts number next up ms (Some s) put after (rests silent same none) = ages s (after_pass ms s) refl refl (ms ∷ [], refl) silent same
 aged_acts number next up ms (Some s) put after (ages old now brought is aged silent same) = ages s now refl refl (aged_first ms s old now (some_is (after_pass ms s) old is) aged) silent same
 aged_acts number next up ms (Some s) put after (opens begins linked_up channel request delay brought is put_is same) = absurd cc
-aged_acts number next up ms (Some s) put after (goes old now input offer r is aged by fits put_is same) = goes s now input offer r refl (aged_first ms s old now (some_is (after_pass ms s) old is) aged) by fits put_is same
+aged_acts number next up ms (Some s) put after (takes_row old now input offer r is aged by fits put_is same) = takes_row s now input offer r refl (aged_first ms s old now (some_is (after_pass ms s) old is) aged) by fits put_is same
 
 tick_does : (number next : ℕ) (up : Bool) (ms : ℕ) (c : Controller) → AreRising c.entries → Does number next up passes (connection_of c number) (tick ms c)
 unfolding tick

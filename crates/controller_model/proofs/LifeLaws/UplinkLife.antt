@@ -6,8 +6,9 @@ use Rattle.controller_model.proofs.Prelude.{flat_map, Channel, Message, SWITCH_L
 use Rattle.controller_model.proofs.Prelude.{Drain, State, WaitActivation, WaitEstablish, WaitConfirm, Live, Closed, Removed, Connection}
 use Rattle.controller_model.proofs.Prelude.{new_connection, roles_of, IsValid, AreApart, IsOpen, OfRow, relayed, still_of, undone}
 use Rattle.controller_model.proofs.Prelude.{used_channels, after_pass, Sapi, Zero, Three, HeldTenure, AreAllowed, Parameters, Acts, Brought}
-use Rattle.controller_model.proofs.Prelude.{FitsNone, IsAged, brought_in, kept_in, ages, goes, opens, rests, IsThere, Moment, all_messages}
-use Rattle.controller_model.proofs.Prelude.{connection_of, word_in, Owns, OwnsOpen, used_in, Tenure, UplinkIsConserved, after_moment}
+use Rattle.controller_model.proofs.Prelude.{FitsNone, IsAged, brought_in, kept_in, ages, takes_row, opens, rests, IsThere, Moment}
+use Rattle.controller_model.proofs.Prelude.{all_messages}
+use Rattle.controller_model.proofs.Prelude.{connection_of, word_in, Owns, OwnsOpen, used_in, ServedTenure, UplinkIsConserved, after_moment}
 use Rattle.controller_model.proofs.Prelude.{after_word, joined, service, Step, Word, Controller, Entry, Turn, each, entry_of, is_up}
 use Rattle.controller_model.proofs.Prelude.{new_controller, step, held_up, held_up_for, empty_tenure, tenure_messages}
 use Rattle.conn_rules.proofs.RolesApart.{target_in_role}
@@ -30,20 +31,21 @@ use Rattle.controller_model.proofs.LifeLaws.UsualRows.{AreUsual, IsUsual, PutsUs
 use Rattle.controller_model.specs.Life.{life}
 
 -- what was put so far, and the tenures, follow one another while the connection is open
-unfoldable pub AgreesUp : ℕ → ℕ → List Message → List Tenure → Option Connection → Type 0
+unfoldable pub AgreesUp : ℕ → ℕ → List Message → List ServedTenure → Option Connection → Type 0
 AgreesUp number next put ts None = next ≤ number → (ts ≡ []) × (put ≡ [])
 AgreesUp number next put ts (Some s) = IsOpen s.state → UpIn s.state s put ts
 
 -- ---- time passes
 
-pass_up : (state : State) (ms : ℕ) (s : Connection) (put : List Message) (ts : List Tenure) → UpIn state s put ts → UpIn state (after_pass ms s) put ts
+pass_up : (state : State) (ms : ℕ) (s : Connection) (put : List Message) (ts : List ServedTenure) → UpIn state s put ts → UpIn state (after_pass ms s) put ts
 pass_up WaitConfirm ms s put ts up = record { serves = up.serves; old = up.old; up = up.up }
 pass_up (Live reference stage) ms s put ts up = record { serves = up.serves; old = up.old; up = up.up }
 pass_up (Closed clearing) ms s put ts up = absurd up
 pass_up Removed ms s put ts up = absurd up
 pass_up _ ms s put ts up = up
 
-aged_up : (old s : Connection) (put : List Message) (ts : List Tenure) → IsAged old s → UpIn old.state old put ts → UpIn s.state s put ts
+aged_up : (old s : Connection) (put : List Message) (ts : List ServedTenure) → IsAged old s → UpIn old.state old put ts
+    → UpIn s.state s put ts
 aged_up old s put ts aged up = aged_holds (λ (c : Connection). UpIn c.state c put ts) (λ ms c holds. pass_up c.state ms c put ts holds) old s aged up
 
 aged_owns : (c : Controller) (number : ℕ) (old s : Connection) → IsAged old s → Owns c.channels c.links number (roles_of old) → Owns c.channels c.links number (roles_of s)
@@ -54,11 +56,11 @@ aged_owns c number old s aged owns = aged_holds (λ (d : Connection). Owns c.cha
 pub used_apart : (s : Connection) → AreApart (used_in (roles_of s)) → AreApart (used_channels s)
 used_apart s apart = subst (λ (cs : List Channel). AreApart (undone s.draining ++ s.serving ∷ cs)) (target_in_role s.state) apart
 
-kept_up : (number next : ℕ) (put : List Message) (ts : List Tenure) (state : State) (s : Connection) → s.state ≡ state → number < next → (IsOpen s.state → UpIn s.state s put ts) → AgreesUp number next put ts (kept_in state s)
+kept_up : (number next : ℕ) (put : List Message) (ts : List ServedTenure) (state : State) (s : Connection) → s.state ≡ state → number < next → (IsOpen s.state → UpIn s.state s put ts) → AgreesUp number next put ts (kept_in state s)
 unfolding AgreesUp
 kept_up number next put ts state s is less up = kept_holds (AgreesUp number next put ts) state s (λ more. absurd (omega arith)) up
 
-some_up : (number next : ℕ) (put : List Message) (ts : List Tenure) (before : Option Connection) (s : Connection) → before ≡ Some s → AgreesUp number next put ts before → IsOpen s.state → UpIn s.state s put ts
+some_up : (number next : ℕ) (put : List Message) (ts : List ServedTenure) (before : Option Connection) (s : Connection) → before ≡ Some s → AgreesUp number next put ts before → IsOpen s.state → UpIn s.state s put ts
 unfolding AgreesUp
 some_up number next put ts before s is agrees = subst (AgreesUp number next put ts) is agrees
 
@@ -67,7 +69,7 @@ some_owns c number before s is owns = subst (OwnsOpen c.channels c.links number)
 
 -- ---- each step
 
-rest_up : (number next later : ℕ) (c : Controller) (given : List Message) (ts : List Tenure) (o : Option Connection) (word : Word) (brought : Brought) → next ≤ later → IsFine o → OwnsOpen c.channels c.links number o → (AreOwn c number ts → SaysUp word ts brought) → FitsNone brought o → AgreesUp number next given ts o →
+rest_up : (number next later : ℕ) (c : Controller) (given : List Message) (ts : List ServedTenure) (o : Option Connection) (word : Word) (brought : Brought) → next ≤ later → IsFine o → OwnsOpen c.channels c.links number o → (AreOwn c number ts → SaysUp word ts brought) → FitsNone brought o → AgreesUp number next given ts o →
     AgreesUp number later (given ++ []) (after_word word [] ts) o
 unfolding AgreesUp IsFine
 rest_up number next later c given ts None word brought more fine owns says none agrees = λ less.
@@ -78,7 +80,7 @@ rest_up number next later c given ts (Some s) word brought more fine owns says n
     subst (λ (ms : List Message). UpIn s.state s ms (after_word word [] ts)) (sym (append-nil given))
     (subst (UpIn s.state s given) (sym (rest_tenures s word brought given ts (says (up_own s.state c number s given ts (owns there) up)) fine.1 none up)) up)
 
-pub acts_up : (number next later : ℕ) (linked : Bool) (c : Controller) (brought : Brought) (before after : Option Connection) (put given : List Message) (ts : List Tenure) (word : Word) → Acts number next linked brought before put after → next ≤ later → IsBegun number next before → IsFine before → IsBreak brought → OwnsOpen c.channels c.links number before →
+pub acts_up : (number next later : ℕ) (linked : Bool) (c : Controller) (brought : Brought) (before after : Option Connection) (put given : List Message) (ts : List ServedTenure) (word : Word) → Acts number next linked brought before put after → next ≤ later → IsBegun number next before → IsFine before → IsBreak brought → OwnsOpen c.channels c.links number before →
     (AreOwn c number ts → SaysUp word ts brought) → AgreesUp number next given ts before → AgreesUp number later (given ++ put) (after_word word put ts) after
 unfolding AgreesUp
 acts_up number next later linked c brought before after put given ts word (rests silent same none) more begins fine break owns says agrees =
@@ -104,7 +106,7 @@ acts_up number next later linked c brought before after put given ts word (opens
     silent : (sapi : Sapi) (channel : Channel) → relayed sapi (access_activation channel ∷ []) ≡ []
     silent Zero channel = refl
     silent Three channel = refl
-acts_up number next later linked c brought before after put given ts word (goes old s input offer r is aged by fits put_is same) more begins fine break owns says agrees =
+acts_up number next later linked c brought before after put given ts word (takes_row old s input offer r is aged by fits put_is same) more begins fine break owns says agrees =
     let less : number < next = some_begun number next before old is begins in
     subst (AgreesUp number later (given ++ put) (after_word word put ts)) (sym same)
     (subst (λ (ms : List Message). AgreesUp number later (given ++ ms) (after_word word ms ts) (kept_in r.next.state r.next)) (sym put_is)
@@ -119,7 +121,7 @@ acts_up number next later linked c brought before after put given ts word (goes 
 
 -- ---- a life
 
-up_run : (number : ℕ) (c : Controller) (from_one : 1 ≤ number) (fits : (n : ℕ) → 1 ≤ n → Fits n c) → Holds c.links c → (given : List Message) (ts : List Tenure) (steps : List Step) → AgreesUp number c.next_number given ts (connection_of c number) →
+up_run : (number : ℕ) (c : Controller) (from_one : 1 ≤ number) (fits : (n : ℕ) → 1 ≤ n → Fits n c) → Holds c.links c → (given : List Message) (ts : List ServedTenure) (steps : List Step) → AgreesUp number c.next_number given ts (connection_of c number) →
     AgreesUp number (each step c steps).next.next_number (given ++ all_messages (moments_of number c from_one (fits number from_one) steps)) (fold after_moment ts (moments_of number c from_one (fits number from_one) steps)) (connection_of (each step c steps).next number)
 unfolding moments_of AllFine
 up_run number c from_one fits holds given ts [] agrees = subst (λ (ms : List Message). AgreesUp number c.next_number ms ts (connection_of c number)) (sym (append-nil given)) agrees
@@ -148,12 +150,12 @@ held_still sapi serving (d ∷ ds) (t ∷ ts) same =
     none true = refl
     none false = refl
 
-follows_held : (s : Connection) (put : List Message) (ts : List Tenure) (sapi : Sapi) → length s.up.tenures ≡ length s.draining + 1 → Follows s put ts → relayed sapi put ++ flat_map (λ tenure. tenure_messages tenure sapi) s.up.tenures ≡ joined sapi ts
+follows_held : (s : Connection) (put : List Message) (ts : List ServedTenure) (sapi : Sapi) → length s.up.tenures ≡ length s.draining + 1 → Follows s put ts → relayed sapi put ++ flat_map (λ tenure. tenure_messages tenure sapi) s.up.tenures ≡ joined sapi ts
 follows_held s put ts sapi same follows =
     ap (λ (xs : List (List ℕ)). relayed sapi put ++ xs) (sym (held_still sapi s.serving s.draining s.up.tenures same))
     ∙ follows.up sapi (λ place. []) ∙ joined_none sapi ts
 
-early_held : (s : Connection) (put : List Message) (ts : List Tenure) (sapi : Sapi) → s.up.tenures ≡ empty_tenure ∷ [] → ts ≡ [] → relayed sapi put ≡ [] → relayed sapi put ++ flat_map (λ tenure. tenure_messages tenure sapi) s.up.tenures ≡ joined sapi ts
+early_held : (s : Connection) (put : List Message) (ts : List ServedTenure) (sapi : Sapi) → s.up.tenures ≡ empty_tenure ∷ [] → ts ≡ [] → relayed sapi put ≡ [] → relayed sapi put ++ flat_map (λ tenure. tenure_messages tenure sapi) s.up.tenures ≡ joined sapi ts
 early_held s put ts sapi one none silent =
     ap (λ (xs : List (List ℕ)). xs ++ flat_map (λ tenure. tenure_messages tenure sapi) s.up.tenures) silent
     ∙ ap (λ (us : List HeldTenure). flat_map (λ tenure. tenure_messages tenure sapi) us) one ∙ empty sapi ∙ ap (joined sapi) (sym none)
@@ -162,14 +164,14 @@ early_held s put ts sapi one none silent =
     empty Zero = refl
     empty Three = refl
 
-up_held : (state : State) (s : Connection) → s.state ≡ state → (put : List Message) (ts : List Tenure) (sapi : Sapi) → IsValid s → UpIn state s put ts → relayed sapi put ++ flat_map (λ tenure. tenure_messages tenure sapi) s.up.tenures ≡ joined sapi ts
-up_held WaitActivation s is put ts sapi stands up = early_held s put ts sapi (by_state WaitActivation s is stands).0.one_tenure up.0 (up.1 sapi)
-up_held WaitEstablish s is put ts sapi stands up = early_held s put ts sapi (by_state WaitEstablish s is stands).0.one_tenure up.0 (up.1 sapi)
-up_held WaitConfirm s is put ts sapi stands up =
-    let awaits = by_state WaitConfirm s is stands in
+up_held : (state : State) (s : Connection) → s.state ≡ state → (put : List Message) (ts : List ServedTenure) (sapi : Sapi) → IsValid s → UpIn state s put ts → relayed sapi put ++ flat_map (λ tenure. tenure_messages tenure sapi) s.up.tenures ≡ joined sapi ts
+up_held WaitActivation s is put ts sapi valid up = early_held s put ts sapi (by_state WaitActivation s is valid).0.one_tenure up.0 (up.1 sapi)
+up_held WaitEstablish s is put ts sapi valid up = early_held s put ts sapi (by_state WaitEstablish s is valid).0.one_tenure up.0 (up.1 sapi)
+up_held WaitConfirm s is put ts sapi valid up =
+    let awaits = by_state WaitConfirm s is valid in
     follows_held s put ts sapi (awaits.one_tenure ∙ ap (λ (ds : List Drain). length ds + 1) (sym awaits.none_drains)) up
-up_held (Live reference stage) s is put ts sapi stands up = follows_held s put ts sapi (by_state (Live reference stage) s is stands).a_tenure_each up
-up_held _ s is put ts sapi stands up = absurd up
+up_held (Live reference stage) s is put ts sapi valid up = follows_held s put ts sapi (by_state (Live reference stage) s is valid).a_tenure_each up
+up_held _ s is put ts sapi valid up = absurd up
 
 conserved : (number next : ℕ) (moments : List Moment) (o : Option Entry) (sapi : Sapi) → IsFine (option_map (λ e. e.connection) o) → AgreesUp number next (all_messages moments) (service moments) (option_map (λ e. e.connection) o) → IsThere (option_map (λ e. e.connection) o) → relayed sapi (all_messages moments) ++ held_up_for sapi o ≡ joined sapi (service moments)
 unfolding AgreesUp IsFine
@@ -195,7 +197,7 @@ pub acts_usual : (number next : ℕ) (up : Bool) (brought : Brought) (before aft
 acts_usual number next up brought before after put (rests silent same none) = subst AreUsual (sym silent) tt
 acts_usual number next up brought before after put (ages old s is_time is aged silent same) = subst AreUsual (sym silent) tt
 acts_usual number next up brought before after put (opens begins linked channel request delay is_nothing none put_is same) = subst AreUsual (sym put_is) (tt, tt)
-acts_usual number next up brought before after put (goes old s input offer r is aged by fits put_is same) = subst AreUsual (sym put_is) (subst (OfRow PutsUsual) fits (usual_row s input offer))
+acts_usual number next up brought before after put (takes_row old s input offer r is aged by fits put_is same) = subst AreUsual (sym put_is) (subst (OfRow PutsUsual) fits (usual_row s input offer))
 
 usual_run : (number : ℕ) (c : Controller) (from_one : 1 ≤ number) (fits : Fits number c) (steps : List Step) → AreUsual (all_messages (moments_of number c from_one fits steps))
 unfolding moments_of

@@ -2,7 +2,7 @@
 -- The tenures of literal lives, and what the controller makes of the same.
 use Rattle.controller_model.proofs.Prelude.{◌≡◌, ℕ, true, false, List, [], ◌∷◌, ◌++◌, None, refl, Management, CompleteLayer3Information, hex}
 use Rattle.controller_model.proofs.Prelude.{Message, Request, Data, Zero, Three, AssignmentComplete, ClearRequest, HandoverPerformed}
-use Rattle.controller_model.proofs.Prelude.{Moment, all_messages, Tenure, joined, service, messages_on, Step, Tick, life, forwarded}
+use Rattle.controller_model.proofs.Prelude.{Moment, all_messages, ServedTenure, joined, service, messages_on, Step, Tick, life, forwarded}
 use Rattle.controller_model.proofs.Prelude.{held_up, is_on, is_same, map, Place}
 use Rattle.controller_model.proofs.Lives.{down, eager_settings, from_station, from_switch}
 use Rattle.controller_model.proofs.OnLiterals.{on_literals}
@@ -45,10 +45,10 @@ assigned = Data 0x800001 (Management (AssignmentComplete None))
 abbrev clears : Message
 clears = Data 0x800001 (Management (ClearRequest (record { 0 = hex "20" })))
 
-abbrev tenure : ℕ → ℕ → List (List ℕ) → List (List ℕ) → Tenure
+abbrev tenure : ℕ → ℕ → List (List ℕ) → List (List ℕ) → ServedTenure
 tenure station number zeros threes = record { place = record { station = station; number = number }; is_over = false; zero = zeros; three = threes }
 
-abbrev over : Tenure → Tenure
+abbrev over : ServedTenure → ServedTenure
 over t = record t { is_over = true }
 
 -- ---- tenures

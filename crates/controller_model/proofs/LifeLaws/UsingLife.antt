@@ -19,7 +19,7 @@ use Rattle.bssmap_codec.specs.declared.sccp.Sccp.TheVariants as sccp
 use Rattle.conn_rules.specs.declared.input.Input.TheVariants as inputs
 use Rattle.controller_model.proofs.LifeLaws.Beside.{links_with, other_link, step_goes}
 use Rattle.controller_model.proofs.LifeLaws.Entries.{find_above}
-use Rattle.controller_model.proofs.LifeLaws.Fitting.{Fits, IsLinkBreak, new_fits, own_carried, pass_stands, step_fits}
+use Rattle.controller_model.proofs.LifeLaws.Fitting.{Fits, IsLinkBreak, new_fits, own_carried, pass_valid, step_fits}
 use Rattle.controller_model.proofs.LifeLaws.OwningLife.{AllFine, aged_owns, break_shut, fine_at, fine_stand, new_holds, step_holds, timer_shut, told_holds}
 use Rattle.controller_model.proofs.LifeLaws.OwningWords.{AllStand, Holds, changes_of}
 use Rattle.controller_model.proofs.LifeLaws.Sources.{word_from}
@@ -101,7 +101,7 @@ still_here links f c x xs order leaves numbers = all_two (IsAbove x.connection.n
     (λ y above is. record {
       rising = order c x is.rising;
       there = leaves y.connection.number c x (λ same. absurd (omega arith)) ∙ is.there;
-      stands = is.stands;
+      valid = is.valid;
       from_one = is.from_one;
       below = subst (λ (k : ℕ). y.connection.number < k) (sym (numbers c x)) is.below;
       linked = is.linked;
@@ -154,13 +154,13 @@ told_sends : (links : List Bool) (source : ℕ) (c : Controller) (e : Entry) →
 told_sends links source c e here holds uses =
     let new : List Bool = set links source false in
     let offer : Option Channel = request_offer c e.connection (break_of source) in (
-      told_holds links c e (break_of source) (break_shut (break_of source) (own_carried source)) here.rising here.there here.stands holds,
+      told_holds links c e (break_of source) (break_shut (break_of source) (own_carried source)) here.rising here.there here.valid holds,
       fitting_sends links new (was_up links source) c (turn [] c) e (break_of source) offer (row_in c e.connection (break_of source)) refl here.rising here.there here.from_one here.below
           (λ r is.
-          let changes = changes_of e.connection (break_of source) offer r here.stands is in
+          let changes = changes_of e.connection (break_of source) offer r here.valid is in
           record {
             changes = changes;
-            goes = break_goes links source e.connection offer r is changes here.linked (own_alive links new c e here.there holds uses);
+            upward = break_goes links source e.connection offer r is changes here.linked (own_alive links new c e here.there holds uses);
             broken = λ station same. subst (λ (k : ℕ). is_link_up new k ≡ false) (sym (break_station source station same)) (down_link links source);
             freed = no_nack_of c.channels (break_of source) (break_no_nack (break_of source) (own_carried source));
           })
@@ -233,7 +233,7 @@ break_sends source c ready =
     down_here : (xs : List Entry) → AllByRecursion (IsHere c.links c) xs → AllByRecursion (IsHere c.links (with_down source c)) xs
     down_here [] here = tt
     down_here (x ∷ xs) here = (
-      record { rising = here.0.rising; there = here.0.there; stands = here.0.stands; from_one = here.0.from_one; below = here.0.below; linked = here.0.linked },
+      record { rising = here.0.rising; there = here.0.there; valid = here.0.valid; from_one = here.0.from_one; below = here.0.below; linked = here.0.linked },
       down_here xs here.1,
     )
 
@@ -256,13 +256,13 @@ expiry_sends links None c e due here holds uses = (holds, record { uses = uses; 
 expiry_sends links (Some input) c e due here holds uses =
     let offer : Option Channel = request_offer c e.connection input in
     let plain = timer_plain input due in (
-      told_holds links c e input (timer_shut input due) here.rising here.there here.stands holds,
+      told_holds links c e input (timer_shut input due) here.rising here.there here.valid holds,
       fitting_sends links links (λ link up. up) c (turn [] c) e input offer (row_in c e.connection input) refl here.rising here.there here.from_one here.below
           (λ r is.
-          let changes = changes_of e.connection input offer r here.stands is in
+          let changes = changes_of e.connection input offer r here.valid is in
           record {
             changes = changes;
-            goes = row_goes links e.connection input offer r is changes here.linked (own_alive links links c e here.there holds uses) (λ was_open is_open. absurd (timer_shut input due e.connection offer r is is_open));
+            upward = row_goes links e.connection input offer r is changes here.linked (own_alive links links c e here.there holds uses) (λ was_open is_open. absurd (timer_shut input due e.connection offer r is is_open));
             broken = no_break_of links input plain.1;
             freed = no_nack_of c.channels input plain.0;
           })
@@ -277,7 +277,7 @@ pub aged_ready : (ms : ℕ) (c : Controller) → Ready c → Ready (all_aged ms 
 unfolding AllStand
 aged_ready ms c ready = record {
   numbered = aged_numbered ms c ready.numbered;
-  stand = λ m e there. stands (entry_of c m) e (ready.stand m) (sym (all_age m ms c) ∙ there);
+  stand = λ m e there. valid (entry_of c m) e (ready.stand m) (sym (all_age m ms c) ∙ there);
   holds = record { shaped = ready.holds.shaped; each = λ n. subst (OwnsOpen c.channels c.links n) (sym (ap (option_map (λ (e : Entry). e.connection)) (all_age n ms c))) (aged_owns c.channels c.links n ms (entry_of c n) (ready.holds.each n)) };
   uses = record {
     used = λ at n up is. subst (λ (ps : List Place). Contains ps at) (sym (ap (λ (o : Option Entry). used_places (option_map (λ (e : Entry). e.connection) o)) (all_age n ms c) ∙ aged_places ms (entry_of c n))) (ready.uses.used at n up is);
@@ -287,9 +287,9 @@ aged_ready ms c ready = record {
   linked = λ m e there. linked (entry_of c m) e (ready.linked m) (sym (all_age m ms c) ∙ there);
 }
   where
-    stands : (o : Option Entry) (e : Entry) → ((x : Entry) → o ≡ Some x → IsValid x.connection) → option_map (aged ms) o ≡ Some e → IsValid e.connection
-    stands None e was is = absurd cc
-    stands (Some x) e was is = subst (λ (y : Entry). IsValid y.connection) (of is) (pass_stands ms x.connection (was x refl))
+    valid : (o : Option Entry) (e : Entry) → ((x : Entry) → o ≡ Some x → IsValid x.connection) → option_map (aged ms) o ≡ Some e → IsValid e.connection
+    valid None e was is = absurd cc
+    valid (Some x) e was is = subst (λ (y : Entry). IsValid y.connection) (of is) (pass_valid ms x.connection (was x refl))
       where
         of : (let o : Option Entry = Some (aged ms x) in o) ≡ Some e → aged ms x ≡ e
         of is = cc

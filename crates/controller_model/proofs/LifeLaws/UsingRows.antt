@@ -7,7 +7,7 @@ use Rattle.controller_model.proofs.Prelude.{Change, Assignment, Handover, Channe
 use Rattle.controller_model.proofs.Prelude.{rf_channel_release, Input, State, Closed, Removed, Target, Connection, TargetRole, Roles}
 use Rattle.controller_model.proofs.Prelude.{RoleStep, RoleEnd, ChangesRoles, roles_of, after_step, step_by, step_orders, begin_orders}
 use Rattle.controller_model.proofs.Prelude.{with_target, end_messages, target_channels, those_that_go, is_order, channels_in}
-use Rattle.controller_model.proofs.Prelude.{channels_in_use, goes_on, ends, had_ended, refused, drops, dismisses, stays, commands}
+use Rattle.controller_model.proofs.Prelude.{channels_in_use, goes_on, ends, had_ended, refused, drops, dismisses, unchanged, commands}
 use Rattle.controller_model.proofs.Prelude.{completes, goes_back, leaves, Row, IsOpen, OfRow, KeepsAccount-by, IsGivenUp, is_to_station}
 use Rattle.controller_model.proofs.Prelude.{row_of, kept, kept_in, connection_of, AreRising, is_link_up, used_places, ChannelState, Free}
 use Rattle.controller_model.proofs.Prelude.{InUse, Releasing, Controller, Entry, channels_after, entry_of, place_at, place_of, state_in}
@@ -215,7 +215,7 @@ none_alone at (inl here) = here
 none_alone at (inr there) = there
 
 step_takes : (at : Place) (step : RoleStep) (roles : Roles) (target : Option TargetRole) → AnyTakes at (step_orders step (record roles { target = target })) → ⊥
-step_takes at stays roles target takes = takes
+step_takes at unchanged roles target takes = takes
 step_takes at commands roles target takes = takes
 step_takes at completes roles target takes = none_alone at takes
 step_takes at goes_back roles None takes = takes
@@ -297,7 +297,7 @@ pub record Uses (old new : List Bool) (c : Controller) : Type 0 where
 -- what a row needs
 pub record RowUses (new : List Bool) (channels : List (List ChannelState)) (s : Connection) (input : Input) (offer : Option Channel) (r : Row) : Type 0 where
   pub changes : ChangesRoles s input offer r
-  pub goes : AllByRecursion (GoesUp new) r.outs
+  pub upward : AllByRecursion (GoesUp new) r.outs
   pub broken : (station : ℕ) → input ≡ inputs.StationDown station → is_link_up new station ≡ false
   pub freed : (at : Place) → input ≡ inputs.ActivationNack at → state_in channels at ≡ Free
 
@@ -358,7 +358,8 @@ by_row_uses old new more c e input offer r rising there fits from_one below need
             subst (λ (o : Option Connection). Contains (used_places o) at) (sym (ap (option_map (λ (x : Entry). x.connection)) (back_over n (entry_after c.settings e r) c.entries (λ same. differ (same ∙ keeps)))))
             (uses.used at n up kept_state.0))
       ];
-      blank = λ at dead. fold_else (IsAlive old) m at c.channels r.outs dead (reaching old new r.outs more needs.goes) ∙ uses.blank at dead;
+      blank = λ at dead. fold_else (IsAlive old) m at c.channels r.outs dead (reaching old new r.outs more needs.upward)
+          ∙ uses.blank at dead;
       given = λ at n is. elim (fold_release m n at c.channels r.outs is) [
         | inl same ↦ (omega arith, omega arith)
         | inr was ↦ uses.given at n was

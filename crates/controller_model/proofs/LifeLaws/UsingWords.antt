@@ -58,7 +58,7 @@ find_all P test (x ∷ xs) e all is = elim (cases_Bool (test x)) [
 pub record IsHere (links : List Bool) (c : Controller) (e : Entry) : Type 0 where
   pub rising : AreRising c.entries
   pub there : entry_of c e.connection.number ≡ Some e
-  pub stands : IsValid e.connection
+  pub valid : IsValid e.connection
   pub from_one : 1 ≤ e.connection.number
   pub below : e.connection.number < c.next_number
   pub linked : is_link_up links SWITCH_LINK ≡ true
@@ -68,7 +68,7 @@ unfolding AllStand
 here_of c m e ready there = record {
   rising = ready.numbered.rising;
   there = at_number c m e there;
-  stands = ready.stand m e there;
+  valid = ready.stand m e there;
   from_one = let above = find_all (IsAbove 0) (has_number m) c.entries e ready.numbered.above there in omega arith;
   below = find_all (IsBelow c.next_number) (has_number m) c.entries e ready.numbered.below there;
   linked = ready.linked m e there;
@@ -152,10 +152,10 @@ no_nack_of channels input none at is = let never : ⊥ = subst IsNoNack is none 
 frame_row : (c : Controller) (channels : States) (e : Entry) (input : Input) (offer : Option Channel) (r : Row) → IsHere c.links c e → Holds c.links c → Uses c.links c.links c → row_of e.connection input offer ≡ Some r →
     (IsOpen e.connection.state → (d : Channel) → offer ≡ Some d → IsAlive c.links d.station) → IsNoBreak input → ((at : Place) → input ≡ inputs.ActivationNack at → state_in channels at ≡ Free) → RowUses c.links channels e.connection input offer r
 frame_row c channels e input offer r here holds uses is offered no_break freed_one =
-    let changes = changes_of e.connection input offer r here.stands is in
+    let changes = changes_of e.connection input offer r here.valid is in
     record {
       changes = changes;
-      goes = row_goes c.links e.connection input offer r is changes here.linked (own_alive c.links c.links c e here.there holds uses) (λ was_open is_open. offered was_open);
+      upward = row_goes c.links e.connection input offer r is changes here.linked (own_alive c.links c.links c e here.there holds uses) (λ was_open is_open. offered was_open);
       broken = no_break_of c.links input no_break;
       freed = freed_one;
     }
@@ -165,7 +165,7 @@ pub fitting_sends : (old new : List Bool) → ((link : ℕ) → is_link_up new l
 fitting_sends old new more c otherwise e input offer None is rising there from_one below needs uses same = same
 fitting_sends old new more c otherwise e input offer (Some r) is rising there from_one below needs uses same = record {
   uses = by_row_uses old new more c e input offer r rising there is from_one below (needs r refl) uses;
-  outs = outs_up new e.connection.number r.outs (needs r refl).goes;
+  outs = outs_up new e.connection.number r.outs (needs r refl).upward;
 }
 
 pub ignoring_sends : (c : Controller) → Uses c.links c.links c → Sends c.links c.links (ignoring c)
@@ -353,7 +353,7 @@ report_sends at of report c m (Some e) there ready =
     (λ is. subst (λ (k : ℕ). connection_of c' k ≡ connection_of c k) (sym is) (ap (option_map (λ (x : Entry). x.connection)) found ∙ sym (ap (option_map (λ (x : Entry). x.connection)) here.there)))
     (λ differ. ap (option_map (λ (x : Entry). x.connection)) (back_over n put c.entries differ)) in
     decision_sends (decision_over put.averages.settings put.averages.reports of) c' put (λ cell is. moves_to put.averages.settings put.averages.reports of cell is)
-    (record { rising = back_rising put c.entries here.rising; there = found; stands = here.stands; from_one = here.from_one; below = here.below; linked = here.linked })
+    (record { rising = back_rising put c.entries here.rising; there = found; valid = here.valid; from_one = here.from_one; below = here.below; linked = here.linked })
     (same_holds c.links c c' refl refl same ready.holds)
     (same_uses c.links c.links c c' refl refl same ready.uses))
 

@@ -45,7 +45,7 @@ usual s = record {
   refuses = λ reference own. tt;
   asks = λ reference cause own is. tt;
   clears = λ reference own may. tt;
-  answers = λ source told. tt;
+  answers = λ source known. tt;
 }
 
 pub usual_row : (s : Connection) (input : Input) (offer : Option Channel) → OfRow PutsUsual (row_of s input offer)

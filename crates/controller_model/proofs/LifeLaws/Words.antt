@@ -5,7 +5,7 @@ use Rattle.controller_model.proofs.Prelude.{option_map, refl, sym, subst, ap, �
 use Rattle.controller_model.proofs.Prelude.{cond-false, eqb-true, eq-eqb, ne_eqb, and_parts, Channel, Place, SWITCH_LINK, access_activation}
 use Rattle.controller_model.proofs.Prelude.{Input, State, WaitConfirm, Live, Connection}
 use Rattle.controller_model.proofs.Prelude.{is_at, Row, Report, Decision, Stay, Move, RequestReference, MAX_CONNECTION_NUMBER, row_of}
-use Rattle.controller_model.proofs.Prelude.{Brought, IsBrought, FitsNone, if_held, brought_by, opens, nothing, comes, reports, outs_for}
+use Rattle.controller_model.proofs.Prelude.{Brought, IsBrought, FitsNone, if_held, brought_by, opens, nothing, of_frame, reports, outs_for}
 use Rattle.controller_model.proofs.Prelude.{connection_of, IsNumbered, AreRising, ChannelState, Free, InUse, Releasing, Word, Nothing, Ping}
 use Rattle.controller_model.proofs.Prelude.{Asks, OnChannel, Reports, OnConnection, access_channel, handover_offer, request_offer}
 use Rattle.controller_model.proofs.Prelude.{Controller, Entry, Turn, turn, ignoring, is_up, entry_of, with_entry, channel_state, holder}
@@ -21,14 +21,14 @@ connection_at c number o is = ap (option_map (λ (e : Entry). e.connection)) is
 
 -- ---- whose an input is
 
-held_own : (number m : ℕ) (input : Input) → number ≡ m → if_held number (Some m) input ≡ comes input
+held_own : (number m : ℕ) (input : Input) → number ≡ m → if_held number (Some m) input ≡ of_frame input
 held_own number m input same = cond-true _ _ _ (eq-eqb m number (sym same))
 
 held_other : (number m : ℕ) (input : Input) → number ≢ m → if_held number (Some m) input ≡ nothing
 held_other number m input differ = cond-false _ _ _ (ne_eqb m number (λ same. differ (sym same)))
 
 pub none_fits_none : (brought : Brought) → FitsNone brought None
-none_fits_none (comes input) = tt
+none_fits_none (of_frame input) = tt
 none_fits_none _ = tt
 
 none_for_other : (number m : ℕ) (input : Input) (o : Option Connection) → number ≢ m → FitsNone (if_held number (Some m) input) o

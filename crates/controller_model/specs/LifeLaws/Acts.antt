@@ -27,7 +27,7 @@ pub data Brought : Type 0 where
   -- no input
   nothing : Brought
   -- that of a frame
-  comes : Input → Brought
+  of_frame : Input → Brought
   -- a report on its channel, which may begin a handover
   reports : Brought
   -- that of a link that breaks
@@ -37,7 +37,7 @@ pub data Brought : Type 0 where
 
 abbrev pub if_held : ℕ → Option ℕ → Input → Brought
 if_held number None input = nothing
-if_held number (Some holder) input = if holder == number then comes input else nothing
+if_held number (Some holder) input = if holder == number then of_frame input else nothing
 
 -- what comes on a channel is for the connection that has it
 abbrev pub brought_by : Controller → ℕ → Word → Brought
@@ -65,7 +65,7 @@ IsTimer _ = ⊥
 -- the input that a row is by
 abbrev pub IsBrought : Brought → Input → Type 0
 IsBrought nothing input = ⊥
-IsBrought (comes brought) input = input ≡ brought
+IsBrought (of_frame brought) input = input ≡ brought
 IsBrought reports input = input ≡ inputs.Move
 IsBrought (breaks brought) input = input ≡ brought
 IsBrought passes input = IsTimer input
@@ -76,7 +76,7 @@ MissesOf input None = Unit {0}
 MissesOf input (Some s) = (offer : Option Channel) × (row_of s input offer ≡ None)
 
 abbrev pub FitsNone : Brought → Option Connection → Type 0
-FitsNone (comes input) before = MissesOf input before
+FitsNone (of_frame input) before = MissesOf input before
 FitsNone (breaks input) before = MissesOf input before
 FitsNone _ before = Unit {0}
 
@@ -110,7 +110,8 @@ pub data Acts (number next : ℕ) (up : Bool) (brought : Brought) (before : Opti
       → after ≡ Some (new_connection number channel request delay)
       → Acts number next up brought before put after
   -- a row of the table, perhaps after time passed
-  goes : (old s : Connection) (input : Input) (offer : Option Channel) (r : Row) → before ≡ Some old
+  takes_row : (old s : Connection) (input : Input) (offer : Option Channel) (r : Row)
+      → before ≡ Some old
       → IsAged old s → IsBrought brought input → row_of s input offer ≡ Some r → put ≡ r.outs
       → after ≡ kept r.next → Acts number next up brought before put after
 

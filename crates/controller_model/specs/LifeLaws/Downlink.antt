@@ -55,14 +55,14 @@ pub record Switched : Type 0 where
   -- and CC came after it
   pub confirmed : Bool
   -- what came after CC,
-  pub came : List (List ℕ)
+  pub arrived : List (List ℕ)
   -- and of it what wasn't rejected
   pub received : List (List ℕ)
   pub handed : List (List ℕ)
 
 abbrev pub nothing_switched : Switched
 nothing_switched =
-    record { requested = false; confirmed = false; came = []; received = []; handed = [] }
+    record { requested = false; confirmed = false; arrived = []; received = []; handed = [] }
 
 -- what came after CC in a step
 abbrev pub counted : ℕ → Sapi → Switched → Moment → List (List ℕ)
@@ -77,7 +77,7 @@ abbrev pub with_moment : ℕ → Sapi → Switched → Moment → Switched
 with_moment number sapi a m = record {
   requested = a.requested || requests m.messages;
   confirmed = a.confirmed || (a.requested && confirms number (word_in m.taken));
-  came = a.came ++ counted number sapi a m;
+  arrived = a.arrived ++ counted number sapi a m;
   received = left_over sapi m.messages a.handed (a.received ++ counted number sapi a m);
   handed = a.handed ++ handed sapi m.messages;
 }
@@ -111,6 +111,6 @@ pub record DownlinkIsConserved (number : ℕ) (p : Parameters) (steps : List Ste
   pub downlink : (sapi : Sapi) → ConservesDownlink (switched number sapi moments) sapi
       (connection_of life.next number)
   pub in_order : (sapi : Sapi) → IsPart (switched number sapi moments).handed
-      (switched number sapi moments).came
+      (switched number sapi moments).arrived
   pub read : AreAllowed p → AllByRecursion IsOctetStep steps → (sapi : Sapi)
       → handed_in life.outs number sapi ≡ (switched number sapi moments).handed

@@ -48,7 +48,7 @@ pub record KeepsSilence (number : ℕ) (c : Controller) (s : Step) (put : List M
   -- nothing is handed or relayed by the step that closes it, and from then on
   pub over : (IsThere (connection_of (step c s).next number) → ⊥) → HasNoStream put
   -- it doesn't open again
-  pub stays : number < c.next_number → (IsThere (connection_of c number) → ⊥)
+  pub remains_away : number < c.next_number → (IsThere (connection_of c number) → ⊥)
       → IsThere (connection_of (step c s).next number) → ⊥
   pub cleared : number < c.next_number → OnlyReleasesAfter (connection_of c number) put
 

@@ -16,7 +16,7 @@ use Rattle.controller_model.specs.LifeLaws.End.{AllAreRead}
 use Rattle.controller_model.specs.LifeLaws.History.{IsHistory, Moment, all_messages, outs_for}
 use Rattle.controller_model.specs.LifeLaws.History.{word_in}
 use Rattle.controller_model.specs.LifeLaws.Sending.{IsOctetStep}
-use Rattle.controller_model.specs.LifeLaws.Uplink.{Tenure, performs, service}
+use Rattle.controller_model.specs.LifeLaws.Uplink.{ServedTenure, performs, service}
 use Rattle.controller_model.specs.declared.step.Step.{Step}
 use Rattle.controller_model.specs.declared.step.Step.TheVariants.{Take}
 use Rattle.controller_model.specs.declared.word.Word.{Word}
@@ -101,7 +101,7 @@ IsHandedOn at (Station station (DataRequest request)) =
 IsHandedOn at _ = Unit {0}
 
 -- the first of the service list serves; before there is one nothing is handed
-abbrev pub AreHandedOn : List Tenure → List Message → Type 0
+abbrev pub AreHandedOn : List ServedTenure → List Message → Type 0
 AreHandedOn [] put = (sapi : Sapi) → handed sapi put ≡ []
 AreHandedOn (serving ∷ old) put = AllByRecursion (IsHandedOn serving.place) put
 

@@ -34,4 +34,4 @@ pub record NamesItsMobile (number : ℕ) (c : Controller) (s : Step) : Type 0 wh
   pub put : List Message
   pub outs : outs_for number (step c s).outs ≡ outs_of number put
   pub names : NamesOf (connection_of c number) put
-  pub stays : SameRequest (connection_of c number) (connection_of (step c s).next number)
+  pub keeps_request : SameRequest (connection_of c number) (connection_of (step c s).next number)

@@ -25,13 +25,13 @@ use Rattle.controller_model.specs.LifeLaws.Sending.{IsOctetStep}
 
 -- A tenure: what came on a channel from the moment that it served, until its release is
 -- acknowledged.
-pub record Tenure : Type 0 where
+pub record ServedTenure : Type 0 where
   pub place : Place
   pub is_over : Bool
   pub zero : List (List ℕ)
   pub three : List (List ℕ)
 
-abbrev pub of_sapi : Sapi → Tenure → List (List ℕ)
+abbrev pub of_sapi : Sapi → ServedTenure → List (List ℕ)
 of_sapi Zero t = t.zero
 of_sapi Three t = t.three
 
@@ -39,25 +39,25 @@ abbrev pub is_same : Place → Place → Bool
 is_same at other = (at.station == other.station) && (at.number == other.number)
 
 -- on its channel, while it isn't over
-abbrev pub is_on : Place → Tenure → Bool
+abbrev pub is_on : Place → ServedTenure → Bool
 is_on at t = not t.is_over && is_same t.place at
 
 -- a channel begins to serve
-abbrev pub beginning : Place → List (List ℕ) → Tenure
+abbrev pub beginning : Place → List (List ℕ) → ServedTenure
 beginning at zero = record { place = at; is_over = false; zero = zero; three = [] }
 
-abbrev pub with_message : Sapi → List ℕ → Tenure → Tenure
+abbrev pub with_message : Sapi → List ℕ → ServedTenure → ServedTenure
 with_message Zero message t = record t { zero = t.zero ++ message ∷ [] }
 with_message Three message t = record t { three = t.three ++ message ∷ [] }
 
-abbrev pub heard : Place → Sapi → List ℕ → Tenure → Tenure
+abbrev pub heard : Place → Sapi → List ℕ → ServedTenure → ServedTenure
 heard at sapi message t = if is_on at t then with_message sapi message t else t
 
-abbrev pub ended : Place → Tenure → Tenure
+abbrev pub ended : Place → ServedTenure → ServedTenure
 ended at t = if is_on at t then record t { is_over = true } else t
 
 -- all but the one that serves were released
-abbrev pub acknowledged : Place → List Tenure → List Tenure
+abbrev pub acknowledged : Place → List ServedTenure → List ServedTenure
 acknowledged at [] = []
 acknowledged at (serving ∷ old) = serving ∷ map (ended at) old
 
@@ -73,15 +73,15 @@ performs (m ∷ ms) = is_performed m || performs ms
 
 -- the first channel serves from the initial message on, with which CR is put; another one from its
 -- COMPLETE on, of which the switch learns
-abbrev pub begin_first : Bool → Place → List ℕ → List Tenure → List Tenure
+abbrev pub begin_first : Bool → Place → List ℕ → List ServedTenure → List ServedTenure
 begin_first true at initial [] = beginning at (initial ∷ []) ∷ []
 begin_first requested at initial tenures = tenures
 
-abbrev pub begin_next : List Tenure → Bool → Place → List Tenure
+abbrev pub begin_next : List ServedTenure → Bool → Place → List ServedTenure
 begin_next [] performed at = []
 begin_next (t ∷ ts) performed at = if performed then beginning at [] ∷ t ∷ ts else t ∷ ts
 
-abbrev pub after_input : Input → List Message → List Tenure → List Tenure
+abbrev pub after_input : Input → List Message → List ServedTenure → List ServedTenure
 after_input (inputs.EstablishIndication at Zero (Some initial)) put tenures =
     begin_first (requests put) at initial tenures
 after_input (inputs.Complete at change cause) put tenures = begin_next tenures (performs put) at
@@ -89,19 +89,19 @@ after_input (inputs.Dtap at sapi message) put tenures = map (heard at sapi messa
 after_input (inputs.ReleaseAck at) put tenures = acknowledged at tenures
 after_input _ put tenures = tenures
 
-abbrev pub after_word : Word → List Message → List Tenure → List Tenure
+abbrev pub after_word : Word → List Message → List ServedTenure → List ServedTenure
 after_word (OnChannel at input) put tenures = after_input input put tenures
 after_word _ put tenures = tenures
 
-abbrev pub after_moment : List Tenure → Moment → List Tenure
+abbrev pub after_moment : List ServedTenure → Moment → List ServedTenure
 after_moment tenures m = after_word (word_in m.taken) m.messages tenures
 
 -- the service list: the tenures, the one that serves first
-abbrev pub service : List Moment → List Tenure
+abbrev pub service : List Moment → List ServedTenure
 service moments = fold after_moment [] moments
 
 -- their messages in the order in which they came to serve
-abbrev pub joined : Sapi → List Tenure → List (List ℕ)
+abbrev pub joined : Sapi → List ServedTenure → List (List ℕ)
 joined sapi [] = []
 joined sapi (serving ∷ old) = joined sapi old ++ of_sapi sapi serving
 

@@ -50,7 +50,7 @@ switch_breaks : (w : Actors) (s : Connection) → s.state ≡ WaitEstablish → 
     → SeesSame w (with_item (record { source = SWITCH_LINK; what = whats.Down }) (record (with_link SWITCH_LINK broken_link w) { switch_made = [] })) s
 unfolding SameTenures forwarded
 switch_breaks w s state draining placed unsaid = record {
-  coming = rw (draining, state) (same_coming s.serving, tt);
+  arriving = rw (draining, state) (same_coming s.serving, tt);
   up = λ n. same_up n;
   serving = ap (λ (link : Link). flat_map leading_from_air (spot_at w (place_of s.serving)).air ++ flat_map (leading_from_outbox s.serving.number) link.outbox) (set-apart w.links broken_link SWITCH_LINK s.serving.station broken_link placed);
   target = λ t is. absurd (let both : None ≡ Some t = sym (none_target s.state state) ∙ is in cc);
@@ -89,7 +89,7 @@ module _ (settings : Parameters) (done : List Event) (mobile : ℕ) (s : Connect
   switch_not_up is = ap (λ (b : Bool). unwrap_or (if b then switch_took_first (outbox_of world SWITCH_LINK) world else None) world) is
 
   unconfirmed : (state : State) → state ≡ WaitEstablish → IsUnconfirmed (Some (record s { state = state })) → ⊥
-  unconfirmed state is unheard = absurd (subst (λ (x : State). IsUnconfirmed (Some (record s { state = x }))) is unheard)
+  unconfirmed state is not_confirmed = absurd (subst (λ (x : State). IsUnconfirmed (Some (record s { state = x }))) is not_confirmed)
 
   takes_lined : (station : ℕ) → s.state ≡ WaitEstablish → IsKnown (modulus_in settings) world mobile s → AreLinedUp (modulus_in settings) world mobile s → AreLinedUp (modulus_in settings) (actors_after world (events.BaseTakes station)) mobile s
   takes_lined station state known lined = elim (cases_Bool (is_station_up world station)) [
@@ -102,10 +102,10 @@ module _ (settings : Parameters) (done : List Event) (mobile : ℕ) (s : Connect
     | inr down ↦ subst (λ (v : Actors). AreLinedUp (modulus_in settings) v mobile s) (sym (switch_not_up down)) lined
     | inl up ↦ elim (known.delivers up) [
       | inl delivers ↦ switch_keeps_line_ups_new settings done mobile s delivers lined
-      | inr unheard ↦
+      | inr not_confirmed ↦
           let passes : Passes world (actors_after world events.SwitchTakes) = after_taken (Passes world) (event_after world events.SwitchTakes) world (event_passes world events.SwitchTakes refl (good_all (new_actors settings) done (good_new settings))) (passes_itself world) in
           let there : connection_of (actors_after world events.SwitchTakes).controller s.number ≡ Some s = ap (λ (c : Controller). connection_of c s.number) passes.controller ∙ had.there in
-          absurd (unconfirmed s.state state (subst IsUnconfirmed there unheard.unconfirmed))
+          absurd (unconfirmed s.state state (subst IsUnconfirmed there not_confirmed.unconfirmed))
     ]
   ]
 

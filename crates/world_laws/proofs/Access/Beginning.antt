@@ -12,15 +12,15 @@ use Rattle.world_laws.specs.LineUp.Places.{Item}
 use Rattle.world_laws.proofs.LineUp.Following.{follows_line}
 use Rattle.mobile_end.specs.RunsToEnd.{RunsToEnd}
 use Rattle.world_laws.specs.Seated.Remembers.{nothing}
-use Rattle.world_laws.specs.Seated.Sits.{stays}
+use Rattle.world_laws.specs.Seated.Sits.{unchanged}
 
 -- nothing came, and the link of its station is up: the initial message, whatever it is, is to come
 begin_alive : {m : ℕ} (sent : List (List ℕ)) (link : DataLinkState) (items : List Item) → messages_in items ≡ [] → RunsToEnd m sent [] link
     → Alive m (assembled sent link on_serving WaitEstablish 0 [] (record { hold = []; items = items; is_lost = false; is_done = false }) fresh [] [])
-begin_alive {m} sent link items none goes = record {
-  follows = follows_line (ap (λ (xs : List (List ℕ)). flow xs ++ []) (sym none)) (goes_on goes);
+begin_alive {m} sent link items none runs = record {
+  follows = follows_line (ap (λ (xs : List (List ℕ)). flow xs ++ []) (sym none)) (goes_on runs);
   first = λ is. refl;
-  stands = opens remains refl;
+  phase = opens remains refl;
   condition = sound;
   bare = refl;
 }
@@ -31,13 +31,13 @@ pub record IsBareOf (s : Connection) : Type 0 where
   pub tenures : s.up.tenures ≡ empty_tenure ∷ []
 
 pub bare_of : (s : Connection) → s.state ≡ WaitEstablish → IsValid s → IsBareOf s
-bare_of s is stands = let bare = (subst (λ (x : _). IsValidState x s.draining s.down s.up.tenures s.link s.waits) is stands.state).0 in record { draining = bare.none_drains; tenures = bare.one_tenure }
+bare_of s is valid = let bare = (subst (λ (x : _). IsValidState x s.draining s.down s.up.tenures s.link s.waits) is valid.state).0 in record { draining = bare.none_drains; tenures = bare.one_tenure }
 
 pub begins_lined : {m : ℕ} (w : Actors) (p : Mobile) (s : Connection) → s.state ≡ WaitEstablish → IsBareOf s → s.serving.station ≢ SWITCH_LINK → p.seat ≡ On (tenure_at w (place_of s.serving)) None → IsNew m p → is_station_up w s.serving.station ≡ true
     → messages_in (coming_up w (place_of s.serving)) ≡ [] → going_down w (place_of s.serving) ≡ [] → waiting_of w s.number ≡ [] → taken_of w s.number ≡ [] → LinedUp m w p s
 begins_lined {m} w p s state bare placed seat new up none uncommanded unsaid untaken = record {
   alive = subst (Alive m) (sym reads) (begin_alive p.end.sent p.end.zero (coming_up w (place_of s.serving)) none new.goes_on);
-  sits = rw (state, seat) (stays refl nothing);
+  sits = rw (state, seat) (unchanged refl nothing);
   led = rw (uncommanded) tt;
   none_on_target = rw (state) tt;
   apart = rw (bare.draining, state) (tt, tt);

@@ -10,7 +10,7 @@ use Rattle.world_laws.proofs.Prelude.{Activation, rsl_reading, rsl_text, result_
 use Rattle.world_laws.proofs.Prelude.{going_down, leading_by, leading_from_outbox, IsForOthers, AssignsBy, AssignsIn, IsComing, AreBeside}
 use Rattle.world_laws.proofs.Prelude.{AssignsAnother, IsBeside, read_request, IsEarlyIn, entry_out}
 use Rattle.conn_messages.specs.Out.{out_of}
-use Rattle.controller_model.specs.LifeLaws.Acts.Acts.{goes as goes_by, opens as begins}
+use Rattle.controller_model.specs.LifeLaws.Acts.Acts.{takes_row as goes_by, opens as begins}
 use Rattle.rsl_codec.specs.declared.rsl.Rsl.TheVariants as rsl
 use Rattle.world_model.specs.declared.event.Event.TheVariants as events
 use Rattle.world_model.specs.Relay.{entry_of}
@@ -84,7 +84,7 @@ module _ (settings : Parameters) (done : List Event) (s : Connection) where
         asked = refl;
         one = waits.one;
         found = v_mobile settings done mobile s target t items mobile ∙ waits.found;
-        comes = turn_comes settings done mobile s target t items waits.one less down (λ other lined. absurd (let clash : WaitActivation ≡ WaitEstablish = sym state ∙ other in cc)) waits.found (asks waits.asking waits.new quiet.none_comes quiet.none_commanded);
+        accessing = turn_comes settings done mobile s target t items waits.one less down (λ other lined. absurd (let clash : WaitActivation ≡ WaitEstablish = sym state ∙ other in cc)) waits.found (asks waits.asking waits.new quiet.none_comes quiet.none_commanded);
         assigned = assigned_turn mobile s target t.outs u (λ station. untold_all station (outbox_of world station) (waits.untold station)) (all_both _ _ (λ (out : Out). AssignsBy mobile s out.to (rsl_in out.frame)) t.outs (λ out one two. one.1) all all);
       } where
         untold_all : (station : ℕ) (entries : List OutboxEntry) → AllByRecursion (λ entry. AssignsAnother mobile (rsl_in entry.out.frame)) entries → AllByRecursion (AssignsIn mobile s station) entries
@@ -101,23 +101,23 @@ module _ (settings : Parameters) (done : List Event) (s : Connection) where
       new_comes target items (take item world.controller) channel less (ap (λ (x : Connection). x.state) (same_Some _ _ (sym some_now ∙ is_now))) (outs ∙ ap (outs_of s.number) put_is) sent beside waits quiet least there
 
 pub connections_begin_for_their_mobile_new : (settings : Parameters) (done : List Event) → ConnectionsBeginForTheirMobile settings done
-connections_begin_for_their_mobile_new settings done s item items allowed octets stood least none there waits quiet unanswered =
+connections_begin_for_their_mobile_new settings done s item items allowed octets pending least none there waits quiet unanswered =
     let world : Actors = actors_after_all (new_actors settings) done in
     let target : Option Tenure = target_in world item.source item.what in
-    let leads : actors_after world events.Handle ≡ turned settings done s.request.access s target (take item world.controller) items = handled_is settings done s.request.access s (item ∷ items) stood in
+    let leads : actors_after world events.Handle ≡ turned settings done s.request.access s target (take item world.controller) items = handled_is settings done s.request.access s (item ∷ items) pending in
     let both : AllByRecursion IsOctetStep (all_steps (new_actors settings) done ++ step_at world events.Handle) = subst (AllByRecursion IsOctetStep) (snoc_steps (new_actors settings) done events.Handle) octets in
-    let own : IsOctetStep (Take item) = (subst (λ (xs : List RelayItem). AllByRecursion IsOctetStep (first_taken xs)) stood (all_right IsOctetStep (all_steps (new_actors settings) done) (step_at world events.Handle) both)).0 in
+    let own : IsOctetStep (Take item) = (subst (λ (xs : List RelayItem). AllByRecursion IsOctetStep (first_taken xs)) pending (all_right IsOctetStep (all_steps (new_actors settings) done) (step_at world events.Handle) both)).0 in
     let now : connection_of (take item world.controller).next s.number ≡ Some s = ap (λ (c : Controller). connection_of c s.number) (sym (v_controller settings done s.request.access s target (take item world.controller) items) ∙ ap (λ (x : Actors). x.controller) (sym leads)) ∙ there in
     let acts : ActsOn s.number world.controller (Take item) = subst (λ (c : Controller). ActsOn s.number c (Take item)) (sym (FollowsTable-new settings done)) (life_acts settings (all_steps (new_actors settings) done) (Take item) s.number least) in
     let steps : List Step = all_steps (new_actors settings) done in
-    let lives = FollowsTable-new settings done in
-    let numbered : IsNumbered world.controller = subst IsNumbered (sym lives) (life_fits settings steps 1 (omega arith)).numbered in
+    let by_table = FollowsTable-new settings done in
+    let numbered : IsNumbered world.controller = subst IsNumbered (sym by_table) (life_fits settings steps 1 (omega arith)).numbered in
     let sent : AllByRecursion IsSent (take item world.controller).outs = sends_at settings done s.request.access s (Take item) allowed (all_left IsOctetStep (all_steps (new_actors settings) done) (step_at world events.Handle) both) own in
     let beside : AreBeside target s.request.access s (take item world.controller).outs =
     all_both (λ (out : Out). out.conn ≢ s.number → IsForOthers target s out) (λ (out : Out). out.conn ≢ s.number → AssignsAnother s.request.access (rsl_in out.frame)) (λ (out : Out). out.conn ≢ s.number → IsBeside target s.request.access s out) (take item world.controller).outs
     (λ out one two. λ differs. record { for_others = one differs; assigns = two differs }) (item_begins settings done s item allowed least none now)
     (step_another world.controller s.number s.request.access s.serving (λ m t is same. absurd (unanswered m t is same)) (Take item) numbered sent
-    (λ m from_one. subst (λ (c : Controller). NamesItsMobile m c (Take item)) (sym lives) (life_names settings steps (Take item) m from_one))) in
+    (λ m from_one. subst (λ (c : Controller). NamesItsMobile m c (Take item)) (sym by_table) (life_names settings steps (Take item) m from_one))) in
     subst (λ (x : Actors). IsComing (modulus_in settings) x s.request.access s) (sym leads)
-    (by_acts settings done s target items item (behind_less settings done s.request.access s item items stood) sent beside waits quiet least now
+    (by_acts settings done s target items item (behind_less settings done s.request.access s item items pending) sent beside waits quiet least now
     world.controller.next_number _ _ (connection_of world.controller s.number) (connection_of (take item world.controller).next s.number) acts.put acts.acts none now acts.outs)

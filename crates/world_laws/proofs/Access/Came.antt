@@ -8,7 +8,7 @@ use Rattle.world_laws.proofs.Prelude.{Event, AirMessage, On, Tenure, actors_afte
 use Rattle.world_laws.proofs.Prelude.{is_station_up, mobile_of, modulus_in, new_actors, tenure_at, turn_leads, same_Some, Alive}
 use Rattle.world_laws.proofs.Prelude.{controls_in, controls_of, flow, fresh, messages_in, on_serving, messages_up, read_of, brings_in}
 use Rattle.world_laws.proofs.Prelude.{coming_up, made_of, going_down, assembled, line_up, taken_of, waiting_of, initial_by, initials_up}
-use Rattle.world_laws.proofs.Prelude.{Leads, LinedUp, sits_stays, AreLinedUp, AreAssigned, BeginsOnce, IsComing, data_by, data_up, HasAccess}
+use Rattle.world_laws.proofs.Prelude.{Leads, LinedUp, sits_unchanged, AreLinedUp, AreAssigned, BeginsOnce, IsComing, data_by, data_up, HasAccess}
 use Rattle.world_laws.proofs.Prelude.{still_comes, IsEarlyIn}
 use Rattle.conn_rules.specs.Timers.{after_pass}
 use Rattle.world_laws.specs.LineUp.Places.Item.{brought}
@@ -44,7 +44,7 @@ passes_comes ms x (asks seat new none uncommanded) = asks seat new none uncomman
 passes_comes ms x (arrived state seat lined begun) = arrived state seat (passes_lined ms x lined) begun
 
 aged_comes : {m : ℕ} {v : Actors} {one : Mobile} (s x : Connection) → IsAged s x → IsAccessing m v s one → IsAccessing m v x one
-aged_comes {m} {v} {one} s x aged comes = aged_holds (λ (y : Connection). IsAccessing m v y one) (λ ms y c. passes_comes ms y c) s x aged comes
+aged_comes {m} {v} {one} s x aged accessing = aged_holds (λ (y : Connection). IsAccessing m v y one) (λ ms y c. passes_comes ms y c) s x aged accessing
 
 aged_assigned : (v : Actors) (mobile : ℕ) (s x : Connection) → IsAged s x → AreAssigned v mobile s → AreAssigned v mobile x
 aged_assigned v mobile s x aged assigned = aged_holds (λ (y : Connection). AreAssigned v mobile y) (λ ms y a. a) s x aged assigned
@@ -101,16 +101,16 @@ module _ (settings : Parameters) (done : List Event) (mobile : ℕ) (s : Connect
     pub later : Sub (data_up (before items) at) (data_up world at)
 
   pub first_of : (item : RelayItem) (items : List RelayItem) → world.inbox ≡ item ∷ items → coming_up world at ≡ brings_in at item ++ coming_up (before items) at
-  first_of item items stood = ap (λ (xs : List RelayItem). flat_map (brings_in at) xs ++ made_of at.number (base_of world at.station).messages) stood ∙ append_assoc (brings_in at item) (flat_map (brings_in at) items) (made_of at.number (base_of world at.station).messages)
+  first_of item items pending = ap (λ (xs : List RelayItem). flat_map (brings_in at) xs ++ made_of at.number (base_of world at.station).messages) pending ∙ append_assoc (brings_in at item) (flat_map (brings_in at) items) (made_of at.number (base_of world at.station).messages)
 
   pub behind_less : (item : RelayItem) (items : List RelayItem) → world.inbox ≡ item ∷ items → IsLess items
-  behind_less item items stood = record {
-    messages = subst (Sub (messages_in (coming_up (before items) at))) (sym (ap messages_in (first_of item items stood) ∙ messages_in-append (brings_in at item) (coming_up (before items) at))) (sub_behind (messages_in (brings_in at item)) (messages_in (coming_up (before items) at)));
+  behind_less item items pending = record {
+    messages = subst (Sub (messages_in (coming_up (before items) at))) (sym (ap messages_in (first_of item items pending) ∙ messages_in-append (brings_in at item) (coming_up (before items) at))) (sub_behind (messages_in (brings_in at item)) (messages_in (coming_up (before items) at)));
     initials = sub_flat_map (initial_by at.number) ups;
     later = sub_flat_map (data_by at.number) ups;
   } where
     ups : Sub (messages_up (before items) at.station) (messages_up world at.station)
-    ups = sub_append (subst (λ (xs : List RelayItem). Sub (flat_map (read_of at.station) items) (flat_map (read_of at.station) xs)) (sym stood) (sub_behind (read_of at.station item) (flat_map (read_of at.station) items))) (sub_itself (base_of world at.station).messages)
+    ups = sub_append (subst (λ (xs : List RelayItem). Sub (flat_map (read_of at.station) items) (flat_map (read_of at.station) xs)) (sym pending) (sub_behind (read_of at.station item) (flat_map (read_of at.station) items))) (sub_itself (base_of world at.station).messages)
 
   -- ---- it stays as it is
 
@@ -128,7 +128,7 @@ module _ (settings : Parameters) (done : List Event) (mobile : ℕ) (s : Connect
             (let fewer = controls_sub less.later in let same = ap controls_of (v_data target t items at) in omega (arith, none, fewer, same))
 
   pub stays_came : (target : Option Tenure) (t : Turn) (items : List RelayItem) (x : Connection) (coming : IsComing modulus world mobile s) → IsAged s x → connection_of t.next s.number ≡ Some x → IsAccessing modulus (turned target t items) s coming.one → AreAssigned (turned target t items) mobile s → HasAccess (IsComing modulus) modulus (turned target t items) mobile s.number
-  stays_came target t items x coming aged there comes assigned =
+  stays_came target t items x coming aged there accessing assigned =
       let like : IsLike s x = aged_like s x aged in
       still_comes x like.number (record {
         had = record {
@@ -140,7 +140,7 @@ module _ (settings : Parameters) (done : List Event) (mobile : ℕ) (s : Connect
         asked = ap (λ (r : _). r.access) like.request ∙ coming.asked;
         one = coming.one;
         found = v_mobile target t items mobile ∙ coming.found;
-        comes = aged_comes s x aged comes;
+        accessing = aged_comes s x aged accessing;
         assigned = aged_assigned (turned target t items) mobile s x aged assigned;
       })
 
@@ -157,7 +157,7 @@ module _ (settings : Parameters) (done : List Event) (mobile : ℕ) (s : Connect
 
   pub told_came : (target : Option Tenure) (t : Turn) (items : List RelayItem) (x : Connection) (coming : IsComing modulus world mobile s) → IsAged s x → connection_of t.next s.number ≡ Some (enter WaitEstablish x) → IsAccessing modulus (turned target t items) (enter WaitEstablish s) coming.one → AreAssigned (turned target t items) mobile (enter WaitEstablish s)
       → HasAccess (IsComing modulus) modulus (turned target t items) mobile s.number
-  told_came target t items x coming aged there comes assigned =
+  told_came target t items x coming aged there accessing assigned =
       let like : IsLike s x = aged_like s x aged in
       let v : Actors = turned target t items in
       still_comes (enter WaitEstablish x) like.number (record {
@@ -170,7 +170,7 @@ module _ (settings : Parameters) (done : List Event) (mobile : ℕ) (s : Connect
         asked = ap (λ (r : _). r.access) like.request ∙ coming.asked;
         one = coming.one;
         found = v_mobile target t items mobile ∙ coming.found;
-        comes = aged_holds (λ (y : Connection). IsAccessing modulus v (enter WaitEstablish y) coming.one) (λ ms y c. passes_told ms y c) s x aged comes;
+        accessing = aged_holds (λ (y : Connection). IsAccessing modulus v (enter WaitEstablish y) coming.one) (λ ms y c. passes_told ms y c) s x aged accessing;
         assigned = aged_holds (λ (y : Connection). AreAssigned v mobile (enter WaitEstablish y)) (λ ms y a. a) s x aged assigned;
       })
 
@@ -182,9 +182,9 @@ module _ (settings : Parameters) (done : List Event) (mobile : ℕ) (s : Connect
   pub asks_lined : (target : Option Tenure) (t : Turn) (items : List RelayItem) (initial : List ℕ) (one : Mobile) → s.state ≡ WaitEstablish → IsBareOf s → one.seat ≡ On (tenure_at world at) None → LinedUp modulus world one s → s.serving.station ≢ SWITCH_LINK
       → coming_up world at ≡ brought initial ∷ coming_up (turned target t items) at → going_down (turned target t items) at ≡ going_down world at → waiting_of world s.number ≡ [] → taken_of world s.number ≡ [] → waiting_of (turned target t items) s.number ≡ initial ∷ []
       → controls_in (coming_up (turned target t items) at) + controls_of (to_be_taken one.end.zero) ≡ 0 → LinedUp modulus (turned target t items) one (enter WaitConfirm s)
-  asks_lined target t items initial one state bare seat lined placed came down unsaid untaken said left = record {
+  asks_lined target t items initial one state bare seat lined placed on_way_up down unsaid untaken said left = record {
     alive = subst (Alive modulus) (sym reads) (requests_alive one.end.sent one.end.zero initial (coming_up v at) (not (is_station_up world s.serving.station)) left (subst (Alive modulus) was lined.alive));
-    sits = rw (seat, sym (v_tenure target t items at)) (sits_stays refl nothing);
+    sits = rw (seat, sym (v_tenure target t items at)) (sits_unchanged refl nothing);
     led = rw (down, quiet) tt;
     none_on_target = tt;
     apart = rw (bare.draining) (tt, tt);
@@ -200,7 +200,7 @@ module _ (settings : Parameters) (done : List Event) (mobile : ℕ) (s : Connect
     up = turn_stations target t.outs (record (before items) { controller = t.next }) s.serving.station
 
     was : line_up world one s ≡ assembled one.end.sent one.end.zero on_serving WaitEstablish 0 [] (of_items (brought initial ∷ coming_up v at) (not (is_station_up world s.serving.station))) fresh [] []
-    was = rw (state, bare.draining, bare.tenures, seat, here, quiet, unsaid, untaken, came) refl
+    was = rw (state, bare.draining, bare.tenures, seat, here, quiet, unsaid, untaken, on_way_up) refl
 
     reads : line_up v one (enter WaitConfirm s) ≡ assembled one.end.sent one.end.zero on_serving WaitConfirm 0 [] (of_items (coming_up v at) (not (is_station_up world s.serving.station))) fresh (flow (initial ∷ [])) []
     reads = rw (bare.draining, bare.tenures, seat, here, down, quiet, said, v_taken target t items s.number, untaken, up) refl

@@ -13,7 +13,7 @@ use Rattle.world_laws.proofs.Prelude.{messages_in, coming_up, initials_up, AcksA
 use Rattle.world_laws.proofs.Prelude.{BringsNothing, IsComing, data_up, AreBeside, AssignsAnother, HasAccess, ControllerBringsComing, IsBeside}
 use Rattle.world_laws.proofs.Prelude.{AreForOthers, AreOneEach, still_comes, IsEarlyIn}
 use Rattle.conn_rules.specs.declared.input.Input.TheVariants as inputs
-use Rattle.controller_model.specs.LifeLaws.Acts.Acts.{goes as goes_by, opens as begins}
+use Rattle.controller_model.specs.LifeLaws.Acts.Acts.{takes_row as goes_by, opens as begins}
 use Rattle.controller_model.specs.declared.step.Step.TheVariants.{Tick}
 use Rattle.world_model.specs.declared.event.Event.TheVariants as events
 use Rattle.world_model.specs.Life.{event_after}
@@ -22,7 +22,7 @@ use Rattle.world_laws.proofs.OwnerRun.{mobiles_sit_on_theirs_new}
 use Rattle.world_laws.proofs.Standing.{connections_stand_new}
 use Rattle.world_laws.proofs.Sublists.{sub_itself}
 use Rattle.world_laws.specs.Access.Arriving.{IsKnown}
-use Rattle.world_laws.specs.Access.Requested.HasAccess.{goes as is_gone}
+use Rattle.world_laws.specs.Access.Requested.HasAccess.{no_more as is_gone}
 use Rattle.world_laws.proofs.Access.Beginning.{IsBareOf, bare_of}
 use Rattle.world_laws.proofs.Access.EarlyRows.{EarlyRow, early_row}
 use Rattle.world_laws.proofs.Access.EarlyRows.EarlyRow.{acked, asked as asks_switch, gone as row_gone}
@@ -104,12 +104,12 @@ module _ (settings : Parameters) (done : List Event) (mobile : ℕ) (s : Connect
   beside_all : (st : Step) (target : Option Tenure) → AreOneEach world → IsComing modulus world mobile s → AllByRecursion IsSent (step world.controller st).outs → AreForOthers target s (step world.controller st).outs → AreBeside target mobile s (step world.controller st).outs
   beside_all st target one_each coming sent others =
       let steps : List Step = all_steps (new_actors settings) done in
-      let lives = FollowsTable-new settings done in
-      let numbered : IsNumbered world.controller = subst IsNumbered (sym lives) (life_fits settings steps 1 (omega arith)).numbered in
+      let by_table = FollowsTable-new settings done in
+      let numbered : IsNumbered world.controller = subst IsNumbered (sym by_table) (life_fits settings steps 1 (omega arith)).numbered in
       all_both (λ (out : Out). out.conn ≢ s.number → IsForOthers target s out) (λ (out : Out). out.conn ≢ s.number → AssignsAnother mobile (rsl_in out.frame)) (λ (out : Out). out.conn ≢ s.number → IsBeside target mobile s out) (step world.controller st).outs
       (λ out one two. λ differs. record { for_others = one differs; assigns = two differs }) others
       (step_another world.controller s.number mobile s.serving (λ m t is same. one_each m s.number t s is coming.had.there (same ∙ sym coming.asked)) st numbered sent
-      (λ m least. subst (λ (c : Controller). NamesItsMobile m c st) (sym lives) (life_names settings steps st m least)))
+      (λ m least. subst (λ (c : Controller). NamesItsMobile m c st) (sym by_table) (life_names settings steps st m least)))
 
   pub sends_at : (st : Step) → AreAllowed settings → AllByRecursion IsOctetStep (all_steps (new_actors settings) done) → IsOctetStep st → AllByRecursion IsSent (step world.controller st).outs
   sends_at st allowed octets own = subst (λ (c : Controller). AllByRecursion IsSent (step c st).outs) (sym (FollowsTable-new settings done)) (life_sends settings (all_steps (new_actors settings) done) st allowed octets own)
@@ -121,7 +121,7 @@ module _ (settings : Parameters) (done : List Event) (mobile : ℕ) (s : Connect
 
   pub handled_is : (items : List RelayItem) → world.inbox ≡ items → actors_after world events.Handle ≡ unwrap_or (handled items world) world
   unfolding event_after
-  handled_is items stood = ap (λ (xs : List RelayItem). unwrap_or (handled xs world) world) stood
+  handled_is items pending = ap (λ (xs : List RelayItem). unwrap_or (handled xs world) world) pending
 
   handle_came : AreAllowed settings → TookOctets settings (done ++ events.Handle ∷ []) → is_up world SWITCH_LINK ≡ true → IsKnown modulus world mobile s → AcksAgree world s → AreOneEach world → IsComing modulus world mobile s → HasAccess (IsComing modulus) modulus (actors_after world events.Handle) mobile s.number
   handle_came allowed octets switch known acks one_each coming = by world.inbox refl where
@@ -129,8 +129,8 @@ module _ (settings : Parameters) (done : List Event) (mobile : ℕ) (s : Connect
     both = subst (AllByRecursion IsOctetStep) (snoc_steps (new_actors settings) done events.Handle) octets
 
     by : (items : List RelayItem) → world.inbox ≡ items → HasAccess (IsComing modulus) modulus (actors_after world events.Handle) mobile s.number
-    by [] stood = subst (λ (v : Actors). HasAccess (IsComing modulus) modulus v mobile s.number) (sym (handled_is [] stood)) (still_comes s refl coming)
-    by (item ∷ items) stood = subst (λ (v : Actors). HasAccess (IsComing modulus) modulus v mobile s.number) (sym (handled_is (item ∷ items) stood)) (step_came (Take item) target items owner coming allowed known switch stepping) where
+    by [] pending = subst (λ (v : Actors). HasAccess (IsComing modulus) modulus v mobile s.number) (sym (handled_is [] pending)) (still_comes s refl coming)
+    by (item ∷ items) pending = subst (λ (v : Actors). HasAccess (IsComing modulus) modulus v mobile s.number) (sym (handled_is (item ∷ items) pending)) (step_came (Take item) target items owner coming allowed known switch stepping) where
       target : Option Tenure
       target = target_in world item.source item.what
 
@@ -138,7 +138,7 @@ module _ (settings : Parameters) (done : List Event) (mobile : ℕ) (s : Connect
       owner = owner_in (new_actors settings) (done ++ events.Handle ∷ [])
 
       own_octets : IsOctetStep (Take item)
-      own_octets = (subst (λ (xs : List RelayItem). AllByRecursion IsOctetStep (first_taken xs)) stood (all_right IsOctetStep (all_steps (new_actors settings) done) (step_at world events.Handle) both)).0
+      own_octets = (subst (λ (xs : List RelayItem). AllByRecursion IsOctetStep (first_taken xs)) pending (all_right IsOctetStep (all_steps (new_actors settings) done) (step_at world events.Handle) both)).0
 
       keeps_off : AreBeside target mobile s (take item world.controller).outs
       keeps_off = beside_all (Take item) target one_each coming (sends_at (Take item) allowed (all_left IsOctetStep (all_steps (new_actors settings) done) (step_at world events.Handle) both) own_octets) (item_others settings done s item allowed (all_left IsOctetStep (all_steps (new_actors settings) done) (step_at world events.Handle) both) own_octets coming.had.from_one coming.had)
@@ -146,18 +146,18 @@ module _ (settings : Parameters) (done : List Event) (mobile : ℕ) (s : Connect
       still : FitsNone (brought_in world.controller s.number (Take item)) (Some s) → AllByRecursion (IsForOthers target s) (take item world.controller).outs → s.state ≡ WaitEstablish → AreLinedUp modulus world mobile s → AreLinedUp modulus (after target (take item world.controller) items) mobile s
       still fits_none others state lined =
           let bare : IsBareOf s = bare_of s state (connections_stand_new settings done s.number s coming.had.there) in
-          let silent : BringsNothing s item = rw (bare.draining, state) (ignored_silent settings done mobile s item items allowed coming.had stood acks state (none_of_data coming.comes) fits_none, tt) in
-          subst (λ (v : Actors). AreLinedUp modulus v mobile s) (handled_is (item ∷ items) stood) (relay_leaves_others_new settings done mobile s (subst (IsOthers world s) (sym stood) (silent, others)) lined)
+          let silent : BringsNothing s item = rw (bare.draining, state) (ignored_silent settings done mobile s item items allowed coming.had pending acks state (none_of_data coming.accessing) fits_none, tt) in
+          subst (λ (v : Actors). AreLinedUp modulus v mobile s) (handled_is (item ∷ items) pending) (relay_leaves_others_new settings done mobile s (subst (IsOthers world s) (sym pending) (silent, others)) lined)
 
       stepping : Stepping (Take item) target items owner
       stepping = record {
-        less = behind_less settings done mobile s item items stood;
+        less = behind_less settings done mobile s item items pending;
         sent = sends_at (Take item) allowed (all_left IsOctetStep (all_steps (new_actors settings) done) (step_at world events.Handle) both) own_octets;
         beside = keeps_off;
         still = still;
         aging = λ by_time. absurd (not_time world.controller s.number item by_time);
-        opening = λ place initial brought_it here. opens_with_item settings done mobile s item items place initial stood (opening_of world.controller s.number item place initial brought_it) here;
-        sits = subst (AllSitBy owner) (handled_is (item ∷ items) stood) (sits_after events.Handle allowed octets);
+        opening = λ place initial brought_it here. opens_with_item settings done mobile s item items place initial pending (opening_of world.controller s.number item place initial brought_it) here;
+        sits = subst (AllSitBy owner) (handled_is (item ∷ items) pending) (sits_after events.Handle allowed octets);
       }
 
   -- ---- time passes

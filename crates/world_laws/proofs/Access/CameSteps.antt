@@ -137,11 +137,11 @@ module _ (settings : Parameters) (done : List Event) (mobile : ℕ) (s : Connect
 
   -- the first that is on its way up is the initial message
   pub record Opens (items : List RelayItem) (initial : List ℕ) : Type 0 where
-    pub came : coming_up world at ≡ brought initial ∷ coming_up (waiting items) at
+    pub on_way_up : coming_up world at ≡ brought initial ∷ coming_up (waiting items) at
     pub one : initials_up world at ≡ initial ∷ initials_up (waiting items) at
 
   pub opens_with_item : (item : RelayItem) (items : List RelayItem) (place : Place) (initial : List ℕ) → world.inbox ≡ item ∷ items → SaysOpening item place initial → is_at place s.serving ≡ true → Opens items initial
-  opens_with_item item items place initial stood says is =
+  opens_with_item item items place initial pending says is =
       let there : is_at (place_at item.source says.establishment.channel) s.serving ≡ true = ap (λ (p : Place). is_at p s.serving) (sym says.channel) ∙ is in
       let station : (item.source == s.serving.station) ≡ true = and_left (item.source == s.serving.station) (says.establishment.channel == s.serving.number) there in
       let number : (says.establishment.channel == s.serving.number) ≡ true = and_right (item.source == s.serving.station) (says.establishment.channel == s.serving.number) there in
@@ -161,9 +161,10 @@ module _ (settings : Parameters) (done : List Event) (mobile : ℕ) (s : Connect
       ∙ ap (λ (o : Option Sapi). messages_in (of_establishment o says.establishment.l3)) says.sapi
       ∙ ap (λ (o : Option (List ℕ)). messages_in (of_establishment (Some Zero) o)) says.l3 in
       record {
-        came = ap (λ (xs : List RelayItem). flat_map (brings_in at) xs ++ made_of at.number (base_of world at.station).messages) stood
+        on_way_up = ap (λ (xs : List RelayItem). flat_map (brings_in at) xs ++ made_of at.number (base_of world at.station).messages)
+            pending
             ∙ ap (λ (xs : List Item). (xs ++ flat_map (brings_in at) items) ++ made_of at.number (base_of world at.station).messages) brings_it;
-        one = ap (λ (xs : List RelayItem). flat_map (initial_by at.number) (flat_map (read_of at.station) xs ++ (base_of world at.station).messages)) stood
+        one = ap (λ (xs : List RelayItem). flat_map (initial_by at.number) (flat_map (read_of at.station) xs ++ (base_of world at.station).messages)) pending
             ∙ ap (λ (xs : List Rsl). flat_map (initial_by at.number) ((xs ++ flat_map (read_of at.station) items) ++ (base_of world at.station).messages)) reads_it
             ∙ ap (λ (xs : List (List ℕ)). xs ++ flat_map (initial_by at.number) (flat_map (read_of at.station) items ++ (base_of world at.station).messages)) opens_it;
       }
@@ -178,7 +179,7 @@ module _ (settings : Parameters) (done : List Event) (mobile : ℕ) (s : Connect
       let down : going_down (after target t items) at ≡ going_down world at = all_down target s.serving t.outs u (all_both (IsBeside target mobile s) (IsBeside target mobile s) (λ (out : Out). out.to ≡ s.serving.station → leading_from_outbox s.serving.number (entry_of target out) ≡ []) t.outs (λ out one two. one.for_others.leads.0) all all) in
       let others : AllByRecursion (IsForOthers target s) t.outs = all_both (IsBeside target mobile s) (IsBeside target mobile s) (IsForOthers target s) t.outs (λ out one two. one.for_others) all all in
       let assigned : AreAssigned (after target t items) mobile s = assigned_turn mobile s target t.outs u (λ station. coming.assigned station) (all_both (IsBeside target mobile s) (IsBeside target mobile s) (λ (out : Out). AssignsBy mobile s out.to (rsl_in out.frame)) t.outs (λ out one two. another_assigns mobile s out.to (rsl_in out.frame) one.assigns) all all) in
-      stays_came settings done mobile s target t items x coming aged there (turn_comes settings done mobile s target t items coming.one less down (lined others) coming.found coming.comes) assigned
+      stays_came settings done mobile s target t items x coming aged there (turn_comes settings done mobile s target t items coming.one less down (lined others) coming.found coming.accessing) assigned
 
   -- ---- it is told its channel
 
@@ -207,13 +208,13 @@ module _ (settings : Parameters) (done : List Event) (mobile : ℕ) (s : Connect
       (λ out one. (one.for_others.leads.0, another_assigns mobile (enter WaitEstablish s) out.to (rsl_in out.frame) one.assigns)) beside both in
       let down : going_down (after target t items) at ≡ going_down world at = all_down target s.serving t.outs u (all_both _ _ (λ (out : Out). out.to ≡ s.serving.station → leading_from_outbox s.serving.number (entry_of target out) ≡ []) t.outs (λ out one two. one.0) all all) in
       let assigned : AreAssigned (after target t items) mobile (enter WaitEstablish s) = assigned_turn mobile (enter WaitEstablish s) target t.outs u (λ station. told_all mobile s station (outbox_of world station) (coming.assigned station)) (all_both _ _ (λ (out : Out). AssignsBy mobile (enter WaitEstablish s) out.to (rsl_in out.frame)) t.outs (λ out one two. one.1) all all) in
-      told_came settings done mobile s target t items s1 coming aged there (told_comes settings done mobile s target t items coming.one (sym like.state ∙ state) less down coming.comes) assigned
+      told_came settings done mobile s target t items s1 coming aged there (told_comes settings done mobile s target t items coming.one (sym like.state ∙ state) less down coming.accessing) assigned
 
   -- ---- it asks the switch
 
   pub asked_came : (target : Option Tenure) (t : Turn) (items : List RelayItem) (s1 : Connection) (initial : List ℕ) (owner : Tenure → ℕ) (coming : IsComing modulus world mobile s) → AreAllowed settings → IsKnown modulus world mobile s → IsLess settings done mobile s items → IsAged s s1 → s1.state ≡ WaitEstablish → Opens items initial → is_up world SWITCH_LINK ≡ true
       → connection_of t.next s.number ≡ Some (enter WaitConfirm s1) → outs_for s.number t.outs ≡ outs_of s.number (complete_layer3 s1.serving initial ∷ []) → AllByRecursion IsSent t.outs → AreBeside target mobile s t.outs → AllSitBy owner (after target t items) → HasAccess (IsComing modulus) modulus (after target t items) mobile s.number
-  asked_came target t items s1 initial owner coming allowed known less aged state opens_with up there put sent beside sits = by coming.comes where
+  asked_came target t items s1 initial owner coming allowed known less aged state opens_with up there put sent beside sits = by coming.accessing where
     v : Actors
     v = after target t items
 
@@ -226,8 +227,9 @@ module _ (settings : Parameters) (done : List Event) (mobile : ℕ) (s : Connect
     placed : s.serving.station ≢ SWITCH_LINK
     placed = serving_placed settings done s allowed coming.had
 
-    came : coming_up world at ≡ brought initial ∷ coming_up v at
-    came = opens_with.came ∙ ap (λ (xs : List Item). brought initial ∷ xs) (sym (v_coming settings done mobile s target t items at))
+    on_way_up : coming_up world at ≡ brought initial ∷ coming_up v at
+    on_way_up = opens_with.on_way_up ∙ ap (λ (xs : List Item). brought initial ∷ xs)
+        (sym (v_coming settings done mobile s target t items at))
 
     -- its own goes to the switch
     own_to : (out : Out) → (x : Message) × (out ≡ out_of s.number x) × (x ≡ complete_layer3 s1.serving initial) → out.to ≡ SWITCH_LINK
@@ -250,10 +252,10 @@ module _ (settings : Parameters) (done : List Event) (mobile : ℕ) (s : Connect
     untaken = ap taken_in known.none_taken
 
     by : IsAccessing modulus world s coming.one → HasAccess (IsComing modulus) modulus v mobile s.number
-    by (asks seat new none uncommanded) = absurd (let both : initial ∷ messages_in (coming_up v at) ≡ [] = sym (ap messages_in came) ∙ none in cc)
+    by (asks seat new none uncommanded) = absurd (let both : initial ∷ messages_in (coming_up v at) ≡ [] = sym (ap messages_in on_way_up) ∙ none in cc)
     by (arrived own_state seat lined begun) = once begun where
       once : BeginsOnce world coming.one at → HasAccess (IsComing modulus) modulus v mobile s.number
-      once (to_begin opens none behind) = absurd (let both : initial ∷ messages_in (coming_up v at) ≡ [] = sym (ap messages_in came) ∙ none in cc)
+      once (to_begin opens none behind) = absurd (let both : initial ∷ messages_in (coming_up v at) ≡ [] = sym (ap messages_in on_way_up) ∙ none in cc)
       once (began opens few none) =
           let none_left : initials_up (waiting items) at ≡ [] = none_longer initial (initials_up (waiting items) at) (let count = ap length opens_with.one in omega (arith, few, count)) in
           let none_up : initials_up v (place_of s1.serving) ≡ [] = ap (λ (c : Channel). initials_up v (place_of c)) like.serving ∙ v_initials settings done mobile s target t items at ∙ none_left in
@@ -263,7 +265,7 @@ module _ (settings : Parameters) (done : List Event) (mobile : ℕ) (s : Connect
           let fewer = controls_sub less.later in
           omega (arith, all, first, fewer, none) in
           let bare : IsBareOf s = bare_of s own_state (connections_stand_new settings done s.number s coming.had.there) in
-          let own : LinedUp modulus v coming.one (enter WaitConfirm s) = asks_lined settings done mobile s target t items initial coming.one own_state bare seat lined placed came down known.none_waits untaken said left in
+          let own : LinedUp modulus v coming.one (enter WaitConfirm s) = asks_lined settings done mobile s target t items initial coming.one own_state bare seat lined placed on_way_up down known.none_waits untaken said left in
           let aged_own : LinedUp modulus v coming.one (enter WaitConfirm s1) = aged_holds (λ (y : Connection). LinedUp modulus v coming.one (enter WaitConfirm y)) (λ ms y l. record { alive = l.alive; sits = l.sits; led = l.led; none_on_target = l.none_on_target; apart = l.apart; placed = l.placed }) s s1 aged own in
           let none_drains : s1.draining ≡ [] = aged_holds (λ (y : Connection). y.draining ≡ []) (λ ms y is. is) s s1 aged bare.draining in
           let found : mobile_of v mobile ≡ Some coming.one = v_mobile settings done mobile s target t items mobile ∙ coming.found in

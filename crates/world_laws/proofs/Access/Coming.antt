@@ -11,7 +11,8 @@ use Rattle.world_laws.proofs.Prelude.{hearing, remembering, signalling_brought, 
 use Rattle.world_laws.proofs.Prelude.{is_reached, is_station_up, link_of, mobile_of, modulus_in, new_actors, put_back, spot_at, tenure_at}
 use Rattle.world_laws.proofs.Prelude.{with_outbox, back_found, back_other, number_found, good_all, good_new, up_right, after_taken}
 use Rattle.world_laws.proofs.Prelude.{air_up_leads, hearing-end, hearing-opens, same_Some, Result, rr_reading, controls_of, messages_in}
-use Rattle.world_laws.proofs.Prelude.{coming_up, going_down, taken_in, taken_of, waiting_of, IsHad, IsElsewhere, LinedUp, Sits, sits_stays}
+use Rattle.world_laws.proofs.Prelude.{coming_up, going_down, taken_in, taken_of, waiting_of, IsHad, IsElsewhere, LinedUp, Sits}
+use Rattle.world_laws.proofs.Prelude.{sits_unchanged}
 use Rattle.world_laws.proofs.Prelude.{sits_gone, AreLinedUp, LetsNoneGo, is_of_others, is_release, AreAssigned, Assigns, AssignsBy}
 use Rattle.world_laws.proofs.Prelude.{AssignsIn, BeginsOnce, IsComing, IsNew, behind_first}
 use Rattle.conn_rules.specs.Streams.{target_in}
@@ -32,8 +33,8 @@ use Rattle.world_laws.specs.Access.Coming.IsAccessing.{arrived, asks}
 use Rattle.world_laws.proofs.Access.Arriving.{none_target, serving_placed, stays_lined_up}
 use Rattle.world_laws.proofs.Access.Beginning.{bare_of, begins_lined}
 use Rattle.world_laws.proofs.Access.Behind.{GivesNoMore, controls_sub, gives_same, lent_first}
-use Rattle.world_laws.proofs.Access.Mobiles.{AllGo, Goes, IsAssigned, IsToMove, all_same, event_goes}
-use Rattle.world_laws.proofs.Access.Mobiles.Goes.{comes as gets, hears, moves, same, stays}
+use Rattle.world_laws.proofs.Access.Mobiles.{AllGo, MobileDoes, IsAssigned, IsToMove, all_same, event_goes}
+use Rattle.world_laws.proofs.Access.Mobiles.MobileDoes.{gets_channel as gets, hears, moves, same, unchanged}
 use Rattle.world_laws.proofs.Access.Passes.{Passes, passes_itself}
 use Rattle.world_laws.proofs.Access.Travels.{event_passes, is_passing}
 use Rattle.world_laws.proofs.Access.Upcoming.{data_apart, data_first, data_later, data_none, data_pass, initials_apart, initials_later}
@@ -52,7 +53,7 @@ tenure_in _ other = other
 
 -- where a connection has no target its mobile is on the serving channel, or gone
 sits_there : {w : Actors} {serving : Channel} {seat : Seat} → Sits w serving None seat → (seat ≡ Gone → ⊥) → seat ≡ On (tenure_at w (place_of serving)) None
-sits_there (sits_stays is nothing) there = ap (λ (t : Tenure). On t None) is
+sits_there (sits_unchanged is nothing) there = ap (λ (t : Tenure). On t None) is
 sits_there sits_gone there = absurd (there refl)
 
 -- ---- what it hears
@@ -78,26 +79,26 @@ hearing_stays p a {tenure} {command} seat kept = by_kind (is_dtap a.message) ref
 
 -- ---- the mobile of a connection that is there
 
-goes_opens : {w v : Actors} {event : Event} {number : ℕ} {p q : Mobile} {tenure : Tenure} → p.seat ≡ On tenure None → Goes w event v number p q → q.opens ≡ p.opens
+goes_opens : {w v : Actors} {event : Event} {number : ℕ} {p q : Mobile} {tenure : Tenure} → p.seat ≡ On tenure None → MobileDoes w event v number p q → q.opens ≡ p.opens
 goes_opens seat (same is) = ap (λ (x : Mobile). x.opens) is
-goes_opens seat (stays there opens other gives) = opens
+goes_opens seat (unchanged there opens other gives) = opens
 goes_opens {p = p} seat (hears tenure command first others there air is) = ap (λ (x : Mobile). x.opens) is ∙ (hearing-opens p first)
 goes_opens seat (moves to_move opens) = absurd (subst IsToMove seat to_move)
 goes_opens seat (gets a) = absurd (on_asks (sym seat ∙ a.asked))
 
-goes_kept : {w v : Actors} {event : Event} {number : ℕ} {p q : Mobile} (at : Place) (tenure : Tenure) → tenure.at ≡ at → p.seat ≡ On tenure None → AllByRecursion LetsNoneGo (spot_at w at).air → Goes w event v number p q → q.seat ≡ Gone → ⊥
+goes_kept : {w v : Actors} {event : Event} {number : ℕ} {p q : Mobile} (at : Place) (tenure : Tenure) → tenure.at ≡ at → p.seat ≡ On tenure None → AllByRecursion LetsNoneGo (spot_at w at).air → MobileDoes w event v number p q → q.seat ≡ Gone → ⊥
 goes_kept at tenure at_is seat kept (same is) gone = on_gone (sym seat ∙ ap (λ (x : Mobile). x.seat) (sym is) ∙ gone)
-goes_kept at tenure at_is seat kept (stays there opens other gives) gone = on_gone (sym seat ∙ sym there ∙ gone)
+goes_kept at tenure at_is seat kept (unchanged there opens other gives) gone = on_gone (sym seat ∙ sym there ∙ gone)
 goes_kept {w} {p = p} at tenure at_is seat kept (hears other command first others there air is) gone =
     let one : other ≡ tenure = ap (λ (x : Seat). tenure_in x tenure) (sym there ∙ seat) in
-    let stands : (spot_at w at).air ≡ first ∷ others = ap (λ (x : Place). (spot_at w x).air) (sym at_is ∙ ap (λ (t : Tenure). t.at) (sym one)) ∙ air in
-    hearing_stays p first there (subst (AllByRecursion LetsNoneGo) stands kept).0 (ap (λ (x : Mobile). x.seat) (sym is) ∙ gone)
+    let in_air : (spot_at w at).air ≡ first ∷ others = ap (λ (x : Place). (spot_at w x).air) (sym at_is ∙ ap (λ (t : Tenure). t.at) (sym one)) ∙ air in
+    hearing_stays p first there (subst (AllByRecursion LetsNoneGo) in_air kept).0 (ap (λ (x : Mobile). x.seat) (sym is) ∙ gone)
 goes_kept at tenure at_is seat kept (moves to_move opens) gone = absurd (subst IsToMove seat to_move)
 goes_kept at tenure at_is seat kept (gets a) gone = absurd (on_asks (sym seat ∙ a.asked))
 
-goes_gives : {w v : Actors} {event : Event} {number : ℕ} {p q : Mobile} {tenure : Tenure} → p.seat ≡ On tenure None → Goes w event v number p q → GivesNoMore q.end.zero p.end.zero
+goes_gives : {w v : Actors} {event : Event} {number : ℕ} {p q : Mobile} {tenure : Tenure} → p.seat ≡ On tenure None → MobileDoes w event v number p q → GivesNoMore q.end.zero p.end.zero
 goes_gives seat (same is) = gives_same (ap (λ (x : Mobile). x.end.zero) is)
-goes_gives seat (stays there opens other gives) = gives
+goes_gives seat (unchanged there opens other gives) = gives
 goes_gives {p = p} seat (hears tenure command first others there air is) = gives_same (ap (λ (x : Mobile). x.end.zero) is ∙ ap (λ (e : MobileState). e.zero) (hearing-end p first))
 goes_gives seat (moves to_move opens) = absurd (subst IsToMove seat to_move)
 goes_gives seat (gets a) = absurd (on_asks (sym seat ∙ a.asked))
@@ -113,7 +114,7 @@ begins_passes at is same_opens gives passes (began opens few none) =
 
 assigned_to : {w v : Actors} {event : Event} {p q : Mobile} (mobile : ℕ) (s : Connection) → AreAssigned w mobile s → (a : IsAssigned w event v mobile p q) → (place_at a.station a.channel.channel.0 ≡ place_of s.serving) × (s.state ≡ WaitEstablish)
 assigned_to mobile s assigned a =
-    let entry : AssignsIn mobile s a.station a.first = (subst (AllByRecursion (AssignsIn mobile s a.station)) a.stood (assigned a.station)).0 in
+    let entry : AssignsIn mobile s a.station a.first = (subst (AllByRecursion (AssignsIn mobile s a.station)) a.pending (assigned a.station)).0 in
     let reading : Assigns mobile s a.station (rr_reading a.command.information) = subst (AssignsBy mobile s a.station) a.reads entry in
     subst (Assigns mobile s a.station) a.says reading a.names
 
@@ -153,18 +154,19 @@ module _ (settings : Parameters) (done : List Event) (mobile : ℕ) (s : Connect
       let fresh : IsNew modulus q = new_after p q (On (tenure_at world (place_at a.station a.channel.channel.0)) None) a.after new in
       arrived own.1 seat (begins_lined v q s own.1 (bare_of s own.1 (connections_stand_new settings done s.number s had.there)) placed seat fresh up silent quiet unsaid untaken) (to_begin fresh.opens silent fresh.no_control)
 
-  asks_goes : (event : Event) (v : Actors) (p q : Mobile) → AreAllowed settings → IsHad world s → IsKnown modulus world mobile s → AreAssigned world mobile s → Passes world v → Goes world event v mobile p q → p.seat ≡ Asking → IsNew modulus p
+  asks_goes : (event : Event) (v : Actors) (p q : Mobile) → AreAllowed settings → IsHad world s → IsKnown modulus world mobile s → AreAssigned world mobile s → Passes world v → MobileDoes world event v mobile p q → p.seat ≡ Asking → IsNew modulus p
       → messages_in (coming_up world (place_of s.serving)) ≡ [] → going_down world (place_of s.serving) ≡ [] → IsAccessing modulus v s q
   asks_goes event v p q allowed had known assigned passes (same is) seat new none uncommanded =
       let placed : s.serving.station ≢ SWITCH_LINK = serving_placed settings done s allowed had in
       asks (ap (λ (x : Mobile). x.seat) is ∙ seat) (subst (IsNew modulus) (sym is) new) (none_passes (place_of s.serving) placed passes none) (sub_nothing (subst (Sub (going_down v (place_of s.serving))) uncommanded (passes.downs s.serving placed)))
-  asks_goes event v p q allowed had known assigned passes (stays there opens other gives) seat new none uncommanded = absurd (other seat)
+  asks_goes event v p q allowed had known assigned passes (unchanged there opens other gives) seat new none uncommanded = absurd
+      (other seat)
   asks_goes event v p q allowed had known assigned passes (hears tenure command first others there air is) seat new none uncommanded = absurd (on_asks (sym there ∙ seat))
   asks_goes event v p q allowed had known assigned passes (moves to_move opens) seat new none uncommanded = absurd (subst IsToMove seat to_move)
   asks_goes event v p q allowed had known assigned passes (gets a) seat new none uncommanded = arrives event v p q allowed had known assigned passes a new none uncommanded
 
   -- on its channel
-  there_goes : (event : Event) (v : Actors) (p q : Mobile) → AreAllowed settings → IsHad world s → IsKnown modulus world mobile s → Passes world v → Goes world event v mobile p q → mobile_of v mobile ≡ Some q → AreLinedUp modulus v mobile s → s.state ≡ WaitEstablish
+  there_goes : (event : Event) (v : Actors) (p q : Mobile) → AreAllowed settings → IsHad world s → IsKnown modulus world mobile s → Passes world v → MobileDoes world event v mobile p q → mobile_of v mobile ≡ Some q → AreLinedUp modulus v mobile s → s.state ≡ WaitEstablish
       → p.seat ≡ On (tenure_at world (place_of s.serving)) None → BeginsOnce world p (place_of s.serving) → IsAccessing modulus v s q
   there_goes event v p q allowed had known passes goes found lined state seat begins =
       let placed : s.serving.station ≢ SWITCH_LINK = serving_placed settings done s allowed had in
@@ -172,7 +174,7 @@ module _ (settings : Parameters) (done : List Event) (mobile : ℕ) (s : Connect
       let sits : Sits v s.serving None q.seat = subst (λ (o : Option _). Sits v s.serving o q.seat) (none_target s.state state) own.sits in
       arrived state (sits_there sits (goes_kept (place_of s.serving) (tenure_at world (place_of s.serving)) refl seat known.kept goes)) own (begins_passes (place_of s.serving) placed (goes_opens seat goes) (goes_gives seat goes) passes begins)
 
-  passing_comes : (event : Event) (v : Actors) (p q : Mobile) → AreAllowed settings → IsHad world s → IsKnown modulus world mobile s → AreAssigned world mobile s → Passes world v → Goes world event v mobile p q → mobile_of v mobile ≡ Some q
+  passing_comes : (event : Event) (v : Actors) (p q : Mobile) → AreAllowed settings → IsHad world s → IsKnown modulus world mobile s → AreAssigned world mobile s → Passes world v → MobileDoes world event v mobile p q → mobile_of v mobile ≡ Some q
       → (s.state ≡ WaitEstablish → AreLinedUp modulus world mobile s → AreLinedUp modulus v mobile s) → mobile_of world mobile ≡ Some p → IsAccessing modulus world s p → IsAccessing modulus v s q
   passing_comes event v p q allowed had known assigned passes goes found stays_lined there (asks seat new none uncommanded) = asks_goes event v p q allowed had known assigned passes goes seat new none uncommanded
   passing_comes event v p q allowed had known assigned passes goes found stays_lined there (arrived state seat lined begins) =
@@ -190,7 +192,7 @@ module _ (settings : Parameters) (done : List Event) (mobile : ℕ) (s : Connect
         asked = coming.asked;
         one = one.0;
         found = one.1;
-        comes = passing_comes event v coming.one one.0 allowed coming.had known coming.assigned passes one.2 one.1 (λ state lined. stays_lined_up settings done mobile s event of_others state allowed coming.had known lined) coming.found coming.comes;
+        accessing = passing_comes event v coming.one one.0 allowed coming.had known coming.assigned passes one.2 one.1 (λ state lined. stays_lined_up settings done mobile s event of_others state allowed coming.had known lined) coming.found coming.accessing;
         assigned = entries_pass mobile s passes coming.assigned;
       }
 
@@ -198,15 +200,15 @@ module _ (settings : Parameters) (done : List Event) (mobile : ℕ) (s : Connect
 
   sent_elsewhere : (p : Mobile) (tenure : Tenure) (frame : List ℕ) (one : Mobile) → AreAllowed settings → IsHad world s → is_reached world tenure ≡ true → is_at tenure.at s.serving ≡ false → mobile_of (brought world p tenure.at Zero frame) mobile ≡ Some one
       → (AreLinedUp modulus (brought world p tenure.at Zero frame) mobile s) ⊎ (one.seat ≡ Asking) → IsAccessing modulus world s one → IsAccessing modulus (brought world p tenure.at Zero frame) s one
-  sent_elsewhere p tenure frame one allowed had reached apart found either comes = by either comes where
+  sent_elsewhere p tenure frame one allowed had reached apart found either accessing = by either accessing where
     v : Actors
     v = brought world p tenure.at Zero frame
 
     placed : s.serving.station ≢ SWITCH_LINK
     placed = serving_placed settings done s allowed had
 
-    came : coming_up v (place_of s.serving) ≡ coming_up world (place_of s.serving)
-    came = (all_other world p tenure frame (s.serving ∷ []) reached (placed, tt) (apart, tt)).0
+    on_way_up : coming_up v (place_of s.serving) ≡ coming_up world (place_of s.serving)
+    on_way_up = (all_other world p tenure frame (s.serving ∷ []) reached (placed, tt) (apart, tt)).0
 
     down : going_down v (place_of s.serving) ≡ going_down world (place_of s.serving)
     down = down_with_base world tenure.at.station (signalling_brought (base_of world tenure.at.station) tenure.at.number p.opens frame) (place_of s.serving)
@@ -215,13 +217,13 @@ module _ (settings : Parameters) (done : List Event) (mobile : ℕ) (s : Connect
     here = tenure_with_base world tenure.at.station (signalling_brought (base_of world tenure.at.station) tenure.at.number p.opens frame) (place_of s.serving)
 
     begins : BeginsOnce world one (place_of s.serving) → BeginsOnce v one (place_of s.serving)
-    begins (to_begin opens none behind) = to_begin opens (ap messages_in came ∙ none) behind
+    begins (to_begin opens none behind) = to_begin opens (ap messages_in on_way_up ∙ none) behind
     begins (began opens few none) =
         began opens (let less = sub_length (initials_apart world p tenure frame s.serving reached placed apart) in omega (arith, less, few))
         (let less = controls_sub (data_apart world p tenure frame s.serving reached placed apart) in omega (arith, less, none))
 
     by : (AreLinedUp modulus v mobile s) ⊎ (one.seat ≡ Asking) → IsAccessing modulus world s one → IsAccessing modulus v s one
-    by either (asks seat new none uncommanded) = asks seat new (ap messages_in came ∙ none) (down ∙ uncommanded)
+    by either (asks seat new none uncommanded) = asks seat new (ap messages_in on_way_up ∙ none) (down ∙ uncommanded)
     by (inr asking) (arrived state seat lined once) = absurd (on_asks (sym seat ∙ asking))
     by (inl lined2) (arrived state seat lined once) =
         arrived state (seat ∙ ap (λ (t : Tenure). On t None) (sym here)) (subst (λ (x : Mobile). LinedUp modulus v x s) (same_Some _ _ (sym lined2.found ∙ found)) lined2.lined) (begins once)
@@ -268,27 +270,27 @@ module _ (settings : Parameters) (done : List Event) (mobile : ℕ) (s : Connect
     q = record (framed p Zero) { opens = false }
 
     rest : (one : Mobile) → mobile_of v mobile ≡ Some one → IsAccessing modulus v s one → IsComing modulus v mobile s
-    rest one found comes = record { had = record { there = coming.had.there; is_open = coming.had.is_open; from_one = coming.had.from_one }; early = coming.early; asked = coming.asked; one = one; found = found; comes = comes; assigned = λ station. coming.assigned station }
+    rest one found accessing = record { had = record { there = coming.had.there; is_open = coming.had.is_open; from_one = coming.had.from_one }; early = coming.early; asked = coming.asked; one = one; found = found; accessing = accessing; assigned = λ station. coming.assigned station }
 
     q_number : q.number ≡ number
     q_number = number_found number world.mobiles p acts
 
     own_comes : mobile_of v mobile ≡ Some q → IsAccessing modulus world s p → (AreLinedUp modulus v mobile s) ⊎ (p.seat ≡ Asking) → IsAccessing modulus v s q
-    own_comes found comes (inl lined) = sent_there tenure command frame p sits lent found lined comes
-    own_comes found comes (inr asking) = absurd (on_asks (sym sits ∙ asking))
+    own_comes found accessing (inl lined) = sent_there tenure command frame p sits lent found lined accessing
+    own_comes found accessing (inr asking) = absurd (on_asks (sym sits ∙ asking))
 
     by_number : (b : Bool) → nat_eq number mobile ≡ b → IsComing modulus v mobile s
     by_number true hit =
         let is : number ≡ mobile = eqb-true number mobile hit in
         let p_is : p ≡ coming.one = same_Some _ _ (sym acts ∙ ap (mobile_of world) is ∙ coming.found) in
         let found : mobile_of v mobile ≡ Some q = ap (λ (n : ℕ). find (has_number n) (put_back q world.mobiles)) (sym is ∙ sym q_number) ∙ back_found q world.mobiles p (ap (λ (n : ℕ). find (has_number n) world.mobiles) q_number ∙ acts) in
-        let comes : IsAccessing modulus world s p = subst (IsAccessing modulus world s) (sym p_is) coming.comes in
-        rest q found (own_comes found comes (or_asks v p (ap (mobile_of world) (sym is) ∙ acts) stays_lined comes))
+        let accessing : IsAccessing modulus world s p = subst (IsAccessing modulus world s) (sym p_is) coming.accessing in
+        rest q found (own_comes found accessing (or_asks v p (ap (mobile_of world) (sym is) ∙ acts) stays_lined accessing))
     by_number false miss =
         let differs : number ≢ mobile = eqb-false number mobile miss in
         let found : mobile_of v mobile ≡ Some coming.one = back_other q world.mobiles mobile (λ is. differs (sym q_number ∙ is)) ∙ coming.found in
         let elsewhere : IsElsewhere (s.serving ∷ target_in s.state) tenure.at = all_right (λ c. is_at tenure.at c ≡ false) (undone s.draining) (s.serving ∷ target_in s.state) (known.alone number p tenure command differs acts sits reached) in
-        rest coming.one found (sent_elsewhere p tenure frame coming.one allowed coming.had reached elsewhere.0 found (or_asks v coming.one coming.found stays_lined coming.comes) coming.comes)
+        rest coming.one found (sent_elsewhere p tenure frame coming.one allowed coming.had reached elsewhere.0 found (or_asks v coming.one coming.found stays_lined coming.accessing) coming.accessing)
 
   pub keeps_sent : (number : ℕ) → AreAllowed settings → IsKnown modulus world mobile s → IsComing modulus world mobile s → IsComing modulus (actors_after world (events.AirUp number Zero)) mobile s
   unfolding event_after

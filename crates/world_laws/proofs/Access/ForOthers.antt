@@ -93,9 +93,9 @@ module _ (settings : Parameters) (done : List Event) (s : Connection) where
           (frames_are_for_others_new settings done s item allowed octets had (record { frame = frame; is = refl; octets = own; other = suc k; concerns = is; from_one = (omega arith); differs = λ same. eqb-false (suc k) s.number miss (sym same) }))
       either true hit =
           let same : suc k ≡ s.number = eqb-true (suc k) s.number hit in
-          let lives = FollowsTable-new settings done in
-          let passes : PassesBy (s.number + 1) s.number (life settings steps).next (Take item) = frame_passes settings steps (s.number + 1) s.number source frame allowed (omega arith) least (λ e. absurd (omega (arith, e))) (ap (λ (c : Controller). concerned c (word_of source frame)) (sym lives) ∙ is ∙ ap (λ (n : ℕ). Some n) same) in
-          subst (AreForOthers (target_in world source (whats.Frame frame)) s) (sym (ap (λ (c : Controller). (step c (Take item)).outs) lives ∙ passes.outs)) (own_alone (target_in world source (whats.Frame frame)) s passes.put)
+          let by_table = FollowsTable-new settings done in
+          let passes : PassesBy (s.number + 1) s.number (life settings steps).next (Take item) = frame_passes settings steps (s.number + 1) s.number source frame allowed (omega arith) least (λ e. absurd (omega (arith, e))) (ap (λ (c : Controller). concerned c (word_of source frame)) (sym by_table) ∙ is ∙ ap (λ (n : ℕ). Some n) same) in
+          subst (AreForOthers (target_in world source (whats.Frame frame)) s) (sym (ap (λ (c : Controller). (step c (Take item)).outs) by_table ∙ passes.outs)) (own_alone (target_in world source (whats.Frame frame)) s passes.put)
 
   -- whatever comes
   pub item_others : (item : RelayItem) → AreAllowed settings → AllByRecursion IsOctetStep steps → IsOfOctets item.what → 1 ≤ s.number → IsHad world s → AreForOthers (target_in world item.source item.what) s (take item world.controller).outs
@@ -113,13 +113,13 @@ module _ (settings : Parameters) (done : List Event) (s : Connection) where
     item : RelayItem
     item = record { source = source; what = whats.Frame frame }
 
-    lives : world.controller ≡ (life settings steps).next
-    lives = FollowsTable-new settings done
+    by_table : world.controller ≡ (life settings steps).next
+    by_table = FollowsTable-new settings done
 
     left : (concerned world.controller (word_of source frame) ≢ Some s.number) → ⊥
     left isnt =
-        let same : connection_of (step world.controller (Take item)).next s.number ≡ connection_of world.controller s.number = subst (λ (c : Controller). connection_of (step c (Take item)).next s.number ≡ connection_of c s.number) (sym lives)
-        (ap (λ (x : Option Entry). option_map (λ e. e.connection) x) (frame_leaves settings steps s.number source frame allowed least (subst (λ (c : Controller). concerned c (word_of source frame) ≢ Some s.number) lives isnt)).entry) in
+        let same : connection_of (step world.controller (Take item)).next s.number ≡ connection_of world.controller s.number = subst (λ (c : Controller). connection_of (step c (Take item)).next s.number ≡ connection_of c s.number) (sym by_table)
+        (ap (λ (x : Option Entry). option_map (λ e. e.connection) x) (frame_leaves settings steps s.number source frame allowed least (subst (λ (c : Controller). concerned c (word_of source frame) ≢ Some s.number) by_table isnt)).entry) in
         absurd (let both : None ≡ Some s = sym none ∙ sym same ∙ there in cc)
 
     by : (o : Option ℕ) → concerned world.controller (word_of source frame) ≡ o → AreForOthers (target_in world source (whats.Frame frame)) s (step world.controller (Take item)).outs
@@ -128,8 +128,8 @@ module _ (settings : Parameters) (done : List Event) (s : Connection) where
       either : (b : Bool) → nat_eq k s.number ≡ b → AreForOthers (target_in world source (whats.Frame frame)) s (step world.controller (Take item)).outs
       either false miss = absurd (left (λ same. eqb-false k s.number miss (let both : Some k ≡ Some s.number = sym is ∙ same in cc)))
       either true hit =
-          let passes : PassesBy (s.number + 1) s.number (life settings steps).next (Take item) = frame_passes settings steps (s.number + 1) s.number source frame allowed (omega arith) least (λ e. absurd (omega (arith, e))) (ap (λ (c : Controller). concerned c (word_of source frame)) (sym lives) ∙ is ∙ ap (λ (n : ℕ). Some n) (eqb-true k s.number hit)) in
-          subst (AreForOthers (target_in world source (whats.Frame frame)) s) (sym (ap (λ (c : Controller). (step c (Take item)).outs) lives ∙ passes.outs)) (own_alone (target_in world source (whats.Frame frame)) s passes.put)
+          let passes : PassesBy (s.number + 1) s.number (life settings steps).next (Take item) = frame_passes settings steps (s.number + 1) s.number source frame allowed (omega arith) least (λ e. absurd (omega (arith, e))) (ap (λ (c : Controller). concerned c (word_of source frame)) (sym by_table) ∙ is ∙ ap (λ (n : ℕ). Some n) (eqb-true k s.number hit)) in
+          subst (AreForOthers (target_in world source (whats.Frame frame)) s) (sym (ap (λ (c : Controller). (step c (Take item)).outs) by_table ∙ passes.outs)) (own_alone (target_in world source (whats.Frame frame)) s passes.put)
 
   pub item_begins : (item : RelayItem) → AreAllowed settings → 1 ≤ s.number → connection_of world.controller s.number ≡ None → connection_of (take item world.controller).next s.number ≡ Some s → AreForOthers (target_in world item.source item.what) s (take item world.controller).outs
   item_begins item allowed least none there = by item.what refl where

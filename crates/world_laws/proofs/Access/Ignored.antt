@@ -79,12 +79,12 @@ module _ (settings : Parameters) (done : List Event) (mobile : ℕ) (s : Connect
 
   no_control : (item : RelayItem) (items : List RelayItem) (frame : Frame) (l3 : List ℕ) (d : Data) → world.inbox ≡ item ∷ items → controls_of (data_up world at) ≡ 0 → is_control l3 ≡ true → item.what ≡ whats.Frame frame → rsl_in frame ≡ Some (rsl.DataIndication d) → item.source ≡ at.station
       → data_by at.number (rsl.DataIndication d) ≡ l3 ∷ [] → ⊥
-  no_control item items frame l3 d stood none control_is what_is read station brings_it =
+  no_control item items frame l3 d pending none control_is what_is read station brings_it =
       let reads_it : read_of at.station item ≡ rsl.DataIndication d ∷ [] =
       ap (read_by at.station item.source) what_is ∙ ap (λ (b : Bool). cond b (option_to_list (rsl_in frame)) []) (eq-eqb item.source at.station station) ∙ ap option_to_list read in
       let rest : List (List ℕ) = flat_map (data_by at.number) (flat_map (read_of at.station) items ++ (base_of world at.station).messages) in
       let up : data_up world at ≡ l3 ∷ rest =
-      ap (λ (xs : List RelayItem). flat_map (data_by at.number) (flat_map (read_of at.station) xs ++ (base_of world at.station).messages)) stood
+      ap (λ (xs : List RelayItem). flat_map (data_by at.number) (flat_map (read_of at.station) xs ++ (base_of world at.station).messages)) pending
       ∙ ap (λ (xs : List Rsl). flat_map (data_by at.number) ((xs ++ flat_map (read_of at.station) items) ++ (base_of world at.station).messages)) reads_it
       ∙ ap (λ (xs : List (List ℕ)). xs ++ rest) brings_it in
       let first : controls_of rest + 1 ≤ controls_of (l3 ∷ rest) = controls_first l3 rest control_is in
@@ -92,17 +92,17 @@ module _ (settings : Parameters) (done : List Event) (mobile : ℕ) (s : Connect
       absurd (omega (arith, none, first, all))
 
   no_end : (item : RelayItem) (items : List RelayItem) (frame : Frame) → world.inbox ≡ item ∷ items → AcksAgree world s → item.what ≡ whats.Frame frame → item.source ≡ at.station → rsl_in frame ≡ Some (rsl.RfChannelReleaseAck at.number) → ⊥
-  no_end item items frame stood acks what_is station read =
+  no_end item items frame pending acks what_is station read =
       let reads_it : read_of at.station item ≡ rsl.RfChannelReleaseAck at.number ∷ [] =
       ap (read_by at.station item.source) what_is ∙ ap (λ (b : Bool). cond b (option_to_list (rsl_in frame)) []) (eq-eqb item.source at.station station) ∙ ap option_to_list read in
       let rest : List Rsl = flat_map (read_of at.station) items ++ (base_of world at.station).messages in
       let up : messages_up world at.station ≡ rsl.RfChannelReleaseAck at.number ∷ rest =
-      ap (λ (xs : List RelayItem). flat_map (read_of at.station) xs ++ (base_of world at.station).messages) stood
+      ap (λ (xs : List RelayItem). flat_map (read_of at.station) xs ++ (base_of world at.station).messages) pending
       ∙ ap (λ (xs : List Rsl). (xs ++ flat_map (read_of at.station) items) ++ (base_of world at.station).messages) reads_it in
       releases_not at.number rest (subst (λ (ms : List Rsl). NoneReleases (acknowledgements at.number ms)) up acks.others_go_on.0)
 
   pub ignored_silent : (item : RelayItem) (items : List RelayItem) → AreAllowed settings → IsHad world s → world.inbox ≡ item ∷ items → AcksAgree world s → s.state ≡ WaitEstablish → controls_of (data_up world at) ≡ 0 → FitsNone (brought_in world.controller s.number (Take item)) (Some s) → brings_in at item ≡ []
-  ignored_silent item items allowed had stood acks state none fits_none = by item.what refl where
+  ignored_silent item items allowed had pending acks state none fits_none = by item.what refl where
     placed : s.serving.station ≢ SWITCH_LINK
     placed = serving_placed settings done s allowed had
 
@@ -110,7 +110,7 @@ module _ (settings : Parameters) (done : List Event) (mobile : ℕ) (s : Connect
     draining = (bare_of s state (connections_stand_new settings done s.number s had.there)).draining
 
     known : IsKnownItem item
-    known = (subst (AllByRecursion IsKnownItem) stood (known_inbox settings done)).0
+    known = (subst (AllByRecursion IsKnownItem) pending (known_inbox settings done)).0
 
     misses : (frame : Frame) (input : Input) → item.what ≡ whats.Frame frame → item.source ≡ at.station → word_of item.source frame ≡ OnChannel at input → MissesOf input (Some s)
     misses frame input what_is station word = subst (λ (b : Brought). FitsNone b (Some s)) (comes_to item frame input allowed had draining what_is station word) fits_none
@@ -119,8 +119,8 @@ module _ (settings : Parameters) (done : List Event) (mobile : ℕ) (s : Connect
     by_first frame what_is (brings_none is) = ap (brings_by at item.source) what_is ∙ is
     by_first frame what_is (opening l3 word station) = absurd (no_opening l3 state (misses frame (inputs.EstablishIndication at Zero (Some l3)) what_is station word))
     by_first frame what_is (text l3 word station) = absurd (no_text l3 state (misses frame (inputs.Dtap at Zero l3) what_is station word))
-    by_first frame what_is (control l3 d control_is read station brings_it) = absurd (no_control item items frame l3 d stood none control_is what_is read station brings_it)
-    by_first frame what_is (ends read station) = absurd (no_end item items frame stood acks what_is station read)
+    by_first frame what_is (control l3 d control_is read station brings_it) = absurd (no_control item items frame l3 d pending none control_is what_is read station brings_it)
+    by_first frame what_is (ends read station) = absurd (no_end item items frame pending acks what_is station read)
 
     by : (what : What) → item.what ≡ what → brings_in at item ≡ []
     by whats.Down what_is = ap (brings_by at item.source) what_is

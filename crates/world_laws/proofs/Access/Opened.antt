@@ -3,8 +3,8 @@
 use Rattle.world_laws.proofs.Prelude.{◌≡◌, ◌≢◌, ℕ, ◌≤◌, nat_eq, Bool, true, false, List, [], ◌∷◌, find, Option, Some, None, refl, sym, ap}
 use Rattle.world_laws.proofs.Prelude.{◌∙◌, subst, inl, inr, AllByRecursion, flat_map, eqb-true, eqb-false, Channel, Place, Message}
 use Rattle.world_laws.proofs.Prelude.{SWITCH_LINK, State, Removed, Connection}
-use Rattle.world_laws.proofs.Prelude.{IsValid, IsOpen, used_channels, Acts, ActsOn, Brought, kept_in, ages, goes, rests, connection_of}
-use Rattle.world_laws.proofs.Prelude.{aged_holds, pass_stands, life_acts, Step, Take, Controller, Turn, place_of, step, Zero, Item}
+use Rattle.world_laws.proofs.Prelude.{IsValid, IsOpen, used_channels, Acts, ActsOn, Brought, kept_in, ages, takes_row, rests, connection_of}
+use Rattle.world_laws.proofs.Prelude.{aged_holds, pass_valid, life_acts, Step, Take, Controller, Turn, place_of, step, Zero, Item}
 use Rattle.world_laws.proofs.Prelude.{Parameters, Event, Command, On, Tenure, actors_after, actors_after_all, brought, framed, target_in}
 use Rattle.world_laws.proofs.Prelude.{with_turn, all_steps, Actors, Mobile, base_of, has_number, is_reached, mobile_of, new_actors}
 use Rattle.world_laws.proofs.Prelude.{put_back, back_found, back_other, number_found, good_all, good_new, after_taken, air_up_leads}
@@ -18,8 +18,8 @@ use Rattle.world_laws.proofs.Others.{turn_mobiles}
 use Rattle.world_laws.proofs.Standing.{connections_stand_new}
 use Rattle.world_laws.proofs.Sublists.{Sub, sub_append, sub_behind, sub_flat_map, sub_itself, sub_nothing}
 use Rattle.world_laws.specs.Access.Opened.{OpenedStayOpened}
-use Rattle.world_laws.proofs.Access.Mobiles.{AllGo, Goes, all_same, event_goes}
-use Rattle.world_laws.proofs.Access.Mobiles.Goes.{comes as gets, hears, moves, same, stays}
+use Rattle.world_laws.proofs.Access.Mobiles.{AllGo, MobileDoes, all_same, event_goes}
+use Rattle.world_laws.proofs.Access.Mobiles.MobileDoes.{gets_channel as gets, hears, moves, same, unchanged}
 use Rattle.world_laws.proofs.Access.Passes.{Passes, passes_itself}
 use Rattle.world_laws.proofs.Access.RowChannels.{row_uses}
 use Rattle.world_laws.proofs.Access.Travels.{event_passes, is_passing}
@@ -33,9 +33,9 @@ record HasSent (v : Actors) (number : ℕ) : Type 0 where
   found : mobile_of v number ≡ Some one
   sent : one.opens ≡ false
 
-goes_sent : {w v : Actors} {event : Event} {number : ℕ} {p q : Mobile} → p.opens ≡ false → Goes w event v number p q → q.opens ≡ false
+goes_sent : {w v : Actors} {event : Event} {number : ℕ} {p q : Mobile} → p.opens ≡ false → MobileDoes w event v number p q → q.opens ≡ false
 goes_sent sent (same is) = ap (λ (x : Mobile). x.opens) is ∙ sent
-goes_sent sent (stays there opens other gives) = opens ∙ sent
+goes_sent sent (unchanged there opens other gives) = opens ∙ sent
 goes_sent {p = p} sent (hears tenure command first others there air is) = ap (λ (x : Mobile). x.opens) is ∙ (hearing-opens p first) ∙ sent
 goes_sent sent (moves to_move (inl opens)) = opens ∙ sent
 goes_sent sent (moves to_move (inr opens)) = opens
@@ -55,9 +55,9 @@ turned : (target : Option Tenure) (t : Turn) (u : Actors) (at : Place) → initi
 turned target t u at = turn_leads (λ v. initials_up v at ≡ initials_up u at) target t u (λ links. refl)
 
 behind_first : (w : Actors) (item : Item) (items : List Item) (at : Place) → w.inbox ≡ item ∷ items → Sub (initials_up (record w { inbox = items }) at) (initials_up w at)
-behind_first w item items at stood =
+behind_first w item items at pending =
     sub_flat_map (initial_by at.number) (sub_append
-    (subst (λ (xs : List Item). Sub (flat_map (read_of at.station) items) (flat_map (read_of at.station) xs)) (sym stood) (sub_behind (read_of at.station item) (flat_map (read_of at.station) items)))
+    (subst (λ (xs : List Item). Sub (flat_map (read_of at.station) items) (flat_map (read_of at.station) xs)) (sym pending) (sub_behind (read_of at.station item) (flat_map (read_of at.station) items)))
     (sub_itself (base_of w at.station).messages))
 
 module _ (settings : Parameters) (done : List Event) (mobile : ℕ) (s next : Connection) where
@@ -69,30 +69,30 @@ module _ (settings : Parameters) (done : List Event) (mobile : ℕ) (s next : Co
   module _ (P : Channel → Type 0) where
     next_uses : (number after_all : ℕ) (up : Bool) (brought_it : Brought) (put : List Message) (before after : Option Connection) → Acts number after_all up brought_it before put after → before ≡ Some s → IsValid s → after ≡ Some next → IsOpen next.state
         → AllByRecursion P (used_channels s) → AllByRecursion P (awaited_in next.state) → AllByRecursion P (used_channels next)
-    next_uses number after_all up brought_it put before after (rests silent is none) was stands now stays_open all new = subst (λ (x : Connection). AllByRecursion P (used_channels x)) (same_Some _ _ (sym was ∙ sym is ∙ now)) all
-    next_uses number after_all up brought_it put before after (ages old s2 by_time is aged silent is2) was stands now stays_open all new =
+    next_uses number after_all up brought_it put before after (rests silent is none) was valid now remains_open all new = subst (λ (x : Connection). AllByRecursion P (used_channels x)) (same_Some _ _ (sym was ∙ sym is ∙ now)) all
+    next_uses number after_all up brought_it put before after (ages old s2 by_time is aged silent is2) was valid now remains_open all new =
         subst (λ (x : Connection). AllByRecursion P (used_channels x)) (same_Some _ _ (sym is2 ∙ now)) (aged_holds (λ (x : Connection). AllByRecursion P (used_channels x)) (λ ms x holds. holds) old s2 aged (subst (λ (x : Connection). AllByRecursion P (used_channels x)) (same_Some _ _ (sym was ∙ is)) all))
-    next_uses number after_all up brought_it put before after (begins is linked channel request delay nothing none put_is is2) was stands now stays_open all new = absurd (let both : None ≡ Some s = sym none ∙ was in cc)
-    next_uses number after_all up brought_it put before after (goes old s1 input offer r is aged by fits put_is is2) was stands now stays_open all new =
+    next_uses number after_all up brought_it put before after (begins is linked channel request delay nothing none put_is is2) was valid now remains_open all new = absurd (let both : None ≡ Some s = sym none ∙ was in cc)
+    next_uses number after_all up brought_it put before after (takes_row old s1 input offer r is aged by fits put_is is2) was valid now remains_open all new =
         let same_old : s ≡ old = same_Some _ _ (sym was ∙ is) in
         let own : AllByRecursion P (used_channels s1) = aged_holds (λ (x : Connection). AllByRecursion P (used_channels x)) (λ ms x holds. holds) old s1 aged (subst (λ (x : Connection). AllByRecursion P (used_channels x)) same_old all) in
-        let stands1 : IsValid s1 = aged_holds IsValid (λ ms x holds. pass_stands ms x holds) old s1 aged (subst IsValid same_old stands) in
+        let stands1 : IsValid s1 = aged_holds IsValid (λ ms x holds. pass_valid ms x holds) old s1 aged (subst IsValid same_old valid) in
         let next_is : r.next ≡ next = kept_is r.next.state r.next (sym is2 ∙ now) in
         subst (λ (x : Connection). AllByRecursion P (used_channels x)) next_is
-        (row_uses P s1 input offer r stands1 fits (subst (λ (x : Connection). IsOpen x.state) (sym next_is) stays_open) own (subst (λ (x : Connection). AllByRecursion P (awaited_in x.state)) (sym next_is) new)) where
+        (row_uses P s1 input offer r stands1 fits (subst (λ (x : Connection). IsOpen x.state) (sym next_is) remains_open) own (subst (λ (x : Connection). AllByRecursion P (awaited_in x.state)) (sym next_is) new)) where
           kept_is : (state : State) (x : Connection) → kept_in state x ≡ Some next → x ≡ next
           kept_is Removed x is = absurd cc
           kept_is _ x is = same_Some _ _ is
 
   turn_uses : (P : Channel → Type 0) (st : Step) (v : Actors) → connection_of world.controller s.number ≡ Some s → 1 ≤ s.number → v.controller ≡ (step world.controller st).next → connection_of v.controller s.number ≡ Some next → IsOpen next.state
       → AllByRecursion P (used_channels s) → AllByRecursion P (awaited_in next.state) → AllByRecursion P (used_channels next)
-  turn_uses P st v there from_one leads now stays_open all new =
+  turn_uses P st v there from_one leads now remains_open all new =
       let c : Controller = (life settings (all_steps (new_actors settings) done)).next in
-      let lives : world.controller ≡ c = FollowsTable-new settings done in
+      let by_table : world.controller ≡ c = FollowsTable-new settings done in
       let acts : ActsOn s.number c st = life_acts settings (all_steps (new_actors settings) done) st s.number from_one in
       next_uses P s.number c.next_number _ _ acts.put (connection_of c s.number) (connection_of (step c st).next s.number) acts.acts
-      (ap (λ (d : Controller). connection_of d s.number) (sym lives) ∙ there) (connections_stand_new settings done s.number s there)
-      (ap (λ (d : Controller). connection_of (step d st).next s.number) (sym lives) ∙ ap (λ (d : Controller). connection_of d s.number) (sym leads) ∙ now) stays_open all new
+      (ap (λ (d : Controller). connection_of d s.number) (sym by_table) ∙ there) (connections_stand_new settings done s.number s there)
+      (ap (λ (d : Controller). connection_of (step d st).next s.number) (sym by_table) ∙ ap (λ (d : Controller). connection_of d s.number) (sym leads) ∙ now) remains_open all new
 
   -- ---- at each event
 
@@ -180,9 +180,9 @@ module _ (settings : Parameters) (done : List Event) (mobile : ℕ) (s next : Co
   turn_opened : (st : Step) (v : Actors) (one : Mobile) → mobile_of world mobile ≡ Some one → one.opens ≡ false → connection_of world.controller s.number ≡ Some s → 1 ≤ s.number → v.mobiles ≡ world.mobiles → v.controller ≡ (step world.controller st).next → NoneJoins world v
       → AllByRecursion (λ c. initials_up world (place_of c) ≡ []) (used_channels s) → AllByRecursion (λ c. c.station ≢ SWITCH_LINK) (used_channels s) → AllByRecursion (λ c. initials_up v (place_of c) ≡ []) (awaited_in next.state) → connection_of v.controller s.number ≡ Some next → IsOpen next.state
       → HasSent v mobile × AllByRecursion (λ c. initials_up v (place_of c) ≡ []) (used_channels next)
-  turn_opened st v one found sent there from_one mobiles leads less none placed new now stays_open = (
+  turn_opened st v one found sent there from_one mobiles leads less none placed new now remains_open = (
     record { one = one; found = ap (λ (ms : List Mobile). find (has_number mobile) ms) mobiles ∙ found; sent = sent },
-    turn_uses (λ c. initials_up v (place_of c) ≡ []) st v there from_one leads now stays_open (all_less v (used_channels s) less placed none) new,
+    turn_uses (λ c. initials_up v (place_of c) ≡ []) st v there from_one leads now remains_open (all_less v (used_channels s) less placed none) new,
   )
 
   abbrev Handles : Actors → Type 0
@@ -192,24 +192,24 @@ module _ (settings : Parameters) (done : List Event) (mobile : ℕ) (s next : Co
       → AllByRecursion (λ c. initials_up world (place_of c) ≡ []) (used_channels s) → AllByRecursion (λ c. c.station ≢ SWITCH_LINK) (used_channels s) → Handles (actors_after world events.Handle)
   unfolding event_after
   handle_opened one found sent there from_one none placed =
-      let still : Handles world = λ new now stays_open. (record { one = one; found = found; sent = sent }, subst (λ (x : Connection). AllByRecursion (λ c. initials_up world (place_of c) ≡ []) (used_channels x)) (as_it_was world refl there now) none) in
-      after_taken Handles (event_after world events.Handle) world (handle_leads Handles world (λ item items stood. λ new now stays_open.
+      let still : Handles world = λ new now remains_open. (record { one = one; found = found; sent = sent }, subst (λ (x : Connection). AllByRecursion (λ c. initials_up world (place_of c) ≡ []) (used_channels x)) (as_it_was world refl there now) none) in
+      after_taken Handles (event_after world events.Handle) world (handle_leads Handles world (λ item items pending. λ new now remains_open.
       let target : Option Tenure = target_in world item.source item.what in
       let t : Turn = take item world.controller in
       let u : Actors = record world { inbox = items } in
       turn_opened (Take item) (with_turn target t u) one found sent there from_one (turn_mobiles target t.outs (record u { controller = t.next })) (controller-is target t u)
-      (λ at at_is. subst (λ (xs : List (List ℕ)). Sub xs (initials_up world at)) (sym (turned target t u at)) (behind_first world item items at stood)) none placed new now stays_open)) still
+      (λ at at_is. subst (λ (xs : List (List ℕ)). Sub xs (initials_up world at)) (sym (turned target t u at)) (behind_first world item items at pending)) none placed new now remains_open)) still
 
   tick_opened : (ms : ℕ) (one : Mobile) → mobile_of world mobile ≡ Some one → one.opens ≡ false → connection_of world.controller s.number ≡ Some s → 1 ≤ s.number
       → AllByRecursion (λ c. initials_up world (place_of c) ≡ []) (used_channels s) → AllByRecursion (λ c. c.station ≢ SWITCH_LINK) (used_channels s) → Handles (actors_after world (events.Tick ms))
   unfolding event_after
-  tick_opened ms one found sent there from_one none placed = λ new now stays_open.
+  tick_opened ms one found sent there from_one none placed = λ new now remains_open.
       let t : Turn = tick ms world.controller in
       turn_opened (Tick ms) (with_turn None t world) one found sent there from_one (turn_mobiles None t.outs (record world { controller = t.next })) (controller-is None t world)
-      (λ at at_is. subst (λ (xs : List (List ℕ)). Sub xs (initials_up world at)) (sym (turned None t world at)) (sub_itself (initials_up world at))) none placed new now stays_open
+      (λ at at_is. subst (λ (xs : List (List ℕ)). Sub xs (initials_up world at)) (sym (turned None t world at)) (sub_itself (initials_up world at))) none placed new now remains_open
 
 pub opened_stay_opened_new : (settings : Parameters) (done : List Event) (event : Event) → OpenedStayOpened settings done event
-opened_stay_opened_new settings done event mobile s next lives alone number had fresh lined = by event refl where
+opened_stay_opened_new settings done event mobile s next lined_up alone number had fresh lined = by event refl where
   w : Actors
   w = actors_after_all (new_actors settings) done
 
@@ -219,11 +219,11 @@ opened_stay_opened_new settings done event mobile s next lives alone number had 
   now : connection_of v.controller s.number ≡ Some next
   now = ap (connection_of v.controller) (sym number) ∙ had.there
 
-  sent : lives.lined.one.opens ≡ false
-  sent = lives.opened.opened
+  sent : lined_up.lined.one.opens ≡ false
+  sent = lined_up.opened.opened
 
   placed : AllByRecursion (λ c. c.station ≢ SWITCH_LINK) (used_channels s)
-  placed = lives.lined.lined.placed
+  placed = lined_up.lined.lined.placed
 
   new : AllByRecursion (λ c. initials_up v (place_of c) ≡ []) (awaited_in next.state)
   new = awaited_none settings done mobile s next v (awaited_in next.state) fresh.silent
@@ -232,7 +232,7 @@ opened_stay_opened_new settings done event mobile s next lives alone number had 
   done_with both = opened_of settings done mobile s next v lined.one lined.found both.0 both.1
 
   passing : is_passing event ≡ true → HasOpened v lined.one next
-  passing is = done_with (passing_opened settings done mobile s next event is lives.lined.one lives.lined.found sent lives.had.there now placed lives.opened.none_comes)
+  passing is = done_with (passing_opened settings done mobile s next event is lined_up.lined.one lined_up.lined.found sent lined_up.had.there now placed lined_up.opened.none_comes)
 
   Handled_at : Event → Type 0
   Handled_at x = AllByRecursion (λ c. initials_up (actors_after w x) (place_of c) ≡ []) (awaited_in next.state) → connection_of (actors_after w x).controller s.number ≡ Some next → IsOpen next.state
@@ -240,7 +240,7 @@ opened_stay_opened_new settings done event mobile s next lives alone number had 
 
   by : (e : Event) → event ≡ e → HasOpened v lined.one next
   by (events.AirUp n Zero) is = done_with (subst (λ (x : Event). connection_of (actors_after w x).controller s.number ≡ Some next → HasSent (actors_after w x) mobile × AllByRecursion (λ c. initials_up (actors_after w x) (place_of c) ≡ []) (used_channels next)) (sym is)
-      (sent_opened settings done mobile s next n lives.lined.one lives.lined.found sent lives.had.there alone placed lives.opened.none_comes) now)
-  by events.Handle is = done_with (subst (λ (x : Event). Handled_at x) (sym is) (handle_opened settings done mobile s next lives.lined.one lives.lined.found sent lives.had.there lives.had.from_one lives.opened.none_comes placed) new now had.is_open)
-  by (events.Tick ms) is = done_with (subst (λ (x : Event). Handled_at x) (sym is) (tick_opened settings done mobile s next ms lives.lined.one lives.lined.found sent lives.had.there lives.had.from_one lives.opened.none_comes placed) new now had.is_open)
+      (sent_opened settings done mobile s next n lined_up.lined.one lined_up.lined.found sent lined_up.had.there alone placed lined_up.opened.none_comes) now)
+  by events.Handle is = done_with (subst (λ (x : Event). Handled_at x) (sym is) (handle_opened settings done mobile s next lined_up.lined.one lined_up.lined.found sent lined_up.had.there lined_up.had.from_one lined_up.opened.none_comes placed) new now had.is_open)
+  by (events.Tick ms) is = done_with (subst (λ (x : Event). Handled_at x) (sym is) (tick_opened settings done mobile s next ms lined_up.lined.one lined_up.lined.found sent lined_up.had.there lined_up.had.from_one lined_up.opened.none_comes placed) new now had.is_open)
   by e is = passing (ap is_passing is)

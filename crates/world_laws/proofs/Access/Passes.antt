@@ -65,13 +65,13 @@ passes_switch next made passes = record { ups = passes.ups; downs = passes.downs
 -- ---- a station makes messages, or forgets them
 
 pub passes_told : (u : Actors) (station : ℕ) (base : BaseState) (more : List Rsl) → AllByRecursion IsPlain more → Sub base.messages ((base_of u station).messages ++ more) → Passes u (with_base station base u)
-passes_told u station base more plain told = record {
+passes_told u station base more plain appended = record {
   ups = λ n is. (
     more,
     plain,
     subst (Sub (messages_up (with_base station base u) n)) (sym (append_assoc (flat_map (read_of n) u.inbox) (base_of u n).messages more))
         (sub_append (sub_itself (flat_map (read_of n) u.inbox))
-        (set_related (λ (a b : Station). Sub a.base.messages (b.base.messages ++ more)) (λ x. sub_front x.base.messages more) u.stations no_station (station - 1) (n - 1) (record (station_of u station) { base = base }) told)),
+        (set_related (λ (a b : Station). Sub a.base.messages (b.base.messages ++ more)) (λ x. sub_front x.base.messages more) u.stations no_station (station - 1) (n - 1) (record (station_of u station) { base = base }) appended)),
   );
   downs = λ c is. subst (λ (xs : List AirMessage). Sub xs (going_down u (place_of c))) (sym (down_with_base u station base (place_of c))) (sub_itself (going_down u (place_of c)));
   entries = λ n. sub_itself (outbox_of u n);
@@ -105,7 +105,7 @@ passes_link w number link less = record {
 
 -- the first entry of an outbox is taken
 pub passes_first : (w : Actors) (number : ℕ) (first : OutboxEntry) (others : List OutboxEntry) → outbox_of w number ≡ first ∷ others → Passes w (with_outbox number others w)
-passes_first w number first others stood = passes_link w number (record (link_of w number) { outbox = others }) (subst (Sub others) (sym stood) (drops (sub_itself others)))
+passes_first w number first others pending = passes_link w number (record (link_of w number) { outbox = others }) (subst (Sub others) (sym pending) (drops (sub_itself others)))
 
 -- ---- the inbox
 

@@ -6,18 +6,18 @@ use Rattle.world_laws.proofs.Prelude.{WaitConfirm, WaitEstablish, to_be_taken, D
 use Rattle.world_laws.proofs.Prelude.{flow, fresh, messages_in, on_serving, assembled}
 use Rattle.world_laws.specs.LineUp.Alive.{ChangePhase}
 use Rattle.world_laws.specs.LineUp.Alive.ChangePhase.{rests}
-use Rattle.world_laws.specs.LineUp.Places.{Item, Tenure}
+use Rattle.world_laws.specs.LineUp.Places.{Item, LineTenure}
 use Rattle.world_laws.specs.LineUp.Places.Item.{brought}
 use Rattle.world_laws.proofs.LineUp.Following.{follows_line}
 use Rattle.world_laws.proofs.LineUp.Lines.{flow-cons}
 use Rattle.world_laws.proofs.OwnRow.{flow-twice}
 
-abbrev pub of_items : List Item → Bool → Tenure
+abbrev pub of_items : List Item → Bool → LineTenure
 of_items items lost = record { hold = []; items = items; is_lost = lost; is_done = false }
 
 -- nothing changes, and nothing of radio resource management is left behind the initial message
-stands_bare : {serving link : ℕ} → serving + link ≡ 0 → ChangePhase false false 0 on_serving serving 0 0 link
-stands_bare left = rests remains (omega (arith, left))
+phase_bare : {serving link : ℕ} → serving + link ≡ 0 → ChangePhase false false 0 on_serving serving 0 0 link
+phase_bare left = rests remains (omega (arith, left))
 
 pub requests_alive : {m : ℕ} (sent : List (List ℕ)) (link : DataLinkState) (initial : List ℕ) (items : List Item) (lost : Bool) → controls_in items + controls_of (to_be_taken link) ≡ 0
     → Alive m (assembled sent link on_serving WaitEstablish 0 [] (of_items (brought initial ∷ items) lost) fresh [] [])
@@ -32,14 +32,14 @@ requests_alive {m} sent link initial items lost left alive = by lost alive where
   by true alive = record {
     follows = follows_line (moves []) alive.follows;
     first = λ is. refl;
-    stands = stands_bare left;
+    phase = phase_bare left;
     condition = alive.condition;
     bare = refl;
   }
   by false alive = record {
     follows = follows_line (moves []) alive.follows;
     first = λ is. refl;
-    stands = stands_bare left;
+    phase = phase_bare left;
     condition = alive.condition;
     bare = refl;
   }

@@ -6,7 +6,7 @@ use Rattle.world_laws.proofs.Prelude.{Live, Target, Connection, ChangesRoles}
 use Rattle.world_laws.proofs.Prelude.{ChangesRolesBy, RoleStep, Roles, TargetRole, after_step, completed, commanded, roles_of, step_by}
 use Rattle.world_laws.proofs.Prelude.{target_channels, target_role, with_target, goes_on, ends, had_ended, IsValid, Row, done_at, IsOpen}
 use Rattle.world_laws.proofs.Prelude.{undone, used_channels, target_in_role, changes_roles_row, same_Some, AllByRecursion-append}
-use Rattle.world_laws.proofs.Prelude.{still_draining, it_stays, it_commands, it_completes, it_goes_back, it_leaves, row_of, used_in}
+use Rattle.world_laws.proofs.Prelude.{still_draining, it_is_unchanged, it_commands, it_completes, it_goes_back, it_leaves, row_of, used_in}
 use Rattle.world_laws.proofs.Prelude.{awaited_in}
 use Rattle.world_laws.proofs.Framing.{all_left, all_right}
 
@@ -41,7 +41,7 @@ module _ (P : Channel → Type 0) where
   -- ---- steps
 
   step_uses : (step : RoleStep) (roles : Roles) → AllByRecursion P (used_in roles) → AllByRecursion P (used_in (after_step step roles))
-  step_uses it_stays roles all = all
+  step_uses it_is_unchanged roles all = all
   step_uses it_commands roles all = by roles.target (all_left P (undone roles.draining) (roles.serving ∷ target_channels roles.target) all) (all_right P (undone roles.draining) (roles.serving ∷ target_channels roles.target) all) where
     by : (o : Option TargetRole) → AllByRecursion P (undone roles.draining) → AllByRecursion P (roles.serving ∷ target_channels o) → AllByRecursion P (undone roles.draining ++ roles.serving ∷ target_channels (commanded o))
     by None old others = AllByRecursion-append P (undone roles.draining) (roles.serving ∷ []) old others
@@ -77,9 +77,9 @@ module _ (P : Channel → Type 0) where
   to_roles s all = subst (λ (cs : List Channel). AllByRecursion P (undone s.draining ++ s.serving ∷ cs)) (sym (target_in_role s.state)) all
 
   changed_uses : (s : Connection) (input : Input) (offer : Option Channel) (r : Row) → ChangesRoles s input offer r → IsOpen r.next.state → AllByRecursion P (used_channels s) → AllByRecursion P (awaited_in r.next.state) → AllByRecursion P (used_channels r.next)
-  changed_uses s input offer r (goes_on was is on) stays_open all new = of_roles r.next (begin_uses on.begun (after_step (step_by input (roles_of s)) (roles_of s)) r.next on.roles (step_uses (step_by input (roles_of s)) (roles_of s) (to_roles s all)) new)
-  changed_uses s input offer r (ends was shut over) stays_open all new = absurd (shut stays_open)
-  changed_uses s input offer r (had_ended was shut nothing) stays_open all new = absurd (shut stays_open)
+  changed_uses s input offer r (goes_on was is on) remains_open all new = of_roles r.next (begin_uses on.begun (after_step (step_by input (roles_of s)) (roles_of s)) r.next on.roles (step_uses (step_by input (roles_of s)) (roles_of s) (to_roles s all)) new)
+  changed_uses s input offer r (ends was shut over) remains_open all new = absurd (shut remains_open)
+  changed_uses s input offer r (had_ended was shut nothing) remains_open all new = absurd (shut remains_open)
 
   pub row_uses : (s : Connection) (input : Input) (offer : Option Channel) (r : Row) → IsValid s → row_of s input offer ≡ Some r → IsOpen r.next.state → AllByRecursion P (used_channels s) → AllByRecursion P (awaited_in r.next.state) → AllByRecursion P (used_channels r.next)
-  row_uses s input offer r stands fits stays_open all new = changed_uses s input offer r (subst (ChangesRolesBy s input offer) fits (changes_roles_row s input offer stands)) stays_open all new
+  row_uses s input offer r valid fits remains_open all new = changed_uses s input offer r (subst (ChangesRolesBy s input offer) fits (changes_roles_row s input offer valid)) remains_open all new

@@ -71,14 +71,14 @@ passes_tell u station m plain = passes_told u station (after_tell (base_of u sta
 passes_aired : (w : Actors) (station channel : ℕ) (message : List ℕ) (first : OutboxEntry) (others : List OutboxEntry) → is_station_up w station ≡ true → outbox_of w station ≡ first ∷ others
     → ((n : ℕ) → (channel == n) ≡ true → leading_from_outbox n first ≡ leading message first.target)
     → Passes w (aired w station channel message first others)
-passes_aired w station channel message first others up stood leads =
+passes_aired w station channel message first others up pending leads =
     let at : Place = place_at station channel in
     let u : Actors = with_outbox station others w in
     let spot : Spot = record (spot_at w at) { air = (spot_at w at).air ++ record { message = message; target = first.target } ∷ [] } in
-    let taken : Passes w u = passes_first w station first others stood in
+    let taken : Passes w u = passes_first w station first others pending in
     record {
       ups = λ n is. (let a = taken.ups n is in (a.0, a.1, subst (λ (xs : List Rsl). Sub xs (messages_up w n ++ a.0)) (sym (ups_spot u at spot n)) a.2));
-      downs = λ c is. down_aired w station channel message first others c is up stood leads;
+      downs = λ c is. down_aired w station channel message first others c is up pending leads;
       entries = taken.entries;
       controller = refl;
     }
@@ -104,12 +104,12 @@ passes_answered u answer station channel =
 
 takes_passes : (w : Actors) (station : ℕ) (first : OutboxEntry) (others : List OutboxEntry) → is_station_up w station ≡ true → outbox_of w station ≡ first ∷ others → OfTaken (Passes w) (took station first.target (rsl_in first.out.frame) (with_outbox station others w))
 unfolding OfTaken Seats
-takes_passes w station first others up stood = by_message (rsl_in first.out.frame) refl where
+takes_passes w station first others up pending = by_message (rsl_in first.out.frame) refl where
   u : Actors
   u = with_outbox station others w
 
   taken : Passes w u
-  taken = passes_first w station first others stood
+  taken = passes_first w station first others pending
 
   activating : (channel : ℕ) (o : Option LinkFault) → refusal_of_activate (base_of u station) channel ≡ o → Passes w (activated_unless o (place_at station channel) u)
   activating channel None is = passes_then taken (passes_activated u station channel)
@@ -117,7 +117,7 @@ takes_passes w station first others up stood = by_message (rsl_in first.out.fram
 
   airing : (channel : ℕ) (message : List ℕ) → ((n : ℕ) → (channel == n) ≡ true → leading_from_outbox n first ≡ leading message first.target) → (b : Bool)
       → Passes w (if b then with_spot (place_at station channel) (record (spot_at u (place_at station channel)) { air = (spot_at u (place_at station channel)).air ++ record { message = message; target = first.target } ∷ [] }) u else u)
-  airing channel message leads true = passes_aired w station channel message first others up stood leads
+  airing channel message leads true = passes_aired w station channel message first others up pending leads
   airing channel message leads false = taken
 
   by_message : (o : Option Rsl) → rsl_in first.out.frame ≡ o → OfTaken (Passes w) (took station first.target o u)
@@ -163,10 +163,10 @@ event_passes w (events.Move number) is good = move_leads (Passes w) w number (λ
 event_passes w (events.Touch number) is good = touch_leads (Passes w) w number (λ command reached. passes_tell w command.target.at.station (handover_detection command.target.at.number) (λ other. refl))
 event_passes w (events.Arrive number) is good = arrive_leads (Passes w) w number (λ p from command found seat reached. passes_mobiles _ (passes_tell w command.target.at.station (establish_indication command.target.at.number Zero None) (plain_established command.target.at.number Zero)))
 event_passes w (events.Return number) is good = return_leads (Passes w) w number (λ p from command found seat reached. passes_mobiles _ (passes_tell w from.at.station (establish_indication from.at.number Zero None) (plain_established from.at.number Zero)))
-event_passes w (events.BaseTakes station) is good = base_takes_leads (Passes w) w station (λ first others up stood. takes_passes w station first others up stood)
+event_passes w (events.BaseTakes station) is good = base_takes_leads (Passes w) w station (λ first others up pending. takes_passes w station first others up pending)
 event_passes w (events.BasePush source) is good = push_passes w source good
-event_passes w events.SwitchTakes is good = switch_takes_leads (Passes w) w (λ first others up stood.
-    switch_took-leads (Passes w) (with_outbox SWITCH_LINK others w) (sccp_in first.out.frame) (passes_first w SWITCH_LINK first others stood) (λ next made. passes_switch next made (passes_first w SWITCH_LINK first others stood)))
+event_passes w events.SwitchTakes is good = switch_takes_leads (Passes w) w (λ first others up pending.
+    switch_took-leads (Passes w) (with_outbox SWITCH_LINK others w) (sccp_in first.out.frame) (passes_first w SWITCH_LINK first others pending) (λ next made. passes_switch next made (passes_first w SWITCH_LINK first others pending)))
 event_passes w (events.SwitchDoes action) is good = does_leads (Passes w) w action (λ next made. passes_switch next made (passes_itself w))
 event_passes w (events.BaseDown source) is good = broken_leads (Passes w) w source
     (λ up switch. passes_then (passes_switch w.switch [] (passes_link w source broken_link (sub_none _))) (passes_item (record (with_link source broken_link w) { switch_made = [] }) (record { source = source; what = whats.Down }) (λ n is. refl)))

@@ -4,7 +4,7 @@ use Rattle.world_laws.proofs.Prelude.{◌≡◌, ◌⊎◌, ℕ, Bool, true, fal
 use Rattle.world_laws.proofs.Prelude.{sym, ap, ◌∙◌, subst, inl, inr, cases_Bool, AllByRecursion, Channel, Place, Input, Changing, State}
 use Rattle.world_laws.proofs.Prelude.{WaitActivation, Live, Closed, Removed, Target, Connection, drain_at, is_at, ChangesRoles, RemainsOpen}
 use Rattle.world_laws.proofs.Prelude.{Roles, TargetRole, after_step, awaits_at, changes_by, commanded, is_target_at, leaves_at, roles_of}
-use Rattle.world_laws.proofs.Prelude.{step_by, target_channels, target_role, with_target, goes_on, ends, had_ended, stays, commands}
+use Rattle.world_laws.proofs.Prelude.{step_by, target_channels, target_role, with_target, goes_on, ends, had_ended, unchanged, commands}
 use Rattle.world_laws.proofs.Prelude.{completes, goes_back, IsValid, Row, IsOpen, on_activation_ack, on_activation_nack}
 use Rattle.world_laws.proofs.Prelude.{on_establish_indication, on_establish_confirm, on_release_indication, on_error_indication}
 use Rattle.world_laws.proofs.Prelude.{on_connection_failure, on_dtap, on_complete, on_failure, on_release_ack, on_move, on_confirm}
@@ -70,22 +70,22 @@ both_true true true is = (refl, refl)
 both_true true false is = absurd cc
 both_true false b is = absurd cc
 
-ack_begins : (Q P : Channel → Type 0) (at : Place) (roles : Roles) → IsAckOf (inputs.ActivationAck at) Q P → AllByRecursion Q (target_channels roles.target) → Begins P roles → Begins P (after_step (if awaits_at at roles.target then commands else stays) roles)
+ack_begins : (Q P : Channel → Type 0) (at : Place) (roles : Roles) → IsAckOf (inputs.ActivationAck at) Q P → AllByRecursion Q (target_channels roles.target) → Begins P roles → Begins P (after_step (if awaits_at at roles.target then commands else unchanged) roles)
 unfolding commanded_of
 ack_begins Q P at roles acks used begins = elim (cases_Bool (awaits_at at roles.target)) [
-  | inl hit ↦ subst (λ (b : Bool). Begins P (after_step (if b then commands else stays) roles)) (sym hit) (record { serving = begins.serving; target = told roles.target hit used })
-  | inr miss ↦ subst (λ (b : Bool). Begins P (after_step (if b then commands else stays) roles)) (sym miss) begins
+  | inl hit ↦ subst (λ (b : Bool). Begins P (after_step (if b then commands else unchanged) roles)) (sym hit) (record { serving = begins.serving; target = told roles.target hit used })
+  | inr miss ↦ subst (λ (b : Bool). Begins P (after_step (if b then commands else unchanged) roles)) (sym miss) begins
 ] where
   told : (o : Option TargetRole) → awaits_at at o ≡ true → AllByRecursion Q (target_channels o) → AllByRecursion P (commanded_of (commanded o))
   told (Some t) is all = (acks at t.target.channel refl (both_true (not t.is_commanded) (is_at at t.target.channel) is).1 all.0, tt)
   told None is all = tt
 
-goes_back_begins : (P : Channel → Type 0) (b : Bool) (roles : Roles) → Begins P roles → Begins P (after_step (if b then goes_back else stays) roles)
+goes_back_begins : (P : Channel → Type 0) (b : Bool) (roles : Roles) → Begins P roles → Begins P (after_step (if b then goes_back else unchanged) roles)
 unfolding commanded_of
 goes_back_begins P true roles begins = record { serving = begins.serving; target = tt }
 goes_back_begins P false roles begins = begins
 
-completes_begins : (P : Channel → Type 0) (b : Bool) (roles : Roles) → (b ≡ true → (t : TargetRole) × (roles.target ≡ Some t) × (t.is_commanded ≡ true)) → Begins P roles → Begins P (after_step (if b then completes else stays) roles)
+completes_begins : (P : Channel → Type 0) (b : Bool) (roles : Roles) → (b ≡ true → (t : TargetRole) × (roles.target ≡ Some t) × (t.is_commanded ≡ true)) → Begins P roles → Begins P (after_step (if b then completes else unchanged) roles)
 unfolding commanded_of
 completes_begins P false roles there begins = begins
 completes_begins P true roles there begins = by roles.target refl where
@@ -184,7 +184,7 @@ first_or _ = inr (λ first. first)
 
 pub row_begun : (Q P : Channel → Type 0) (s : Connection) (input : Input) (offer : Option Channel) (r : Row) → IsValid s → row_of s input offer ≡ Some r → IsAckOf input Q P → (IsOpen s.state → AllByRecursion Q (s.serving ∷ target_channels (target_role s.state))) → AllByRecursion P (begun_in s.state s.serving) → AllByRecursion P (begun_in r.next.state r.next.serving)
 unfolding commanded_of
-row_begun Q P s input offer r stands fits acks used begun = by (changes_of s input offer r stands fits) where
+row_begun Q P s input offer r valid fits acks used begun = by (changes_of s input offer r valid fits) where
   before : IsOpen s.state → IsOpen r.next.state → Begins P (roles_of s)
   before opened still = elim (first_or s.state) [
     | inl first ↦ record {

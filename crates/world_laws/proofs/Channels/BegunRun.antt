@@ -4,8 +4,9 @@
 use Rattle.world_laws.proofs.Prelude.{◌≡◌, ◌≢◌, ℕ, ◌≤◌, true, unwrap_or, List, [], ◌∷◌, ◌++◌, length, Option, Some, None, refl, sym, ap}
 use Rattle.world_laws.proofs.Prelude.{◌∙◌, subst, AllByRecursion, Channel, Place, Message, SWITCH_LINK, Input, State}
 use Rattle.world_laws.proofs.Prelude.{WaitEstablish, WaitConfirm, Live, Removed, Connection, new_connection, target_channels}
-use Rattle.world_laws.proofs.Prelude.{target_role, IsValid, IsOpen, Acts, ActsOn, IsBrought, brought_in, kept_in, rests, ages, opens, goes}
-use Rattle.world_laws.proofs.Prelude.{connection_of, IsOctetStep, aged_holds, pass_stands, life_acts, Free, InUse, Step, Controller}
+use Rattle.world_laws.proofs.Prelude.{target_role, IsValid, IsOpen, Acts, ActsOn, IsBrought, brought_in, kept_in, rests, ages, opens}
+use Rattle.world_laws.proofs.Prelude.{takes_row}
+use Rattle.world_laws.proofs.Prelude.{connection_of, IsOctetStep, aged_holds, pass_valid, life_acts, Free, InUse, Step, Controller}
 use Rattle.world_laws.proofs.Prelude.{channel_state, hears, place_at, place_of, step, Item, Rsl, AreAllowed, Parameters, Event, BaseTakes}
 use Rattle.world_laws.proofs.Prelude.{Handle, Tenure, actors_after, actors_after_all, AllAgree, acknowledged_in, is_in_use, to_come}
 use Rattle.world_laws.proofs.Prelude.{owner_in, acknowledgements, due, handled, target_in, with_turn, all_steps, step_at, Actors, base_of}
@@ -123,10 +124,10 @@ module _ (settings : Parameters) (done : List Event) (event : Event) (v : Actors
   by_acts begun number x put from_one there (opens next up channel request delay nothing before put_is after) =
       let is : new_connection number channel request delay ≡ x = (let both : Some (new_connection number channel request delay) ≡ Some x = sym after ∙ ap (λ (d : Controller). connection_of d number) (sym next_is) ∙ there in cc) in
       subst (HasBegun v) is tt
-  by_acts begun number x put from_one there (goes old y input offer r before aged brought fits put_is after) =
+  by_acts begun number x put from_one there (takes_row old y input offer r before aged brought fits put_is after) =
       let is : r.next ≡ x = kept_some r.next.state r.next x (sym after ∙ ap (λ (d : Controller). connection_of d number) (sym next_is) ∙ there) in
       finish number x there (subst (λ (z : Connection). AllByRecursion (Silent number) (begun_in z.state z.serving)) is
-      (row_begun (InUseAt c number) (Silent number) y input offer r (aged_holds IsValid pass_stands old y aged (connections_stand_new settings done number old before)) fits (begins number input brought)
+      (row_begun (InUseAt c number) (Silent number) y input offer r (aged_holds IsValid pass_valid old y aged (connections_stand_new settings done number old before)) fits (begins number input brought)
       (aged_holds (λ z. IsOpen z.state → AllByRecursion (InUseAt c number) (z.serving ∷ target_channels (target_role z.state))) (λ ms z all. all) old y aged (owned number old before))
       (aged_holds (λ z. AllByRecursion (Silent number) (begun_in z.state z.serving)) (λ ms z all. all) old y aged (keep_all begun number old from_one before))))
     where
@@ -169,18 +170,18 @@ module _ (settings : Parameters) (done : List Event) (allowed : AreAllowed setti
 
   ticks : (ms : ℕ) → AllByRecursion IsOctetStep (step_at now (events.Tick ms)) → AllBegun (actors_after now (events.Tick ms))
   unfolding ServesAt event_after
-  ticks ms came =
+  ticks ms took_octets =
       stepping_begun settings done (events.Tick ms) (actors_after now (events.Tick ms)) (sym (snoc_actors (new_actors settings) done (events.Tick ms))) allowed own_of right.agree (steps.Tick ms) (λ at. [])
       (record {
         target = None;
         turned = λ at. tick-turned now at ms;
-        serves = serves_event settings own_of done now (events.Tick ms) refl allowed octets came right.agree;
+        serves = serves_event settings own_of done now (events.Tick ms) refl allowed octets took_octets right.agree;
         acks = λ number at brought. absurd brought;
       }) begun
 
   handles : AllByRecursion IsOctetStep (step_at now Handle) → AllBegun (actors_after now Handle)
   unfolding ServesAt event_after
-  handles came = by now.inbox refl where
+  handles took_octets = by now.inbox refl where
     by : (items : List Item) → now.inbox ≡ items → AllBegun (actors_after now Handle)
     by [] is = subst AllBegun (sym (ap (λ (items : List Item). unwrap_or (handled items now) now) is)) begun
     by (item ∷ items) is =
@@ -192,12 +193,12 @@ module _ (settings : Parameters) (done : List Event) (allowed : AreAllowed setti
         (record {
           target = target_in now item.source item.what;
           turned = λ at. handle_turned now at item items is;
-          serves = serves_event settings own_of done now Handle refl allowed octets came right.agree item items is;
+          serves = serves_event settings own_of done now Handle refl allowed octets took_octets right.agree item items is;
           acks = λ number at brought. ack_heard now now.controller number item at (used_at settings done allowed) known.0 brought;
         }) begun)
 
   event_begun : (e : Event) → AllByRecursion IsOctetStep (step_at now e) → AllBegun (actors_after now e)
-  event_begun = kinds (λ e. AllByRecursion IsOctetStep (step_at now e) → AllBegun (actors_after now e)) (λ e is came. beside e is) handles ticks (λ station came. takes station)
+  event_begun = kinds (λ e. AllByRecursion IsOctetStep (step_at now e) → AllBegun (actors_after now e)) (λ e is took_octets. beside e is) handles ticks (λ station took_octets. takes station)
 
 -- ---- over all events
 

@@ -12,11 +12,11 @@ use Rattle.world_laws.proofs.Prelude.{Rests, IsKnownItem, heard_of, Serves, Turn
 use Rattle.world_laws.proofs.Prelude.{acks_append, pipe-step, PipeStep, flows, stops, same_Some, IsFrom, IsOfSwitch, word_of, IsOwed}
 use Rattle.world_laws.proofs.Prelude.{one_at_most, goes_put, due-append}
 use Rattle.conn_rules.specs.declared.input.Input.TheVariants as inputs
-use Rattle.controller_model.specs.LifeLaws.Acts.Brought.{comes as comes_in, nothing as none_in}
+use Rattle.controller_model.specs.LifeLaws.Acts.Brought.{of_frame as comes_in, nothing as none_in}
 use Rattle.ruled_relay.specs.declared.item.What.TheVariants as whats
 use Rattle.rsl_codec.specs.declared.rsl.Rsl.TheVariants as rsl
 use Rattle.world_model.specs.Honest.{given}
-use Rattle.world_model.proofs.OwnerEvents.{IsThere, came, nothing_put}
+use Rattle.world_model.proofs.OwnerEvents.{IsThere, to_come_then, nothing_put}
 use Rattle.world_model.proofs.Outboxes.Step.{goes}
 use Rattle.world_laws.proofs.OrderHeard.{read_known, word_known}
 use Rattle.world_laws.proofs.OwnFrame.{SaysWord, message_says}
@@ -56,7 +56,8 @@ rests_silent at w event there good rests silent = by (outbox-step n w event) (pi
   -- what was given and made, before what is due
   grouped : (rest : List Rsl) → acknowledged_in at v.inbox ++ (acknowledgements k (base_of v n).messages ++ rest) ≡ before ++ (acknowledgements k (given n w event ++ (base_of v n).messages) ++ rest)
   grouped rest =
-      ap (λ (xs : List Rsl). xs ++ (acknowledgements k (base_of v n).messages ++ rest)) (came at w event there.station rests.pops good)
+      ap (λ (xs : List Rsl). xs ++ (acknowledgements k (base_of v n).messages ++ rest))
+      (to_come_then at w event there.station rests.pops good)
       ∙ append_assoc before gave (acknowledgements k (base_of v n).messages ++ rest)
       ∙ ap (λ (xs : List Rsl). before ++ xs) (sym (append_assoc gave (acknowledgements k (base_of v n).messages) rest)
       ∙ ap (λ (xs : List Rsl). xs ++ rest) (sym (acks_append k (given n w event) (base_of v n).messages)))
@@ -78,7 +79,7 @@ rests_silent at w event there good rests silent = by (outbox-step n w event) (pi
       ∙ ap (λ (xs : List Rsl). before ++ (xs ++ [])) (acks ∙ ap (λ (entries : List OutboxEntry). made ++ due k (is_active_at w at) entries) nobody)
       ∙ ap (λ (xs : List Rsl). xs ++ ((made ++ []) ++ [])) first ∙ ap (λ (xs : List Rsl). (xs ++ []) ++ []) second
   by outboxes (stops down left dropped nothing nobody) =
-      ap (λ (xs : List Rsl). xs ++ (acknowledgements k (base_of v n).messages ++ due k (is_active_at v at) (outbox_of v n))) (came at w event there.station rests.pops good)
+      ap (λ (xs : List Rsl). xs ++ (acknowledgements k (base_of v n).messages ++ due k (is_active_at v at) (outbox_of v n))) (to_come_then at w event there.station rests.pops good)
       ∙ ap (λ (ms : List Rsl). (before ++ acknowledgements k ms) ++ (acknowledgements k (base_of v n).messages ++ due k (is_active_at v at) (outbox_of v n))) nothing
       ∙ ap (λ (ms : List Rsl). (before ++ []) ++ (acknowledgements k ms ++ due k (is_active_at v at) (outbox_of v n))) left
       ∙ ap (λ (entries : List OutboxEntry). (before ++ []) ++ due k (is_active_at v at) entries) dropped
@@ -115,10 +116,10 @@ module _ (owner : Tenure → ℕ) (w v : Actors) (at : Place) (target : Option T
     by false down = ap (due at.number (active_behind w at)) (turned.down down)
     by true up =
         let heard_state : hear heard (channel_state w.controller at) ≡ InUse number = hear-used heard (channel_state w.controller at) number used in
-        let puts = goes_put owner at target (tenure_behind w at).number (serves.goes hearing) (serves.fits hearing up) (active_behind w at)
+        let puts = goes_put owner at target (tenure_behind w at).number (serves.moves hearing) (serves.fits hearing up) (active_behind w at)
         ((agrees.way (serves.hearing hearing)).active up ∙ ap (λ (s : ChannelState). is_in_use s) (used ∙ sym heard_state)) in
         let one : List Rsl = activation_ack at.number ∷ [] in
-        let all = puts.works.comes one (subst (λ (s : ChannelState). IsOwed at.number s one) (sym heard_state) begins) in
+        let all = puts.works.owed one (subst (λ (s : ChannelState). IsOwed at.number s one) (sym heard_state) begins) in
         ap (due at.number (active_behind w at)) (turned.joins up)
         ∙ one_at_most at.number number (channel_state t.next at) _ one _ all still refl (λ is. absurd cc)
 
@@ -134,7 +135,7 @@ module _ (owner : Tenure → ℕ) (w v : Actors) (at : Place) (target : Option T
   turn_begins number used still hearing some =
       let way = agrees.way (serves.hearing hearing) in
       let none : rest_of w v at ++ way.lost ≡ [] =
-      one_at_most at.number number (channel_state w.controller at) (to_come w at ++ way.lost) heard (rest_of w v at ++ way.lost) way.comes used (ap (λ (xs : List Rsl). xs ++ way.lost) came_first ∙ append_assoc heard (rest_of w v at) way.lost) some in
+      one_at_most at.number number (channel_state w.controller at) (to_come w at ++ way.lost) heard (rest_of w v at ++ way.lost) way.owed used (ap (λ (xs : List Rsl). xs ++ way.lost) came_first ∙ append_assoc heard (rest_of w v at) way.lost) some in
       turn_silent number used still hearing (both_empty (rest_of w v at) way.lost (sym none)).0
 
 -- ---- an ACTIVATION ACK that comes to a connection is heard of its channel

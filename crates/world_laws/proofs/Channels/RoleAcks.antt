@@ -65,7 +65,7 @@ comes_at settings events allowed octets at least most hearing state is =
     let waits : List Rsl = due at.number (is_active_at w at) (outbox_of w at.station) in (
       waits ++ way.lost,
       subst (λ (s : ChannelState). IsOwed at.number s (acknowledgements_up w at ++ (waits ++ way.lost))) is
-          (subst (IsOwed at.number (channel_state w.controller at)) (ap (λ (xs : List Rsl). xs ++ way.lost) (up_first w at) ∙ append_assoc (acknowledgements_up w at) waits way.lost) way.comes),
+          (subst (IsOwed at.number (channel_state w.controller at)) (ap (λ (xs : List Rsl). xs ++ way.lost) (up_first w at) ∙ append_assoc (acknowledgements_up w at) waits way.lost) way.owed),
     )
 
 module _ (settings : Parameters) (events : List Event) (allowed : AreAllowed settings) (octets : TookOctets settings events) where

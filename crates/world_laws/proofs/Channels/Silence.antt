@@ -65,12 +65,12 @@ heard_free _ _ one is = inl is
 
 -- by a turn: it was free and nothing was heard, or its end was heard
 turn_free : (owner : Tenure → ℕ) (w v : Actors) (at : Place) (target : Option Tenure) (t : Turn) (heard : List Rsl) → Turned w v at target t heard → Serves owner w at target t heard → Agrees owner w at → hears t.next at.station ≡ true → channel_state t.next at ≡ Free → ((channel_state w.controller at ≡ Free) × (heard ≡ [])) ⊎ IsEnd heard
-turn_free owner w v at target t heard turned serves agrees hearing free = by (heard_free heard (channel_state w.controller at) turned.one (goes_free (serves.goes hearing) free)) where
+turn_free owner w v at target t heard turned serves agrees hearing free = by (heard_free heard (channel_state w.controller at) turned.one (goes_free (serves.moves hearing) free)) where
   by : (channel_state w.controller at ≡ Free) ⊎ IsEnd heard → ((channel_state w.controller at ≡ Free) × (heard ≡ [])) ⊎ IsEnd heard
   by (inr end) = inr end
   by (inl was) =
       let way = agrees.way (serves.hearing hearing) in
-      let none : to_come w at ++ way.lost ≡ [] = free_silent at.number (to_come w at ++ way.lost) (subst (λ (s : ChannelState). IsOwed at.number s (to_come w at ++ way.lost)) was way.comes) in
+      let none : to_come w at ++ way.lost ≡ [] = free_silent at.number (to_come w at ++ way.lost) (subst (λ (s : ChannelState). IsOwed at.number s (to_come w at ++ way.lost)) was way.owed) in
       let first : acknowledged_in at w.inbox ≡ [] = (both_empty (acknowledged_in at w.inbox) (acknowledgements at.number (base_of w at.station).messages ++ due at.number (is_active_at w at) (outbox_of w at.station)) (sym (both_empty (to_come w at) way.lost (sym none)).0)).0 in
       inl (was, (both_empty heard (acknowledged_in at v.inbox) (sym first ∙ turned.inbox)).0)
 
@@ -142,19 +142,19 @@ module _ (settings : Parameters) (done : List Event) (allowed : AreAllowed setti
 
   ticks : (ms : ℕ) → AllByRecursion IsOctetStep (step_at w (events.Tick ms)) → FreeIsOver settings (done ++ events.Tick ms ∷ [])
   unfolding ServesAt event_after
-  ticks ms came = turning (events.Tick ms) (actors_after w (events.Tick ms)) None (tick ms w.controller) (λ at. []) refl (λ at. refl) (λ at. tick-turned w at ms) (serves_event settings own_of done w (events.Tick ms) refl allowed octets came right.agree)
+  ticks ms took_octets = turning (events.Tick ms) (actors_after w (events.Tick ms)) None (tick ms w.controller) (λ at. []) refl (λ at. refl) (λ at. tick-turned w at ms) (serves_event settings own_of done w (events.Tick ms) refl allowed octets took_octets right.agree)
 
   handles : AllByRecursion IsOctetStep (step_at w Handle) → FreeIsOver settings (done ++ Handle ∷ [])
   unfolding ServesAt event_after
-  handles came = by w.inbox refl where
+  handles took_octets = by w.inbox refl where
     by : (items : List Item) → w.inbox ≡ items → FreeIsOver settings (done ++ Handle ∷ [])
     by [] is = resting Handle (ap (λ (items : List Item). (unwrap_or (handled items w) w).controller) is) (λ at least most. ap first_of is)
     by (item ∷ items) is =
         turning Handle (with_turn (target_in w item.source item.what) (take item w.controller) (record w { inbox = items })) (target_in w item.source item.what) (take item w.controller) (λ at. heard_of at item) (ap (λ (all : List Item). unwrap_or (handled all w) w) is)
-        (λ at. ap (λ (all : List Item). acknowledgements_taken at (first_of all)) is ∙ taken_one at item) (λ at. handle_turned w at item items is) (serves_event settings own_of done w Handle refl allowed octets came right.agree item items is)
+        (λ at. ap (λ (all : List Item). acknowledgements_taken at (first_of all)) is ∙ taken_one at item) (λ at. handle_turned w at item items is) (serves_event settings own_of done w Handle refl allowed octets took_octets right.agree item items is)
 
   event_over : (e : Event) → AllByRecursion IsOctetStep (step_at w e) → FreeIsOver settings (done ++ e ∷ [])
-  event_over = kinds (λ e. AllByRecursion IsOctetStep (step_at w e) → FreeIsOver settings (done ++ e ∷ [])) (λ e is came. beside e is) handles ticks (λ station came. resting (BaseTakes station) (kept_controller w station) (λ at least most. refl))
+  event_over = kinds (λ e. AllByRecursion IsOctetStep (step_at w e) → FreeIsOver settings (done ++ e ∷ [])) (λ e is took_octets. beside e is) handles ticks (λ station took_octets. resting (BaseTakes station) (kept_controller w station) (λ at least most. refl))
 
 over_all : (settings : Parameters) (done rest : List Event) → AreAllowed settings → TookOctets settings done → AllByRecursion IsOctetStep (all_steps (world settings done) rest) → FreeIsOver settings done → FreeIsOver settings (done ++ rest)
 over_all settings done [] allowed octets later free_over = subst (FreeIsOver settings) (sym (append-nil done)) free_over

@@ -4,10 +4,12 @@
 use Rattle.world_laws.proofs.Prelude.{◌≡◌, ℕ, ◌≤◌, Bool, true, false, List, [], length, Option, Some, None, refl, sym, ap, ◌∙◌, subst}
 use Rattle.world_laws.proofs.Prelude.{AllByRecursion, Handover, Channel, Message, outs_of, Input, Active, Draining}
 use Rattle.world_laws.proofs.Prelude.{State, WaitConfirm, Live, Connection, Row, IsOpen}
-use Rattle.world_laws.proofs.Prelude.{OfRow, relayed, on_move, row_if, Acts, Brought, IsAged, IsBrought, kept, kept_in, ages, goes, opens}
+use Rattle.world_laws.proofs.Prelude.{OfRow, relayed, on_move, row_if, Acts, Brought, IsAged, IsBrought, kept, kept_in, ages, takes_row}
+use Rattle.world_laws.proofs.Prelude.{opens}
 use Rattle.world_laws.proofs.Prelude.{rests, nothing, IsThere, connection_of, outs_for, IsSent, aged_holds, break_shut, timer_shut}
 use Rattle.world_laws.proofs.Prelude.{PutsUsual, usual_row, Turn, Sapi, Three, Zero, same_Some, none-some, nat_lt, IsFinal-row, begin}
-use Rattle.world_laws.proofs.Prelude.{IsFinal, comes, reports, IsLinkBreak, row_is, kept_there, forwarded, commanded_target, is_confirmed}
+use Rattle.world_laws.proofs.Prelude.{IsFinal, of_frame, reports, IsLinkBreak, row_is, kept_there, forwarded, commanded_target}
+use Rattle.world_laws.proofs.Prelude.{is_confirmed}
 use Rattle.world_laws.proofs.Prelude.{is_opening, IsRequested}
 use Rattle.conn_rules.specs.declared.input.Input.TheVariants as inputs
 use Rattle.conn_rules.specs.declared.limits.TheConstants.{DRAIN_LIMIT}
@@ -25,7 +27,7 @@ pub data Outcome (s : Connection) (t : Turn) : Type 0 where
 
 -- what a step of the controller brings of its own
 abbrev pub IsOwnStep : Brought → Type 0
-IsOwnStep (comes input) = ⊥
+IsOwnStep (of_frame input) = ⊥
 IsOwnStep (breaks input) = IsLinkBreak input
 IsOwnStep _ = Unit {0}
 
@@ -122,9 +124,9 @@ begun_by {s} {next} {offer} {r} {t} from_one sent went =
 
 went_by : (brought : Brought) {s next : Connection} {offer : Option Channel} {r : Row} {t : Turn} (input : Input) → IsOwnStep brought → IsBrought brought input → 1 ≤ s.number → AllByRecursion IsSent t.outs → Went s next input offer r t → Outcome s t
 went_by nothing input own by from_one sent went = absurd by
-went_by (comes came) input own by from_one sent went = absurd own
+went_by (of_frame arrived) input own by from_one sent went = absurd own
 went_by reports {s} {next} {offer} {r} {t} input own by from_one sent went = begun_by from_one sent (subst (λ (i : Input). Went s next i offer r t) by went)
-went_by (breaks came) {s} {next} {offer} {r} input own by from_one sent went = ended_by from_one sent went (break_shut input (subst IsLinkBreak (sym by) own) next offer r went.fits)
+went_by (breaks arrived) {s} {next} {offer} {r} input own by from_one sent went = ended_by from_one sent went (break_shut input (subst IsLinkBreak (sym by) own) next offer r went.fits)
 went_by passes {s} {next} {offer} {r} input own by from_one sent went = ended_by from_one sent went (timer_shut input by next offer r went.fits)
 
 silent_put : (s : Connection) (t : Turn) (put : List Message) → outs_for s.number t.outs ≡ outs_of s.number put → put ≡ [] → forwarded t.outs s.number ≡ []
@@ -132,12 +134,14 @@ silent_put s t put outs none = silent_forwards s.number t.outs (outs ∙ ap (out
 
 pub by_acts : {n : ℕ} {up : Bool} (brought : Brought) {before : Option Connection} {put : List Message} (s : Connection) (t : Turn) → IsOwnStep brought → 1 ≤ s.number → IsRequested s.state → before ≡ Some s → AllByRecursion IsSent t.outs → outs_for s.number t.outs ≡ outs_of s.number put
     → Acts s.number n up brought before put (connection_of t.next s.number) → Outcome s t
-by_acts brought {before} {put} s t own from_one requested was sent outs (rests silent stays none) =
-    same s (record { line = line_itself s; there = stays ∙ was; requested = requested; request = refl }) (silent_put s t put outs silent)
-by_acts brought {before} {put} s t own from_one requested was sent outs (ages old next is_time is aged silent stays) =
+by_acts brought {before} {put} s t own from_one requested was sent outs (rests silent unchanged none) =
+    same s (record { line = line_itself s; there = unchanged ∙ was; requested = requested; request = refl })
+    (silent_put s t put outs silent)
+by_acts brought {before} {put} s t own from_one requested was sent outs (ages old next is_time is aged silent unchanged) =
     let older_one = older s next (subst (λ (x : Connection). IsAged x next) (same_Some _ _ (sym is ∙ was)) aged) in
-    same next (record { line = older_one.line; there = stays; requested = subst IsRequested (sym older_one.state) requested; request = older_one.request }) (silent_put s t put outs silent)
-by_acts brought s t own from_one requested was sent outs (opens begins linked channel request delay is_nothing none put_is stays) = absurd (none-some _ (sym none ∙ was))
-by_acts brought {before} {put} s t own from_one requested was sent outs (goes old next input offer r is aged by fits put_is stays) =
+    same next (record { line = older_one.line; there = unchanged; requested = subst IsRequested (sym older_one.state) requested; request = older_one.request }) (silent_put s t put outs silent)
+by_acts brought s t own from_one requested was sent outs (opens begins linked channel request delay is_nothing none put_is unchanged) = absurd (none-some _ (sym none ∙ was))
+by_acts brought {before} {put} s t own from_one requested was sent outs
+    (takes_row old next input offer r is aged by fits put_is unchanged) =
     went_by brought input own by from_one sent
-    (record { aged = subst (λ (x : Connection). IsAged x next) (same_Some _ _ (sym is ∙ was)) aged; fits = fits; put = outs ∙ ap (outs_of s.number) put_is; after = stays })
+    (record { aged = subst (λ (x : Connection). IsAged x next) (same_Some _ _ (sym is ∙ was)) aged; fits = fits; put = outs ∙ ap (outs_of s.number) put_is; after = unchanged })

@@ -83,10 +83,10 @@ ack_others {settings} {events} {mobile} {s} {item} {items} frame p target h is t
     nobody : (state : ChannelState) → holder state ≡ None → (on_state state p (inputs.ActivationAck p) c (entry_at c state)).outs ≡ []
     nobody Free is = refl
     nobody _ is = absurd cc
-  by (Some zero) held = subst (AllByRecursion (IsForOthers target s)) (sym (outs ∙ free_outs p c (channel_state c p) 0 held (none_zero c s (known settings events s h.allowed h.lives.had)))) tt
+  by (Some zero) held = subst (AllByRecursion (IsForOthers target s)) (sym (outs ∙ free_outs p c (channel_state c p) 0 held (none_zero c s (known settings events s h.allowed h.lined_up.had)))) tt
   by (Some (suc k)) held =
       subst (λ (o : Option Tenure). AllByRecursion (IsForOthers o s) (take item c).outs) tenure
-      (frames_are_for_others_new settings events s item h.allowed h.octets h.lives.had (record {
+      (frames_are_for_others_new settings events s item h.allowed h.octets h.lined_up.had (record {
         frame = frame;
         is = is;
         octets = subst IsOfOctets is h.own;
@@ -103,7 +103,7 @@ left_by : {settings : Parameters} {events : List Event} {mobile : ℕ} {s : Conn
 left_by {settings} {events} {mobile} {s} {item} frame h is other =
     subst (λ (x : What). IsLeft s.number c (take (record { source = item.source; what = x }) c)) (sym is)
     (subst (λ (d : Controller). (concerned d (word_of item.source frame) ≡ Some s.number → ⊥) → IsLeft s.number d (take (record { source = item.source; what = whats.Frame frame }) d)) (sym (FollowsTable-new settings events))
-    (λ differs. frame_leaves settings (all_steps (new_actors settings) events) s.number item.source frame h.allowed h.lives.had.from_one differs) other) where
+    (λ differs. frame_leaves settings (all_steps (new_actors settings) events) s.number item.source frame h.allowed h.lined_up.had.from_one differs) other) where
       c : Controller
       c = (world settings events).controller
 
@@ -120,13 +120,13 @@ other_fares {settings} {events} {mobile} {s} {item} {items} frame h up is other 
   t = take item c
 
   one : IsKnown c s
-  one = known settings events s h.allowed h.lives.had
+  one = known settings events s h.allowed h.lined_up.had
 
   left : IsLeft s.number c t
   left = left_by frame h is other
 
   there : connection_of t.next s.number ≡ Some s
-  there = ap (option_map (λ (e : Entry). e.connection)) left.entry ∙ h.lives.had.there
+  there = ap (option_map (λ (e : Entry). e.connection)) left.entry ∙ h.lined_up.had.there
 
   tells : Tells item.source frame
   tells = item_tells frame h is
@@ -140,22 +140,22 @@ other_fares {settings} {events} {mobile} {s} {item} {items} frame h up is other 
         let it = acknowledges item.source m w tenure acks in
         let p : Place = place_at item.source it.acknowledgement.channel in
         relay_leaves_others_new settings events mobile s
-        (subst (IsOthers w s) (sym h.stood) (
+        (subst (IsOthers w s) (sym h.pending) (
           all_of (λ x. brings_in (place_of x) item ≡ []) (used_channels s) (λ x. ap (brings_by (place_of x) item.source) is ∙ ap (λ (o : Option Rsl). brings_read item.source o (place_of x)) says ∙ begins_none item.source m w tenure acks (place_of x)),
           ack_others frame p (target_in w item.source item.what) h is refl up (word ∙ ap (rsl_word item.source) it.is) other,
-        )) h.lives.lined
+        )) h.lined_up.lined
 
   by : (o : Option Tenure) → target_in w item.source item.what ≡ o → IsOpenOrEnded (modulus_in settings) (actors_after w Handle) mobile s
   by (Some tenure) begins =
       goes_on s refl
-      (record { there = ap (λ (d : Controller). connection_of d s.number) (ap (λ (x : Actors). x.controller) (handle_is w item items h.stood) ∙ controller-is (target_in w item.source item.what) t (record w { inbox = items })) ∙ there; is_open = h.lives.had.is_open; from_one = h.lives.had.from_one })
-      h.lives.requested refl (begun tenure begins)
+      (record { there = ap (λ (d : Controller). connection_of d s.number) (ap (λ (x : Actors). x.controller) (handle_is w item items h.pending) ∙ controller-is (target_in w item.source item.what) t (record w { inbox = items })) ∙ there; is_open = h.lined_up.had.is_open; from_one = h.lined_up.had.from_one })
+      h.lined_up.requested refl (begun tenure begins)
   by None begins =
-      subst (λ (x : Actors). IsOpenOrEnded (modulus_in settings) x mobile s) (sym (handle_is w item items h.stood))
-      (still_lined s (target_in w item.source item.what) t h.lives.had.from_one h.up (silent_forwards s.number t.outs left.outs) (none_down (record w { inbox = items }) t begins)
-      (record { line = line_itself s; there = there; requested = h.lives.requested; request = refl })
-      h.lives.lined.lined.apart h.lives.lined.lined.placed h.lives.lined.found
-      (item_drops item items h.stood (other_drops c s item frame one is tells other) h.lives.lined.lined))
+      subst (λ (x : Actors). IsOpenOrEnded (modulus_in settings) x mobile s) (sym (handle_is w item items h.pending))
+      (still_lined s (target_in w item.source item.what) t h.lined_up.had.from_one h.up (silent_forwards s.number t.outs left.outs) (none_down (record w { inbox = items }) t begins)
+      (record { line = line_itself s; there = there; requested = h.lined_up.requested; request = refl })
+      h.lined_up.lined.lined.apart h.lined_up.lined.lined.placed h.lined_up.lined.found
+      (item_drops item items h.pending (other_drops c s item frame one is tells other) h.lined_up.lined.lined))
 
 -- ---- a frame of a link that is down, which the controller ignores
 
@@ -171,11 +171,11 @@ pub ignored_fares : {settings : Parameters} {events : List Event} {mobile : ℕ}
     → IsOpenOrEnded (modulus_in settings) (actors_after (world settings events) Handle) mobile s
 unfolding take
 ignored_fares {settings} {events} {mobile} {s} {item} {items} frame h down is =
-    subst (λ (x : Actors). IsOpenOrEnded (modulus_in settings) x mobile s) (sym (handle_is w item items h.stood))
-    (still_lined s (target_in w item.source item.what) t h.lives.had.from_one h.up (ap (λ (outs : List Out). forwarded outs s.number) silent ∙ silent_forwards s.number [] refl) (nothing_down (record w { inbox = items }) (target_in w item.source item.what) t silent)
-    (record { line = line_itself s; there = ap (λ (b : Bool). connection_of (on_what b item.source item.what c).next s.number) down ∙ h.lives.had.there; requested = h.lives.requested; request = refl })
-    h.lives.lined.lined.apart h.lives.lined.lined.placed h.lives.lined.found
-    (item_drops item items h.stood (ignored_drops c s item frame (known settings events s h.allowed h.lives.had) is down) h.lives.lined.lined)) where
+    subst (λ (x : Actors). IsOpenOrEnded (modulus_in settings) x mobile s) (sym (handle_is w item items h.pending))
+    (still_lined s (target_in w item.source item.what) t h.lined_up.had.from_one h.up (ap (λ (outs : List Out). forwarded outs s.number) silent ∙ silent_forwards s.number [] refl) (nothing_down (record w { inbox = items }) (target_in w item.source item.what) t silent)
+    (record { line = line_itself s; there = ap (λ (b : Bool). connection_of (on_what b item.source item.what c).next s.number) down ∙ h.lined_up.had.there; requested = h.lined_up.requested; request = refl })
+    h.lined_up.lined.lined.apart h.lined_up.lined.lined.placed h.lined_up.lined.found
+    (item_drops item items h.pending (ignored_drops c s item frame (known settings events s h.allowed h.lined_up.had) is down) h.lined_up.lined.lined)) where
       w : Actors
       w = world settings events
 

@@ -89,17 +89,17 @@ without_first w items = record w { inbox = items }
 
 -- what it brings comes first
 pub coming_first : (w : Actors) (item : RelayItem) (items : List RelayItem) → w.inbox ≡ item ∷ items → (at : Place) → coming_up w at ≡ brings_in at item ++ coming_up (without_first w items) at
-coming_first w item items stood at =
-    ap (λ (xs : List RelayItem). flat_map (brings_in at) xs ++ made_of at.number (base_of w at.station).messages) stood
+coming_first w item items pending at =
+    ap (λ (xs : List RelayItem). flat_map (brings_in at) xs ++ made_of at.number (base_of w at.station).messages) pending
     ∙ append_assoc (brings_in at item) (flat_map (brings_in at) items) (made_of at.number (base_of w at.station).messages)
 
 loses_of : (w : Actors) (item : RelayItem) (items : List RelayItem) → w.inbox ≡ item ∷ items → (channel : Channel) → AreBeside (brings_in (place_of channel) item) → Loses (coming_up w) (coming_up (without_first w items)) channel
-loses_of w item items stood channel beside = record { front = brings_in (place_of channel) item; is = coming_first w item items stood (place_of channel); beside = beside }
+loses_of w item items pending channel beside = record { front = brings_in (place_of channel) item; is = coming_first w item items pending (place_of channel); beside = beside }
 
 -- it brings nothing of the flow on the channels of a connection, which stays lined up
 pub item_drops : {m : ℕ} {w : Actors} {p : Mobile} {s : Connection} (item : RelayItem) (items : List RelayItem) → w.inbox ≡ item ∷ items → AllByRecursion (λ channel. AreBeside (brings_in (place_of channel) item)) (used_channels s) → LinedUp m w p s → LinedUp m (without_first w items) p s
 unfolding SameTenures
-item_drops {m} {w} {p} {s} item items stood beside lined = record {
+item_drops {m} {w} {p} {s} item items pending beside lined = record {
   alive = alive_cut p.end.sent p.end.zero (seat_from s.serving p.seat) s.state (length (going_down w (place_of s.serving)) + remembered p.seat) (length (going_down w (place_of s.serving)) + remembered p.seat)
       (old_tenures (coming_up w) (is_station_up w) s.draining s.up.tenures) (old_tenures (coming_up v) (is_station_up w) s.draining s.up.tenures)
       (serving_tenure (coming_up w) (is_station_up w) s.serving (serving_hold s.draining s.up.tenures)) (serving_tenure (coming_up v) (is_station_up w) s.serving (serving_hold s.draining s.up.tenures))
@@ -122,7 +122,7 @@ item_drops {m} {w} {p} {s} item items stood beside lined = record {
   same at = refl
 
   loses : AllByRecursion (Loses (coming_up w) (coming_up v)) (used_channels s)
-  loses = AllByRecursion-so (λ channel. AreBeside (brings_in (place_of channel) item)) (Loses (coming_up w) (coming_up v)) (loses_of w item items stood) (used_channels s) beside
+  loses = AllByRecursion-so (λ channel. AreBeside (brings_in (place_of channel) item)) (Loses (coming_up w) (coming_up v)) (loses_of w item items pending) (used_channels s) beside
 
   behind : AllByRecursion (Loses (coming_up w) (coming_up v)) (s.serving ∷ target_in s.state)
   behind = all_right (Loses (coming_up w) (coming_up v)) (undone s.draining) (s.serving ∷ target_in s.state) loses

@@ -35,8 +35,8 @@ use Rattle.world_laws.proofs.Events.{world}
 outcome_fares : {settings : Parameters} {events : List Event} {mobile : ℕ} {s : Connection} {item : RelayItem} {items : List RelayItem} → Handling settings events mobile s item items → target_in (world settings events) item.source item.what ≡ None → DropsOut s item
     → IsOwnStep (brought_in (world settings events).controller s.number (steps.Take item)) → IsOpenOrEnded (modulus_in settings) (actors_after (world settings events) Handle) mobile s
 outcome_fares {settings} {events} {mobile} {s} {item} {items} h target drops own =
-    subst (λ (x : Actors). IsOpenOrEnded (modulus_in settings) x mobile s) (sym (handle_is w item items h.stood))
-    (by (by_acts (brought_in w.controller s.number (steps.Take item)) s t own h.lives.had.from_one h.lives.requested h.lives.had.there does.sent does.acts.outs does.acts.acts)) where
+    subst (λ (x : Actors). IsOpenOrEnded (modulus_in settings) x mobile s) (sym (handle_is w item items h.pending))
+    (by (by_acts (brought_in w.controller s.number (steps.Take item)) s t own h.lined_up.had.from_one h.lined_up.requested h.lined_up.had.there does.sent does.acts.outs does.acts.acts)) where
       w : Actors
       w = world settings events
 
@@ -44,13 +44,13 @@ outcome_fares {settings} {events} {mobile} {s} {item} {items} h target drops own
       t = take item w.controller
 
       does : Steps w.controller (steps.Take item) s.number
-      does = steps_known settings events (steps.Take item) s.number h.allowed h.octets h.own h.lives.had.from_one
+      does = steps_known settings events (steps.Take item) s.number h.allowed h.octets h.own h.lined_up.had.from_one
 
       by : Outcome s t → IsOpenOrEnded (modulus_in settings) (handled_by w item items) mobile s
       by (same next is none) =
           let channels = does.after next (ap (connection_of t.next) is.line.number ∙ is.there) (open_of next.state is.requested) in
-          still_lined next (target_in w item.source item.what) t h.lives.had.from_one h.up none (none_down (record w { inbox = items }) t target) is channels.0 channels.1 h.lives.lined.found (item_drops item items h.stood drops h.lives.lined.lined)
-      by (over gone none) = now_ended (target_in w item.source item.what) t h.up none gone (ended_before items (line_ups_may_end_new (modulus_in settings) w mobile s h.lives.lined))
+          still_lined next (target_in w item.source item.what) t h.lined_up.had.from_one h.up none (none_down (record w { inbox = items }) t target) is channels.0 channels.1 h.lined_up.lined.found (item_drops item items h.pending drops h.lined_up.lined.lined)
+      by (over gone none) = now_ended (target_in w item.source item.what) t h.up none gone (ended_before items (line_ups_may_end_new (modulus_in settings) w mobile s h.lined_up.lined))
 
 -- a link broke
 down_own : (c : Controller) (number source : ℕ) (b : Bool) → IsOwnStep (if b then brought_with c number source whats.Down else nothing_brought)
@@ -106,7 +106,7 @@ heard_fares {settings} {events} {mobile} {s} {item} frame h up is = by (word_of 
   c = (world settings events).controller
 
   one : IsKnown c s
-  one = known settings events s h.allowed h.lives.had
+  one = known settings events s h.allowed h.lined_up.had
 
   not_his : (word : Word) → word_of item.source frame ≡ word → (concerned c word ≡ Some s.number → ⊥) → IsOpenOrEnded (modulus_in settings) (actors_after (world settings events) Handle) mobile s
   not_his word word_is other = other_fares frame h up is (λ held. other (ap (concerned c) (sym word_is) ∙ held))
@@ -157,9 +157,9 @@ item_fares {settings} {events} {mobile} {s} {item} h = by item.what refl where
 -- ---- time passes
 
 tick_fares : (settings : Parameters) (events : List Event) (ms mobile : ℕ) (s : Connection) → AreAllowed settings → TookOctets settings events → is_up (world settings events) SWITCH_LINK ≡ true → IsOpenAndLinedUp (modulus_in settings) (world settings events) mobile s → IsOpenOrEnded (modulus_in settings) (actors_after (world settings events) (Tick ms)) mobile s
-tick_fares settings events ms mobile s allowed octets up lives =
+tick_fares settings events ms mobile s allowed octets up lined_up =
     subst (λ (x : Actors). IsOpenOrEnded (modulus_in settings) x mobile s) (sym (tick_is w ms))
-    (by (by_acts passes s t tt lives.had.from_one lives.requested lives.had.there does.sent does.acts.outs does.acts.acts)) where
+    (by (by_acts passes s t tt lined_up.had.from_one lined_up.requested lined_up.had.there does.sent does.acts.outs does.acts.acts)) where
       w : Actors
       w = world settings events
 
@@ -167,36 +167,36 @@ tick_fares settings events ms mobile s allowed octets up lives =
       t = tick ms w.controller
 
       does : Steps w.controller (steps.Tick ms) s.number
-      does = steps_known settings events (steps.Tick ms) s.number allowed octets tt lives.had.from_one
+      does = steps_known settings events (steps.Tick ms) s.number allowed octets tt lined_up.had.from_one
 
       by : Outcome s t → IsOpenOrEnded (modulus_in settings) (with_turn None t w) mobile s
       by (same next is none) =
           let channels = does.after next (ap (connection_of t.next) is.line.number ∙ is.there) (open_of next.state is.requested) in
-          still_lined next None t lives.had.from_one up none (none_down w t refl) is channels.0 channels.1 lives.lined.found lives.lined.lined
-      by (over gone none) = now_ended None t up none gone (line_ups_may_end_new (modulus_in settings) w mobile s lives.lined)
+          still_lined next None t lined_up.had.from_one up none (none_down w t refl) is channels.0 channels.1 lined_up.lined.found lined_up.lined.lined
+      by (over gone none) = now_ended None t up none gone (line_ups_may_end_new (modulus_in settings) w mobile s lined_up.lined)
 
 -- ---- the law
 
 handle_fares : (settings : Parameters) (events : List Event) (mobile : ℕ) (s : Connection) → AreAllowed settings → TookOctets settings events → AllByRecursion IsOctetStep (first_taken (world settings events).inbox) → is_up (world settings events) SWITCH_LINK ≡ true
     → IsOpenAndLinedUp (modulus_in settings) (world settings events) mobile s → AcksAgree (world settings events) s → IsOpenOrEnded (modulus_in settings) (actors_after (world settings events) Handle) mobile s
-handle_fares settings events mobile s allowed octets own up lives agree = by (world settings events).inbox refl where
+handle_fares settings events mobile s allowed octets own up lined_up agree = by (world settings events).inbox refl where
   by : (items : List RelayItem) → (world settings events).inbox ≡ items → IsOpenOrEnded (modulus_in settings) (actors_after (world settings events) Handle) mobile s
-  by [] stood = subst (λ (x : Actors). IsOpenOrEnded (modulus_in settings) x mobile s) (sym (idle_is (world settings events) stood)) (goes_on s refl lives.had lives.requested refl lives.lined)
-  by (item ∷ items) stood = item_fares (handling item items stood) where
+  by [] pending = subst (λ (x : Actors). IsOpenOrEnded (modulus_in settings) x mobile s) (sym (idle_is (world settings events) pending)) (goes_on s refl lined_up.had lined_up.requested refl lined_up.lined)
+  by (item ∷ items) pending = item_fares (handling item items pending) where
     handling : (item : RelayItem) (items : List RelayItem) → (world settings events).inbox ≡ item ∷ items → Handling settings events mobile s item items
-    handling item items stood = record {
+    handling item items pending = record {
       allowed = allowed;
       octets = octets;
-      own = (subst (λ (xs : List RelayItem). AllByRecursion IsOctetStep (first_taken xs)) stood own).0;
-      stood = stood;
+      own = (subst (λ (xs : List RelayItem). AllByRecursion IsOctetStep (first_taken xs)) pending own).0;
+      pending = pending;
       up = up;
-      lives = lives;
+      lined_up = lined_up;
       agree = agree;
     }
 
 pub live_connections_fare_on_new : (settings : Parameters) (events : List Event) (event : Event) → LiveConnectionsFareOn settings events event
-live_connections_fare_on_new settings events Handle mobile s is allowed octets up lives agree =
-    let came = octets_came settings events Handle octets in
-    handle_fares settings events mobile s allowed came.0 came.1 up lives agree
-live_connections_fare_on_new settings events (Tick ms) mobile s is allowed octets up lives agree = tick_fares settings events ms mobile s allowed (octets_came settings events (Tick ms) octets).0 up lives
-live_connections_fare_on_new settings events _ mobile s is allowed octets up lives agree = absurd (false≢true is)
+live_connections_fare_on_new settings events Handle mobile s is allowed octets up lined_up agree =
+    let took_octets = octets_came settings events Handle octets in
+    handle_fares settings events mobile s allowed took_octets.0 took_octets.1 up lined_up agree
+live_connections_fare_on_new settings events (Tick ms) mobile s is allowed octets up lined_up agree = tick_fares settings events ms mobile s allowed (octets_came settings events (Tick ms) octets).0 up lined_up
+live_connections_fare_on_new settings events _ mobile s is allowed octets up lined_up agree = absurd (false≢true is)

@@ -17,11 +17,11 @@ use Rattle.world_laws.proofs.PutAsRead.{open_of}
 
 pub handle_is : (w : Actors) (item : RelayItem) (items : List RelayItem) → w.inbox ≡ item ∷ items → actors_after w Handle ≡ handled_by w item items
 unfolding event_after
-handle_is w item items stood = ap (λ (xs : List RelayItem). unwrap_or (handled xs w) w) stood
+handle_is w item items pending = ap (λ (xs : List RelayItem). unwrap_or (handled xs w) w) pending
 
 pub idle_is : (w : Actors) → w.inbox ≡ [] → actors_after w Handle ≡ w
 unfolding event_after
-idle_is w stood = ap (λ (xs : List RelayItem). unwrap_or (handled xs w) w) stood
+idle_is w pending = ap (λ (xs : List RelayItem). unwrap_or (handled xs w) w) pending
 
 pub tick_is : (w : Actors) (ms : ℕ) → actors_after w (Tick ms) ≡ with_turn None (tick ms w.controller) w
 unfolding event_after

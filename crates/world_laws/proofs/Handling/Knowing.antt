@@ -55,13 +55,13 @@ pub record IsKnown (c : Controller) (s : Connection) : Type 0 where
   pub ready : Ready c
   pub fits : (n : ℕ) → 1 ≤ n → Fits n c
   pub there : connection_of c s.number ≡ Some s
-  pub stands : IsValid s
+  pub valid : IsValid s
   pub owns : Owns c.channels c.links s.number (roles_of s)
 
 pub known : (settings : Parameters) (events : List Event) (s : Connection) → AreAllowed settings → IsHad (world settings events) s → IsKnown (world settings events).controller s
 known settings events s allowed had =
-    let lives = FollowsTable-new settings events in
-    subst (λ (c : Controller). connection_of c s.number ≡ Some s → IsKnown c s) (sym lives)
+    let by_table = FollowsTable-new settings events in
+    subst (λ (c : Controller). connection_of c s.number ≡ Some s → IsKnown c s) (sym by_table)
     (λ there.
     let steps = all_steps (new_actors settings) events in
     let c : Controller = (life settings steps).next in
@@ -71,7 +71,7 @@ known settings events s allowed had =
       ready = ready_by c now.fits now.holds now.uses;
       fits = now.fits;
       there = there;
-      stands = connections_stand_new settings events s.number s had.there;
+      valid = connections_stand_new settings events s.number s had.there;
       owns = subst (OwnsOpen c.channels c.links s.number) there (now.holds.each s.number) had.is_open;
     })
     had.there
@@ -84,9 +84,9 @@ pub record Steps (c : Controller) (s : Step) (number : ℕ) : Type 0 where
 
 pub steps_known : (settings : Parameters) (events : List Event) (s : Step) (number : ℕ) → AreAllowed settings → TookOctets settings events → IsOctetStep s → 1 ≤ number → Steps (world settings events).controller s number
 steps_known settings events s number allowed octets own from_one =
-    let lives = FollowsTable-new settings events in
+    let by_table = FollowsTable-new settings events in
     let steps = all_steps (new_actors settings) events in
-    subst (λ (c : Controller). Steps c s number) (sym lives)
+    subst (λ (c : Controller). Steps c s number) (sym by_table)
     (let c : Controller = (life settings steps).next in
     let now : IsAfter c = life_after settings steps allowed in
     let after : IsAfter (step c s).next = run_step c s now.fits now.holds now.uses in
@@ -101,7 +101,7 @@ steps_known settings events s number allowed octets own from_one =
 -- its request stays the same
 pub names_known : (settings : Parameters) (events : List Event) (s : Step) (number : ℕ) → 1 ≤ number → SameRequest (connection_of (world settings events).controller number) (connection_of (step (world settings events).controller s).next number)
 names_known settings events s number from_one =
-    subst (λ (c : Controller). SameRequest (connection_of c number) (connection_of (step c s).next number)) (sym (FollowsTable-new settings events)) (life_names settings (all_steps (new_actors settings) events) s number from_one).stays
+    subst (λ (c : Controller). SameRequest (connection_of c number) (connection_of (step c s).next number)) (sym (FollowsTable-new settings events)) (life_names settings (all_steps (new_actors settings) events) s number from_one).keeps_request
 
 -- its entry
 pub entry_there : (c : Controller) (number : ℕ) (s : Connection) → connection_of c number ≡ Some s → (e : Entry) × (entry_of c number ≡ Some e) × (e.connection ≡ s)

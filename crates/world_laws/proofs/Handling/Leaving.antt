@@ -91,7 +91,7 @@ nothing_down w target t none = λ c. ap (λ (outs : List Out). going_down (fold 
 sees_turned : {w : Actors} {s : Connection} (target : Option Tenure) (t : Turn) → is_up w SWITCH_LINK ≡ true → forwarded t.outs s.number ≡ [] → NoneDown w target t → SeesSame w (with_turn target t w) s
 unfolding SameTenures
 sees_turned {w} {s} target t up none down = record {
-  coming = all_of (λ c. coming_up (with_turn target t w) (place_of c) ≡ coming_up w (place_of c)) (used_channels s) (λ c. turn_leads (λ (x : Actors). coming_up x (place_of c) ≡ coming_up w (place_of c)) target t w (λ links. refl));
+  arriving = all_of (λ c. coming_up (with_turn target t w) (place_of c) ≡ coming_up w (place_of c)) (used_channels s) (λ c. turn_leads (λ (x : Actors). coming_up x (place_of c) ≡ coming_up w (place_of c)) target t w (λ links. refl));
   up = turn_stations target t.outs (turned w t);
   serving = down s.serving;
   target = λ c is. down c.channel;

@@ -41,7 +41,7 @@ off_beside at items c other = subst AreBeside (sym (off (same_place (place_of c)
 
 -- of a connection that awaits CC nothing drains
 none_drains_before : (s : Connection) → IsValid s → s.state ≡ WaitConfirm → s.draining ≡ []
-none_drains_before s stands is = (subst (λ (state : State). IsValidState state s.draining s.down s.up.tenures s.link s.waits) is stands.state).none_drains
+none_drains_before s valid is = (subst (λ (state : State). IsValidState state s.draining s.down s.up.tenures s.link s.waits) is valid.state).none_drains
 
 -- ---- a message of SAPI 0
 
@@ -77,16 +77,16 @@ on_targets at message reference _ s none silent = tt
 dtap_missed : (state : State) (s : Connection) (at : Place) (message : List ℕ) → s.state ≡ state → IsRequested state → IsValid s → on_dtap state s at Zero message ≡ None
     → AllByRecursion (λ c. messages_in (if same_place (place_of c) at then brought message ∷ [] else []) ≡ []) (awaited_in state) → AllByRecursion (OnSapiZero at message) (undone s.draining ++ s.serving ∷ target_in state)
 unfolding OnSapiZero
-dtap_missed WaitConfirm s at message is requested stands none silent =
-    AllByRecursion-append (OnSapiZero at message) (undone s.draining) (s.serving ∷ []) (subst (λ (ds : List Drain). AllByRecursion (OnSapiZero at message) (undone ds)) (sym (none_drains_before s stands is)) tt)
+dtap_missed WaitConfirm s at message is requested valid none silent =
+    AllByRecursion-append (OnSapiZero at message) (undone s.draining) (s.serving ∷ []) (subst (λ (ds : List Drain). AllByRecursion (OnSapiZero at message) (undone ds)) (sym (none_drains_before s valid is)) tt)
     (off_beside at (brought message ∷ []) s.serving (none_if (is_at at s.serving) _ none), tt)
-dtap_missed (Live reference stage) s at message is requested stands none silent =
+dtap_missed (Live reference stage) s at message is requested valid none silent =
     let both = in_none (tenure_at at s.serving s.draining) reference stage s at message none in
     let elsewhere = no_tenure at s.serving s.draining both.0 in
     AllByRecursion-append (OnSapiZero at message) (undone s.draining) (s.serving ∷ target_in (Live reference stage))
     (AllByRecursion-so (λ c. is_at at c ≡ false) (OnSapiZero at message) (off_beside at (brought message ∷ [])) (undone s.draining) (undone_none at s.draining elsewhere.1))
     (off_beside at (brought message ∷ []) s.serving elsewhere.0, on_targets at message reference stage s both.1 silent)
-dtap_missed _ s at message is requested stands none silent = absurd requested
+dtap_missed _ s at message is requested valid none silent = absurd requested
 
 -- ---- an RF CHANNEL RELEASE ACK
 
@@ -106,10 +106,10 @@ release_none (Some place) reference stage offer s none = absurd cc
 
 ends_missed : (state : State) (s : Connection) (at : Place) (offer : Option Channel) → s.state ≡ state → IsRequested state → IsValid s → on_release_ack state s at offer ≡ None → AllByRecursion (OnEnd at) (undone s.draining)
 unfolding OnEnd
-ends_missed WaitConfirm s at offer is requested stands none = subst (λ (ds : List Drain). AllByRecursion (OnEnd at) (undone ds)) (sym (none_drains_before s stands is)) tt
-ends_missed (Live reference stage) s at offer is requested stands none =
+ends_missed WaitConfirm s at offer is requested valid none = subst (λ (ds : List Drain). AllByRecursion (OnEnd at) (undone ds)) (sym (none_drains_before s valid is)) tt
+ends_missed (Live reference stage) s at offer is requested valid none =
     AllByRecursion-so (λ c. is_at at c ≡ false) (OnEnd at) (off_beside at (released ∷ [])) (undone s.draining) (undone_none at s.draining (release_none (drain_at at s.draining) reference stage offer s none))
-ends_missed _ s at offer is requested stands none = absurd requested
+ends_missed _ s at offer is requested valid none = absurd requested
 
 -- ---- any input
 
@@ -126,20 +126,20 @@ pub missed_beside : (s : Connection) (input : Input) (text : List ℕ) (offer : 
     → AllByRecursion (λ c. is_ended (said_by input text (place_of c)) ≡ false) (s.serving ∷ target_in s.state) → AllByRecursion (λ c. messages_in (said_by input text (place_of c)) ≡ []) (awaited_in s.state)
     → AllByRecursion (NotInitial input) (used_channels s) → AllByRecursion (λ c. AreBeside (said_by input text (place_of c))) (used_channels s)
 unfolding row_of OnSapiZero OnEnd
-missed_beside s (inputs.Dtap at Zero message) text offer requested stands none control goes_on silent initial = dtap_missed s.state s at message refl requested stands none silent
-missed_beside s (inputs.ReleaseAck at) text offer requested stands none control goes_on silent initial =
-    AllByRecursion-append (OnEnd at) (undone s.draining) (s.serving ∷ target_in s.state) (ends_missed s.state s at offer refl requested stands none)
+missed_beside s (inputs.Dtap at Zero message) text offer requested valid none control goes_on silent initial = dtap_missed s.state s at message refl requested valid none silent
+missed_beside s (inputs.ReleaseAck at) text offer requested valid none control goes_on silent initial =
+    AllByRecursion-append (OnEnd at) (undone s.draining) (s.serving ∷ target_in s.state) (ends_missed s.state s at offer refl requested valid none)
     (AllByRecursion-so (λ c. is_ended (said_by (inputs.ReleaseAck at) text (place_of c)) ≡ false) (OnEnd at) (unended_beside at) (s.serving ∷ target_in s.state) goes_on)
-missed_beside s (inputs.EstablishIndication at Zero (Some message)) text offer requested stands none control goes_on silent initial =
+missed_beside s (inputs.EstablishIndication at Zero (Some message)) text offer requested valid none control goes_on silent initial =
     AllByRecursion-so (NotInitial (inputs.EstablishIndication at Zero (Some message))) (λ c. AreBeside (said_by (inputs.EstablishIndication at Zero (Some message)) text (place_of c)))
     (λ c other. subst AreBeside (sym (off (same_place (place_of c) at) (brought message ∷ []) other)) tt) (used_channels s) initial
-missed_beside s (inputs.Complete at change cause) text offer requested stands none control goes_on silent initial =
+missed_beside s (inputs.Complete at change cause) text offer requested valid none control goes_on silent initial =
     all_of (λ c. AreBeside (said_by (inputs.Complete at change cause) text (place_of c))) (used_channels s) (λ c. control_beside (same_place (place_of c) at) text control)
-missed_beside s (inputs.Failure at change cause) text offer requested stands none control goes_on silent initial =
+missed_beside s (inputs.Failure at change cause) text offer requested valid none control goes_on silent initial =
     all_of (λ c. AreBeside (said_by (inputs.Failure at change cause) text (place_of c))) (used_channels s) (λ c. control_beside (same_place (place_of c) at) text control)
-missed_beside s (inputs.Dtap at Three message) text offer requested stands none control goes_on silent initial = all_of (λ c. AreBeside (said_by (inputs.Dtap at Three message) text (place_of c))) (used_channels s) (λ c. tt)
-missed_beside s (inputs.EstablishIndication at Zero None) text offer requested stands none control goes_on silent initial = all_of (λ c. AreBeside (said_by (inputs.EstablishIndication at Zero None) text (place_of c))) (used_channels s) (λ c. tt)
-missed_beside s (inputs.EstablishIndication at Three message) text offer requested stands none control goes_on silent initial = all_of (λ c. AreBeside (said_by (inputs.EstablishIndication at Three message) text (place_of c))) (used_channels s) (λ c. tt)
-missed_beside s (inputs.ActivationAck at) text offer requested stands none control goes_on silent initial = all_of (λ c. AreBeside (said_by (inputs.ActivationAck at) text (place_of c))) (used_channels s) (λ c. tt)
-missed_beside s (inputs.ActivationNack at) text offer requested stands none control goes_on silent initial = all_of (λ c. AreBeside (said_by (inputs.ActivationNack at) text (place_of c))) (used_channels s) (λ c. tt)
-missed_beside s _ text offer requested stands none control goes_on silent initial = all_of (λ (c : Channel). AreBeside []) (used_channels s) (λ c. tt)
+missed_beside s (inputs.Dtap at Three message) text offer requested valid none control goes_on silent initial = all_of (λ c. AreBeside (said_by (inputs.Dtap at Three message) text (place_of c))) (used_channels s) (λ c. tt)
+missed_beside s (inputs.EstablishIndication at Zero None) text offer requested valid none control goes_on silent initial = all_of (λ c. AreBeside (said_by (inputs.EstablishIndication at Zero None) text (place_of c))) (used_channels s) (λ c. tt)
+missed_beside s (inputs.EstablishIndication at Three message) text offer requested valid none control goes_on silent initial = all_of (λ c. AreBeside (said_by (inputs.EstablishIndication at Three message) text (place_of c))) (used_channels s) (λ c. tt)
+missed_beside s (inputs.ActivationAck at) text offer requested valid none control goes_on silent initial = all_of (λ c. AreBeside (said_by (inputs.ActivationAck at) text (place_of c))) (used_channels s) (λ c. tt)
+missed_beside s (inputs.ActivationNack at) text offer requested valid none control goes_on silent initial = all_of (λ c. AreBeside (said_by (inputs.ActivationNack at) text (place_of c))) (used_channels s) (λ c. tt)
+missed_beside s _ text offer requested valid none control goes_on silent initial = all_of (λ (c : Channel). AreBeside []) (used_channels s) (λ c. tt)

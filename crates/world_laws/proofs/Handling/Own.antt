@@ -59,7 +59,7 @@ pub still_requested : (s : Connection) (input : Input) (offer : Option Channel) 
 still_requested s input offer r requested fits is_open = by s.state requested ((subst (OfRow (Advances s.state input)) fits (advances s input offer)) is_open) where
   by : (state : State) → IsRequested state → Next state input r.next.state r.outs → IsRequested r.next.state
   by WaitConfirm requested next = elim next.1 [
-    | inl stays ↦ subst IsRequested (sym stays.0) tt
+    | inl unchanged ↦ subst IsRequested (sym unchanged.0) tt
     | inr live ↦ live_requested r.next.state live.0
   ]
   by (Live reference stage) requested next = live_requested r.next.state next
@@ -98,12 +98,12 @@ failure_is _ s at change cause offer r fits = absurd cc
 
 -- FAILURE is on its way: so no COMPLETE is
 no_complete : {opening changing : Bool} {commands serving texts target link : ℕ} {seat : _} → ChangePhase opening changing commands seat serving texts target link → 1 ≤ serving → target ≡ 0
-no_complete (opens stays none) some = omega arith
-no_complete (rests stays none) some = omega arith
-no_complete (waits stays few none) some = omega arith
+no_complete (opens unchanged none) some = omega arith
+no_complete (rests unchanged none) some = omega arith
+no_complete (waits unchanged few none) some = omega arith
 no_complete (leaves none) some = omega arith
-no_complete (arrives stays none few) some = absurd (omega arith)
-no_complete (returns stays none few) some = omega arith
+no_complete (arrives unchanged none few) some = absurd (omega arith)
+no_complete (returns unchanged none few) some = omega arith
 
 fails_silent : {m : ℕ} {w : Actors} {p : Mobile} {s : Connection} {at : Place} → Fails s.state s at → LinedUp m w p s → AllByRecursion (λ c. IsLed (coming_up w (place_of c))) (commanded_channels (commanded_target s.state)) → 1 ≤ controls_in (coming_up w (place_of s.serving))
     → AllByRecursion (λ c. messages_in (coming_up w (place_of c)) ≡ []) (target_in s.state)
@@ -116,7 +116,7 @@ fails_silent {m} {w} {p} {s} fails lined led some =
       is_led = (subst (λ (o : Option Target). AllByRecursion (λ c. IsLed (coming_up w (place_of c))) (commanded_channels o)) fails.commanded led).0
 
       none : controls_in items ≡ 0
-      none = sym (ap (λ (o : Option Target). controls_in (target_tenure (coming_up w) (is_station_up w) (seat_from s.serving p.seat) o).items) fails.commanded) ∙ no_complete lined.alive.stands some
+      none = sym (ap (λ (o : Option Target). controls_in (target_tenure (coming_up w) (is_station_up w) (seat_from s.serving p.seat) o).items) fails.commanded) ∙ no_complete lined.alive.phase some
 
       silent : messages_in items ≡ []
       silent = elim is_led [ inl empty ↦ empty | inr more ↦ absurd (omega (arith, none, more)) ]
@@ -132,32 +132,32 @@ pub record Handling (settings : Parameters) (events : List Event) (mobile : ℕ)
   pub allowed : AreAllowed settings
   pub octets : TookOctets settings events
   pub own : IsOfOctets item.what
-  pub stood : (world settings events).inbox ≡ item ∷ items
+  pub pending : (world settings events).inbox ≡ item ∷ items
   pub up : is_up (world settings events) SWITCH_LINK ≡ true
-  pub lives : IsOpenAndLinedUp (modulus_in settings) (world settings events) mobile s
+  pub lined_up : IsOpenAndLinedUp (modulus_in settings) (world settings events) mobile s
   pub agree : AcksAgree (world settings events) s
 
 silent_for : {w : Actors} {m mobile : ℕ} {s : Connection} (item : RelayItem) (items : List RelayItem) (input : Input) (offer : Option Channel) (r : Row) (text : List ℕ) → w.inbox ≡ item ∷ items → IsOpenAndLinedUp m w mobile s → row_of s input offer ≡ Some r → IsRead input text → ((at : Place) → brings_in at item ≡ said_by input text at)
     → IsBesideTarget input → AllByRecursion (λ c. messages_in (coming_up w (place_of c)) ≡ []) (target_in s.state)
 unfolding row_of
-silent_for {w} {s = s} item items (inputs.ActivationAck at) offer r text stood lives fits read brings beside =
-    subst (AllByRecursion (λ c. messages_in (coming_up w (place_of c)) ≡ [])) (sym (ack_awaits s.state s at r lives.requested fits)) lives.fresh.silent
-silent_for {w} {s = s} item items (inputs.Failure at change cause) offer r text stood lives fits read brings beside =
+silent_for {w} {s = s} item items (inputs.ActivationAck at) offer r text pending lined_up fits read brings beside =
+    subst (AllByRecursion (λ c. messages_in (coming_up w (place_of c)) ≡ [])) (sym (ack_awaits s.state s at r lined_up.requested fits)) lined_up.fresh.silent
+silent_for {w} {s = s} item items (inputs.Failure at change cause) offer r text pending lined_up fits read brings beside =
     let fails = failure_is s.state s at change cause.0 offer r fits in
-    fails_silent fails lives.lined.lined lives.fresh.led
+    fails_silent fails lined_up.lined.lined lined_up.fresh.led
     (controls_more text (coming_up (without_first w items) (place_of s.serving)) (coming_up w (place_of s.serving)) read
-    (coming_first w item items stood (place_of s.serving) ∙ ap (λ (xs : List Item). xs ++ coming_up (without_first w items) (place_of s.serving)) (brings (place_of s.serving) ∙ ap (λ (b : Bool). if b then brought text ∷ [] else []) (same_at at s.serving ∙ fails.here))))
-silent_for item items _ offer r text stood lives fits read brings beside = absurd beside
+    (coming_first w item items pending (place_of s.serving) ∙ ap (λ (xs : List Item). xs ++ coming_up (without_first w items) (place_of s.serving)) (brings (place_of s.serving) ∙ ap (λ (b : Bool). if b then brought text ∷ [] else []) (same_at at s.serving ∙ fails.here))))
+silent_for item items _ offer r text pending lined_up fits read brings beside = absurd beside
 
 ready_for : {settings : Parameters} {events : List Event} {mobile : ℕ} {s : Connection} {item : RelayItem} {items : List RelayItem} (input : Input) (offer : Option Channel) (r : Row) → Handling settings events mobile s item items → IsFrameFor (world settings events) item s input offer r → IsReadyFor (world settings events) s input
-ready_for {settings} {events} {s = s} {item} {items} input offer r h comes =
-    let handles = frame_is_handled_new (world settings events) item s input offer r comes in
+ready_for {settings} {events} {s = s} {item} {items} input offer r h addressed =
+    let handles = frame_is_handled_new (world settings events) item s input offer r addressed in
     record {
       switch_up = h.up;
       old_end = h.agree.old_end;
       others_go_on = h.agree.others_go_on;
-      silent = silent_for item items input offer r handles.0 h.stood h.lives comes.fits handles.1.read handles.1.brings;
-      uncommanded = h.lives.fresh.uncommanded;
+      silent = silent_for item items input offer r handles.0 h.pending h.lined_up addressed.fits handles.1.read handles.1.brings;
+      uncommanded = h.lined_up.fresh.uncommanded;
     }
 
 -- ---- a row that fits
@@ -165,21 +165,22 @@ ready_for {settings} {events} {s = s} {item} {items} input offer r h comes =
 -- it stays open
 keeps_on : {settings : Parameters} {events : List Event} {mobile : ℕ} {s : Connection} {item : RelayItem} {items : List RelayItem} {input : Input} {offer : Option Channel} (r : Row) → Handling settings events mobile s item items → IsFrameFor (world settings events) item s input offer r
     → connection_of (take item (world settings events).controller).next s.number ≡ Some r.next → IsOpenOrEnded (modulus_in settings) (actors_after (world settings events) Handle) mobile s
-keeps_on {settings} {events} {mobile} {s} {item} {items} {input} {offer} r h comes next =
+keeps_on {settings} {events} {mobile} {s} {item} {items} {input} {offer} r h addressed next =
     let w : Actors = world settings events in
-    let number : r.next.number ≡ s.number = subst (OfRow (λ (q : Row). q.next.number ≡ s.number)) comes.fits (keeps_number s input offer) in
-    let now : (actors_after w Handle).controller ≡ (take item w.controller).next = ap (λ (x : Actors). x.controller) (handle_is w item items h.stood) ∙ controller-is (tenure_in w item.source item.what) (take item w.controller) (record w { inbox = items }) in
+    let number : r.next.number ≡ s.number = subst (OfRow (λ (q : Row). q.next.number ≡ s.number)) addressed.fits
+    (keeps_number s input offer) in
+    let now : (actors_after w Handle).controller ≡ (take item w.controller).next = ap (λ (x : Actors). x.controller) (handle_is w item items h.pending) ∙ controller-is (tenure_in w item.source item.what) (take item w.controller) (record w { inbox = items }) in
     let there : connection_of (actors_after w Handle).controller r.next.number ≡ Some r.next = ap (λ (c : Controller). connection_of c r.next.number) now ∙ ap (connection_of (take item w.controller).next) number ∙ next in
     goes_on r.next number
-    (record { there = there; is_open = comes.stays_open; from_one = subst (λ (n : ℕ). 1 ≤ n) (sym number) h.lives.had.from_one })
-    (still_requested s input offer r h.lives.requested comes.fits comes.stays_open)
-    (same_request (connection_of w.controller s.number) (connection_of (take item w.controller).next s.number) s r.next h.lives.had.there next (names_known settings events (Take item) s.number h.lives.had.from_one))
-    (allowed_frames_keep_line_ups_new settings events mobile s item items input offer r h.allowed h.octets h.own h.stood comes (ready_for input offer r h comes) h.lives.lined)
+    (record { there = there; is_open = addressed.remains_open; from_one = subst (λ (n : ℕ). 1 ≤ n) (sym number) h.lined_up.had.from_one })
+    (still_requested s input offer r h.lined_up.requested addressed.fits addressed.remains_open)
+    (same_request (connection_of w.controller s.number) (connection_of (take item w.controller).next s.number) s r.next h.lined_up.had.there next (names_known settings events (Take item) s.number h.lined_up.had.from_one))
+    (allowed_frames_keep_line_ups_new settings events mobile s item items input offer r h.allowed h.octets h.own h.pending addressed (ready_for input offer r h addressed) h.lined_up.lined)
 
 -- ---- what the item tells
 
 pub item_tells : {settings : Parameters} {events : List Event} {mobile : ℕ} {s : Connection} {item : RelayItem} {items : List RelayItem} (frame : Frame) → Handling settings events mobile s item items → item.what ≡ whats.Frame frame → Tells item.source frame
-item_tells {settings} {events} {item = item} frame h is = frame_tells item.source frame (subst (λ (x : What). IsKnownItem (record { source = item.source; what = x })) is (subst (AllByRecursion IsKnownItem) h.stood (known_inbox settings events)).0)
+item_tells {settings} {events} {item = item} frame h is = frame_tells item.source frame (subst (λ (x : What). IsKnownItem (record { source = item.source; what = x })) is (subst (AllByRecursion IsKnownItem) h.pending (known_inbox settings events)).0)
 
 -- ---- no row fits
 
@@ -194,7 +195,7 @@ none_drops s item frame is none = all_of (λ c. AreBeside (brings_in (place_of c
 
 -- an initial message is among those on their way
 first_initial : (w : Actors) (item : RelayItem) (items : List RelayItem) (at : Place) (m : Rsl) (initial : List ℕ) → w.inbox ≡ item ∷ items → read_of at.station item ≡ m ∷ [] → initial_by at.number m ≡ initial ∷ [] → initials_up w at ≡ [] → ⊥
-first_initial w item items at m initial stood read is none = never (sym all ∙ none) where
+first_initial w item items at m initial pending read is none = never (sym all ∙ none) where
   made : List Rsl
   made = (base_of w at.station).messages
 
@@ -202,7 +203,7 @@ first_initial w item items at m initial stood read is none = never (sym all ∙ 
   rest = flat_map (read_of at.station) items ++ made
 
   all : initials_up w at ≡ initial ∷ flat_map (initial_by at.number) rest
-  all = ap (λ (xs : List RelayItem). flat_map (initial_by at.number) (flat_map (read_of at.station) xs ++ made)) stood
+  all = ap (λ (xs : List RelayItem). flat_map (initial_by at.number) (flat_map (read_of at.station) xs ++ made)) pending
       ∙ ap (λ (xs : List Rsl). flat_map (initial_by at.number) ((xs ++ flat_map (read_of at.station) items) ++ made)) read
       ∙ ap (λ (xs : List (List ℕ)). xs ++ flat_map (initial_by at.number) rest) is
 
@@ -211,14 +212,15 @@ first_initial w item items at m initial stood read is none = never (sym all ∙ 
 
 not_initial : (w : Actors) (item : RelayItem) (items : List RelayItem) (frame : Frame) (m : Rsl) (at : Place) (input : Input) (cs : List Channel) → w.inbox ≡ item ∷ items → item.what ≡ whats.Frame frame → rsl_in frame ≡ Some m → at.station ≡ item.source → IsAtPlace at input → IsInitial m input
     → AllByRecursion (λ c. initials_up w (place_of c) ≡ []) cs → AllByRecursion (NotInitial input) cs
-not_initial w item items frame m at (inputs.EstablishIndication there Zero (Some initial)) cs stood is says from here initials none_comes =
+not_initial w item items frame m at
+    (inputs.EstablishIndication there Zero (Some initial)) cs pending is says from here initials none_comes =
     AllByRecursion-so (λ c. initials_up w (place_of c) ≡ []) (NotInitial (inputs.EstablishIndication there Zero (Some initial))) (λ c none. elim (cases_Bool (same_place (place_of c) there)) [
       | inr other ↦ other
-      | inl same ↦ absurd (first_initial w item items there m initial stood
+      | inl same ↦ absurd (first_initial w item items there m initial pending
           (ap (read_by there.station item.source) is ∙ ap (λ (b : Bool). if b then option_to_list (rsl_in frame) else []) (eq-eqb item.source there.station (sym (ap (λ (p : Place). p.station) here ∙ from))) ∙ ap option_to_list says)
           initials (ap (initials_up w) (sym (same_places (place_of c) there same)) ∙ none))
     ]) cs none_comes
-not_initial w item items frame m at _ cs stood is says from here initials none_comes = all_of (λ (c : Channel). Unit {0}) cs (λ c. tt)
+not_initial w item items frame m at _ cs pending is says from here initials none_comes = all_of (λ (c : Channel). Unit {0}) cs (λ c. tt)
 
 -- what is on its way tells it of what comes first
 first_unended : (xs ys : List Item) → is_ended (xs ++ ys) ≡ false → is_ended xs ≡ false
@@ -235,12 +237,12 @@ missed_drops : {settings : Parameters} {events : List Event} {mobile : ℕ} {s :
     → at.station ≡ item.source → IsAtPlace at input → SaysOn item.source m input → row_of s input offer ≡ None → DropsOut s item
 missed_drops {settings} {events} {s = s} {item} {items} input offer frame m at h known is says from here on none =
     AllByRecursion-so (λ c. AreBeside (said_by input on.text (place_of c))) (λ c. AreBeside (brings_in (place_of c) item)) (λ c beside. subst AreBeside (sym (brings (place_of c))) beside) (used_channels s)
-    (missed_beside s input on.text offer h.lives.requested known.stands none on.control
+    (missed_beside s input on.text offer h.lined_up.requested known.valid none on.control
     (AllByRecursion-so (λ c. is_ended (coming_up w (place_of c)) ≡ false) (λ c. is_ended (said_by input on.text (place_of c)) ≡ false)
     (λ c unended. first_unended (said_by input on.text (place_of c)) (coming_up (without_first w items) (place_of c)) (ap is_ended (sym (first (place_of c))) ∙ unended)) (s.serving ∷ target_in s.state) goes_on)
     (AllByRecursion-so (λ c. messages_in (coming_up w (place_of c)) ≡ []) (λ c. messages_in (said_by input on.text (place_of c)) ≡ [])
-    (λ c silent. first_silent (said_by input on.text (place_of c)) (coming_up (without_first w items) (place_of c)) (ap messages_in (sym (first (place_of c))) ∙ silent)) (awaited_in s.state) h.lives.fresh.silent)
-    (not_initial w item items frame m at input (used_channels s) h.stood is says from here on.initial h.lives.opened.none_comes)) where
+    (λ c silent. first_silent (said_by input on.text (place_of c)) (coming_up (without_first w items) (place_of c)) (ap messages_in (sym (first (place_of c))) ∙ silent)) (awaited_in s.state) h.lined_up.fresh.silent)
+    (not_initial w item items frame m at input (used_channels s) h.pending is says from here on.initial h.lined_up.opened.none_comes)) where
       w : Actors
       w = world settings events
 
@@ -248,12 +250,12 @@ missed_drops {settings} {events} {s = s} {item} {items} input offer frame m at h
       brings place = ap (brings_by place item.source) is ∙ ap (λ (o : Option Rsl). brings_read item.source o place) says ∙ on.brings_it place
 
       first : (place : Place) → coming_up w place ≡ said_by input on.text place ++ coming_up (without_first w items) place
-      first place = coming_first w item items h.stood place ∙ ap (λ (xs : List Item). xs ++ coming_up (without_first w items) place) (brings place)
+      first place = coming_first w item items h.pending place ∙ ap (λ (xs : List Item). xs ++ coming_up (without_first w items) place) (brings place)
 
       goes_on : AllByRecursion (λ c. is_ended (coming_up w (place_of c)) ≡ false) (s.serving ∷ target_in s.state)
       goes_on = all_both (λ c. c.station ≢ SWITCH_LINK) (λ c. NoneReleases (acknowledgements_up w (place_of c))) (λ c. is_ended (coming_up w (place_of c)) ≡ false) (s.serving ∷ target_in s.state)
           (λ c placed releases. (all_acks_tell_new settings events (place_of c) placed).none releases)
-          (all_right (λ c. c.station ≢ SWITCH_LINK) (undone s.draining) (s.serving ∷ target_in s.state) h.lives.lined.lined.placed) h.agree.others_go_on
+          (all_right (λ c. c.station ≢ SWITCH_LINK) (undone s.draining) (s.serving ∷ target_in s.state) h.lined_up.lined.lined.placed) h.agree.others_go_on
 
 said_drops : {settings : Parameters} {events : List Event} {mobile : ℕ} {s : Connection} {item : RelayItem} {items : List RelayItem} {input : Input} {offer : Option Channel} (frame : Frame) → Handling settings events mobile s item items → IsKnown (world settings events).controller s → item.what ≡ whats.Frame frame
     → IsSaidTo (world settings events).controller (word_of item.source frame) s input offer → row_of s input offer ≡ None → Tells item.source frame → DropsOut s item
@@ -287,10 +289,10 @@ said_fares {settings} {events} {mobile} {s} {item} {items} {input} {offer} frame
   t = take item c
 
   one : IsKnown c s
-  one = known settings events s h.allowed h.lives.had
+  one = known settings events s h.allowed h.lined_up.had
 
   does : Steps c (Take item) s.number
-  does = steps_known settings events (Take item) s.number h.allowed h.octets h.own h.lives.had.from_one
+  does = steps_known settings events (Take item) s.number h.allowed h.octets h.own h.lined_up.had.from_one
 
   turns : Turns s (row_of s input offer) t
   turns = subst (Turns s (row_of s input offer)) (sym (take-frame c item frame up is)) (word_turns item.source one.ready said)
@@ -304,20 +306,20 @@ said_fares {settings} {events} {mobile} {s} {item} {items} {input} {offer} frame
   by : (o : Option Row) → row_of s input offer ≡ o → IsOpenOrEnded (modulus_in settings) (actors_after w Handle) mobile s
   by None none =
       let silent : t.outs ≡ [] = turns.outs ∙ ap (outs_by s.number) none in
-      subst (λ (x : Actors). IsOpenOrEnded (modulus_in settings) x mobile s) (sym (handle_is w item items h.stood))
-      (still_lined s (tenure_in w item.source item.what) t h.lives.had.from_one h.up (ap (λ (outs : List Out). forwarded outs s.number) silent ∙ silent_forwards s.number [] refl) (nothing_down (record w { inbox = items }) (tenure_in w item.source item.what) t silent)
-      (record { line = line_itself s; there = turns.next ∙ ap (next_by s) none; requested = h.lives.requested; request = refl })
-      h.lives.lined.lined.apart h.lives.lined.lined.placed h.lives.lined.found
-      (item_drops item items h.stood (said_drops frame h one is said none tells) h.lives.lined.lined))
+      subst (λ (x : Actors). IsOpenOrEnded (modulus_in settings) x mobile s) (sym (handle_is w item items h.pending))
+      (still_lined s (tenure_in w item.source item.what) t h.lined_up.had.from_one h.up (ap (λ (outs : List Out). forwarded outs s.number) silent ∙ silent_forwards s.number [] refl) (nothing_down (record w { inbox = items }) (tenure_in w item.source item.what) t silent)
+      (record { line = line_itself s; there = turns.next ∙ ap (next_by s) none; requested = h.lined_up.requested; request = refl })
+      h.lined_up.lined.lined.apart h.lined_up.lined.lined.placed h.lined_up.lined.found
+      (item_drops item items h.pending (said_drops frame h one is said none tells) h.lined_up.lined.lined))
   by (Some r) fits =
       let next : connection_of t.next s.number ≡ kept r.next = turns.next ∙ ap (next_by s) fits in
       let outs : outs_for s.number t.outs ≡ outs_of s.number r.outs = ap (outs_for s.number) (turns.outs ∙ ap (outs_by s.number) fits) ∙ outs_own s.number r.outs in
       let final : IsFinal s r = subst (OfRow (IsFinal s)) fits (IsFinal-row s input offer) in
       elim (open_or r.next.state) [
-        | inl is_open ↦ keeps_on r h (record { frame = frame; is = is; up = up; said = said; requested = h.lives.requested; fits = fits; stays_open = is_open; carried = carried }) (next ∙ still_there r.next.state r.next is_open)
-        | inr shut ↦ subst (λ (x : Actors). IsOpenOrEnded (modulus_in settings) x mobile s) (sym (handle_is w item items h.stood))
+        | inl is_open ↦ keeps_on r h (record { frame = frame; is = is; up = up; said = said; requested = h.lined_up.requested; fits = fits; remains_open = is_open; carried = carried }) (next ∙ still_there r.next.state r.next is_open)
+        | inr shut ↦ subst (λ (x : Actors). IsOpenOrEnded (modulus_in settings) x mobile s) (sym (handle_is w item items h.pending))
             (now_ended (tenure_in w item.source item.what) t h.up
-            (none_forwarded s.number t.outs r.outs h.lives.had.from_one outs (subst (OfRow PutsUsual) fits (usual_row s input offer)) does.sent (final.relays shut))
+            (none_forwarded s.number t.outs r.outs h.lined_up.had.from_one outs (subst (OfRow PutsUsual) fits (usual_row s input offer)) does.sent (final.relays shut))
             (λ there. shut (kept_there r.next.state r.next (subst IsThere next there)))
-            (ended_before items (line_ups_may_end_new (modulus_in settings) w mobile s h.lives.lined)))
+            (ended_before items (line_ups_may_end_new (modulus_in settings) w mobile s h.lined_up.lined)))
       ]

@@ -3,9 +3,9 @@
 use Rattle.world_laws.proofs.Prelude.{◌≡◌, ℕ, Bool, false, List, [], ◌∷◌, ◌++◌, refl, sym, ap, ◌∙◌, subst, append_assoc, DataLinkState}
 use Rattle.world_laws.proofs.Prelude.{LineUp, flow, parts_of, with_items, Alive, Condition, Follows, lost_old, lost_serving, lost_target}
 use Rattle.world_laws.proofs.Prelude.{BreakStep, lost, breaks_serving, breaks_target, breaks_old}
-use Rattle.world_laws.specs.LineUp.Places.{Tenure}
+use Rattle.world_laws.specs.LineUp.Places.{LineTenure}
 use Rattle.world_laws.proofs.LineUp.Lines.{parts_front, parts_broken, some_lost-here, first_relays_at, controls_front, texts_front}
-use Rattle.world_laws.proofs.LineUp.Standing.{stands_serving, stands_target}
+use Rattle.world_laws.proofs.LineUp.Phases.{phase_serving, phase_target}
 use Rattle.world_laws.proofs.LineUp.Following.{follows_front}
 
 -- a front of the parts leaves a front of the line
@@ -19,7 +19,7 @@ alive_break (breaks_serving l t items dropped) alive =
     record {
       follows = follows_parts (flow l.taken ++ flow l.out) _ front.0 front.1 alive.follows;
       first = alive.first;
-      stands = stands_serving (controls_front items dropped) alive.stands;
+      phase = phase_serving (controls_front items dropped) alive.phase;
       condition = lost_serving;
       bare = alive.bare;
     }
@@ -30,21 +30,21 @@ alive_break (breaks_target l t items dropped here) alive =
     record {
       follows = follows_parts (flow l.taken ++ flow l.out) _ front.0 front.1 alive.follows;
       first = alive.first;
-      stands = stands_target (texts_front items dropped) (controls_front items dropped) alive.stands;
+      phase = phase_target (texts_front items dropped) (controls_front items dropped) alive.phase;
       condition = lost_target here;
       bare = alive.bare;
     }
 alive_break (breaks_old l before t after items dropped) alive =
-    let d : Tenure = with_items t (items ++ dropped) in
-    let behind : List Tenure = l.serving ∷ l.target ∷ [] in
+    let d : LineTenure = with_items t (items ++ dropped) in
+    let behind : List LineTenure = l.serving ∷ l.target ∷ [] in
     let broken = parts_broken t items dropped (after ++ behind) in
     let front = parts_front before (d ∷ (after ++ behind)) (lost t items ∷ (after ++ behind)) broken.0 broken.1 in
     let regrouped : parts_of ((before ++ d ∷ after) ++ behind) ≡ parts_of ((before ++ lost t items ∷ after) ++ behind) ++ front.0 =
-    ap parts_of (append_assoc before (d ∷ after) behind) ∙ front.1 ∙ ap (λ (list : List Tenure). parts_of list ++ front.0) (sym (append_assoc before (lost t items ∷ after) behind)) in
+    ap parts_of (append_assoc before (d ∷ after) behind) ∙ front.1 ∙ ap (λ (list : List LineTenure). parts_of list ++ front.0) (sym (append_assoc before (lost t items ∷ after) behind)) in
     record {
       follows = follows_parts (flow l.taken ++ flow l.out) _ front.0 regrouped alive.follows;
       first = first_relays_at l.is_confirmed before d (lost t items) after l.serving.hold refl alive.first;
-      stands = alive.stands;
+      phase = alive.phase;
       condition = subst (λ (b : Bool). Condition l.seat b l.serving.is_lost l.target.is_lost false) (sym (some_lost-here before (lost t items) after refl)) lost_old;
       bare = alive.bare;
     }

@@ -4,7 +4,7 @@ use Rattle.world_laws.proofs.Prelude.{◌≡◌, ℕ, ◌+◌, ◌≤◌, Bool, 
 use Rattle.world_laws.proofs.Prelude.{append_assoc, cond, arith, length-append, filter, cond-true, cond-false, append-nil, filter-append}
 use Rattle.world_laws.proofs.Prelude.{is_flow_message, is_control, no-length, flow, messages_in, part_of, parts_of, with_items, controls_of}
 use Rattle.world_laws.proofs.Prelude.{controls_in, texts_in, released, lost, some_lost, FirstRelays}
-use Rattle.world_laws.specs.LineUp.Places.{Item, Tenure}
+use Rattle.world_laws.specs.LineUp.Places.{Item, LineTenure}
 use Rattle.world_laws.specs.LineUp.Places.Item.{brought}
 
 pub flow-append : (xs ys : List (List ℕ)) → flow (xs ++ ys) ≡ flow xs ++ flow ys
@@ -42,18 +42,18 @@ switch_taken taken x out rest = rw (flow-cons x out, flow-append taken (x ∷ []
 -- ---- one channel in the place of another
 
 -- with the same part
-pub parts_at : (before : List Tenure) (d e : Tenure) (after : List Tenure) → part_of d ≡ part_of e → d.is_lost ≡ e.is_lost → parts_of (before ++ d ∷ after) ≡ parts_of (before ++ e ∷ after)
+pub parts_at : (before : List LineTenure) (d e : LineTenure) (after : List LineTenure) → part_of d ≡ part_of e → d.is_lost ≡ e.is_lost → parts_of (before ++ d ∷ after) ≡ parts_of (before ++ e ∷ after)
 parts_at [] d e after part lost =
     ap (λ (list : List (List ℕ)). list ++ cond d.is_lost [] (parts_of after)) part
     ∙ ap (λ (b : Bool). part_of e ++ cond b [] (parts_of after)) lost
 parts_at (t ∷ before) d e after part lost = ap (λ (list : List (List ℕ)). part_of t ++ cond t.is_lost [] list) (parts_at before d e after part lost)
 
-pub parts_within : (before : List Tenure) (d e : Tenure) (after rest : List Tenure) → part_of d ≡ part_of e → d.is_lost ≡ e.is_lost → parts_of ((before ++ d ∷ after) ++ rest) ≡ parts_of ((before ++ e ∷ after) ++ rest)
+pub parts_within : (before : List LineTenure) (d e : LineTenure) (after rest : List LineTenure) → part_of d ≡ part_of e → d.is_lost ≡ e.is_lost → parts_of ((before ++ d ∷ after) ++ rest) ≡ parts_of ((before ++ e ∷ after) ++ rest)
 parts_within before d e after rest part lost =
     ap parts_of (append_assoc before (d ∷ after) rest) ∙ parts_at before d e (after ++ rest) part lost ∙ sym (ap parts_of (append_assoc before (e ∷ after) rest))
 
 -- other channels behind these
-pub parts_tail : (before xs ys : List Tenure) → parts_of xs ≡ parts_of ys → parts_of (before ++ xs) ≡ parts_of (before ++ ys)
+pub parts_tail : (before xs ys : List LineTenure) → parts_of xs ≡ parts_of ys → parts_of (before ++ xs) ≡ parts_of (before ++ ys)
 parts_tail [] xs ys same = same
 parts_tail (t ∷ before) xs ys same = ap (λ (list : List (List ℕ)). part_of t ++ cond t.is_lost [] list) (parts_tail before xs ys same)
 
@@ -62,7 +62,7 @@ lost_step : (b c : Bool) (part p q : List (List ℕ)) → (b || c) ≡ true → 
 lost_step true c part p q some same = refl
 lost_step false c part p q some same = ap (λ (list : List (List ℕ)). part ++ list) (same some)
 
-pub parts_lost : (before xs ys : List Tenure) → some_lost before ≡ true → parts_of (before ++ xs) ≡ parts_of (before ++ ys)
+pub parts_lost : (before xs ys : List LineTenure) → some_lost before ≡ true → parts_of (before ++ xs) ≡ parts_of (before ++ ys)
 parts_lost [] xs ys some = absurd cc
 parts_lost (t ∷ before) xs ys some =
     lost_step t.is_lost (some_lost before) (part_of t) (parts_of (before ++ xs)) (parts_of (before ++ ys)) some (parts_lost before xs ys)
@@ -72,7 +72,7 @@ pub none_lost : (b c : Bool) → (b || c) ≡ false → (b ≡ false) × (c ≡ 
 none_lost true c none = absurd cc
 none_lost false c none = (refl, none)
 
-pub parts_whole : (before xs ys : List Tenure) (zs : List (List ℕ)) → some_lost before ≡ false → parts_of xs ≡ parts_of ys ++ zs → parts_of (before ++ xs) ≡ parts_of (before ++ ys) ++ zs
+pub parts_whole : (before xs ys : List LineTenure) (zs : List (List ℕ)) → some_lost before ≡ false → parts_of xs ≡ parts_of ys ++ zs → parts_of (before ++ xs) ≡ parts_of (before ++ ys) ++ zs
 parts_whole [] xs ys zs none more = more
 parts_whole (t ∷ before) xs ys zs none more =
     let both = none_lost t.is_lost (some_lost before) none in
@@ -86,14 +86,14 @@ front_step : (b : Bool) (part p q zs : List (List ℕ)) → p ≡ q ++ zs → (m
 front_step true part p q zs front = ([], sym (append-nil (part ++ [])))
 front_step false part p q zs front = (zs, ap (λ (list : List (List ℕ)). part ++ list) front ∙ sym (append_assoc part q zs))
 
-pub parts_front : (before xs ys : List Tenure) (zs : List (List ℕ)) → parts_of xs ≡ parts_of ys ++ zs → (more : List (List ℕ)) × (parts_of (before ++ xs) ≡ parts_of (before ++ ys) ++ more)
+pub parts_front : (before xs ys : List LineTenure) (zs : List (List ℕ)) → parts_of xs ≡ parts_of ys ++ zs → (more : List (List ℕ)) × (parts_of (before ++ xs) ≡ parts_of (before ++ ys) ++ more)
 parts_front [] xs ys zs front = (zs, front)
 parts_front (t ∷ before) xs ys zs front =
     let rec = parts_front before xs ys zs front in
     front_step t.is_lost (part_of t) (parts_of (before ++ xs)) (parts_of (before ++ ys)) rec.0 rec.1
 
 -- of a channel that breaks a front is left
-pub parts_broken : (t : Tenure) (items dropped : List Item) (after : List Tenure) → (more : List (List ℕ)) × (parts_of (with_items t (items ++ dropped) ∷ after) ≡ parts_of (lost t items ∷ after) ++ more)
+pub parts_broken : (t : LineTenure) (items dropped : List Item) (after : List LineTenure) → (more : List (List ℕ)) × (parts_of (with_items t (items ++ dropped) ∷ after) ≡ parts_of (lost t items ∷ after) ++ more)
 parts_broken t items dropped after =
     let rest : List (List ℕ) = cond t.is_lost [] (parts_of after) in (
       flow (messages_in dropped) ++ rest,
@@ -101,12 +101,12 @@ parts_broken t items dropped after =
     )
 
 -- the part of a channel that one more item came of
-pub part_push : (t : Tenure) (x : List ℕ) → part_of (with_items t (t.items ++ brought x ∷ [])) ≡ part_of t ++ flow (x ∷ [])
+pub part_push : (t : LineTenure) (x : List ℕ) → part_of (with_items t (t.items ++ brought x ∷ [])) ≡ part_of t ++ flow (x ∷ [])
 part_push t x = rw (messages_in-append t.items (brought x ∷ []), flow-append (messages_in t.items) (x ∷ [])) (simp append_assoc refl)
 
 -- ---- whether something is lost
 
-pub some_lost-at : (before : List Tenure) (d e : Tenure) (after : List Tenure) → d.is_lost ≡ e.is_lost → some_lost (before ++ d ∷ after) ≡ some_lost (before ++ e ∷ after)
+pub some_lost-at : (before : List LineTenure) (d e : LineTenure) (after : List LineTenure) → d.is_lost ≡ e.is_lost → some_lost (before ++ d ∷ after) ≡ some_lost (before ++ e ∷ after)
 some_lost-at [] d e after same = ap (λ (b : Bool). b || some_lost after) same
 some_lost-at (t ∷ before) d e after same = ap (λ (b : Bool). t.is_lost || b) (some_lost-at before d e after same)
 
@@ -114,7 +114,8 @@ or_true : (b : Bool) → (b || true) ≡ true
 or_true true = refl
 or_true false = refl
 
-pub some_lost-here : (before : List Tenure) (d : Tenure) (after : List Tenure) → d.is_lost ≡ true → some_lost (before ++ d ∷ after) ≡ true
+pub some_lost-here : (before : List LineTenure) (d : LineTenure) (after : List LineTenure) → d.is_lost ≡ true → some_lost
+    (before ++ d ∷ after) ≡ true
 some_lost-here [] d after here = ap (λ (b : Bool). b || some_lost after) here
 some_lost-here (t ∷ before) d after here = ap (λ (b : Bool). t.is_lost || b) (some_lost-here before d after here) ∙ or_true t.is_lost
 
@@ -126,17 +127,17 @@ or_assoc : (a b c : Bool) → (a || (b || c)) ≡ ((a || b) || c)
 or_assoc true b c = refl
 or_assoc false b c = refl
 
-pub some_lost-push : (before : List Tenure) (d : Tenure) → some_lost (before ++ d ∷ []) ≡ (some_lost before || d.is_lost)
+pub some_lost-push : (before : List LineTenure) (d : LineTenure) → some_lost (before ++ d ∷ []) ≡ (some_lost before || d.is_lost)
 some_lost-push [] d = or_false d.is_lost
 some_lost-push (t ∷ before) d = ap (λ (b : Bool). t.is_lost || b) (some_lost-push before d) ∙ or_assoc t.is_lost (some_lost before) d.is_lost
 
 -- ---- what is held of the oldest
 
-pub first_relays_at : (confirmed : Bool) (before : List Tenure) (d e : Tenure) (after : List Tenure) (hold : List (List ℕ)) → d.hold ≡ e.hold → FirstRelays confirmed (before ++ d ∷ after) hold → FirstRelays confirmed (before ++ e ∷ after) hold
+pub first_relays_at : (confirmed : Bool) (before : List LineTenure) (d e : LineTenure) (after : List LineTenure) (hold : List (List ℕ)) → d.hold ≡ e.hold → FirstRelays confirmed (before ++ d ∷ after) hold → FirstRelays confirmed (before ++ e ∷ after) hold
 first_relays_at confirmed [] d e after hold same first = sym same ∙ first
 first_relays_at confirmed (t ∷ before) d e after hold same first = first
 
-pub first_relays_push : (old : List Tenure) (t : Tenure) (hold : List (List ℕ)) → FirstRelays true old t.hold → FirstRelays true (old ++ t ∷ []) hold
+pub first_relays_push : (old : List LineTenure) (t : LineTenure) (hold : List (List ℕ)) → FirstRelays true old t.hold → FirstRelays true (old ++ t ∷ []) hold
 first_relays_push [] t hold first = first refl
 first_relays_push (o ∷ old) t hold first = first
 
@@ -171,11 +172,11 @@ cond-nil true = refl
 cond-nil false = refl
 
 -- a target of which nothing came
-pub bare_target : (t : Tenure) → t.hold ≡ [] → texts_in t.items ≡ 0 → parts_of (t ∷ []) ≡ []
+pub bare_target : (t : LineTenure) → t.hold ≡ [] → texts_in t.items ≡ 0 → parts_of (t ∷ []) ≡ []
 bare_target t hold texts =
     let none : flow (messages_in t.items) ≡ [] = no-length (flow (messages_in t.items)) texts in
     rw (hold, none) (cond-nil t.is_lost)
 
 -- a last channel
-pub last_part : (t : Tenure) → parts_of (t ∷ []) ≡ part_of t
+pub last_part : (t : LineTenure) → parts_of (t ∷ []) ≡ part_of t
 last_part t = ap (λ (list : List (List ℕ)). part_of t ++ list) (cond-nil t.is_lost) ∙ append-nil (part_of t)

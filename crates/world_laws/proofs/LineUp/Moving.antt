@@ -7,7 +7,7 @@ use Rattle.world_laws.proofs.Prelude.{after_lending, after_resume, to_be_taken, 
 use Rattle.world_laws.proofs.Prelude.{is_flow_with_number, RunsToEnd-acknowledged, RunsToEnd-resumed, RunsToEnd-numbered, RunsToEnd-unnumbered}
 use Rattle.world_laws.proofs.Prelude.{to_be_taken-waits, to_be_taken-lent_message, to_be_taken-acknowledged, LineUp, flow, messages_in}
 use Rattle.world_laws.proofs.Prelude.{part_of, parts_of, with_items, line, controls_of, controls_in, Alive, some_lost, rises, left_the_cell}
-use Rattle.world_laws.specs.LineUp.Places.{Item, Tenure}
+use Rattle.world_laws.specs.LineUp.Places.{Item, LineTenure}
 use Rattle.world_laws.specs.LineUp.Places.Item.{brought}
 use Rattle.world_laws.specs.LineUp.MobileStep.{MobileStep}
 use Rattle.world_laws.specs.LineUp.MobileStep.MobileStep.{sends_numbered, sends_other, taken_on_serving, taken_on_target, acknowledged}
@@ -15,9 +15,9 @@ use Rattle.world_laws.specs.LineUp.MobileStep.MobileStep.{follows_command, loses
 use Rattle.world_laws.specs.LineUp.MobileStep.MobileStep.{dismissed_from_target}
 use Rattle.world_laws.proofs.LineUp.Lines.{messages_in-append, controls_append, parts_whole, parts_lost, parts_tail, part_push, bare_target}
 use Rattle.world_laws.proofs.LineUp.Lines.{last_part}
-use Rattle.world_laws.proofs.LineUp.Standing.{stands_fewer, stands_link, stands_taken_on_serving, stands_taken_on_target, stands_follows}
-use Rattle.world_laws.proofs.LineUp.Standing.{stands_arrives, stands_returns, stands_dismissed_from_serving, stands_dismissed_from_target}
-use Rattle.world_laws.proofs.LineUp.Standing.{stands_no_texts}
+use Rattle.world_laws.proofs.LineUp.Phases.{phase_fewer, phase_link, phase_taken_on_serving, phase_taken_on_target, phase_follows}
+use Rattle.world_laws.proofs.LineUp.Phases.{phase_arrives, phase_returns, phase_dismissed_from_serving, phase_dismissed_from_target}
+use Rattle.world_laws.proofs.LineUp.Phases.{phase_no_texts}
 use Rattle.world_laws.proofs.LineUp.Conditions.{condition_intact, condition_on_serving, condition_on_target, condition_follows}
 use Rattle.world_laws.proofs.LineUp.Conditions.{condition_arrives, condition_returns}
 use Rattle.world_laws.proofs.LineUp.Following.{follows_rise, follows_link, follows_sent, follows_taken}
@@ -69,21 +69,21 @@ controls_resumed link control is =
 -- ---- a message joins the line
 
 -- on the serving channel, where nothing came of the target
-joins_serving : (old : List Tenure) (t target : Tenure) (x : List ℕ) → some_lost old ≡ false → parts_of (target ∷ []) ≡ [] → parts_of (old ++ with_items t (t.items ++ brought x ∷ []) ∷ target ∷ []) ≡ parts_of (old ++ t ∷ target ∷ []) ++ flow (x ∷ [])
+joins_serving : (old : List LineTenure) (t target : LineTenure) (x : List ℕ) → some_lost old ≡ false → parts_of (target ∷ []) ≡ [] → parts_of (old ++ with_items t (t.items ++ brought x ∷ []) ∷ target ∷ []) ≡ parts_of (old ++ t ∷ target ∷ []) ++ flow (x ∷ [])
 joins_serving old t target x none bare =
-    let alone : (s : Tenure) → parts_of (s ∷ target ∷ []) ≡ part_of s = λ s. ap (λ (rest : List (List ℕ)). part_of s ++ cond s.is_lost [] rest) bare ∙ last_part s in
+    let alone : (s : LineTenure) → parts_of (s ∷ target ∷ []) ≡ part_of s = λ s. ap (λ (rest : List (List ℕ)). part_of s ++ cond s.is_lost [] rest) bare ∙ last_part s in
     parts_whole old _ _ (flow (x ∷ [])) none
     (alone (with_items t (t.items ++ brought x ∷ [])) ∙ part_push t x ∙ ap (λ (part : List (List ℕ)). part ++ flow (x ∷ [])) (sym (alone t)))
 
 -- on the target
-joins_target : (old : List Tenure) (serving t : Tenure) (x : List ℕ) → some_lost old ≡ false → serving.is_lost ≡ false → parts_of (old ++ serving ∷ with_items t (t.items ++ brought x ∷ []) ∷ []) ≡ parts_of (old ++ serving ∷ t ∷ []) ++ flow (x ∷ [])
+joins_target : (old : List LineTenure) (serving t : LineTenure) (x : List ℕ) → some_lost old ≡ false → serving.is_lost ≡ false → parts_of (old ++ serving ∷ with_items t (t.items ++ brought x ∷ []) ∷ []) ≡ parts_of (old ++ serving ∷ t ∷ []) ++ flow (x ∷ [])
 joins_target old serving t x none whole =
     parts_whole old _ _ (flow (x ∷ [])) none
     (parts_whole (serving ∷ []) (with_items t (t.items ++ brought x ∷ []) ∷ []) (t ∷ []) (flow (x ∷ [])) (ap (λ (b : Bool). b || false) whole)
     (last_part (with_items t (t.items ++ brought x ∷ [])) ∙ part_push t x ∙ ap (λ (part : List (List ℕ)). part ++ flow (x ∷ [])) (sym (last_part t))))
 
 -- behind something that is missing it isn't on the line
-passes_target : (old : List Tenure) (serving t : Tenure) (x : List ℕ) → (some_lost old ≡ true) ⊎ (serving.is_lost ≡ true) → parts_of (old ++ serving ∷ with_items t (t.items ++ brought x ∷ []) ∷ []) ≡ parts_of (old ++ serving ∷ t ∷ [])
+passes_target : (old : List LineTenure) (serving t : LineTenure) (x : List ℕ) → (some_lost old ≡ true) ⊎ (serving.is_lost ≡ true) → parts_of (old ++ serving ∷ with_items t (t.items ++ brought x ∷ []) ∷ []) ≡ parts_of (old ++ serving ∷ t ∷ [])
 passes_target old serving t x (inl some) = parts_lost old _ _ some
 passes_target old serving t x (inr lost) = parts_tail old _ _ (parts_lost (serving ∷ []) (with_items t (t.items ++ brought x ∷ []) ∷ []) (t ∷ []) (ap (λ (b : Bool). b || false) lost))
 
@@ -91,19 +91,19 @@ pub alive_mobile : {m : ℕ} {before after : LineUp} → MobileStep m before aft
 alive_mobile {m} (sends_numbered l x clear) alive = record {
   follows = follows_sent (x ∷ []) (RunsToEnd-numbered l.link x clear) alive.follows;
   first = alive.first;
-  stands = stands_link (controls_waits l.link (with_number (length l.sent % m) x) (flow_no_control (with_number (length l.sent % m) x) (is_flow_with_number (length l.sent % m) x ∙ clear.is_flow))) alive.stands;
+  phase = phase_link (controls_waits l.link (with_number (length l.sent % m) x) (flow_no_control (with_number (length l.sent % m) x) (is_flow_with_number (length l.sent % m) x ∙ clear.is_flow))) alive.phase;
   condition = alive.condition;
   bare = alive.bare;
 }
 alive_mobile (sends_other l x apart other) alive = record {
   follows = follows_link (RunsToEnd-unnumbered l.link x apart) alive.follows;
   first = alive.first;
-  stands = stands_link (controls_waits l.link x other) alive.stands;
+  phase = phase_link (controls_waits l.link x other) alive.phase;
   condition = alive.condition;
   bare = alive.bare;
 }
 alive_mobile (taken_on_serving l x lent whole) alive =
-    let bare : parts_of (l.target ∷ []) ≡ [] = bare_target l.target alive.bare (stands_no_texts alive.stands) in
+    let bare : parts_of (l.target ∷ []) ≡ [] = bare_target l.target alive.bare (phase_no_texts alive.phase) in
     let front : List (List ℕ) = flow l.taken ++ flow l.out in
     record {
       follows =
@@ -113,7 +113,7 @@ alive_mobile (taken_on_serving l x lent whole) alive =
           (λ isnt. ap (λ (parts : List (List ℕ)). front ++ parts) (parts_lost l.old _ _ (condition_on_serving isnt whole alive.condition)))
           alive.follows;
       first = alive.first;
-      stands = stands_taken_on_serving (controls_lent l.link x l.serving.items lent) alive.stands;
+      phase = phase_taken_on_serving (controls_lent l.link x l.serving.items lent) alive.phase;
       condition = alive.condition;
       bare = alive.bare;
     }
@@ -129,7 +129,7 @@ alive_mobile (taken_on_target l x lent whole) alive =
           (λ isnt. ap (λ (parts : List (List ℕ)). front ++ parts) (passes_target l.old l.serving l.target x (condition_on_target isnt whole alive.condition)))
           alive.follows;
       first = alive.first;
-      stands = stands_taken_on_target (controls_lent l.link x l.target.items lent) alive.stands;
+      phase = phase_taken_on_target (controls_lent l.link x l.target.items lent) alive.phase;
       condition = alive.condition;
       bare = alive.bare;
     }
@@ -138,35 +138,35 @@ alive_mobile (acknowledged l) alive =
     record {
       follows = follows_link (RunsToEnd-acknowledged l.link) alive.follows;
       first = alive.first;
-      stands = stands_link (omega arith) alive.stands;
+      phase = phase_link (omega arith) alive.phase;
       condition = alive.condition;
       bare = alive.bare;
     }
-alive_mobile (follows_command l) alive = record { follows = alive.follows; first = alive.first; stands = stands_follows alive.stands; condition = condition_follows alive.condition; bare = alive.bare }
+alive_mobile (follows_command l) alive = record { follows = alive.follows; first = alive.first; phase = phase_follows alive.phase; condition = condition_follows alive.condition; bare = alive.bare }
 alive_mobile (loses_command l) alive = record {
   follows = alive.follows;
   first = alive.first;
-  stands = stands_fewer (omega arith) (omega arith) (omega arith) (omega arith) (omega arith) alive.stands;
+  phase = phase_fewer (omega arith) (omega arith) (omega arith) (omega arith) (omega arith) alive.phase;
   condition = alive.condition;
   bare = alive.bare;
 }
 alive_mobile (arrives l complete is) alive = record {
   follows = follows_link (RunsToEnd-resumed l.link complete is) alive.follows;
   first = alive.first;
-  stands = stands_arrives (controls_resumed l.link complete is) alive.stands;
+  phase = phase_arrives (controls_resumed l.link complete is) alive.phase;
   condition = condition_arrives alive.condition;
   bare = alive.bare;
 }
 alive_mobile (returns l failure is) alive = record {
   follows = follows_link (RunsToEnd-resumed l.link failure is) alive.follows;
   first = alive.first;
-  stands = stands_returns (controls_resumed l.link failure is) alive.stands;
+  phase = phase_returns (controls_resumed l.link failure is) alive.phase;
   condition = condition_returns alive.condition;
   bare = alive.bare;
 }
 alive_mobile (dismissed_from_serving l) alive =
     let rise = follows_rise alive.follows in
-    record { follows = rises rise.0 rise.1; first = alive.first; stands = stands_dismissed_from_serving alive.stands; condition = left_the_cell; bare = alive.bare }
+    record { follows = rises rise.0 rise.1; first = alive.first; phase = phase_dismissed_from_serving alive.phase; condition = left_the_cell; bare = alive.bare }
 alive_mobile (dismissed_from_target l) alive =
     let rise = follows_rise alive.follows in
-    record { follows = rises rise.0 rise.1; first = alive.first; stands = stands_dismissed_from_target alive.stands; condition = left_the_cell; bare = alive.bare }
+    record { follows = rises rise.0 rise.1; first = alive.first; phase = phase_dismissed_from_target alive.phase; condition = left_the_cell; bare = alive.bare }

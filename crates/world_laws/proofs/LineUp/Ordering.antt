@@ -3,7 +3,7 @@
 use Rattle.world_laws.proofs.Prelude.{◌≡◌, ℕ, ◌+◌, ◌≤◌, List, [], ◌∷◌, ◌++◌, refl, sym, ap, ◌∙◌, subst, append_assoc, arith, append-nil}
 use Rattle.world_laws.proofs.Prelude.{Rise, to_be_taken, DataLinkState, Rise-cut, Rise-front, Rise-grow, Rise-of_flow}
 use Rattle.world_laws.proofs.Prelude.{accepted_list_from-rise, progress_from-rise, LineUp, flow, messages_in, parts_of, line, controls_in}
-use Rattle.world_laws.proofs.Prelude.{controls_of, Alive, remains, sound, IsInOrder, coming, by_mobile, by_relaying, by_change, by_break}
+use Rattle.world_laws.proofs.Prelude.{controls_of, Alive, remains, sound, IsInOrder, arriving, by_mobile, by_relaying, by_change, by_break}
 use Rattle.world_laws.proofs.Prelude.{none, first}
 use Rattle.mobile_end.specs.RunsToEnd.{RunsToEnd}
 use Rattle.world_laws.specs.LineUp.Places.{Item}
@@ -30,7 +30,7 @@ alive_opened m sent link initial items going controls =
     record {
       follows = goes_on (subst (λ (list : List (List ℕ)). RunsToEnd m sent list link) same going);
       first = λ confirmed. refl;
-      stands = rests remains (omega arith);
+      phase = rests remains (omega arith);
       condition = sound;
       bare = refl;
     }
@@ -42,10 +42,10 @@ is_in_order_rise taken rest {k} two rise =
     let front = Rise-of_flow taken cut.1 in
     record { count = cut.0; accepted = accepted_list_from-rise two front; no_gap = progress_from-rise two front; last = k; rise = cut.2 }
 
-pub is_in_order_alive : {m : ℕ} {l : LineUp} → 2 ≤ m → Alive m l → IsInOrder m l.sent l.taken (coming l)
+pub is_in_order_alive : {m : ℕ} {l : LineUp} → 2 ≤ m → Alive m l → IsInOrder m l.sent l.taken (arriving l)
 is_in_order_alive {l} two alive =
     let rise = follows_rise alive.follows in
-    is_in_order_rise l.taken (coming l) two (rise_list (append_assoc (flow l.taken) (flow l.out) (parts_of (l.old ++ l.serving ∷ l.target ∷ []))) rise.1)
+    is_in_order_rise l.taken (arriving l) two (rise_list (append_assoc (flow l.taken) (flow l.out) (parts_of (l.old ++ l.serving ∷ l.target ∷ []))) rise.1)
 
 -- one thing after the other
 pub alive_step : {m : ℕ} {before after : LineUp} → Step m before after → Alive m before → Alive m after

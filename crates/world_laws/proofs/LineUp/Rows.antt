@@ -3,10 +3,11 @@
 use Rattle.world_laws.proofs.Prelude.{◌≡◌, ℕ, ◌+◌, ◌≤◌, true, false, Some, List, [], ◌∷◌, refl, arith, Carries, next, Empty, Given, Reached}
 use Rattle.world_laws.proofs.Prelude.{DataLinkState, again, accepted_list, progress, LineUp, fresh, messages_in, part_of, parts_of, line}
 use Rattle.world_laws.proofs.Prelude.{controls_of, controls_in, texts_in, released, on_serving, on_target, moving, Alive, rises, remains}
-use Rattle.world_laws.proofs.Prelude.{sound, lost_serving, coming, breaks_target, by_mobile, by_relaying, by_change, by_break, none, first}
+use Rattle.world_laws.proofs.Prelude.{sound, lost_serving, arriving, breaks_target, by_mobile, by_relaying, by_change, by_break, none}
+use Rattle.world_laws.proofs.Prelude.{first}
 use Rattle.octets.proofs.Hex.{hex}
 use Rattle.dtap_codec.specs.Places.Rise.{over}
-use Rattle.world_laws.specs.LineUp.Places.{Tenure}
+use Rattle.world_laws.specs.LineUp.Places.{LineTenure}
 use Rattle.world_laws.specs.LineUp.Places.Item.{brought}
 use Rattle.world_laws.specs.LineUp.Alive.{ChangePhase}
 use Rattle.world_laws.specs.LineUp.Alive.Follows.{goes_on}
@@ -50,10 +51,10 @@ messages = refl
 part : part_of (record { hold = m0 ∷ short_message ∷ []; items = brought complete ∷ brought m1 ∷ released ∷ []; is_lost = false; is_done = false }) ≡ m0 ∷ m1 ∷ []
 part = refl
 
-abbrev holds : List (List ℕ) → Tenure
+abbrev holds : List (List ℕ) → LineTenure
 holds messages = record { hold = messages; items = []; is_lost = false; is_done = true }
 
-abbrev breaks_with : List (List ℕ) → Tenure
+abbrev breaks_with : List (List ℕ) → LineTenure
 breaks_with messages = record { hold = messages; items = []; is_lost = true; is_done = false }
 
 parts : parts_of (holds (m0 ∷ []) ∷ holds [] ∷ holds (m1 ∷ m2 ∷ []) ∷ []) ≡ m0 ∷ m1 ∷ m2 ∷ []
@@ -90,7 +91,7 @@ in_handover = record {
 line_in_handover : line in_handover ≡ m0 ∷ m1 ∷ m2 ∷ m2 ∷ []
 line_in_handover = refl
 
-coming_in_handover : coming in_handover ≡ m0 ∷ m1 ∷ m2 ∷ m2 ∷ []
+coming_in_handover : arriving in_handover ≡ m0 ∷ m1 ∷ m2 ∷ m2 ∷ []
 coming_in_handover = refl
 
 at_0 : Carries 4 sent 0 m0
@@ -113,7 +114,7 @@ handover_is_alive = record {
     anew = next at_0 (next at_1 (next at_2 (again refl at_2 (again refl at_2 (next at_3 (over 4))))));
   });
   first = refl;
-  stands = has_arrived remains refl (omega arith);
+  phase = has_arrived remains refl (omega arith);
   condition = sound;
   bare = refl;
 }
@@ -126,7 +127,7 @@ line_in_break : line in_break ≡ m0 ∷ m1 ∷ []
 line_in_break = refl
 
 break_is_alive : Alive 4 in_break
-break_is_alive = record { follows = rises 2 (next at_0 (next at_1 (over 2))); first = refl; stands = has_arrived remains refl (omega arith); condition = lost_serving; bare = refl }
+break_is_alive = record { follows = rises 2 (next at_0 (next at_1 (over 2))); first = refl; phase = has_arrived remains refl (omega arith); condition = lost_serving; bare = refl }
 
 -- ---- before the connection request: the initial message is to come, and is a PAGING RESPONSE
 
@@ -154,7 +155,7 @@ to_open_is_alive = record {
     anew = next at_0 (next at_1 (next at_2 (next at_3 (over 4))));
   });
   first = λ confirmed. refl;
-  stands = opens remains refl;
+  phase = opens remains refl;
   condition = sound;
   bare = refl;
 }
@@ -171,14 +172,14 @@ none_is_left : {serving link : ℕ} → 1 ≤ serving + link → ChangePhase fal
 none_is_left some (rests here zero) = absurd (omega arith)
 
 left_on_its_way : Alive 4 (record brought_answer { is_opening = false }) → ⊥
-left_on_its_way alive = none_is_left (omega arith) alive.stands
+left_on_its_way alive = none_is_left (omega arith) alive.phase
 
 left_in_the_link : Alive 4 (record to_open { is_opening = false }) → ⊥
-left_in_the_link alive = none_is_left (omega arith) alive.stands
+left_in_the_link alive = none_is_left (omega arith) alive.phase
 
 -- and while it is still to come no COMMAND is on its way
 none_is_commanded : Alive 4 (record to_open { commands = 1 }) → ⊥
-none_is_commanded alive = by alive.stands where
+none_is_commanded alive = by alive.phase where
   by : ChangePhase true false 1 on_serving 0 0 0 1 → ⊥
   by (opens here zero) = absurd (omega arith)
 

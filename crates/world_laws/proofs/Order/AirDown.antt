@@ -37,12 +37,13 @@ module _ (at : Place) (at_is : at.station ≢ SWITCH_LINK) where
   -- none is added there
   respot_none : {w u : Actors} {event : Event} {p : Place} {spot : Spot} → NoDataAt w event → Empty u → at ≡ p → Respots w u event p spot → spot.air ≡ []
   respot_none {u = u} no_data none same (short_up number tenure reached) = same_air tenure.at u none same
-  respot_none {u = u} no_data none same (goes_down tenure first others reached stood) = never_first u tenure.at first others none stood same
+  respot_none {u = u} no_data none same
+      (goes_down tenure first others reached pending) = never_first u tenure.at first others none pending same
   respot_none no_data none same (is_left number tenure reached) = refl
   respot_none {u = u} no_data none same (counts number report tenure reached) = same_air tenure.at u none same
   respot_none {u = u} no_data none same (asks_up station l answer taken) = same_air (place_at station l.channel) u none same
   respot_none {w} no_data none same (airs station d taken active) =
-      let no = no_data taken.first taken.others (ap (λ (p : Place). BaseTakes p.station) (sym same)) (ap (λ (p : Place). outbox_of w p.station) same ∙ taken.stood) in
+      let no = no_data taken.first taken.others (ap (λ (p : Place). BaseTakes p.station) (sym same)) (ap (λ (p : Place). outbox_of w p.station) same ∙ taken.pending) in
       absurd (no d taken.is (ap (λ (p : Place). p.number) (sym same)))
 
   -- ---- each event

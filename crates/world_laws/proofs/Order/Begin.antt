@@ -5,7 +5,8 @@ use Rattle.world_laws.proofs.Prelude.{◌≡◌, ◌⊎◌, ℕ, ◌==◌, ◌&&
 use Rattle.world_laws.proofs.Prelude.{Option, Some, None, refl, sym, ap, ◌∙◌, subst, cond-false, cond-true, ne_eqb, eq-eqb, append-nil}
 use Rattle.world_laws.proofs.Prelude.{AllByRecursion, Place, Out, ChannelState, Free, InUse, activation_ack, Rsl, OutboxEntry, Tenure}
 use Rattle.world_laws.proofs.Prelude.{Agrees, to_come, acknowledgement, due, is_active_then, to_link, rsl_in, Actors, is_active_at, is_up}
-use Rattle.world_laws.proofs.Prelude.{outbox_of, both_empty, Goes, Passes, said_to, first_passes, runs, channel_state, hears, entries_to}
+use Rattle.world_laws.proofs.Prelude.{outbox_of, both_empty, RunsThrough, Passes, said_to, first_passes, runs, channel_state, hears}
+use Rattle.world_laws.proofs.Prelude.{entries_to}
 use Rattle.world_laws.proofs.Prelude.{runs_kept, entry_out, goes_activates, acknowledgements_up, is_ending, Waits, here, later}
 use Rattle.rsl_codec.specs.declared.rsl.Rsl.TheVariants as rsl
 use Rattle.world_model.specs.Relay.{entry_of}
@@ -26,7 +27,7 @@ passes_none k _ beside = refl
 
 -- a channel that comes into use by outputs that carry no DATA REQUEST for it is activated by one of
 -- them
-goes_waits : (at : Place) (target : Option Tenure) (n : ℕ) {state end : ChannelState} {outs : List Out} → Goes at state outs end → end ≡ InUse n → (state ≡ InUse n → ⊥) → AllByRecursion (NoDataOut at) outs → Waits at.number (entries_to at target outs)
+goes_waits : (at : Place) (target : Option Tenure) (n : ℕ) {state end : ChannelState} {outs : List Out} → RunsThrough at state outs end → end ≡ InUse n → (state ≡ InUse n → ⊥) → AllByRecursion (NoDataOut at) outs → Waits at.number (entries_to at target outs)
 goes_waits at target n (runs all) is isnt none = absurd (isnt (runs_kept n all is))
 goes_waits at target n (first_passes {out = out} {outs = outs} beside rest) is isnt none = by ((entry_of target out).out.to == at.station) refl (goes_waits at target n rest is isnt none.1) where
   by : (b : Bool) → ((entry_of target out).out.to == at.station) ≡ b → Waits at.number (to_link at.station (map (entry_of target) outs)) → Waits at.number (cond ((entry_of target out).out.to == at.station) (entry_of target out ∷ to_link at.station (map (entry_of target) outs)) (to_link at.station (map (entry_of target) outs)))
@@ -60,11 +61,11 @@ behind_waits k (x ∷ xs) ys none rest =
 none_due_of : (owner : Tenure → ℕ) (w : Actors) (at : Place) → Agrees owner w at → hears w.controller at.station ≡ true → is_up w at.station ≡ true → (channel_state w.controller at ≡ Free) ⊎ (is_ending w at ≡ true) → due at.number (is_active_at w at) (outbox_of w at.station) ≡ []
 none_due_of owner w at agrees hearing up why =
     let way = agrees.way hearing in
-    (comes_idle at.number (channel_state w.controller at) (to_come w at ++ way.lost) (acknowledgements_up w at) (due at.number (is_active_at w at) (outbox_of w at.station)) way.comes
+    (comes_idle at.number (channel_state w.controller at) (to_come w at ++ way.lost) (acknowledgements_up w at) (due at.number (is_active_at w at) (outbox_of w at.station)) way.owed
     (ap (λ (xs : List Rsl). to_come w at ++ xs) (way.all up) ∙ append-nil (to_come w at) ∙ up_first w at) why).0
 
 -- the activation that is put waits
 pub begins_waiting : (owner : Tenure → ℕ) (w : Actors) (at : Place) (target : Option Tenure) (n : ℕ) {state end : ChannelState} {outs : List Out} → Agrees owner w at → hears w.controller at.station ≡ true → is_up w at.station ≡ true → (channel_state w.controller at ≡ Free) ⊎ (is_ending w at ≡ true) → is_active_at w at ≡ false
-    → Goes at state outs end → end ≡ InUse n → (state ≡ InUse n → ⊥) → AllByRecursion (NoDataOut at) outs → Waits at.number (outbox_of w at.station ++ to_link at.station (map (entry_of target) outs))
+    → RunsThrough at state outs end → end ≡ InUse n → (state ≡ InUse n → ⊥) → AllByRecursion (NoDataOut at) outs → Waits at.number (outbox_of w at.station ++ to_link at.station (map (entry_of target) outs))
 begins_waiting owner w at target n agrees hearing up why inactive goes is isnt none =
     behind_waits at.number (outbox_of w at.station) _ (subst (λ (b : Bool). due at.number b (outbox_of w at.station) ≡ []) inactive (none_due_of owner w at agrees hearing up why)) (goes_waits at target n goes is isnt none)

@@ -37,7 +37,7 @@ use Rattle.world_laws.proofs.Access.Upcoming.{initials_none}
 use Rattle.world_laws.specs.Order.Beginning.HasBegun.{begins as has_begun, not_yet}
 use Rattle.world_laws.proofs.Order.Naming.{step_names, turn_names}
 use Rattle.world_laws.proofs.Order.Opens.{Opens, take_opens, tick_numbers}
-use Rattle.world_laws.proofs.Order.Opens.Opens.{begins as opens_one, stays as opens_none}
+use Rattle.world_laws.proofs.Order.Opens.Opens.{begins as opens_one, unchanged as opens_none}
 use Rattle.world_laws.proofs.Order.Unanswered.{unanswered_mobiles_ask_new}
 use Rattle.world_laws.specs.Owners.OneEach.{AsksOnce}
 use Rattle.world_laws.proofs.Owners.Asking.{asking_says}
@@ -87,21 +87,21 @@ module _ (settings : Parameters) (done : List Event) where
   abbrev steps_done : List Step
   steps_done = all_steps (new_actors settings) done
 
-  lives : world.controller ≡ (life settings steps_done).next
-  lives = FollowsTable-new settings done
+  by_table : world.controller ≡ (life settings steps_done).next
+  by_table = FollowsTable-new settings done
 
   numbered : IsNumbered world.controller
-  numbered = subst IsNumbered (sym lives) (life_fits settings steps_done 1 (omega arith)).numbered
+  numbered = subst IsNumbered (sym by_table) (life_fits settings steps_done 1 (omega arith)).numbered
 
   -- ---- the mobile that asked
 
   request_up : (item : Item) (items : List Item) (frame : Frame) (request : RequestReference) (delay : ℕ) → world.inbox ≡ item ∷ items → item.what ≡ whats.Frame frame → word_of item.source frame ≡ Asks request delay → 1 ≤ requests_up world request.access
-  request_up item items frame request delay stood is asks =
-      let known : IsKnownItem item = (subst (AllByRecursion IsKnownItem) stood (known_inbox settings done)).0 in
+  request_up item items frame request delay pending is asks =
+      let known : IsKnownItem item = (subst (AllByRecursion IsKnownItem) pending (known_inbox settings done)).0 in
       let own : item ≡ record { source = item.source; what = whats.Frame frame } = ap (λ (x : What). record { source = item.source; what = x }) is in
       let said : requests_in request.access (said_by (whats.Frame frame)) ≡ 1 = asking_says item.source frame request delay (subst IsKnownItem own known) asks in
       let one : requests_in request.access (said_by item.what) ≡ 1 = ap (λ (x : What). requests_in request.access (said_by x)) is ∙ said in
-      let all : requests_in request.access (said_in world.inbox) ≡ requests_in request.access (said_in (item ∷ items)) = ap (λ (xs : List Item). requests_in request.access (said_in xs)) stood in
+      let all : requests_in request.access (said_in world.inbox) ≡ requests_in request.access (said_in (item ∷ items)) = ap (λ (xs : List Item). requests_in request.access (said_in xs)) pending in
       let parts = requests_append request.access (said_by item.what) (said_in items) in
       omega (arith, one, all, parts)
 
@@ -114,11 +114,11 @@ module _ (settings : Parameters) (done : List Event) where
 
   channel_quiet : (source : ℕ) (frame : Frame) (channel : Channel) (request : RequestReference) (delay : ℕ) → AreAllowed settings → AllByRecursion IsOctetStep steps_done → word_of source frame ≡ Asks request delay → access_channel world.controller source ≡ Some channel → IsQuiet world (place_of channel)
   channel_quiet source frame channel request delay allowed octets asks free =
-      let ready : Ready world.controller = subst Ready (sym lives) (life_ready settings steps_done allowed) in
+      let ready : Ready world.controller = subst Ready (sym by_table) (life_ready settings steps_done allowed) in
       let offered : IsOffered world.controller.channels world.controller.links channel = offered_free world.controller world.controller.links source 0 Sdcch channel refl ready.holds.shaped free in
       let there = given_there world.controller source channel free in
       let station : source ≢ SWITCH_LINK = subst (IsAskedOf source) asks (word_asked source frame) in
-      let cells : length world.controller.settings.cells ≡ length settings.cells = ap (λ (p : Parameters). length p.cells) (ap (λ (c : Controller). c.settings) lives ∙ life-settings settings steps_done) in
+      let cells : length world.controller.settings.cells ≡ length settings.cells = ap (λ (p : Parameters). length p.cells) (ap (λ (c : Controller). c.settings) by_table ∙ life-settings settings steps_done) in
       let least : 1 ≤ source = not_zero source station in
       free_channels_are_quiet_new settings done (place_of channel) allowed octets (subst (λ (n : ℕ). 1 ≤ n) (sym there.0) least) (subst (λ (n : ℕ). n ≤ length settings.cells) (sym there.0) (within source (length world.controller.settings.cells) (length settings.cells) there.1 cells)) offered.is_free offered.is_up
     where
@@ -137,10 +137,10 @@ module _ (settings : Parameters) (done : List Event) where
   v_coming target t u at = turn_leads (λ v. coming_up v at ≡ coming_up u at) target t u (λ links. refl)
 
   coming_behind : (item : Item) (items : List Item) (at : Place) → world.inbox ≡ item ∷ items → coming_up world at ≡ brings_in at item ++ coming_up (waiting items) at
-  coming_behind item items at stood = ap (λ (xs : List Item). flat_map (brings_in at) xs ++ made_of at.number (base_of world at.station).messages) stood ∙ append_assoc (brings_in at item) (flat_map (brings_in at) items) (made_of at.number (base_of world at.station).messages)
+  coming_behind item items at pending = ap (λ (xs : List Item). flat_map (brings_in at) xs ++ made_of at.number (base_of world at.station).messages) pending ∙ append_assoc (brings_in at item) (flat_map (brings_in at) items) (made_of at.number (base_of world at.station).messages)
 
   turn_quiet : (item : Item) (items : List Item) (target : Option Tenure) (t : Turn) (n : ℕ) (channel : Channel) → world.inbox ≡ item ∷ items → t.outs ≡ out_of n (access_activation channel) ∷ [] → AllByRecursion IsSent t.outs → IsQuiet world (place_of channel) → IsQuiet (with_turn target t (waiting items)) (place_of channel)
-  turn_quiet item items target t n channel stood outs sent quiet = record { nothing_comes = none; none_opens = initials_none v at none; none_commanded = down ∙ quiet.none_commanded } where
+  turn_quiet item items target t n channel pending outs sent quiet = record { nothing_comes = none; none_opens = initials_none v at none; none_commanded = down ∙ quiet.none_commanded } where
     at : Place
     at = place_of channel
 
@@ -148,7 +148,7 @@ module _ (settings : Parameters) (done : List Event) where
     v = with_turn target t (waiting items)
 
     none : messages_in (coming_up v at) ≡ []
-    none = ap messages_in (v_coming target t (waiting items) at) ∙ none_behind (brings_in at item) (coming_up (waiting items) at) (ap messages_in (sym (coming_behind item items at stood)) ∙ quiet.nothing_comes)
+    none = ap messages_in (v_coming target t (waiting items) at) ∙ none_behind (brings_in at item) (coming_up (waiting items) at) (ap messages_in (sym (coming_behind item items at pending)) ∙ quiet.nothing_comes)
 
     u : Actors
     u = record (waiting items) { controller = t.next }
@@ -173,7 +173,7 @@ module _ (settings : Parameters) (done : List Event) where
 
   begins_now : (item : Item) (items : List Item) (frame : Frame) (channel : Channel) (request : RequestReference) (delay : ℕ) → AreAllowed settings → AllByRecursion IsOctetStep steps_done → IsOctetStep (steps.Take item) → world.inbox ≡ item ∷ items → item.what ≡ whats.Frame frame → word_of item.source frame ≡ Asks request delay → access_channel world.controller item.source ≡ Some channel
       → take item world.controller ≡ with_connection world.controller channel request delay → Begins modulus done (with_turn (target_in world item.source item.what) (take item world.controller) (waiting items)) (new_connection world.controller.next_number channel request delay)
-  begins_now item items frame channel request delay allowed octets own stood is asks free opens = record {
+  begins_now item items frame channel request delay allowed octets own pending is asks free opens = record {
     had = record {
       there = ap (λ (d : Controller). connection_of d world.controller.next_number) (v_controller target t (waiting items) ∙ ap (λ (x : Turn). x.next) opens) ∙ begun_there world.controller.next_number channel request delay refl;
       is_open = tt;
@@ -183,7 +183,7 @@ module _ (settings : Parameters) (done : List Event) where
     one = once.one;
     found = ap (λ (ms : List Mobile). find (has_number request.access) ms) (turn_mobiles target t.outs (record (waiting items) { controller = t.next })) ∙ once.found;
     as_connected = still.as_connected once.one once.found;
-    quiet = turn_quiet item items target t world.controller.next_number channel stood (ap (λ (x : Turn). x.outs) opens) sent (channel_quiet item.source frame channel request delay allowed octets asks free);
+    quiet = turn_quiet item items target t world.controller.next_number channel pending (ap (λ (x : Turn). x.outs) opens) sent (channel_quiet item.source frame channel request delay allowed octets asks free);
     none_names = turn_names request.access target t.outs (record (waiting items) { controller = t.next }) (λ station. still.none_names station) (step_names settings done (steps.Take item) request.access allowed octets own once.unanswered);
   } where
     target : Option Tenure
@@ -193,7 +193,7 @@ module _ (settings : Parameters) (done : List Event) where
     t = take item world.controller
 
     some : 1 ≤ requests_up world request.access
-    some = request_up item items frame request delay stood is asks
+    some = request_up item items frame request delay pending is asks
 
     once : AsksOnce world request.access
     once = requests_come_once_new settings done request.access some
@@ -202,7 +202,7 @@ module _ (settings : Parameters) (done : List Event) where
     still = asker_still_asks request.access allowed octets some
 
     sent : AllByRecursion IsSent t.outs
-    sent = subst (λ (c : Controller). AllByRecursion IsSent (take item c).outs) (sym lives) (life_sends settings steps_done (steps.Take item) allowed octets own)
+    sent = subst (λ (c : Controller). AllByRecursion IsSent (take item c).outs) (sym by_table) (life_sends settings steps_done (steps.Take item) allowed octets own)
 
   -- ---- each event
 
@@ -211,7 +211,7 @@ module _ (settings : Parameters) (done : List Event) where
 
   take_begins : (item : Item) (items : List Item) (number : ℕ) → AreAllowed settings → AllByRecursion IsOctetStep steps_done → IsOctetStep (steps.Take item) → world.controller.next_number ≤ number → world.inbox ≡ item ∷ items
       → HasBegun (Begins modulus done) (with_turn (target_in world item.source item.what) (take item world.controller) (waiting items)) number
-  take_begins item items number allowed octets own past stood = by (take_opens world.controller item) where
+  take_begins item items number allowed octets own past pending = by (take_opens world.controller item) where
     v : Actors
     v = with_turn (target_in world item.source item.what) (take item world.controller) (waiting items)
 
@@ -226,15 +226,15 @@ module _ (settings : Parameters) (done : List Event) where
           | inl beyond ↦ (let less = leb-true (world.controller.next_number + 1) number beyond in not_yet (omega (arith, next, less)))
           | inr here ↦
               let less = leb-false (world.controller.next_number + 1) number here in
-              has_begun (new_connection world.controller.next_number channel request delay) (omega (arith, past, less)) (begins_now item items frame channel request delay allowed octets own stood is asks free opens)
+              has_begun (new_connection world.controller.next_number channel request delay) (omega (arith, past, less)) (begins_now item items frame channel request delay allowed octets own pending is asks free opens)
         ]
 
   handle_begins : (number : ℕ) → AreAllowed settings → AllByRecursion IsOctetStep steps_done → AllByRecursion IsOctetStep (first_taken world.inbox) → world.controller.next_number ≤ number → HasBegun (Begins modulus done) (actors_after world events.Handle) number
   unfolding event_after
   handle_begins number allowed octets own past =
       after_taken (λ v. HasBegun (Begins modulus done) v number) (event_after world events.Handle) world
-      (handle_leads (λ v. HasBegun (Begins modulus done) v number) world (λ item items stood.
-      take_begins item items number allowed octets (subst (λ (xs : List Item). AllByRecursion IsOctetStep (first_taken xs)) stood own).0 past stood)) (same_number world number refl past)
+      (handle_leads (λ v. HasBegun (Begins modulus done) v number) world (λ item items pending.
+      take_begins item items number allowed octets (subst (λ (xs : List Item). AllByRecursion IsOctetStep (first_taken xs)) pending own).0 past pending)) (same_number world number refl past)
 
   tick_begins : (ms number : ℕ) → world.controller.next_number ≤ number → HasBegun (Begins modulus done) (actors_after world (events.Tick ms)) number
   unfolding event_after

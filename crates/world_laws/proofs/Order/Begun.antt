@@ -9,7 +9,7 @@ use Rattle.world_laws.proofs.Prelude.{Controller, channel_state, hears, place_of
 use Rattle.world_laws.proofs.Prelude.{OutboxEntry, Tenure, actors_after, AllAgree, owner_in, is_active, acknowledgements, active_all}
 use Rattle.world_laws.proofs.Prelude.{outputs, outputs_at, put, taken, to_link, target_in, all_steps, first_taken, step_at, Actors, Link}
 use Rattle.world_laws.proofs.Prelude.{base_of, is_active_at, is_up, new_actors, outbox_of, FollowsTable-new, outbox-step, OutboxStep}
-use Rattle.world_laws.proofs.Prelude.{breaks, Goes, first_passes, runs, heard_of, Serves, hear, acks_append, length-stations_from}
+use Rattle.world_laws.proofs.Prelude.{breaks, RunsThrough, first_passes, runs, heard_of, Serves, hear, acks_append, length-stations_from}
 use Rattle.world_laws.proofs.Prelude.{pipe-step, PipeStep, flows, stops, life_ready, Ready, free≢use, used_places, IsFine, life, take, tick}
 use Rattle.world_laws.proofs.Prelude.{runs_kept, goes_activates, acknowledgements_up, is_release_ack, read_of, TookOctets, IsHad}
 use Rattle.world_laws.proofs.Prelude.{is_ending, ChannelsBeginQuiet, NoDataEntry, Quiet, Waits, IsEarlyIn, hear_in_use}
@@ -42,7 +42,7 @@ hear-used [] n = refl
 hear-used (rsl.RfChannelReleaseAck channel ∷ rest) n = refl
 hear-used (_ ∷ rest) n = refl
 
-goes_from : {at : Place} {state end : ChannelState} {outs : List Out} (n : ℕ) → Goes at state outs end → end ≡ InUse n → (state ≡ InUse n) ⊎ (state ≡ Free)
+goes_from : {at : Place} {state end : ChannelState} {outs : List Out} (n : ℕ) → RunsThrough at state outs end → end ≡ InUse n → (state ≡ InUse n) ⊎ (state ≡ Free)
 goes_from n (runs all) is = inl (runs_kept n all is)
 goes_from n (first_passes beside rest) is = goes_from n rest is
 goes_from n (goes_activates a says channel few rest) is = inr refl
@@ -67,8 +67,8 @@ module _ (settings : Parameters) (done : List Event) (event : Event) (s : Connec
   same : vv ≡ v
   same = snoc_actors (new_actors settings) done event
 
-  came : TookOctets settings done × AllByRecursion IsOctetStep (step_at w event)
-  came = octets_came settings done event octets
+  took_octets : TookOctets settings done × AllByRecursion IsOctetStep (step_at w event)
+  took_octets = octets_came settings done event octets
 
   used_then : channel_state vv.controller at ≡ InUse s.number
   used_then = (owns_at settings (done ++ event ∷ []) allowed s.number s has.there has.is_open).using.0
@@ -80,13 +80,13 @@ module _ (settings : Parameters) (done : List Event) (event : Event) (s : Connec
   at_is is = absurd (let least = placed.least in omega (arith, is, least))
 
   before : Known settings done at
-  before = known_new settings done at allowed came.0 placed.least placed.most
+  before = known_new settings done at allowed took_octets.0 placed.least placed.most
 
   after : Known settings (done ++ event ∷ []) at
   after = known_new settings (done ++ event ∷ []) at allowed octets placed.least placed.most
 
   pub agree : AllAgree settings (owner_in (new_actors settings) done) w
-  agree = λ p least most. (known_new settings done p allowed came.0 least most).agrees
+  agree = λ p least most. (known_new settings done p allowed took_octets.0 least most).agrees
 
   rests_not : step_at w event ≡ [] → Quiet vv at
   rests_not none =
@@ -103,7 +103,7 @@ module _ (settings : Parameters) (done : List Event) (event : Event) (s : Connec
   module _ (x : Step) (target : Option Tenure) (heard rest : List Rsl) (own : IsOctetStep x) (puts : outputs w event ≡ map (entry_of target) (step c x).outs) (next : vv.controller ≡ (step c x).next) (untaken : taken at.station w event ≡ [])
       (serves : Serves (owner_in (new_actors settings) done) w at target (step c x) heard) (hears_it : acknowledgements_up w at ≡ heard ++ rest) where
     does : Steps c x s.number
-    does = steps_known settings done x s.number allowed came.0 own has.from_one
+    does = steps_known settings done x s.number allowed took_octets.0 own has.from_one
 
     there : connection_of (step c x).next s.number ≡ Some s
     there = ap (λ (d : Controller). connection_of d s.number) (sym next) ∙ has.there
@@ -124,7 +124,7 @@ module _ (settings : Parameters) (done : List Event) (event : Event) (s : Connec
     hearing = serves.hearing hearing_next
 
     heard_free : hear heard (channel_state c at) ≡ Free
-    heard_free = elim (goes_from s.number (serves.goes hearing_next) end_is) [
+    heard_free = elim (goes_from s.number (serves.moves hearing_next) end_is) [
       | inl used ↦ absurd (unused (hear_in_use heard (channel_state c at) s.number used))
       | inr free ↦ free
     ]
@@ -177,7 +177,7 @@ module _ (settings : Parameters) (done : List Event) (event : Event) (s : Connec
 
     waiting : is_up w at.station ≡ true → Waits at.number (outbox_of w at.station ++ put at.station w event)
     waiting up = subst (λ (es : List OutboxEntry). Waits at.number (outbox_of w at.station ++ es)) (sym (ap (λ (b : Bool). if b then to_link at.station (outputs w event) else []) up ∙ ap (to_link at.station) puts))
-        (begins_waiting (owner_in (new_actors settings) done) w at target s.number before.agrees hearing up why inactive (serves.goes hearing_next) end_is (λ used. unused (hear_in_use heard (channel_state c at) s.number used)) nodata)
+        (begins_waiting (owner_in (new_actors settings) done) w at target s.number before.agrees hearing up why inactive (serves.moves hearing_next) end_is (λ used. unused (hear_in_use heard (channel_state c at) s.number used)) nodata)
 
     up_quiet : is_up w at.station ≡ true → OutboxStep at.station w event v → PipeStep at.station at.number w event v → Quiet v at
     up_quiet up (breaks broken unput gone) p = down_quiet (ap (λ (l : Link). l.up) broken) (ap (λ (l : Link). l.outbox) broken)
@@ -202,30 +202,30 @@ channels_begin_quiet_new settings done events.Handle s allowed octets new has ea
   n = s.serving.station
 
   by : (items : List RelayItem) → w.inbox ≡ items → Quiet (world settings (done ++ events.Handle ∷ [])) (place_of s.serving)
-  by [] stood = rests_not settings done events.Handle s allowed octets new has early_then (ap first_taken stood)
-  by (item ∷ items) stood =
+  by [] pending = rests_not settings done events.Handle s allowed octets new has early_then (ap first_taken pending)
+  by (item ∷ items) pending =
       let at : Place = place_of s.serving in
-      let came = octets_came settings done events.Handle octets in
+      let took_octets = octets_came settings done events.Handle octets in
       let place = placed settings done events.Handle s allowed octets new has early_then in
       begins_quiet settings done events.Handle s allowed octets new has early_then (steps.Take item) (target_in w item.source item.what) (heard_of at item)
       (acknowledgements at.number (flat_map (read_of n) items ++ (base_of w n).messages))
-      (subst (λ (xs : List RelayItem). AllByRecursion IsOctetStep (first_taken xs)) stood came.1).0
-      (ap (outputs_at w) stood)
-      (ap (λ (x : Actors). x.controller) (snoc_actors (new_actors settings) done events.Handle ∙ handle_is w item items stood) ∙ controller-is (target_in w item.source item.what) (take item w.controller) (record w { inbox = items }))
+      (subst (λ (xs : List RelayItem). AllByRecursion IsOctetStep (first_taken xs)) pending took_octets.1).0
+      (ap (outputs_at w) pending)
+      (ap (λ (x : Actors). x.controller) (snoc_actors (new_actors settings) done events.Handle ∙ handle_is w item items pending) ∙ controller-is (target_in w item.source item.what) (take item w.controller) (record w { inbox = items }))
       refl
-      (serves_event settings (owner_in (new_actors settings) done) done w events.Handle refl allowed came.0 came.1 (agree settings done events.Handle s allowed octets new has early_then) item items stood at place.least place.most)
-      (ap (λ (xs : List RelayItem). acknowledgements at.number (flat_map (read_of n) xs ++ (base_of w n).messages)) stood
+      (serves_event settings (owner_in (new_actors settings) done) done w events.Handle refl allowed took_octets.0 took_octets.1 (agree settings done events.Handle s allowed octets new has early_then) item items pending at place.least place.most)
+      (ap (λ (xs : List RelayItem). acknowledgements at.number (flat_map (read_of n) xs ++ (base_of w n).messages)) pending
       ∙ ap (acknowledgements at.number) (append_assoc (read_of n item) (flat_map (read_of n) items) (base_of w n).messages)
       ∙ acks_append at.number (read_of n item) (flat_map (read_of n) items ++ (base_of w n).messages)
       ∙ ap (λ (xs : List Rsl). xs ++ acknowledgements at.number (flat_map (read_of n) items ++ (base_of w n).messages)) (sym (heard_read at item ∙ ap (acknowledgements at.number) (append-nil (read_of n item)))))
 channels_begin_quiet_new settings done (events.Tick ms) s allowed octets new has early_then =
     let w : Actors = world settings done in
     let at : Place = place_of s.serving in
-    let came = octets_came settings done (events.Tick ms) octets in
+    let took_octets = octets_came settings done (events.Tick ms) octets in
     let place = placed settings done (events.Tick ms) s allowed octets new has early_then in
     begins_quiet settings done (events.Tick ms) s allowed octets new has early_then (steps.Tick ms) None [] (acknowledgements_up w at) tt refl
     (ap (λ (x : Actors). x.controller) (snoc_actors (new_actors settings) done (events.Tick ms) ∙ tick_is w ms) ∙ controller-is None (tick ms w.controller) w)
     refl
-    (serves_event settings (owner_in (new_actors settings) done) done w (events.Tick ms) refl allowed came.0 came.1 (agree settings done (events.Tick ms) s allowed octets new has early_then) at place.least place.most)
+    (serves_event settings (owner_in (new_actors settings) done) done w (events.Tick ms) refl allowed took_octets.0 took_octets.1 (agree settings done (events.Tick ms) s allowed octets new has early_then) at place.least place.most)
     refl
 channels_begin_quiet_new settings done _ s allowed octets new has early_then = rests_not settings done _ s allowed octets new has early_then refl

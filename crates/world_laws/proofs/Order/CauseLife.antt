@@ -6,7 +6,8 @@ use Rattle.world_laws.proofs.Prelude.{drop, slice_index_or, option_map, Option, 
 use Rattle.world_laws.proofs.Prelude.{subst, arith, true≢false, AllByRecursion, result_ok, cases_Bool, eq-eqb, leb-false, leb-true}
 use Rattle.world_laws.proofs.Prelude.{append-nil, none-some, Bssap, Management, Transfer, Bssmap, InterfaceFault, Sccp, bssap_text}
 use Rattle.world_laws.proofs.Prelude.{IsReference, Message, Station, Request, Data, ReleaseComplete, Out, SWITCH_LINK, IsReadOf, outs_of}
-use Rattle.world_laws.proofs.Prelude.{Input, State, Removed, Connection, Row, OfRow, Acts, Brought, IsAged, brought_in, kept_in, ages, goes}
+use Rattle.world_laws.proofs.Prelude.{Input, State, Removed, Connection, Row, OfRow, Acts, Brought, IsAged, brought_in, kept_in, ages}
+use Rattle.world_laws.proofs.Prelude.{takes_row}
 use Rattle.world_laws.proofs.Prelude.{opens, rests, connection_of, outs_for, IsNumbered, IsOctetStep, IsSent, find_below, aged_holds}
 use Rattle.world_laws.proofs.Prelude.{life_fits, life_sends, life_sound, step_does, Step, Controller, Entry, each, new_controller, pong}
 use Rattle.world_laws.proofs.Prelude.{step, Frame, SCCP_STREAM, Rsl, AreAllowed, Parameters, sccp_in, eqb-false, Result, sccp_reading}
@@ -63,7 +64,7 @@ acts_fine number next up brought before after put below small (ages old s is_tim
     record { small = subst HasSmallOf (sym same) (aged_small old s aged (subst HasSmallOf is small)); fine = subst (AllByRecursion (IsFine number)) (sym silent) tt }
 acts_fine number next up brought before after put below small (opens begins linked channel request delay is_nothing none put_is same) =
     record { small = subst HasSmallOf (sym same) tt; fine = subst (AllByRecursion (IsFine number)) (sym put_is) ((tt, tt), tt) }
-acts_fine number next up brought before after put below small (goes old s input offer r is aged by fits put_is same) =
+acts_fine number next up brought before after put below small (takes_row old s input offer r is aged by fits put_is same) =
     let row = row_fine old s input offer r aged fits (subst HasSmallOf is small) in
     record {
       small = subst HasSmallOf (sym same) (kept_small r.next.state r.next row.0);

@@ -40,14 +40,14 @@ puts s = record {
   refuses = λ reference own. tt;
   asks = λ reference cause own is. (cause, is, refl);
   clears = λ reference own may. tt;
-  answers = λ source told. tt;
+  answers = λ source known. tt;
 }
 
 enters : Enters small (λ state request. HasSmall state)
 enters = record {
   establishes = λ before request is. tt;
   confirms = λ before request is. tt;
-  lives = λ before request reference stage is own. tt;
+  once_live = λ before request reference stage is own. tt;
   due = λ before request cause is fair. fair;
   asks = λ before request reference is own. tt;
   clears = λ before request is. tt;

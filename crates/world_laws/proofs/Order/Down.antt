@@ -55,8 +55,8 @@ module _ (settings : Parameters) (done : List Event) (event : Event) (old s : Co
   same : vv ≡ v
   same = snoc_actors (new_actors settings) done event
 
-  came : TookOctets settings done × AllByRecursion IsOctetStep (step_at w event)
-  came = octets_came settings done event octets
+  took_octets : TookOctets settings done × AllByRecursion IsOctetStep (step_at w event)
+  took_octets = octets_came settings done event octets
 
   used_then : channel_state vv.controller at ≡ InUse s.number
   used_then = (owns_at settings (done ++ event ∷ []) allowed s.number s has.there has.is_open).using.0
@@ -68,7 +68,7 @@ module _ (settings : Parameters) (done : List Event) (event : Event) (old s : Co
   at_is is = absurd (let least = placed.least in omega (arith, is, least))
 
   before : Known settings done at
-  before = known_new settings done at allowed came.0 placed.least placed.most
+  before = known_new settings done at allowed took_octets.0 placed.least placed.most
 
   after : Known settings (done ++ event ∷ []) at
   after = known_new settings (done ++ event ∷ []) at allowed octets placed.least placed.most
@@ -101,7 +101,7 @@ module _ (settings : Parameters) (done : List Event) (event : Event) (old s : Co
 
   module _ (x : Step) (target : Option Tenure) (own : IsOctetStep x) (puts : outputs w event ≡ map (entry_of target) (step c x).outs) (next : vv.controller ≡ (step c x).next) where
     does : Steps c x s.number
-    does = steps_known settings done x s.number allowed came.0 own has.from_one
+    does = steps_known settings done x s.number allowed took_octets.0 own has.from_one
 
     there : connection_of (step c x).next s.number ≡ Some s
     there = ap (λ (d : Controller). connection_of d s.number) (sym next) ∙ has.there
@@ -151,12 +151,12 @@ channels_stay_quiet_new settings done events.Handle old s allowed octets had ear
   w = world settings done
 
   by : (items : List RelayItem) → w.inbox ≡ items → Quiet (world settings (done ++ events.Handle ∷ [])) (place_of s.serving)
-  by [] stood = rests_quiet settings done events.Handle old s allowed octets had early number has early_then quiet (ap first_taken stood) (ap (outputs_at w) stood)
-  by (item ∷ items) stood =
+  by [] pending = rests_quiet settings done events.Handle old s allowed octets had early number has early_then quiet (ap first_taken pending) (ap (outputs_at w) pending)
+  by (item ∷ items) pending =
       works_quiet settings done events.Handle old s allowed octets had early number has early_then quiet (steps.Take item) (target_in w item.source item.what)
-      (subst (λ (xs : List RelayItem). AllByRecursion IsOctetStep (first_taken xs)) stood (octets_came settings done events.Handle octets).1).0
-      (ap (outputs_at w) stood)
-      (ap (λ (x : Actors). x.controller) (snoc_actors (new_actors settings) done events.Handle ∙ handle_is w item items stood) ∙ controller-is (target_in w item.source item.what) (take item w.controller) (record w { inbox = items }))
+      (subst (λ (xs : List RelayItem). AllByRecursion IsOctetStep (first_taken xs)) pending (octets_came settings done events.Handle octets).1).0
+      (ap (outputs_at w) pending)
+      (ap (λ (x : Actors). x.controller) (snoc_actors (new_actors settings) done events.Handle ∙ handle_is w item items pending) ∙ controller-is (target_in w item.source item.what) (take item w.controller) (record w { inbox = items }))
 channels_stay_quiet_new settings done (events.Tick ms) old s allowed octets had early number has early_then quiet =
     let w : Actors = world settings done in
     works_quiet settings done (events.Tick ms) old s allowed octets had early number has early_then quiet (steps.Tick ms) None tt refl

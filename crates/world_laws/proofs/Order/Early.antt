@@ -4,7 +4,7 @@
 use Rattle.world_laws.proofs.Prelude.{◌≡◌, ℕ, Bool, List, [], ◌∷◌, Option, Some, None, refl, sym, ap, ◌∙◌, subst, AllByRecursion, Channel}
 use Rattle.world_laws.proofs.Prelude.{Place, Message, access_activation, Input, State, Closed, Live, Removed, WaitActivation, WaitConfirm}
 use Rattle.world_laws.proofs.Prelude.{WaitEstablish, Connection, ChangesRoles, goes_on, ends, had_ended, IsValid, Row, IsOpen, Acts, Brought}
-use Rattle.world_laws.proofs.Prelude.{kept_in, ages, goes, opens, rests, aged_holds, fine_old, changes_of, IsNotOn, same_Some, row_of}
+use Rattle.world_laws.proofs.Prelude.{kept_in, ages, takes_row, opens, rests, aged_holds, fine_old, changes_of, IsNotOn, same_Some, row_of}
 use Rattle.world_laws.proofs.Prelude.{IsFine, IsRequested, IsEarlyIn}
 use Rattle.world_laws.proofs.Access.EarlyRows.{EarlyRow, early_row}
 use Rattle.world_laws.proofs.Access.EarlyRows.EarlyRow.{acked, asked, gone}
@@ -27,12 +27,12 @@ shut_stays s input offer r (ends was is over) shut there = shut was
 shut_stays s input offer r (had_ended was is nothing) shut there = is there
 
 was_early : (s : Connection) (input : Input) (offer : Option Channel) (r : Row) → IsValid s → row_of s input offer ≡ Some r → IsEarlyIn r.next.state → IsEarlyIn s.state
-was_early s input offer r stands fits early = by s.state refl where
+was_early s input offer r valid fits early = by s.state refl where
   later : IsRequested s.state → ⊥
   later requested = not_requested r.next.state early (still_requested s input offer r requested fits (early_open r.next.state early))
 
   shut : (IsOpen s.state → ⊥) → ⊥
-  shut closed = shut_stays s input offer r (changes_of s input offer r stands fits) closed (early_open r.next.state early)
+  shut closed = shut_stays s input offer r (changes_of s input offer r valid fits) closed (early_open r.next.state early)
 
   by : (state : State) → s.state ≡ state → IsEarlyIn state
   by WaitConfirm is = absurd (later (subst IsRequested (sym is) tt))
@@ -68,7 +68,7 @@ fate number next up brought before put now at fine early (ages old s is_time is 
     stayed old is (subst IsEarlyIn (ap (λ (x : Connection). x.state) now_is ∙ older.state) early) (sym older.serving ∙ sym (ap (λ (x : Connection). x.serving) now_is)) (subst (AllByRecursion (IsNotOn at)) (sym silent) tt)
 fate number next up brought before put now at fine early (opens counts linked channel request delay is_nothing none put_is same) =
     begins none (put_is ∙ ap (λ (x : Connection). access_activation x.serving ∷ []) (sym (same_Some _ _ same)))
-fate number next up brought before put now at fine early (goes old s input offer r is aged by fits put_is same) =
+fate number next up brought before put now at fine early (takes_row old s input offer r is aged by fits put_is same) =
     let older : SamePlace old s = aged_holds (SamePlace old) (λ ms c x. record { state = x.state; serving = x.serving }) old s aged (record { state = refl; serving = refl }) in
     let now_is : now ≡ r.next = kept_one r.next.state r.next now same in
     let early_s : IsEarlyIn s.state = was_early s input offer r (fine_old before old s is aged fine).1 fits (subst IsEarlyIn (ap (λ (x : Connection). x.state) now_is) early) in

@@ -13,7 +13,7 @@ use Rattle.world_model.specs.Views.{accepted, progress_of}
 use Rattle.world_laws.proofs.Ending.{ended_are_in_order_new}
 use Rattle.world_laws.proofs.InOrder.{line_ups_are_in_order_new}
 use Rattle.world_laws.specs.Order.Facts.{Holds, IsAsking}
-use Rattle.world_laws.specs.Order.Standing.WhileUp.{unborn, coming, lives, ended, unheard}
+use Rattle.world_laws.specs.Order.Standing.WhileUp.{unborn, coming, lined_up, ended, unknown_for_good}
 use Rattle.world_laws.proofs.Order.Following.{numbers_stand_new}
 use Rattle.world_laws.proofs.Order.Modulus.{all_numbered, switch_modulus}
 use Rattle.world_laws.proofs.Order.Steps.{asking_at}
@@ -49,9 +49,9 @@ accepts_standing number c two from_one holds there (while_up up (unborn none pas
 accepts_standing {w = w} number c two from_one holds there (while_up up (coming mobile s none same comes_so)) =
     let is_so = holds.is_coming mobile s comes_so in
     not_silent there (holds.not_asked number from_one (subst (λ (n : ℕ). IsAsking (had_of w.controller n)) same (asking_at w s.number s is_so.0.there is_so.1))).none_taken
-accepts_standing {m = m} {w = w} {opener = opener} number c two from_one holds there (while_up up (lives mobile s opened same l fresh)) = subst (λ (n : ℕ). Accepts m w opener (taken_of w n)) same (accepts_lined s mobile two opened l.lined)
+accepts_standing {m = m} {w = w} {opener = opener} number c two from_one holds there (while_up up (lined_up mobile s opened same l fresh)) = subst (λ (n : ℕ). Accepts m w opener (taken_of w n)) same (accepts_lined s mobile two opened l.lined)
 accepts_standing number c two from_one holds there (while_up up (ended mobile opened past gone has)) = accepts_ended number mobile two opened has
-accepts_standing number c two from_one holds there (while_up up (unheard u)) = not_silent there u.none_taken
+accepts_standing number c two from_one holds there (while_up up (unknown_for_good u)) = not_silent there u.none_taken
 accepts_standing number c two from_one holds there (once_down down (silent at)) = not_silent there at.none_taken
 accepts_standing number c two from_one holds there (once_down down (cut mobile opened has none)) = accepts_ended number mobile two opened has
 

@@ -4,12 +4,12 @@ use Rattle.world_laws.proofs.Prelude.{◌≡◌, ◌⊎◌, ℕ, ◌≤◌, Bool
 use Rattle.world_laws.proofs.Prelude.{inr, refl, sym, ap, ◌∙◌, subst, append_assoc, append-nil, none-some, same_Some, SWITCH_LINK, State}
 use Rattle.world_laws.proofs.Prelude.{WaitConfirm, Live, Connection, IsThere, connection_of, Rise, to_be_taken, outstanding_messages}
 use Rattle.world_laws.proofs.Prelude.{AreAllowed, Parameters, Event, Actors, is_up, modulus_in, new_actors, Rise-cut, Rise-of_flow, Follows}
-use Rattle.world_laws.proofs.Prelude.{rises, LineUp, flow, line, parts_of, IsInOrder, coming, accepted_list_from-rise, progress_from-rise}
+use Rattle.world_laws.proofs.Prelude.{rises, LineUp, flow, line, parts_of, IsInOrder, arriving, accepted_list_from-rise, progress_from-rise}
 use Rattle.world_laws.proofs.Prelude.{line_up, taken_of, IsUnknownForGood, IsOpenAndLinedUp, TookOctets, IsHad, IsRequested, AllNumbersStand, AllPlacesRise}
 use Rattle.world_laws.proofs.Prelude.{IsLinedUp, PlacesRise, still_to_come, first_served, has_asked, Standing, while_up, once_down}
 use Rattle.world_laws.specs.LineUp.Alive.Follows.{goes_on}
 use Rattle.world_laws.proofs.OwnRow.{flow-twice}
-use Rattle.world_laws.specs.Order.Standing.WhileUp.{unborn, coming as comes, lives, ended, unheard}
+use Rattle.world_laws.specs.Order.Standing.WhileUp.{unborn, coming as comes, lined_up, ended, unknown_for_good}
 use Rattle.world_laws.proofs.Order.Controllers.{none_given}
 use Rattle.world_laws.proofs.Order.Fairly.{ComeInOctets-new}
 use Rattle.world_laws.proofs.Order.Following.{numbers_stand_new}
@@ -30,21 +30,21 @@ cut_order taken rest k two rise =
     let front = Rise-of_flow taken cut.1 in
     (record { count = cut.0; accepted = accepted_list_from-rise two front; no_gap = progress_from-rise two front; last = k; rise = cut.2 }, refl)
 
-module _ (m : ℕ) (two : 2 ≤ m) (taken : List (List ℕ)) (l : LineUp) (same : line l ≡ flow taken ++ coming l) where
+module _ (m : ℕ) (two : 2 ≤ m) (taken : List (List ℕ)) (l : LineUp) (same : line l ≡ flow taken ++ arriving l) where
   -- where nothing is lost
   order_whole : l.is_intact ≡ true → (of_link : List (List ℕ)) → Rise m l.sent 0 (line l ++ flow of_link) (length l.sent) → (order : IsInOrder m l.sent taken (still_to_come l of_link)) × (order.last ≡ length l.sent)
   order_whole intact of_link rise =
       let list : line l ++ flow of_link ≡ flow taken ++ still_to_come l of_link =
-      ap (λ (xs : List (List ℕ)). xs ++ flow of_link) same ∙ append_assoc (flow taken) (coming l) (flow of_link)
-      ∙ ap (λ (b : Bool). flow taken ++ (coming l ++ (if b then flow of_link else []))) (sym intact) in
+      ap (λ (xs : List (List ℕ)). xs ++ flow of_link) same ∙ append_assoc (flow taken) (arriving l) (flow of_link)
+      ∙ ap (λ (b : Bool). flow taken ++ (arriving l ++ (if b then flow of_link else []))) (sym intact) in
       cut_order taken (still_to_come l of_link) (length l.sent) two (subst (λ (xs : List (List ℕ)). Rise m l.sent 0 xs (length l.sent)) list rise)
 
   -- where something is
   order_cut : l.is_intact ≡ false → (of_link : List (List ℕ)) (k : ℕ) → Rise m l.sent 0 (line l) k → (order : IsInOrder m l.sent taken (still_to_come l of_link)) × (order.last ≡ k)
   order_cut lost of_link k rise =
       let list : line l ≡ flow taken ++ still_to_come l of_link =
-      same ∙ ap (λ (xs : List (List ℕ)). flow taken ++ xs) (sym (append-nil (coming l)))
-      ∙ ap (λ (b : Bool). flow taken ++ (coming l ++ (if b then flow of_link else []))) (sym lost) in
+      same ∙ ap (λ (xs : List (List ℕ)). flow taken ++ xs) (sym (append-nil (arriving l)))
+      ∙ ap (λ (b : Bool). flow taken ++ (arriving l ++ (if b then flow of_link else []))) (sym lost) in
       cut_order taken (still_to_come l of_link) k two (subst (λ (xs : List (List ℕ)). Rise m l.sent 0 xs k) list rise)
 
   places_by : (intact : Bool) → l.is_intact ≡ intact → Follows m l.sent (line l) l.link intact → PlacesRise m taken l
@@ -59,7 +59,7 @@ module _ (m : ℕ) (two : 2 ≤ m) (taken : List (List ℕ)) (l : LineUp) (same 
 
 -- ---- of a connection that lives
 
-line-of : (w : Actors) (s : Connection) (l : LineUp) → l.taken ≡ flow (taken_of w s.number) → line l ≡ flow (taken_of w s.number) ++ coming l
+line-of : (w : Actors) (s : Connection) (l : LineUp) → l.taken ≡ flow (taken_of w s.number) → line l ≡ flow (taken_of w s.number) ++ arriving l
 line-of w s l same =
     ap (λ (xs : List (List ℕ)). flow xs ++ flow l.out ++ parts_of (l.old ++ l.serving ∷ l.target ∷ [])) same
     ∙ ap (λ (xs : List (List ℕ)). xs ++ flow l.out ++ parts_of (l.old ++ l.serving ∷ l.target ∷ [])) (flow-twice (taken_of w s.number))
@@ -88,10 +88,10 @@ module _ (settings : Parameters) (events : List Event) (s : Connection) (had : I
   same_one : (other : Connection) → other.number ≡ s.number → connection_of w.controller other.number ≡ Some other → other ≡ s
   same_one other same there = same_Some other s (sym there ∙ ap (connection_of w.controller) same ∙ had.there)
 
-  lined_up : (mobile : ℕ) (other : Connection) → opener ≡ Some mobile → other ≡ s → IsOpenAndLinedUp (modulus_in settings) w mobile other → IsLinedUp (modulus_in settings) w opener s
-  lined_up mobile other opened is l =
+  is_lined_up : (mobile : ℕ) (other : Connection) → opener ≡ Some mobile → other ≡ s → IsOpenAndLinedUp (modulus_in settings) w mobile other → IsLinedUp (modulus_in settings) w opener s
+  is_lined_up mobile other opened is l =
       let own : IsOpenAndLinedUp (modulus_in settings) w mobile s = subst (IsOpenAndLinedUp (modulus_in settings) w mobile) is l in
-      record { mobile = mobile; opened = opened; lives = own; places = places_of (modulus_in settings) w mobile s (two_numbers settings) own }
+      record { mobile = mobile; opened = opened; lined_up = own; places = places_of (modulus_in settings) w mobile s (two_numbers settings) own }
 
   rises_by : is_up w SWITCH_LINK ≡ true → AreAllowed settings → TookOctets settings events → Standing (modulus_in settings) w opener s.number
       → IsLinedUp (modulus_in settings) w opener s ⊎ IsUnknownForGood w s.number
@@ -99,9 +99,9 @@ module _ (settings : Parameters) (events : List Event) (s : Connection) (had : I
   rises_by up allowed octets (while_up _ (comes mobile other none same coming_so)) =
       let is_so = ((facts settings).holds events allowed octets).is_coming mobile other coming_so in
       absurd (cc (sym is_so.1 ∙ ap (λ (c : Connection). has_asked c.state) (same_one other same is_so.0.there) ∙ requested_asked s.state requested))
-  rises_by up allowed octets (while_up _ (lives mobile other opened same l fresh)) = inl (lined_up mobile other opened (same_one other same l.had.there) l)
+  rises_by up allowed octets (while_up _ (lined_up mobile other opened same l fresh)) = inl (is_lined_up mobile other opened (same_one other same l.had.there) l)
   rises_by up allowed octets (while_up _ (ended mobile opened past gone has)) = absurd (gone (subst IsThere (sym had.there) had.is_open))
-  rises_by up allowed octets (while_up _ (unheard u)) = inr u
+  rises_by up allowed octets (while_up _ (unknown_for_good u)) = inr u
   rises_by up allowed octets (once_down down at) = absurd (cc (sym up ∙ down))
 
 pub all_places_rise_new : (settings : Parameters) (events : List Event) → AllPlacesRise settings events

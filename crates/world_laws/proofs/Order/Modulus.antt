@@ -16,7 +16,7 @@ use Rattle.msc_end.specs.declared.connection.Stage.{Stage}
 use Rattle.msc_end.specs.Switch.{connection_of}
 use Rattle.world_model.specs.Life.{event_after}
 use Rattle.world_laws.proofs.Order.SwitchDown.{SwitchKind, switch_kind}
-use Rattle.world_laws.proofs.Order.SwitchDown.SwitchKind.{takes, does, stays}
+use Rattle.world_laws.proofs.Order.SwitchDown.SwitchKind.{takes, does, unchanged}
 
 -- ---- lists
 
@@ -106,7 +106,7 @@ modulus_by : {m : ℕ} {w : Actors} {event : Event} → SwitchKind w event → I
 unfolding event_after
 modulus_by {m} {w} takes of = takes_modulus m w (is_up w SWITCH_LINK) (outbox_of w SWITCH_LINK) of
 modulus_by {m} {w} (does action) of = does_modulus m w action of
-modulus_by {m} (stays same) of = subst (IsOfModulus m) (sym same) of
+modulus_by {m} (unchanged same) of = subst (IsOfModulus m) (sym same) of
 
 modulus_all : (m : ℕ) (w : Actors) (events : List Event) → IsOfModulus m w.switch → IsOfModulus m (actors_after_all w events).switch
 modulus_all m w [] of = of

@@ -95,7 +95,7 @@ pub step_names : (settings : Parameters) (done : List Event) (s : Step) (k : ℕ
     → AllByRecursion (λ out. AssignsAnother k (rsl_in out.frame)) (step (world settings done).controller s).outs
 unfolding AssignsNot
 step_names settings done s k allowed octets own unanswered =
-    subst (λ (c : Controller). AllByRecursion (λ out. AssignsAnother k (rsl_in out.frame)) (step c s).outs) (sym lives)
+    subst (λ (c : Controller). AllByRecursion (λ out. AssignsAnother k (rsl_in out.frame)) (step c s).outs) (sym by_table)
     (each_one (AssignsNot k) (step c s).outs
     (λ n least. of n least (life_names settings steps s n least)) (pong_not k) (outs_of_one c s (life_fits settings steps 1 (omega arith)).numbered)) where
       steps : List Step
@@ -104,12 +104,12 @@ step_names settings done s k allowed octets own unanswered =
       c : Controller
       c = (life settings steps).next
 
-      lives : (world settings done).controller ≡ c
-      lives = FollowsTable-new settings done
+      by_table : (world settings done).controller ≡ c
+      by_table = FollowsTable-new settings done
 
       of : (n : ℕ) → 1 ≤ n → NamesItsMobile n c s → AllByRecursion (λ out. out.conn ≡ n → AssignsNot k out) (step c s).outs
       of n least named =
-          of_connection k n (connection_of c n) (step c s).outs named.put (λ t is. unanswered n t (ap (λ (d : Controller). connection_of d n) lives ∙ is)) named.outs named.names (life_sends settings steps s allowed octets own)
+          of_connection k n (connection_of c n) (step c s).outs named.put (λ t is. unanswered n t (ap (λ (d : Controller). connection_of d n) by_table ∙ is)) named.outs named.names (life_sends settings steps s allowed octets own)
 
 -- ---- what waits after a turn
 

@@ -126,7 +126,7 @@ becomes_octets octets own (queues sapi message p may) = queue_octets p.end sapi 
 becomes_octets octets own (opens p tenure frame lent) = frame_holds OctetsIf IsFew tt p.end Zero own
 becomes_octets octets own (lends p tenure frame lent) = frame_holds OctetsIf IsFew tt p.end Three own
 becomes_octets octets own (is_acked sapi p) = acked_holds OctetsIf IsFew tt p.end sapi own
-becomes_octets octets own (hears p tenure command first others seat reached stood) = subst HasOctets (sym (hearing-end p first)) own
+becomes_octets octets own (hears p tenure command first others seat reached pending) = subst HasOctets (sym (hearing-end p first)) own
 becomes_octets octets own (leaves p tenure command seat reached) = record { zero = own.zero; three = own.three; counted = own.counted }
 becomes_octets octets own (arrives p from command seat reached) = arrival_holds OctetsIf IsFew tt p.end (complete command.change) (complete_octets command.change) own
 becomes_octets octets own (returns p from command seat reached) = arrival_holds OctetsIf IsFew tt p.end (failure command.change) (failure_octets command.change) own
@@ -156,7 +156,7 @@ tells_octets {w} octets good of (reports number report tenure reached long) =
 
 respot_small : {w u : Actors} {event : Event} {at : Place} {spot : Spot} → Makers u → Respots w u event at spot → spot.reports < 256
 respot_small {u = u} of (short_up number tenure reached) = reports_small u tenure.at of
-respot_small {u = u} of (goes_down tenure first others reached stood) = reports_small u tenure.at of
+respot_small {u = u} of (goes_down tenure first others reached pending) = reports_small u tenure.at of
 respot_small {u = u} of (is_left number tenure reached) = reports_small u tenure.at of
 respot_small {u = u} of (counts number report tenure reached) = below (spot_at u tenure.at).reports where
   below : (n : ℕ) → (n + 1) % 256 < 256

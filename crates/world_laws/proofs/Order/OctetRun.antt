@@ -66,8 +66,8 @@ event_sends w (BaseTakes station) octets side = after w (after_base_takes w stat
 event_sends w (BasePush source) octets side = push_sends w source side.sends
 event_sends w Handle octets side = after w (after_handle w) side.sends (handle_leads (Sends w) w (λ item items _. turn_leads (Sends w) (target_in w item.source item.what) (take item w.controller) (record w { inbox = items }) (λ links. same refl refl side.sends)))
 event_sends w SwitchTakes octets side =
-    after w (after_switch_takes w) side.sends (switch_takes_leads (Sends w) w (λ first others up stood.
-    took_sends w (with_outbox SWITCH_LINK others w) (sccp_in first.out.frame) (subst (AllByRecursion IsFairEntry) stood side.waits).0 (same refl refl side.sends)))
+    after w (after_switch_takes w) side.sends (switch_takes_leads (Sends w) w (λ first others up pending.
+    took_sends w (with_outbox SWITCH_LINK others w) (sccp_in first.out.frame) (subst (AllByRecursion IsFairEntry) pending side.waits).0 (same refl refl side.sends)))
 event_sends w (SwitchDoes action) octets side = does_octets w action octets side.sends.next side.sends.made
 event_sends w (Tick ms) octets side = turn_leads (Sends w) None (tick ms w.controller) w (λ links. same refl refl side.sends)
 event_sends w (BaseDown source) octets side = after w (after_break w source) side.sends (broken_leads (Sends w) w source (λ _ _. record { next = side.sends.next; made = tt }) (λ _ _. same refl refl side.sends))
@@ -136,12 +136,12 @@ record Run (settings : Parameters) (events : List Event) : Type 0 where
   makers : Makers (world settings events)
   side : Side (world settings events)
   given_all : AllByRecursion IsOctetItem (all_pushed (new_actors settings) events)
-  came : TookOctets settings events
+  took_octets : TookOctets settings events
 
 came_then : (settings : Parameters) (events : List Event) (event : Event) → Run settings events → TookOctets settings (events ++ event ∷ [])
 came_then settings events event run =
     subst (AllByRecursion IsOctetStep) (sym (snoc_steps (new_actors settings) events event))
-    (AllByRecursion-append IsOctetStep (all_steps (new_actors settings) events) (step_at w event) run.came (step_octets w event (kind w 0 event) waiting)) where
+    (AllByRecursion-append IsOctetStep (all_steps (new_actors settings) events) (step_at w event) run.took_octets (step_octets w event (kind w 0 event) waiting)) where
       w : Actors
       w = world settings events
 
@@ -152,13 +152,13 @@ run_then : (settings : Parameters) (events : List Event) (event : Event) → Fai
 run_then settings events event fairly octets run =
     let w : Actors = world settings events in
     let next : world settings (events ++ event ∷ []) ≡ actors_after w event = snoc_actors (new_actors settings) events event in
-    let came : TookOctets settings (events ++ event ∷ []) = came_then settings events event run in
+    let took_octets : TookOctets settings (events ++ event ∷ []) = came_then settings events event run in
     record {
       good = subst Good (sym next) (good_step w event run.good);
       makers = subst Makers (sym next) (made_step w event octets run.good run.makers);
-      side = subst Side (sym next) (side_then w event octets (fairly events event came) run.side);
+      side = subst Side (sym next) (side_then w event octets (fairly events event took_octets) run.side);
       given_all = subst (AllByRecursion IsOctetItem) (sym (append_pushed (new_actors settings) events event)) (AllByRecursion-append IsOctetItem (all_pushed (new_actors settings) events) (pushed w event) run.given_all (given w event run.makers run.side));
-      came = came;
+      took_octets = took_octets;
     }
 
 run_first : (settings : Parameters) → Run settings []
@@ -167,7 +167,7 @@ run_first settings = record {
   makers = made_new settings;
   side = record { sends = record { next = record { referred = tt; few = least }; made = tt }; waits = subst (AllByRecursion IsFairEntry) (sym (new_outbox (length settings.cells + 1) SWITCH_LINK)) tt };
   given_all = tt;
-  came = tt;
+  took_octets = tt;
 } where
   least : 0 ≤ CONNECTION_LIMIT
   least = omega arith
@@ -178,4 +178,4 @@ run_through settings done (event ∷ rest) fairly octets run =
     subst (Run settings) (append_assoc done (event ∷ []) rest) (run_through settings (done ++ event ∷ []) rest fairly octets.1 (run_then settings done event fairly octets.0 run))
 
 pub come_in_fairly_new : (settings : Parameters) (events : List Event) → Fairly settings → AreOctetEvents events → TookOctets settings events
-come_in_fairly_new settings events fairly octets = (run_through settings [] events fairly octets (run_first settings)).came
+come_in_fairly_new settings events fairly octets = (run_through settings [] events fairly octets (run_first settings)).took_octets

@@ -75,24 +75,24 @@ break_numbers source c = by (source == SWITCH_LINK) where
 
 -- what a turn by a word makes of it
 data WordOpens (c : Controller) (source : ℕ) (word : Word) (t : Turn) : Type 0 where
-  stays : Numbers c t → WordOpens c source word t
+  unchanged : Numbers c t → WordOpens c source word t
   begins : (channel : Channel) (request : RequestReference) (delay : ℕ) → word ≡ Asks request delay → access_channel c source ≡ Some channel → t ≡ with_connection c channel request delay → WordOpens c source word t
 
 asks_opens : (c : Controller) (source : ℕ) (request : RequestReference) (delay : ℕ) (b : Bool) (o : Option Channel) → access_channel c source ≡ o → WordOpens c source (Asks request delay) (if b then given c request delay o else ignoring c)
 asks_opens c source request delay true (Some channel) is = begins channel request delay refl is refl
-asks_opens c source request delay true None is = stays refl
-asks_opens c source request delay false o is = stays refl
+asks_opens c source request delay true None is = unchanged refl
+asks_opens c source request delay false o is = unchanged refl
 
 word_opens : (c : Controller) (source : ℕ) (word : Word) → WordOpens c source word (on_word source word c)
 word_opens c source (Asks request delay) = asks_opens c source request delay (may_open c) (access_channel c source) refl
-word_opens c source (OnChannel at input) = stays (freed_numbers (frees (channel_state c at) (entry_at c (channel_state c at)) input) at input c (entry_at c (channel_state c at)))
-word_opens c source (Reports at of report) = stays (report_numbers at of report c (entry_at c (channel_state c at)))
-word_opens c source (OnConnection number input) = stays (concerning_numbers input c (entry_of c number))
-word_opens c source _ = stays refl
+word_opens c source (OnChannel at input) = unchanged (freed_numbers (frees (channel_state c at) (entry_at c (channel_state c at)) input) at input c (entry_at c (channel_state c at)))
+word_opens c source (Reports at of report) = unchanged (report_numbers at of report c (entry_at c (channel_state c at)))
+word_opens c source (OnConnection number input) = unchanged (concerning_numbers input c (entry_of c number))
+word_opens c source _ = unchanged refl
 
 -- it is the next one, and its first channel is activated
 pub data Opens (c : Controller) (item : Item) : Type 0 where
-  stays : Numbers c (take item c) → Opens c item
+  unchanged : Numbers c (take item c) → Opens c item
   begins : (frame : Frame) (channel : Channel) (request : RequestReference) (delay : ℕ) → item.what ≡ whats.Frame frame → word_of item.source frame ≡ Asks request delay → access_channel c item.source ≡ Some channel
       → take item c ≡ with_connection c channel request delay → Opens c item
 
@@ -100,14 +100,14 @@ pub take_opens : (c : Controller) (item : Item) → Opens c item
 unfolding take
 take_opens c item = by (is_up c item.source) item.what refl refl where
   of_word : (frame : Frame) (t : Turn) → item.what ≡ whats.Frame frame → on_what (is_up c item.source) item.source item.what c ≡ t → WordOpens c item.source (word_of item.source frame) t → Opens c item
-  of_word frame t is turns (stays same) = stays (ap (λ (x : Turn). x.next.next_number) turns ∙ same)
+  of_word frame t is turns (unchanged same) = unchanged (ap (λ (x : Turn). x.next.next_number) turns ∙ same)
   of_word frame t is turns (begins channel request delay asks free opens) = begins frame channel request delay is asks free (turns ∙ opens)
 
   by : (b : Bool) (what : What) → is_up c item.source ≡ b → item.what ≡ what → Opens c item
   by true (whats.Frame frame) up is =
       of_word frame (on_word item.source (word_of item.source frame) c) is (ap (λ (b : Bool). on_what b item.source item.what c) up ∙ ap (λ (x : What). on_what true item.source x c) is) (word_opens c item.source (word_of item.source frame))
-  by true whats.Down up is = stays (ap (λ (t : Turn). t.next.next_number) (ap (λ (b : Bool). on_what b item.source item.what c) up ∙ ap (λ (x : What). on_what true item.source x c) is) ∙ break_numbers item.source c)
-  by false what up is = stays (ap (λ (t : Turn). t.next.next_number) (ap (λ (b : Bool). on_what b item.source item.what c) up))
+  by true whats.Down up is = unchanged (ap (λ (t : Turn). t.next.next_number) (ap (λ (b : Bool). on_what b item.source item.what c) up ∙ ap (λ (x : What). on_what true item.source x c) is) ∙ break_numbers item.source c)
+  by false what up is = unchanged (ap (λ (t : Turn). t.next.next_number) (ap (λ (b : Bool). on_what b item.source item.what c) up))
 
 -- and none by time
 pub tick_numbers : (ms : ℕ) (c : Controller) → Numbers c (tick ms c)

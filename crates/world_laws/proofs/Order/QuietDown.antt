@@ -56,10 +56,11 @@ first_by a b xs = if a then (if b then first_of xs else []) else []
 taken_by : (n : ℕ) (w : Actors) (event : Event) → n ≢ SWITCH_LINK → TakenBy n w event
 taken_by n w (BaseTakes station) n_is = by (station == n) refl (is_some (event_after w (BaseTakes station))) refl (outbox_of w n) refl where
   by : (a : Bool) → (station == n) ≡ a → (b : Bool) → is_some (event_after w (BaseTakes station)) ≡ b → (xs : List OutboxEntry) → outbox_of w n ≡ xs → TakenBy n w (BaseTakes station)
-  by false miss b taker xs stood = nobody (ap (λ (a : Bool). first_by a (is_some (event_after w (BaseTakes station))) (outbox_of w n)) miss)
-  by true hit false taker xs stood = nobody (ap (λ (a : Bool). first_by a (is_some (event_after w (BaseTakes station))) (outbox_of w n)) hit ∙ ap (λ (b : Bool). first_by true b (outbox_of w n)) taker)
-  by true hit true taker [] stood = nobody (ap (λ (a : Bool). first_by a (is_some (event_after w (BaseTakes station))) (outbox_of w n)) hit ∙ ap (λ (b : Bool). first_by true b (outbox_of w n)) taker ∙ ap first_of stood)
-  by true hit true taker (x ∷ xs) stood = one x xs stood (ap (λ (a : Bool). first_by a (is_some (event_after w (BaseTakes station))) (outbox_of w n)) hit ∙ ap (λ (b : Bool). first_by true b (outbox_of w n)) taker ∙ ap first_of stood)
+  by false miss b taker xs pending = nobody
+      (ap (λ (a : Bool). first_by a (is_some (event_after w (BaseTakes station))) (outbox_of w n)) miss)
+  by true hit false taker xs pending = nobody (ap (λ (a : Bool). first_by a (is_some (event_after w (BaseTakes station))) (outbox_of w n)) hit ∙ ap (λ (b : Bool). first_by true b (outbox_of w n)) taker)
+  by true hit true taker [] pending = nobody (ap (λ (a : Bool). first_by a (is_some (event_after w (BaseTakes station))) (outbox_of w n)) hit ∙ ap (λ (b : Bool). first_by true b (outbox_of w n)) taker ∙ ap first_of pending)
+  by true hit true taker (x ∷ xs) pending = one x xs pending (ap (λ (a : Bool). first_by a (is_some (event_after w (BaseTakes station))) (outbox_of w n)) hit ∙ ap (λ (b : Bool). first_by true b (outbox_of w n)) taker ∙ ap first_of pending)
 taken_by n w SwitchTakes n_is = by (SWITCH_LINK == n) refl where
   by : (b : Bool) → (SWITCH_LINK == n) ≡ b → TakenBy n w SwitchTakes
   by true hit = absurd (n_is (sym (eqb-true SWITCH_LINK n hit)))
@@ -96,15 +97,15 @@ module _ (w : Actors) (event : Event) (at : Place) (at_is : at.station ≢ SWITC
 
     by : TakenBy n w event → Quiet v at
     by (nobody none) = waits (now [] none) (subst (λ (ts : List OutboxEntry). Waits k (ts ++ outbox_of v n)) none rest)
-    by (one x xs stood is) = elim (behind_first k x (outbox_of v n) (subst (λ (ts : List OutboxEntry). Waits k (ts ++ outbox_of v n)) is rest)) [
-      | inl own ↦ begun (air_step at at_is w event (λ first others takes stands. subst (NoDataEntry k) (same_first (sym stood ∙ stands)) (no_data k (rsl_in x.out.frame) own.0)) (idle inactive)) own.1
+    by (one x xs pending is) = elim (behind_first k x (outbox_of v n) (subst (λ (ts : List OutboxEntry). Waits k (ts ++ outbox_of v n)) is rest)) [
+      | inl own ↦ begun (air_step at at_is w event (λ first others takes outbox_is. subst (NoDataEntry k) (same_first (sym pending ∙ outbox_is)) (no_data k (rsl_in x.out.frame) own.0)) (idle inactive)) own.1
       | inr other ↦ waits (now (x ∷ []) is ∙ stays_inactive k (rsl_in x.out.frame) other.0) other.1
     ] where
       same_first : {a b : OutboxEntry} {xs ys : List OutboxEntry} → a ∷ xs ≡ b ∷ ys → a ≡ b
       same_first e = cc
 
   begun_step : (spot_at w at).air ≡ [] → AllByRecursion (NoDataEntry k) (outbox_of w n) → OutboxStep n w event v → Quiet v at
-  begun_step none waiting out = begun (air_step at at_is w event (λ first others takes stands. (subst (AllByRecursion (NoDataEntry k)) stands waiting).0) none) (by out) where
+  begun_step none waiting out = begun (air_step at at_is w event (λ first others takes outbox_is. (subst (AllByRecursion (NoDataEntry k)) outbox_is waiting).0) none) (by out) where
     by : OutboxStep n w event v → AllByRecursion (NoDataEntry k) (outbox_of v n)
     by (breaks broken unput untaken) = subst (λ (l : Link). AllByRecursion (NoDataEntry k) l.outbox) (sym broken) tt
     by (goes up all) = all_right (NoDataEntry k) (taken n w event) (outbox_of v n) (subst (AllByRecursion (NoDataEntry k)) all (AllByRecursion-append (NoDataEntry k) (outbox_of w n) (put n w event) waiting nothing))

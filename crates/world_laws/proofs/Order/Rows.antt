@@ -5,7 +5,7 @@ use Rattle.world_laws.proofs.Prelude.{◌≡◌, ◌<◌, true, false, [], ◌�
 use Rattle.world_laws.proofs.Prelude.{WaitEstablish, WaitConfirm, Closed, Removed, Given, Reached, to_be_taken, outstanding_messages}
 use Rattle.world_laws.proofs.Prelude.{Connect, Move, LineUp, fresh, released, on_serving, still_to_come, IsFair, IsOctetEvent, has_asked}
 use Rattle.octets.proofs.Hex.{hex}
-use Rattle.world_laws.specs.LineUp.Places.{Tenure}
+use Rattle.world_laws.specs.LineUp.Places.{LineTenure}
 use Rattle.world_laws.specs.LineUp.Places.Item.{brought}
 use Rattle.world_laws.specs.Order.Facts.{IsAsking}
 use Rattle.world_laws.proofs.Order.OctetTexts.{octets_cons, octets_nil}
@@ -42,10 +42,10 @@ none_asks is = is
 
 -- an old channel that holds one message and on which one is on its way; the serving one, on which
 -- one is on its way
-abbrev pub old_channel : Tenure
+abbrev pub old_channel : LineTenure
 old_channel = record fresh { hold = (hex "03 42") ∷ []; items = brought (hex "05 83") ∷ released ∷ [] }
 
-abbrev pub serving_channel : Tenure
+abbrev pub serving_channel : LineTenure
 serving_channel = record fresh { items = brought (hex "06 29") ∷ brought (hex "03 c4") ∷ [] }
 
 -- one waits for the switch, one stands in the air, and one waits behind it

@@ -15,14 +15,14 @@ use Rattle.world_laws.proofs.Ending.{ended_stay_in_order_new, line_ups_may_end_n
 use Rattle.world_laws.proofs.SwitchTakes.{switch_keeps_line_ups_new}
 use Rattle.world_laws.proofs.SwitchTook.{waiting_in}
 use Rattle.world_laws.specs.Order.Facts.{Holds, HoldsAt, IsAsking}
-use Rattle.world_laws.specs.Order.Standing.WhileUp.{unborn, coming, lives, ended, unheard}
+use Rattle.world_laws.specs.Order.Standing.WhileUp.{unborn, coming, lined_up, ended, unknown_for_good}
 use Rattle.world_laws.proofs.Order.Controllers.{controller-stays, given_below, next_rises, none_given_then}
 use Rattle.world_laws.proofs.Order.EventKinds.{Kind, Working, kind, working, delivers_by, delivers_or, down_puts, quiet_puts}
 use Rattle.world_laws.proofs.Order.EventKinds.Working.{works, rests}
 use Rattle.world_laws.proofs.Order.EventKinds.Kind.{handles, ticks, switch_takes, station_takes, breaks, beside}
 use Rattle.world_laws.proofs.Order.Openers.{served_absent, served_asking, served-confirming, served_there}
 use Rattle.world_laws.proofs.Order.SwitchDown.{break_cuts, outbox_down, station-idle, switch-down}
-use Rattle.world_laws.specs.Access.Requested.HasAccess.{comes, goes}
+use Rattle.world_laws.specs.Access.Requested.HasAccess.{on_its_way, no_more}
 use Rattle.world_laws.specs.Order.Beginning.HasBegun.{not_yet, begins}
 use Rattle.world_laws.specs.Handling.OpenOrEnded.IsOpenOrEnded.{goes_on, is_over}
 use Rattle.world_laws.proofs.Events.{world}
@@ -46,9 +46,9 @@ once_cut {number = number} from_one holds none (unborn is past) = silent (holds.
 once_cut {w = w} {number = number} from_one holds none (coming mobile s is same comes_so) =
     let is_so = holds.is_coming mobile s comes_so in
     silent (holds.not_asked number from_one (subst (λ (n : ℕ). IsAsking (connection_of w.controller n)) same (asking_at w s.number s is_so.0.there is_so.1)))
-once_cut {m = m} {w = w} {number = number} from_one holds none (lives mobile s is same l fresh) = cut mobile is (subst (HasEnded m w mobile) same (line_ups_may_end_new m w mobile s l.lined)) (nothing_waits w number none)
+once_cut {m = m} {w = w} {number = number} from_one holds none (lined_up mobile s is same l fresh) = cut mobile is (subst (HasEnded m w mobile) same (line_ups_may_end_new m w mobile s l.lined)) (nothing_waits w number none)
 once_cut {w = w} {number = number} from_one holds none (ended mobile is past gone has) = cut mobile is has (nothing_waits w number none)
-once_cut from_one holds none (unheard u) = silent (silent_unheard u)
+once_cut from_one holds none (unknown_for_good u) = silent (silent_unheard u)
 
 -- it stands so, whether the link is up or not
 settle : {m : ℕ} {w : Actors} {opener : Option ℕ} {number : ℕ} → 1 ≤ number → Holds m w → (is_up w SWITCH_LINK ≡ false → outbox_of w SWITCH_LINK ≡ []) → WhileUp m w opener number → Standing m w opener number
@@ -155,10 +155,10 @@ module _ (settings : Parameters) (events : List Event) (event : Event) where
   begun_then {opener} number around from_one none (begins s same comes_so) = then_up opener around from_one (coming_then number around none s.request.access s same comes_so)
 
   came_then : {opener : Option ℕ} (number mobile : ℕ) → Around → 1 ≤ number → opener ≡ None → IsAsking (connection_of w.controller number) → HasAccess (IsComingTo m) m v mobile number → Then opener number
-  came_then {opener} number mobile around from_one none asking (comes s same comes_so) = then_up opener around from_one (coming_then number around none mobile s same comes_so)
+  came_then {opener} number mobile around from_one none asking (on_its_way s same comes_so) = then_up opener around from_one (coming_then number around none mobile s same comes_so)
   came_then {opener} number mobile around from_one none asking (requests s same state l is) =
-      then_up opener around from_one (lives mobile s (first_now number none (subst (λ (n : ℕ). served_by v n ≡ Some mobile) same (served_there v s.number s l.had.there ∙ served-confirming v s state ∙ is))) same l (around.after.fresh_first l.lined.one s state))
-  came_then {opener} number mobile around from_one none asking (goes gone) = then_up opener around from_one (unheard (around.at.goes_unheard number from_one asking gone))
+      then_up opener around from_one (lined_up mobile s (first_now number none (subst (λ (n : ℕ). served_by v n ≡ Some mobile) same (served_there v s.number s l.had.there ∙ served-confirming v s state ∙ is))) same l (around.after.fresh_first l.lined.one s state))
+  came_then {opener} number mobile around from_one none asking (no_more gone) = then_up opener around from_one (unknown_for_good (around.at.goes_unheard number from_one asking gone))
 
   -- ---- one that ended
 
@@ -168,7 +168,7 @@ module _ (settings : Parameters) (events : List Event) (event : Event) where
     by (inl delivers) =
         let over = around.at.stays_over number from_one past gone in
         then_up opener around from_one (ended mobile (first_stays number is) over.past over.gone (ended_stay_in_order_new settings events event mobile number delivers over.puts has))
-    by (inr u) = then_up opener around from_one (unheard u)
+    by (inr u) = then_up opener around from_one (unknown_for_good u)
 
   -- ---- one that lives
 
@@ -191,7 +191,7 @@ module _ (settings : Parameters) (events : List Event) (event : Event) where
     worked (goes_on next same had requested request lined) =
         let fresh : IsFresh v lined.one next = around.at.fresh mobile s next lined.one l alone agree is_fresh same had lined.found in
         let tells : TargetIsFresh v next = around.after.fresh_tells lined.one next fresh in
-        then_up opener around from_one (lives mobile next (first_stays s.number is) same (record {
+        then_up opener around from_one (lined_up mobile next (first_stays s.number is) same (record {
           had = had;
           requested = requested;
           asked = ap (λ r. r.access) request ∙ l.asked;
@@ -203,7 +203,7 @@ module _ (settings : Parameters) (events : List Event) (event : Event) where
 
     -- it doesn't
     quiet : (is_of_controller event ≡ true → ⊥) → v.controller ≡ w.controller → PutsNoMore w s.number event → DeliversAt w s.number event ⊎ IsUnknownForGood v s.number → Then opener s.number
-    quiet not same puts (inr u) = then_up opener around from_one (unheard u)
+    quiet not same puts (inr u) = then_up opener around from_one (unknown_for_good u)
     quiet not same puts (inl delivers) = by_link (is_up v SWITCH_LINK) refl where
       had : IsHad v s
       had = record { there = ap (λ (c : Controller). connection_of c s.number) same ∙ l.had.there; is_open = l.had.is_open; from_one = l.had.from_one }
@@ -213,7 +213,7 @@ module _ (settings : Parameters) (events : List Event) (event : Event) where
           let lined : AreLinedUp m v mobile s = lined_then settings events event mobile s around.before l.had l.requested alone (kind w s.number event) not delivers up up_then l.lined in
           let fresh : IsFresh v lined.one s = around.at.fresh mobile s s lined.one l alone agree is_fresh refl had lined.found in
           let tells : TargetIsFresh v s = around.after.fresh_tells lined.one s fresh in
-          while_up up_then (lives mobile s (first_stays s.number is) refl (record {
+          while_up up_then (lined_up mobile s (first_stays s.number is) refl (record {
             had = had;
             requested = l.requested;
             asked = l.asked;
@@ -234,10 +234,10 @@ module _ (settings : Parameters) (events : List Event) (event : Event) where
   up_and_then {opener} number around from_one up (unborn none past) = begun_then number around from_one none (around.at.begun number from_one up past)
   up_and_then {opener} number around from_one up (coming mobile s none same comes_so) =
       let is_so = around.before.is_coming mobile s comes_so in
-      subst (λ (n : ℕ). Then opener n) same (came_then s.number mobile around is_so.0.from_one none (asking_at w s.number s is_so.0.there is_so.1) (around.at.came mobile s up comes_so))
-  up_and_then {opener} number around from_one up (lives mobile s is same l fresh) = subst (λ (n : ℕ). Then opener n) same (lives_then mobile s around up is l fresh)
+      subst (λ (n : ℕ). Then opener n) same (came_then s.number mobile around is_so.0.from_one none (asking_at w s.number s is_so.0.there is_so.1) (around.at.has_access mobile s up comes_so))
+  up_and_then {opener} number around from_one up (lined_up mobile s is same l fresh) = subst (λ (n : ℕ). Then opener n) same (lives_then mobile s around up is l fresh)
   up_and_then {opener} number around from_one up (ended mobile is past gone has) = ended_then number mobile around from_one up is past gone has
-  up_and_then {opener} number around from_one up (unheard u) = then_up opener around from_one (unheard (around.at.stays_unheard number from_one u))
+  up_and_then {opener} number around from_one up (unknown_for_good u) = then_up opener around from_one (unknown_for_good (around.at.stays_unheard number from_one u))
 
   pub stands_then : (opener : Option ℕ) (number : ℕ) → Around → 1 ≤ number → Standing m w opener number → Then opener number
   stands_then opener number around from_one (while_up up at) = up_and_then number around from_one up at

@@ -28,18 +28,18 @@ still w o leads = after_taken (Stays w) o w leads refl
 pub data SwitchKind (w : Actors) : Event → Type 0 where
   takes : SwitchKind w SwitchTakes
   does : (action : SwitchAction) → SwitchKind w (SwitchDoes action)
-  stays : {event : Event} → (actors_after w event).switch ≡ w.switch → SwitchKind w event
+  unchanged : {event : Event} → (actors_after w event).switch ≡ w.switch → SwitchKind w event
 
 pub switch_kind : (w : Actors) (event : Event) → SwitchKind w event
 unfolding event_after FromAir
-switch_kind w (BaseTakes station) = stays (still w (after_base_takes w station) (taking_leads (Stays w) w station (λ first others _ _ mobiles stations. refl)))
-switch_kind w (BasePush source) = stays (still w (after_base_push w source) (push_leads (Stays w) w source (λ first others. refl) (λ message _. refl)))
-switch_kind w Handle = stays (still w (after_handle w) (handle_leads (Stays w) w (λ item items _. turn_leads (Stays w) (target_in w item.source item.what) (take item w.controller) (record w { inbox = items }) (λ links. refl))))
+switch_kind w (BaseTakes station) = unchanged (still w (after_base_takes w station) (taking_leads (Stays w) w station (λ first others _ _ mobiles stations. refl)))
+switch_kind w (BasePush source) = unchanged (still w (after_base_push w source) (push_leads (Stays w) w source (λ first others. refl) (λ message _. refl)))
+switch_kind w Handle = unchanged (still w (after_handle w) (handle_leads (Stays w) w (λ item items _. turn_leads (Stays w) (target_in w item.source item.what) (take item w.controller) (record w { inbox = items }) (λ links. refl))))
 switch_kind w SwitchTakes = takes
 switch_kind w (SwitchDoes action) = does action
-switch_kind w (Tick ms) = stays (turn_leads (Stays w) None (tick ms w.controller) w (λ links. refl))
-switch_kind w (BaseDown source) = stays (still w (after_break w source) (broken_leads (Stays w) w source (λ _ _. refl) (λ _ _. refl)))
-switch_kind w event = stays (still w (event_after w event) (aerial_leads (Stays w) w event refl (λ mobiles stations. refl)))
+switch_kind w (Tick ms) = unchanged (turn_leads (Stays w) None (tick ms w.controller) w (λ links. refl))
+switch_kind w (BaseDown source) = unchanged (still w (after_break w source) (broken_leads (Stays w) w source (λ _ _. refl) (λ _ _. refl)))
+switch_kind w event = unchanged (still w (event_after w event) (aerial_leads (Stays w) w event refl (λ mobiles stations. refl)))
 
 -- ---- where its link is down it stays as it is
 
@@ -60,7 +60,7 @@ down_by : {w : Actors} {event : Event} → SwitchKind w event → is_up w SWITCH
 unfolding event_after
 down_by {w} takes down = ap (λ (up : Bool). (unwrap_or (if up then switch_took_first (outbox_of w SWITCH_LINK) w else None) w).switch) down
 down_by {w} (does action) down = does_nothing w action down
-down_by (stays same) down = same
+down_by (unchanged same) down = same
 
 pub switch-down : (w : Actors) (event : Event) → is_up w SWITCH_LINK ≡ false → (actors_after w event).switch ≡ w.switch
 switch-down w event down = down_by (switch_kind w event) down

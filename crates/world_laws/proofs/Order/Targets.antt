@@ -5,7 +5,7 @@ use Rattle.world_laws.proofs.Prelude.{Connection, IsThere, connection_of, AreAll
 use Rattle.world_laws.proofs.Prelude.{modulus_in, new_actors, IsBeyondAsking, IsUnconfirmed, IsOpenAndLinedUp, TookOctets, IsHad, IsFreshIn}
 use Rattle.world_laws.proofs.Prelude.{first_served, has_asked, Standing, while_up, once_down}
 use Rattle.conn_rules.specs.declared.state.Stage.{Stage}
-use Rattle.world_laws.specs.Order.Standing.WhileUp.{unborn, coming, lives, ended, unheard}
+use Rattle.world_laws.specs.Order.Standing.WhileUp.{unborn, coming, lined_up, ended, unknown_for_good}
 use Rattle.world_laws.specs.Order.Targets.{IsServed, TargetsAreFresh}
 use Rattle.world_laws.proofs.Order.Controllers.{none_given}
 use Rattle.world_laws.proofs.Order.Fairly.{ComeInOctets-new}
@@ -29,16 +29,17 @@ module _ (settings : Parameters) (events : List Event) (s : Connection) (referen
   asked = ap has_asked live
 
   served : (mobile : ℕ) (other : Connection) → opener ≡ Some mobile → other ≡ s → (l : IsOpenAndLinedUp (modulus_in settings) w mobile other) → IsFreshIn w l.lined.one other.state → IsServed (modulus_in settings) w opener s
-  served mobile other opened is l fresh = subst (IsServed (modulus_in settings) w opener) is (record { mobile = mobile; opened = opened; lives = l; fresh = fresh })
+  served mobile other opened is l fresh = subst (IsServed (modulus_in settings) w opener) is (record { mobile = mobile; opened = opened; lined_up = l; fresh = fresh })
 
   served_by : is_up w SWITCH_LINK ≡ true → AreAllowed settings → TookOctets settings events → Standing (modulus_in settings) w opener s.number → IsServed (modulus_in settings) w opener s
   served_by up allowed octets (while_up _ (unborn none past)) = absurd (none-some s (sym (none_given settings events s.number past) ∙ had.there))
   served_by up allowed octets (while_up _ (coming mobile other none same comes)) =
       let is_so = ((facts settings).holds events allowed octets).is_coming mobile other comes in
       absurd (cc (sym is_so.1 ∙ ap (λ (c : Connection). has_asked c.state) (same_one other same is_so.0.there) ∙ asked))
-  served_by up allowed octets (while_up _ (lives mobile other opened same l fresh)) = served mobile other opened (same_one other same l.had.there) l fresh
+  served_by up allowed octets (while_up _ (lined_up mobile other opened same l fresh)) = served mobile other opened (same_one other same l.had.there) l fresh
   served_by up allowed octets (while_up _ (ended mobile opened past gone has)) = absurd (gone (subst IsThere (sym had.there) had.is_open))
-  served_by up allowed octets (while_up _ (unheard u)) = elim (subst IsBeyondAsking live (subst IsUnconfirmed had.there u.unconfirmed)) [ ]
+  served_by up allowed octets (while_up _ (unknown_for_good u)) = elim
+      (subst IsBeyondAsking live (subst IsUnconfirmed had.there u.unconfirmed)) [ ]
   served_by up allowed octets (once_down down at) = absurd (cc (sym up ∙ down))
 
 pub targets_are_fresh : (settings : Parameters) (events : List Event) → TargetsAreFresh settings events

@@ -17,8 +17,8 @@ use Rattle.world_model.specs.Mobiles.{with_message_made}
 use Rattle.world_laws.proofs.Others.{turn_mobiles}
 use Rattle.world_laws.proofs.OwnerRun.{snoc_steps}
 use Rattle.world_laws.proofs.Sublists.{sub_all}
-use Rattle.world_laws.proofs.Access.Mobiles.{AllGo, Goes, IsToMove, all_same, event_goes}
-use Rattle.world_laws.proofs.Access.Mobiles.Goes.{comes as gets, hears, moves, same, stays}
+use Rattle.world_laws.proofs.Access.Mobiles.{AllGo, MobileDoes, IsToMove, all_same, event_goes}
+use Rattle.world_laws.proofs.Access.Mobiles.MobileDoes.{gets_channel as gets, hears, moves, same, unchanged}
 use Rattle.world_laws.proofs.Access.Passes.{Passes, passes_itself}
 use Rattle.world_laws.proofs.Access.Travels.{event_passes, is_passing}
 use Rattle.world_laws.proofs.Order.Naming.{step_names, turn_names}
@@ -63,13 +63,13 @@ counts_all m w (event ∷ rest) is = counts_all m (actors_after w event) rest (e
 
 -- ---- what becomes of one that asks
 
-goes_asking : {w v : Actors} {event : Event} {number : ℕ} {p q : Mobile} → p.seat ≡ Asking → NoneNames w number → Goes w event v number p q → q ≡ p
+goes_asking : {w v : Actors} {event : Event} {number : ℕ} {p q : Mobile} → p.seat ≡ Asking → NoneNames w number → MobileDoes w event v number p q → q ≡ p
 goes_asking seat none (same is) = is
-goes_asking seat none (stays there opens other gives) = absurd (other seat)
+goes_asking seat none (unchanged there opens other gives) = absurd (other seat)
 goes_asking seat none (hears tenure command first others there air is) = absurd (on_asks (sym there ∙ seat))
 goes_asking seat none (moves to_move opens) = absurd (subst IsToMove seat to_move)
 goes_asking {w} {number = number} seat none (gets a) =
-    let entry : AssignsAnother number (rsl_in a.first.out.frame) = (subst (AllByRecursion (λ (e : OutboxEntry). AssignsAnother number (rsl_in e.out.frame))) a.stood (none a.station)).0 in
+    let entry : AssignsAnother number (rsl_in a.first.out.frame) = (subst (AllByRecursion (λ (e : OutboxEntry). AssignsAnother number (rsl_in e.out.frame))) a.pending (none a.station)).0 in
     let reading : NamesAnother number (rr_reading a.command.information) = subst (AssignsAnother number) a.reads entry in
     absurd (subst (NamesAnother number) a.says reading a.names)
 
@@ -95,7 +95,7 @@ module _ (settings : Parameters) (done : List Event) (k : ℕ) where
     initial = is.initial;
     accepts = is.accepts;
     after = is.after ++ event ∷ [];
-    came = ap (λ (xs : List Event). xs ++ event ∷ []) is.came ∙ append_assoc is.before (events.Connect k is.station is.initial is.accepts ∷ is.after) (event ∷ []);
+    connected_at = ap (λ (xs : List Event). xs ++ event ∷ []) is.connected_at ∙ append_assoc is.before (events.Connect k is.station is.initial is.accepts ∷ is.after) (event ∷ []);
     lawful = is.lawful;
     same = is.same;
   }
@@ -154,7 +154,7 @@ module _ (settings : Parameters) (done : List Event) (k : ℕ) where
   -- a mobile connects
   connect_step : (number station : ℕ) (initial : List ℕ) (accepts : Bool) → StillAsks modulus done world k → StillAsks modulus (done ++ events.Connect number station initial accepts ∷ []) (actors_after world (events.Connect number station initial accepts)) k
   unfolding event_after
-  connect_step number station initial accepts asks = after_taken P (event_after world event) world (connect_leads P world number station initial accepts (λ may. comes may)) (still event asks) where
+  connect_step number station initial accepts asks = after_taken P (event_after world event) world (connect_leads P world number station initial accepts (λ may. connects may)) (still event asks) where
     event : Event
     event = events.Connect number station initial accepts
 
@@ -164,8 +164,8 @@ module _ (settings : Parameters) (done : List Event) (k : ℕ) where
     new : Mobile
     new = connected world.modulus number initial accepts
 
-    comes : is_new world number && is_station_up world station && is_none (refusal_of_connect (Some initial)) ≡ true → P (with_message_made station (channel_required number) (record world { mobiles = world.mobiles ++ new ∷ [] }))
-    comes may = record { none_names = λ at. asks.none_names at; as_connected = λ x found. by x found (mobile_of world k) refl } where
+    connects : is_new world number && is_station_up world station && is_none (refusal_of_connect (Some initial)) ≡ true → P (with_message_made station (channel_required number) (record world { mobiles = world.mobiles ++ new ∷ [] }))
+    connects may = record { none_names = λ at. asks.none_names at; as_connected = λ x found. by x found (mobile_of world k) refl } where
       by : (x : Mobile) → find (has_number k) (world.mobiles ++ new ∷ []) ≡ Some x → (o : Option Mobile) → mobile_of world k ≡ o → IsAsItConnected modulus (done ++ event ∷ []) k x
       by x found (Some p) was =
           let is : x ≡ p = same_Some _ _ (sym found ∙ found_front k p world.mobiles (new ∷ []) was) in
@@ -178,7 +178,7 @@ module _ (settings : Parameters) (done : List Event) (k : ℕ) where
             initial = initial;
             accepts = accepts;
             after = [];
-            came = ap (λ (n : ℕ). done ++ events.Connect n station initial accepts ∷ []) is.1;
+            connected_at = ap (λ (n : ℕ). done ++ events.Connect n station initial accepts ∷ []) is.1;
             lawful = lawful_of initial (and_right (is_new world number && is_station_up world station) (is_none (refusal_of_connect (Some initial))) may);
             same = sym is.0 ∙ ap (λ (m : ℕ). connected m number initial accepts) (counts_all modulus (new_actors settings) done refl) ∙ ap (λ (n : ℕ). connected modulus n initial accepts) is.1;
           }
@@ -192,14 +192,14 @@ module _ (settings : Parameters) (done : List Event) (k : ℕ) where
 
   handle_step : AreAllowed settings → AllByRecursion IsOctetStep (all_steps (new_actors settings) done) → AllByRecursion IsOctetStep (first_taken world.inbox) → IsUnanswered world k → StillAsks modulus done world k → StillAsks modulus (done ++ events.Handle ∷ []) (actors_after world events.Handle) k
   unfolding event_after
-  handle_step allowed octets own unanswered asks = after_taken P (event_after world events.Handle) world (handle_leads P world (λ item items stood. handled item items stood)) (still events.Handle asks) where
+  handle_step allowed octets own unanswered asks = after_taken P (event_after world events.Handle) world (handle_leads P world (λ item items pending. handled item items pending)) (still events.Handle asks) where
     P : Actors → Type 0
     P v = StillAsks modulus (done ++ events.Handle ∷ []) v k
 
     handled : (item : Item) (items : List Item) → world.inbox ≡ item ∷ items → P (with_turn (target_in world item.source item.what) (take item world.controller) (record world { inbox = items }))
-    handled item items stood =
+    handled item items pending =
         turned events.Handle (target_in world item.source item.what) (take item world.controller) (record world { inbox = items }) (λ station. asks.none_names station) refl
-        (step_names settings done (steps.Take item) k allowed octets (subst (λ (xs : List Item). AllByRecursion IsOctetStep (first_taken xs)) stood own).0 unanswered) asks
+        (step_names settings done (steps.Take item) k allowed octets (subst (λ (xs : List Item). AllByRecursion IsOctetStep (first_taken xs)) pending own).0 unanswered) asks
 
   tick_step : (ms : ℕ) → AreAllowed settings → AllByRecursion IsOctetStep (all_steps (new_actors settings) done) → IsUnanswered world k → StillAsks modulus done world k → StillAsks modulus (done ++ events.Tick ms ∷ []) (actors_after world (events.Tick ms)) k
   unfolding event_after

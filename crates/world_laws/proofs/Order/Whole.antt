@@ -30,7 +30,7 @@ use Rattle.world_laws.proofs.Order.Controllers.{none_given, octets_front}
 use Rattle.world_laws.proofs.Order.Fairly.{ComeInOctets-new}
 use Rattle.world_laws.proofs.Order.InOrder.{runs_are_in_order_new}
 use Rattle.world_laws.proofs.Events.{snoc_actors, snoc_steps, world}
-use Rattle.world_laws.specs.Access.Requested.HasAccess.{comes, goes}
+use Rattle.world_laws.specs.Access.Requested.HasAccess.{on_its_way, no_more}
 use Rattle.world_laws.specs.Order.Beginning.HasBegun.{not_yet, begins}
 use Rattle.world_laws.proofs.Framing.{all_right}
 
@@ -88,14 +88,14 @@ known_of : (settings : Parameters) (events : List Event) (mobile : ℕ) (s : Con
     → IsComingTo (modulus_in settings) (world settings events) mobile s → IsKnown (modulus_in settings) (world settings events) mobile s
 known_of settings events mobile s allowed octets coming =
     let w : Actors = world settings events in
-    let unheard : IsUnknownToSwitch w s.number = unasked_are_unheard_of_new settings events s.number allowed octets coming.0.had.from_one (inr (coming_unasked coming.0)) in
+    let unknown_for_good : IsUnknownToSwitch w s.number = unasked_are_unheard_of_new settings events s.number allowed octets coming.0.had.from_one (inr (coming_unasked coming.0)) in
     record {
       alone = subst (λ (n : ℕ). IsAlone w n s) coming.0.asked (connections_are_alone_new settings events s allowed octets coming.0.had);
       kept = quiet_lets_none_go_new settings events s allowed octets coming.0.had coming.1;
       active = λ station up waits. established_are_active_new settings events station s allowed octets coming.0.had waits up;
       stations = λ station one t active lined. stations_keep_line_ups_new settings events station one t active lined;
-      none_taken = unheard.none_taken;
-      none_waits = unheard.none_waits;
+      none_taken = unknown_for_good.none_taken;
+      none_waits = unknown_for_good.none_waits;
       delivers = λ up. switch_delivers_or_refuses_new settings events s.number allowed octets coming.0.had.from_one up;
     }
 
@@ -114,20 +114,21 @@ comes_then settings events event mobile s allowed octets up coming = by (is_of_o
   snoc : world settings (events ++ event ∷ []) ≡ actors_after (world settings events) event
   snoc = snoc_actors (new_actors settings) events event
 
-  stays : (next : Connection) → next.number ≡ s.number → IsComing (modulus_in settings) (actors_after (world settings events) event) mobile next → IsComingTo (modulus_in settings) (actors_after (world settings events) event) mobile next
-  stays next same comes-now = (
+  unchanged : (next : Connection) → next.number ≡ s.number → IsComing (modulus_in settings) (actors_after (world settings events) event) mobile next → IsComingTo (modulus_in settings) (actors_after (world settings events) event) mobile next
+  unchanged next same comes-now = (
     comes-now,
     subst (λ (v : Actors). Quiet v (place_of next.serving)) snoc
         (channels_stay_quiet_new settings events event s next allowed octets coming.0.had coming.0.early same (subst (λ (v : Actors). IsHad v next) (sym snoc) comes-now.had) comes-now.early coming.1),
   )
 
   came_of : HasAccess (IsComing (modulus_in settings)) (modulus_in settings) (actors_after (world settings events) event) mobile s.number → HasAccess (IsComingTo (modulus_in settings)) (modulus_in settings) (actors_after (world settings events) event) mobile s.number
-  came_of (comes next same comes-now) = comes next same (stays next same comes-now)
-  came_of (requests next same waits lives served) = requests next same waits lives served
-  came_of (goes gone) = goes gone
+  came_of (on_its_way next same comes-now) = on_its_way next same (unchanged next same comes-now)
+  came_of (requests next same waits lined_up served) = requests next same waits lined_up served
+  came_of (no_more gone) = no_more gone
 
   by : (b : Bool) → is_of_others event ≡ b → HasAccess (IsComingTo (modulus_in settings)) (modulus_in settings) (actors_after (world settings events) event) mobile s.number
-  by true others = comes s refl (stays s refl (others_keep_coming_new settings events event mobile s others allowed known coming.0))
+  by true others = on_its_way s refl
+      (unchanged s refl (others_keep_coming_new settings events event mobile s others allowed known coming.0))
   by false own = came_of (controller_brings_coming_new settings events event mobile s own allowed octets up known (acknowledgements_agree_new settings events s allowed before coming.0.had) (connections_are_one_each_new settings events) coming.0)
 
 begins_then : (settings : Parameters) (events : List Event) (event : Event) (number : ℕ) → AreAllowed settings → TookOctets settings (events ++ event ∷ []) → (world settings events).controller.next_number ≤ number
@@ -150,16 +151,17 @@ holds_at_of settings events event allowed octets =
     let before : TookOctets settings events = octets_front settings events (event ∷ []) octets in
     let takes : TakesOctets w event = takes_octets settings events event octets in
     record {
-      stays_unheard = λ number from_one unheard. unheard_stay_unheard_new settings events event number allowed before takes from_one unheard;
+      stays_unheard = λ number from_one unknown_for_good. unheard_stay_unheard_new settings events event number allowed before takes from_one unknown_for_good;
       stays_over = λ number from_one past closed.
           let over = over_puts_no_more_new settings events event number allowed before takes from_one (record { past = past; closed = closed }) in
           record { puts = over.0; gone = over.1.closed; past = over.1.past };
       goes_unheard = λ number from_one asking gone. dropped_are_unheard_new settings events event number allowed before takes from_one (asking_has_not_asked w number asking) gone;
-      fresh = λ mobile s next q lives alone agree fresh same had found. targets_stay_fresh_new settings events event mobile s next q allowed octets lives alone fresh same had found;
-      opened = λ mobile s next lives alone agree same had fresh lined. opened_stay_opened_new settings events event mobile s next lives alone same had fresh lined;
-      handled = λ mobile s of lives agree up. live_connections_fare_on_new settings events event mobile s of allowed octets up lives agree;
+      fresh = λ mobile s next q lined_up alone agree fresh same had found. targets_stay_fresh_new settings events event mobile s next q allowed octets lined_up alone fresh same had found;
+      opened = λ mobile s next lined_up alone agree same had fresh lined. opened_stay_opened_new settings events event mobile s next lined_up alone same had fresh lined;
+      handled = λ mobile s of lined_up agree up. live_connections_fare_on_new settings events event mobile s of allowed octets up lined_up
+          agree;
       begun = λ number from_one up next. begins_then settings events event number allowed octets next (connections_begin_coming_new settings events event number allowed octets from_one next);
-      came = λ mobile s up coming. comes_then settings events event mobile s allowed octets up coming;
+      has_access = λ mobile s up coming. comes_then settings events event mobile s allowed octets up coming;
     }
 
 -- ---- so each run is in order

@@ -11,7 +11,7 @@ use Rattle.world_laws.proofs.Prelude.{active_behind, asker, tenure_behind, owner
 use Rattle.world_laws.proofs.Prelude.{Mobile, is_active_at, is_reached, is_station_up, is_up, new_actors, outbox_of, spot_at, tenure_at}
 use Rattle.world_laws.proofs.Prelude.{reached_up, up_right, and_right, FollowsTable-new, found_all, IsKnownItem, known_inbox, Right}
 use Rattle.world_laws.proofs.Prelude.{handle_turned, heard_of, kinds, right_step, there_of, tick-turned, beside_step, Serves, Turned, hear}
-use Rattle.world_laws.proofs.Prelude.{down_after, place-is, none-some, right_new, number_found, channels_of-roles, comes, found_number}
+use Rattle.world_laws.proofs.Prelude.{down_after, place-is, none-some, right_new, number_found, channels_of-roles, of_frame, found_number}
 use Rattle.world_laws.proofs.Prelude.{all_contained, contains_behind, contains_first, life, take, tick, tenure_all, SitsBy, tenure-append}
 use Rattle.world_laws.proofs.Prelude.{goes_put, beside_number, takes_number, TookOctets, IsHad, IsElsewhere, ChannelsAreMobiles}
 use Rattle.world_laws.proofs.Prelude.{ConnectionsAreAlone, IsMobiles, hear-use, on_own}
@@ -36,9 +36,9 @@ lives_of settings done w is = ap (λ (x : Actors). x.controller) is ∙ FollowsT
 
 owns_in : (settings : Parameters) (done : List Event) (w : Actors) (s : Connection) → AreAllowed settings → w ≡ world settings done → IsHad w s → Owns w.controller.channels w.controller.links s.number (roles_of s)
 owns_in settings done w s allowed is had =
-    let lives = lives_of settings done w is in
-    subst (λ (c : Controller). Owns c.channels c.links s.number (roles_of s)) (sym lives)
-    (owns_of settings (all_steps (new_actors settings) done) s allowed (subst (λ (c : Controller). connection_of c s.number ≡ Some s) lives had.there) had.is_open)
+    let by_table = lives_of settings done w is in
+    subst (λ (c : Controller). Owns c.channels c.links s.number (roles_of s)) (sym by_table)
+    (owns_of settings (all_steps (new_actors settings) done) s allowed (subst (λ (c : Controller). connection_of c s.number ≡ Some s) by_table had.there) had.is_open)
 
 number-is : (c : Controller) (n : ℕ) (s : Connection) → connection_of c n ≡ Some s → s.number ≡ n
 number-is c n s is =
@@ -100,7 +100,7 @@ same_turn owner w v at target t heard turned serves agrees hearing up busy =
     let n : ℕ = at.station in
     let k : ℕ = at.number in
     let way = agrees.way (serves.hearing hearing) in
-    let puts = goes_put owner at target (tenure_behind w at).number (serves.goes hearing) (serves.fits hearing up) (active_behind w at) (way.active up ∙ sym (hear-use heard (channel_state w.controller at))) in
+    let puts = goes_put owner at target (tenure_behind w at).number (serves.moves hearing) (serves.fits hearing up) (active_behind w at) (way.active up ∙ sym (hear-use heard (channel_state w.controller at))) in
     let last : (tenure_behind v at).number ≡ puts.last =
     ap (λ (b : _). tenure_all k (is_active b.active k) (spot_at v at).tenure (outbox_of v n)) turned.base
     ∙ ap (λ (m : ℕ). tenure_all k (is_active_at w at) m (outbox_of v n)) turned.tenure
@@ -120,7 +120,7 @@ comes_in settings done w s allowed is =
 -- what is heard frees a channel only by its RF CHANNEL RELEASE ACK
 abbrev FreesBy : Actors → Step → (Place → List Rsl) → Type 0
 FreesBy w s heard =
-    (at : Place) (n : ℕ) → channel_state w.controller at ≡ Releasing n → hears w.controller at.station ≡ true → 1 ≤ at.station → hear (heard at) (Releasing n) ≡ Free → brought_in w.controller n s ≡ comes (inputs.ReleaseAck at)
+    (at : Place) (n : ℕ) → channel_state w.controller at ≡ Releasing n → hears w.controller at.station ≡ true → 1 ≤ at.station → hear (heard at) (Releasing n) ≡ Free → brought_in w.controller n s ≡ of_frame (inputs.ReleaseAck at)
 
 turn_old : (settings : Parameters) (owner : Tenure → ℕ) (done rest : List Event) (w v : Actors) (event : Event) (s : Step) (target : Option Tenure) (heard : Place → List Rsl) → AreAllowed settings → w ≡ world settings done → actors_after w event ≡ v → ((at : Place) → Turned w v at target (step w.controller s) (heard at))
     → ((at : Place) → 1 ≤ at.station → at.station ≤ length settings.cells → Serves owner w at target (step w.controller s) (heard at)) → FreesBy w s heard → Right settings owner w (event ∷ rest) → OldIn owner w → OldIn owner v
@@ -159,8 +159,8 @@ turn_old settings owner done rest w v event s target heard allowed is after turn
 -- ---- each event
 
 take_frees : (settings : Parameters) (done : List Event) (w : Actors) (item : Item) (items : List Item) → w ≡ world settings done → w.inbox ≡ item ∷ items → FreesBy w (steps.Take item) (λ at. heard_of at item)
-take_frees settings done w item items is stands at n state hearing least free =
-    let known : AllByRecursion IsKnownItem (item ∷ items) = subst (AllByRecursion IsKnownItem) stands (subst (λ (x : Actors). AllByRecursion IsKnownItem x.inbox) (sym is) (known_inbox settings done)) in
+take_frees settings done w item items is pending at n state hearing least free =
+    let known : AllByRecursion IsKnownItem (item ∷ items) = subst (AllByRecursion IsKnownItem) pending (subst (λ (x : Actors). AllByRecursion IsKnownItem x.inbox) (sym is) (known_inbox settings done)) in
     freed_brings w.controller at n item.source item.what state hearing (λ zero_is. nonzero at.station least zero_is) known.0 free
   where
     nonzero : (k : ℕ) → 1 ≤ k → k ≡ 0 → ⊥
@@ -170,13 +170,13 @@ handle_old : (settings : Parameters) (owner : Tenure → ℕ) (done rest : List 
 unfolding ServesAt event_after
 handle_old settings owner done rest w allowed is serves right old = by w.inbox refl where
   by : (items : List Item) → w.inbox ≡ items → OldIn owner (actors_after w Handle)
-  by [] stands = subst (OldIn owner) (sym (ap (λ (items : List Item). unwrap_or (handled items w) w) stands)) old
-  by (item ∷ items) stands =
+  by [] pending = subst (OldIn owner) (sym (ap (λ (items : List Item). unwrap_or (handled items w) w) pending)) old
+  by (item ∷ items) pending =
       let v : Actors = with_turn (target_in w item.source item.what) (take item w.controller) (record w { inbox = items }) in
-      let same : actors_after w Handle ≡ v = ap (λ (all : List Item). unwrap_or (handled all w) w) stands in
+      let same : actors_after w Handle ≡ v = ap (λ (all : List Item). unwrap_or (handled all w) w) pending in
       subst (OldIn owner) (sym same)
       (turn_old settings owner done rest w v Handle (steps.Take item) (target_in w item.source item.what) (λ at. heard_of at item) allowed is same
-      (λ at. handle_turned w at item items stands) (serves item items stands) (take_frees settings done w item items is stands) right old)
+      (λ at. handle_turned w at item items pending) (serves item items pending) (take_frees settings done w item items is pending) right old)
 
 tick_old : (settings : Parameters) (owner : Tenure → ℕ) (done rest : List Event) (w : Actors) (ms : ℕ) → AreAllowed settings → w ≡ world settings done → ServesAt settings owner w (Tick ms) → Right settings owner w (Tick ms ∷ rest) → OldIn owner w → OldIn owner (actors_after w (Tick ms))
 unfolding ServesAt event_after

@@ -3,7 +3,8 @@
 use Rattle.world_laws.proofs.Prelude.{◌≡◌, ◌≢◌, ℕ, ◌+◌, ◌==◌, ◌≤◌, Bool, true, false, if◌then◌else◌, List, [], ◌∷◌, ◌++◌, find, option_map}
 use Rattle.world_laws.proofs.Prelude.{option_to_list, Option, Some, None, refl, sym, ap, ◌∙◌, subst, inl, inr, cases_Bool, cond-true}
 use Rattle.world_laws.proofs.Prelude.{cond-false, eqb-true, eq-eqb, Channel, Place, Message, SWITCH_LINK, Input, Connection, Row, is_dtap}
-use Rattle.world_laws.proofs.Prelude.{Acts, Brought, ages, goes, opens, rests, nothing, connection_of, IsNumbered, step_does, Step, Take}
+use Rattle.world_laws.proofs.Prelude.{Acts, Brought, ages, takes_row, opens, rests, nothing, connection_of, IsNumbered, step_does, Step}
+use Rattle.world_laws.proofs.Prelude.{Take}
 use Rattle.world_laws.proofs.Prelude.{Word, Asks, OnChannel, Reports, OnConnection, access_channel, handover_offer}
 use Rattle.world_laws.proofs.Prelude.{Controller, Entry, Turn, entry_of, freed, ignoring, turn, with_entry, channel_state, break_of}
 use Rattle.world_laws.proofs.Prelude.{by_fitting, concerning, concerning_too, entry_at, frees, given, may_open, measured, measures}
@@ -71,7 +72,7 @@ absent_back n e (x ∷ xs) none =
           let same : x.connection.number ≡ e.connection.number = eqb-true x.connection.number e.connection.number hit in
           subst (IsAbsent n) (sym (cond-true _ _ _ hit)) (elim (remaining_is e.connection.state e) [
             | inl gone ↦ subst (λ (ys : List Entry). IsAbsent n (ys ++ xs)) (sym gone.0) parts.1
-            | inr stays ↦ subst (λ (ys : List Entry). IsAbsent n (ys ++ xs)) (sym stays.0) (cond-false _ _ _ (ap (λ (m : ℕ). m == n) (sym same) ∙ parts.0) ∙ parts.1)
+            | inr unchanged ↦ subst (λ (ys : List Entry). IsAbsent n (ys ++ xs)) (sym unchanged.0) (cond-false _ _ _ (ap (λ (m : ℕ). m == n) (sym same) ∙ parts.0) ∙ parts.1)
           ])
       | inr miss ↦ subst (IsAbsent n) (sym (cond-false _ _ _ miss)) (cond-false _ _ _ parts.0 ∙ absent_back n e xs parts.1)
     ]
@@ -169,7 +170,7 @@ none_acts : (number next : ℕ) (up : Bool) (brought : Brought) (after : Option 
 none_acts number next up brought after put t some (rests silent same none) is = absurd (let both : None ≡ Some t = sym same ∙ is in cc)
 none_acts number next up brought after put t some (ages old s is_time was aged silent same) is = absurd cc
 none_acts number next up brought after put t some (opens begins linked channel request delay is_nothing none put_is same) is = some is_nothing
-none_acts number next up brought after put t some (goes old s input offer r was aged by fits put_is same) is = absurd cc
+none_acts number next up brought after put t some (takes_row old s input offer r was aged by fits put_is same) is = absurd cc
 
 breaks_some : (input : Input) → breaks input ≡ nothing → ⊥
 breaks_some input is = absurd cc

@@ -34,13 +34,13 @@ links_of_channels_are_up_new settings events s allowed had =
     let w : Actors = world settings events in
     let ss : List Step = all_steps (new_actors settings) events in
     let c : Controller = (life settings ss).next in
-    let lives : w.controller ≡ c = FollowsTable-new settings events in
-    let there : connection_of c s.number ≡ Some s = subst (λ (d : Controller). connection_of d s.number ≡ Some s) lives had.there in
+    let by_table : w.controller ≡ c = FollowsTable-new settings events in
+    let there : connection_of c s.number ≡ Some s = subst (λ (d : Controller). connection_of d s.number ≡ Some s) by_table had.there in
     let owns : Owns c.channels c.links s.number (roles_of s) = owns_of settings ss s allowed there had.is_open in
     let linked : hears c SWITCH_LINK ≡ true = subst (LinkedOf (hears c SWITCH_LINK)) there (life_linked settings ss s.number had.from_one) in
     record {
-      switch = subst (λ (d : Controller). hears d SWITCH_LINK ≡ true) (sym lives) linked;
-      stations = subst (λ (d : Controller). AllByRecursion (λ (x : Channel). hears d x.station ≡ true) (used_channels s)) (sym lives)
+      switch = subst (λ (d : Controller). hears d SWITCH_LINK ≡ true) (sym by_table) linked;
+      stations = subst (λ (d : Controller). AllByRecursion (λ (x : Channel). hears d x.station ≡ true) (used_channels s)) (sym by_table)
           (subst (AllByRecursion (λ (x : Channel). hears c x.station ≡ true)) (channels_of-roles s) owns.linked);
     }
 
@@ -326,9 +326,9 @@ learns c item source was now =
     ap (λ (what : What). record { source = item.source; what = what }) both.0 ∙ ap (λ (n : ℕ). down_of n) both.1
 
 take_ends : (source : ℕ) (w : Actors) (item : Item) (items : List Item) → w.inbox ≡ item ∷ items → EndsOnce w source → EndsOnce (with_turn (target_in w item.source item.what) (take item w.controller) (record w { inbox = items })) source
-take_ends source w item items stands ends = record {
-  last = subst (EndsWithDown source) (sym inbox) stood.1;
-  none_yet = λ now_up. subst (NoneIsDown source) (sym inbox) (subst (NoneIsDown source) stands (ends.none_yet (sym up ∙ now_up))).1;
+take_ends source w item items pending ends = record {
+  last = subst (EndsWithDown source) (sym inbox) ends_down.1;
+  none_yet = λ now_up. subst (NoneIsDown source) (sym inbox) (subst (NoneIsDown source) pending (ends.none_yet (sym up ∙ now_up))).1;
   switch_made = λ same down. turn_leads (λ (x : Actors). x.switch_made ≡ w.switch_made) target t u (λ links. refl) ∙ ends.switch_made same (sym up ∙ down);
   station_made = λ differs down. turn_leads (λ (x : Actors). (base_of x source).messages ≡ (base_of w source).messages) target t u (λ links. refl) ∙ ends.station_made differs (sym up ∙ down);
   broke = λ deaf. up ∙ broke_by (hears w.controller source) refl (now deaf);
@@ -352,14 +352,14 @@ take_ends source w item items stands ends = record {
   inbox : v.inbox ≡ items
   inbox = turn_leads (λ (x : Actors). x.inbox ≡ items) target t u (λ links. refl)
 
-  stood : EndsWithDown source (item ∷ items)
-  stood = subst (EndsWithDown source) stands ends.last
+  ends_down : EndsWithDown source (item ∷ items)
+  ends_down = subst (EndsWithDown source) pending ends.last
 
   now : hears v.controller source ≡ false → hears t.next source ≡ false
   now deaf = ap (λ (c : Controller). hears c source) (sym (turn_leads (λ (x : Actors). x.controller ≡ t.next) target t u (λ links. refl))) ∙ deaf
 
   down_by : item ≡ down_of source → (b : Bool) → is_up w source ≡ b → is_up w source ≡ false
-  down_by is true was_up = absurd ((subst (NoneIsDown source) stands (ends.none_yet was_up)).0 is)
+  down_by is true was_up = absurd ((subst (NoneIsDown source) pending (ends.none_yet was_up)).0 is)
   down_by is false down = down
 
   broke_by : (b : Bool) → hears w.controller source ≡ b → hears t.next source ≡ false → is_up w source ≡ false
@@ -367,15 +367,15 @@ take_ends source w item items stands ends = record {
   broke_by false was deaf = ends.broke was
 
   over_by : (b : Bool) → hears w.controller source ≡ b → hears t.next source ≡ false → of_source source items ≡ []
-  over_by true was deaf = stood.0 (learns w.controller item source was deaf)
-  over_by false was deaf = of_behind source item items (ap (of_source source) (sym stands) ∙ ends.over was)
+  over_by true was deaf = ends_down.0 (learns w.controller item source was deaf)
+  over_by false was deaf = of_behind source item items (ap (of_source source) (sym pending) ∙ ends.over was)
 
 handle_ends : (source : ℕ) (w : Actors) → EndsOnce w source → EndsOnce (actors_after w Handle) source
 unfolding event_after
 handle_ends source w ends = by w.inbox refl where
   by : (items : List Item) → w.inbox ≡ items → EndsOnce (unwrap_or (handled items w) w) source
-  by [] stands = ends
-  by (item ∷ items) stands = take_ends source w item items stands ends
+  by [] pending = ends
+  by (item ∷ items) pending = take_ends source w item items pending ends
 
 tick_leaves : (source : ℕ) (w : Actors) (ms : ℕ) → Leaves source w (actors_after w (Tick ms))
 unfolding event_after

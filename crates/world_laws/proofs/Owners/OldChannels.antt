@@ -5,14 +5,14 @@ use Rattle.world_laws.proofs.Prelude.{◌≡◌, ◌≢◌, ◌⊎◌, ℕ, ◌=
 use Rattle.world_laws.proofs.Prelude.{Option, Some, None, refl, sym, ap, ◌∙◌, subst, inl, inr, cases_Bool, eqb-true, eq-eqb, Channel, Place}
 use Rattle.world_laws.proofs.Prelude.{Message, SWITCH_LINK, changes_roles_row, Input, Drain}
 use Rattle.world_laws.proofs.Prelude.{Target, Connection, ChangesRoles, ChangesRolesBy, RoleStep, Roles}
-use Rattle.world_laws.proofs.Prelude.{after_step, roles_of, step_by, with_target, goes_on, ends, had_ended, stays, IsValid, Row, IsOpen}
-use Rattle.world_laws.proofs.Prelude.{undone, Acts, Brought, IsAged, brought_by, brought_in, brought_with, if_held, ages, goes}
+use Rattle.world_laws.proofs.Prelude.{after_step, roles_of, step_by, with_target, goes_on, ends, had_ended, unchanged, IsValid, Row, IsOpen}
+use Rattle.world_laws.proofs.Prelude.{undone, Acts, Brought, IsAged, brought_by, brought_in, brought_with, if_held, ages, takes_row}
 use Rattle.world_laws.proofs.Prelude.{opens, rests, nothing, connection_of, SameRequest, Owns, OwnsOpen, aged_holds, fine_old, life_acts}
 use Rattle.world_laws.proofs.Prelude.{life_fits, life_names, life_owns, changes_of, free≢release, is_there, state_here, contains_none}
 use Rattle.world_laws.proofs.Prelude.{ChannelState, Free, Releasing, Step, Controller, channel_state, holder, hears, place_of, state_in}
 use Rattle.world_laws.proofs.Prelude.{with_state, step, rsl_word, Frame, is_bound_of, What, Rsl, RequestReference, AreAllowed, Parameters}
 use Rattle.world_laws.proofs.Prelude.{said_by, acknowledgements, rsl_in, IsKnownItem, heard_of, hear, same_Some, same_state}
-use Rattle.world_laws.proofs.Prelude.{KeepsAccount-by, MissesOf, comes, IsFine, acknowledged_owns, all_contained, life, word_of}
+use Rattle.world_laws.proofs.Prelude.{KeepsAccount-by, MissesOf, of_frame, IsFine, acknowledged_owns, all_contained, life, word_of}
 use Rattle.conn_rules.specs.declared.input.Input.TheVariants as inputs
 use Rattle.controller_model.specs.declared.step.Step.TheVariants as steps
 use Rattle.ruled_relay.specs.declared.item.What.TheVariants as whats
@@ -54,7 +54,7 @@ acts_used number next up brought before after put t d (ages old s was_time was a
     }
 acts_used number next up brought before after put t d (opens begins linked channel request delay is_nothing none put_is same) fine is is_open has =
     absurd (contains_none d (subst (λ (ds : List Drain). Contains (undone ds) d) (ap (λ (c : Connection). c.draining) (sym (same_Some _ _ (sym same ∙ is)))) has))
-acts_used number next up brought before after put t d (goes old s input offer r was aged by fits put_is same) fine is is_open has =
+acts_used number next up brought before after put t d (takes_row old s input offer r was aged by fits put_is same) fine is is_open has =
     let now : r.next ≡ t = kept_some r.next.state r.next t (sym same ∙ is) in
     let changes = changes_of s input offer r (fine_old before old s was aged fine).1 fits in
     let open_next : IsOpen r.next.state = subst (λ (c : Connection). IsOpen c.state) (sym now) is_open in
@@ -90,17 +90,17 @@ module _ (channels : States) (links : List Bool) (number k : ℕ) (d : Channel) 
   freed_goes s input offer r (ends was_open shut over) by is owns has = absurd (shut is)
   freed_goes s input offer r (had_ended was_shut shut silent) by is owns has = absurd (shut is)
 
-  acts_freed : (next : ℕ) (up : Bool) (before after : Option Connection) (put : List Message) (t : Connection) → Acts number next up (comes (inputs.ReleaseAck (place_of d))) before put after → IsFine before → after ≡ Some t → IsOpen t.state → Contains (undone t.draining) d
+  acts_freed : (next : ℕ) (up : Bool) (before after : Option Connection) (put : List Message) (t : Connection) → Acts number next up (of_frame (inputs.ReleaseAck (place_of d))) before put after → IsFine before → after ≡ Some t → IsOpen t.state → Contains (undone t.draining) d
       → ((o : Connection) → before ≡ Some o → IsOpen o.state → Owns channels links number (roles_of o)) → ⊥
   acts_freed next up before after put t (rests silent same none) fine is is_open has owns =
       let there : before ≡ Some t = sym same ∙ is in
       let misses = subst (MissesOf (inputs.ReleaseAck (place_of d))) there none in
-      let stands : IsValid t = (fine_old before t t there ([], refl) fine).1 in
-      let stay : step_by (inputs.ReleaseAck (place_of d)) (roles_of t) ≡ stays = subst (ChangesRolesBy t (inputs.ReleaseAck (place_of d)) misses.0) misses.1 (changes_roles_row t (inputs.ReleaseAck (place_of d)) misses.0 stands) in
+      let valid : IsValid t = (fine_old before t t there ([], refl) fine).1 in
+      let stay : step_by (inputs.ReleaseAck (place_of d)) (roles_of t) ≡ unchanged = subst (ChangesRolesBy t (inputs.ReleaseAck (place_of d)) misses.0) misses.1 (changes_roles_row t (inputs.ReleaseAck (place_of d)) misses.0 valid) in
       freed_never (roles_of t) (subst (λ (role_step : RoleStep). Owns (with_state (place_of d) Free channels) links number (after_step role_step (roles_of t))) stay (acknowledged_owns channels links number k (place_of d) (roles_of t) state (owns t there is_open))) has
   acts_freed next up before after put t (ages old s was_time was aged silent same) fine is is_open has owns = absurd cc
   acts_freed next up before after put t (opens begins linked channel request delay is_nothing none put_is same) fine is is_open has owns = absurd cc
-  acts_freed next up before after put t (goes old s input offer r was aged by fits put_is same) fine is is_open has owns =
+  acts_freed next up before after put t (takes_row old s input offer r was aged by fits put_is same) fine is is_open has owns =
       let now : r.next ≡ t = kept_some r.next.state r.next t (sym same ∙ is) in
       let changes = changes_of s input offer r (fine_old before old s was aged fine).1 fits in
       let open_next : IsOpen r.next.state = subst (λ (c : Connection). IsOpen c.state) (sym now) is_open in
@@ -112,7 +112,7 @@ module _ (channels : States) (links : List Bool) (number k : ℕ) (d : Channel) 
 pub record ComesFrom (c : Controller) (s : Step) (n : ℕ) (t : Connection) (d : Channel) : Type 0 where
   pub used : WasUsed (connection_of c n) d
   pub access : t.request.access ≡ used.old.request.access
-  pub unfreed : (k : ℕ) → channel_state c (place_of d) ≡ Releasing k → brought_in c n s ≡ comes (inputs.ReleaseAck (place_of d)) → ⊥
+  pub unfreed : (k : ℕ) → channel_state c (place_of d) ≡ Releasing k → brought_in c n s ≡ of_frame (inputs.ReleaseAck (place_of d)) → ⊥
 
 pub comes_from : (p : Parameters) (ss : List Step) (s : Step) (n : ℕ) (t : Connection) (d : Channel) → AreAllowed p → 1 ≤ n → connection_of (step (life p ss).next s).next n ≡ Some t → IsOpen t.state → Contains (undone t.draining) d → ComesFrom (life p ss).next s n t d
 comes_from p ss s n t d allowed from_one is is_open has =
@@ -121,7 +121,7 @@ comes_from p ss s n t d allowed from_one is is_open has =
     let put : List Message = (life_acts p ss s n from_one).put in
     let fine : IsFine (connection_of c n) = (life_fits p ss n from_one).fine in
     let used : WasUsed (connection_of c n) d = acts_used n c.next_number (hears c SWITCH_LINK) (brought_in c n s) (connection_of c n) (connection_of (step c s).next n) put t d acts fine is is_open has in
-    let stays_same : SameRequest (Some used.old) (Some t) = subst (SameRequest (Some used.old)) is (subst (λ (o : Option Connection). SameRequest o (connection_of (step c s).next n)) used.there (life_names p ss s n from_one).stays) in
+    let stays_same : SameRequest (Some used.old) (Some t) = subst (SameRequest (Some used.old)) is (subst (λ (o : Option Connection). SameRequest o (connection_of (step c s).next n)) used.there (life_names p ss s n from_one).keeps_request) in
     record {
       used = used;
       access = ap (λ (q : RequestReference). q.access) stays_same;
@@ -146,7 +146,7 @@ freeing_is k n m free = elim (cases_Bool (is_bound_of k m)) [
 ]
 
 frame-brings : (c : Controller) (at : Place) (n : ℕ) (frame : Frame) → channel_state c at ≡ Releasing n → hears c at.station ≡ true → at.station ≢ SWITCH_LINK → IsKnownItem (record { source = at.station; what = whats.Frame frame })
-    → hear (acknowledgements at.number (option_to_list (rsl_in frame))) (Releasing n) ≡ Free → brought_in c n (steps.Take (record { source = at.station; what = whats.Frame frame })) ≡ comes (inputs.ReleaseAck at)
+    → hear (acknowledgements at.number (option_to_list (rsl_in frame))) (Releasing n) ≡ Free → brought_in c n (steps.Take (record { source = at.station; what = whats.Frame frame })) ≡ of_frame (inputs.ReleaseAck at)
 frame-brings c at n frame state hearing station known free =
     let made = known.station station in
     let says : rsl_in frame ≡ Some made.0 = ap rsl_in made.1 ∙ read_known made.0 made.2 in
@@ -155,14 +155,14 @@ frame-brings c at n frame state hearing station known free =
     ap (λ (b : Bool). if b then brought_with c n at.station (whats.Frame frame) else nothing) hearing
     ∙ ap (brought_by c n) word
     ∙ ap (λ (s : ChannelState). if_held n (holder s) (inputs.ReleaseAck at)) state
-    ∙ ap (λ (b : Bool). if b then comes (inputs.ReleaseAck at) else nothing) (eq-eqb n n refl)
+    ∙ ap (λ (b : Bool). if b then of_frame (inputs.ReleaseAck at) else nothing) (eq-eqb n n refl)
 
 pub freed_brings : (c : Controller) (at : Place) (n : ℕ) (source : ℕ) (what : What) → channel_state c at ≡ Releasing n → hears c at.station ≡ true → at.station ≢ SWITCH_LINK → IsKnownItem (record { source = source; what = what })
-    → hear (heard_of at (record { source = source; what = what })) (Releasing n) ≡ Free → brought_in c n (steps.Take (record { source = source; what = what })) ≡ comes (inputs.ReleaseAck at)
+    → hear (heard_of at (record { source = source; what = what })) (Releasing n) ≡ Free → brought_in c n (steps.Take (record { source = source; what = what })) ≡ of_frame (inputs.ReleaseAck at)
 freed_brings c at n source what state hearing station known free = elim (cases_Bool (source == at.station)) [
   | inr miss ↦ absurd (free≢release n (sym free ∙ ap (λ (b : Bool). hear (acknowledgements at.number (if b then said_by what else [])) (Releasing n)) miss))
   | inl hit ↦ by what (eqb-true source at.station hit) (subst (λ (k : ℕ). IsKnownItem (record { source = k; what = what })) (eqb-true source at.station hit) known) (sym (ap (λ (b : Bool). hear (acknowledgements at.number (if b then said_by what else [])) (Releasing n)) hit) ∙ free)
 ] where
-  by : (x : What) → source ≡ at.station → IsKnownItem (record { source = at.station; what = x }) → hear (acknowledgements at.number (said_by x)) (Releasing n) ≡ Free → brought_in c n (steps.Take (record { source = source; what = x })) ≡ comes (inputs.ReleaseAck at)
+  by : (x : What) → source ≡ at.station → IsKnownItem (record { source = at.station; what = x }) → hear (acknowledgements at.number (said_by x)) (Releasing n) ≡ Free → brought_in c n (steps.Take (record { source = source; what = x })) ≡ of_frame (inputs.ReleaseAck at)
   by (whats.Frame frame) same own is = ap (λ (k : ℕ). brought_in c n (steps.Take (record { source = k; what = whats.Frame frame }))) same ∙ frame-brings c at n frame state hearing station own is
   by whats.Down same own is = absurd (free≢release n (sym is))

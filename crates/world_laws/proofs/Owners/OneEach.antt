@@ -60,8 +60,8 @@ plain_effect w event is =
     rests w (actors_after w event) quiet.controller
     (λ k.
     let made = quiet.total k in
-    let stood : requests_in k (said_in (actors_after w event).inbox) ≡ requests_in k (said_in w.inbox) = ap (λ (items : List Item). requests_in k (said_in items)) inbox in
-    omega (arith, made, stood)) quiet.mobiles
+    let same_requests : requests_in k (said_in (actors_after w event).inbox) ≡ requests_in k (said_in w.inbox) = ap (λ (items : List Item). requests_in k (said_in items)) inbox in
+    omega (arith, made, same_requests)) quiet.mobiles
 
 unchanged : (w : Actors) → Effect w w
 unchanged w = rests w w refl (λ k. omega arith) (λ k. refl)
@@ -130,16 +130,16 @@ came_by p ss s (suc m) t is = by (connection_of c (suc m)) refl where
   c = (life p ss).next
 
   same : (o : Connection) → SameRequest (Some o) (connection_of (step c s).next (suc m)) → t.request.access ≡ o.request.access
-  same o stays = ap (λ (q : RequestReference). q.access) (subst (SameRequest (Some o)) is stays)
+  same o keeps_request = ap (λ (q : RequestReference). q.access) (subst (SameRequest (Some o)) is keeps_request)
 
   by : (o : Option Connection) → connection_of c (suc m) ≡ o → CameBy c s (suc m) t
   by None none = inr (step_begins c s (suc m) t (omega arith) (life_fits p ss 1 (omega arith)).numbered none is)
-  by (Some o) there = inl (o, there, same o (subst (λ (x : Option Connection). SameRequest x (connection_of (step c s).next (suc m))) there (life_names p ss s (suc m) (omega arith)).stays))
+  by (Some o) there = inl (o, there, same o (subst (λ (x : Option Connection). SameRequest x (connection_of (step c s).next (suc m))) there (life_names p ss s (suc m) (omega arith)).keeps_request))
 
 came_in : (settings : Parameters) (done : List Event) (w : Actors) (s : Step) → w ≡ world settings done → (n : ℕ) (t : Connection) → connection_of (step w.controller s).next n ≡ Some t → CameBy w.controller s n t
 came_in settings done w s is =
-    let lives : w.controller ≡ (life settings (all_steps (new_actors settings) done)).next = ap (λ (x : Actors). x.controller) is ∙ FollowsTable-new settings done in
-    subst (λ (c : Controller). (n : ℕ) (t : Connection) → connection_of (step c s).next n ≡ Some t → CameBy c s n t) (sym lives) (came_by settings (all_steps (new_actors settings) done) s)
+    let by_table : w.controller ≡ (life settings (all_steps (new_actors settings) done)).next = ap (λ (x : Actors). x.controller) is ∙ FollowsTable-new settings done in
+    subst (λ (c : Controller). (n : ℕ) (t : Connection) → connection_of (step c s).next n ≡ Some t → CameBy c s n t) (sym by_table) (came_by settings (all_steps (new_actors settings) done) s)
 
 -- the item that it takes says a request
 begins_said : (c : Controller) (item : Item) (n : ℕ) (t : Connection) → IsKnownItem item → Begins c (steps.Take item) n t → 1 ≤ requests_in t.request.access (said_by item.what)
@@ -155,12 +155,12 @@ begins_said c item n t known begins =
     taken_is is = cc
 
 take_effect : (settings : Parameters) (done : List Event) (w : Actors) (item : Item) (items : List Item) → w ≡ world settings done → w.inbox ≡ item ∷ items → Effect w (with_turn (target_in w item.source item.what) (take item w.controller) (record w { inbox = items }))
-take_effect settings done w item items is stands =
-    let known : AllByRecursion IsKnownItem (item ∷ items) = subst (AllByRecursion IsKnownItem) stands (subst (λ (x : Actors). AllByRecursion IsKnownItem x.inbox) (sym is) (known_inbox settings done)) in
+take_effect settings done w item items is pending =
+    let known : AllByRecursion IsKnownItem (item ∷ items) = subst (AllByRecursion IsKnownItem) pending (subst (λ (x : Actors). AllByRecursion IsKnownItem x.inbox) (sym is) (known_inbox settings done)) in
     turn_leads (Effect w) (target_in w item.source item.what) (take item w.controller) (record w { inbox = items }) (λ links.
     takes (λ k. requests_in k (said_by item.what))
     (λ k.
-    let all : requests_in k (said_in w.inbox) ≡ requests_in k (said_in (item ∷ items)) = ap (λ (xs : List Item). requests_in k (said_in xs)) stands in
+    let all : requests_in k (said_in w.inbox) ≡ requests_in k (said_in (item ∷ items)) = ap (λ (xs : List Item). requests_in k (said_in xs)) pending in
     let parts = requests_append k (said_by item.what) (said_in items) in
     omega (arith, all, parts))
     (λ k. refl)
@@ -187,8 +187,8 @@ handle_effect : (settings : Parameters) (done : List Event) (w : Actors) → w �
 unfolding event_after
 handle_effect settings done w is = by w.inbox refl where
   by : (items : List Item) → w.inbox ≡ items → Effect w (unwrap_or (handled items w) w)
-  by [] stands = unchanged w
-  by (item ∷ items) stands = take_effect settings done w item items is stands
+  by [] pending = unchanged w
+  by (item ∷ items) pending = take_effect settings done w item items is pending
 
 effect : (settings : Parameters) (done : List Event) (w : Actors) (event : Event) → w ≡ world settings done → Effect w (actors_after w event)
 effect settings done w (Connect number station initial accepts) is = connect_effect w number station initial accepts
@@ -261,13 +261,13 @@ once_connects w v number now inbox once = record {
   alone = λ n m s t is other same. once.alone n m s t (ap (λ (c : Controller). connection_of c n) (sym now.controller) ∙ is) (ap (λ (c : Controller). connection_of c m) (sym now.controller) ∙ other) same;
   nobody = now.there 0 ∙ ap (λ (b : Bool). if b then false else is_none (mobile_of w 0)) (ne_eqb number 0 (λ is. (let least = now.from_one in absurd (omega (arith, is, least))))) ∙ once.nobody;
 } where
-  stood : (k : ℕ) → requests_in k (said_in v.inbox) ≡ requests_in k (said_in w.inbox)
-  stood k = ap (λ (items : List Item). requests_in k (said_in items)) inbox
+  same_requests : (k : ℕ) → requests_in k (said_in v.inbox) ≡ requests_in k (said_in w.inbox)
+  same_requests k = ap (λ (items : List Item). requests_in k (said_in items)) inbox
 
   more : (k : ℕ) (b : Bool) → (number == k) ≡ b → requests_up v k ≤ requests_up w k + (if b then 1 else 0)
   more k b is =
       let made : requests_in k (made_by v.stations) ≤ requests_in k (made_by w.stations) + (if b then 1 else 0) = subst (λ (d : Bool). requests_in k (made_by v.stations) ≤ requests_in k (made_by w.stations) + (if d then 1 else 0)) is (now.total k) in
-      let same = stood k in
+      let same = same_requests k in
       omega (arith, made, same)
 
   silent : (k : ℕ) → (number == k) ≡ true → requests_up w k ≡ 0
@@ -315,9 +315,9 @@ done_by mobile number w v (takes taken fewer there was) done = record {
 done_by mobile number w v (one_connects other now inbox) done = record {
   silent =
       let made : requests_in mobile (made_by v.stations) ≤ requests_in mobile (made_by w.stations) + (if false then 1 else 0) = subst (λ (b : Bool). requests_in mobile (made_by v.stations) ≤ requests_in mobile (made_by w.stations) + (if b then 1 else 0)) differs (now.total mobile) in
-      let stood : requests_in mobile (said_in v.inbox) ≡ requests_in mobile (said_in w.inbox) = ap (λ (items : List Item). requests_in mobile (said_in items)) inbox in
+      let same_requests : requests_in mobile (said_in v.inbox) ≡ requests_in mobile (said_in w.inbox) = ap (λ (items : List Item). requests_in mobile (said_in items)) inbox in
       let nothing = done.silent in
-      omega (arith, made, stood, nothing);
+      omega (arith, made, same_requests, nothing);
   present = now.there mobile ∙ ap (λ (b : Bool). if b then false else is_none (mobile_of w mobile)) differs ∙ done.present;
   one = λ n s is same. done.one n s (ap (λ (c : Controller). connection_of c n) (sym now.controller) ∙ is) same;
 } where

@@ -34,7 +34,7 @@ never_begins : (k : ℕ) (entries : List OutboxEntry) (rest : List Rsl) → due 
 unfolding StaysActive EndsTenure
 never_begins k [] rest is = absurd cc
 never_begins k (x ∷ xs) rest is = elim (one_entry k 0 (rsl_in x.out.frame)) [
-  | inl stays ↦ never_begins k xs rest (sym (ap (λ (ms : List Rsl). ms ++ due k (is_active_then k true (rsl_in x.out.frame)) xs) stays.0 ∙ ap (λ (b : Bool). due k b xs) stays.1) ∙ is)
+  | inl unchanged ↦ never_begins k xs rest (sym (ap (λ (ms : List Rsl). ms ++ due k (is_active_then k true (rsl_in x.out.frame)) xs) unchanged.0 ∙ ap (λ (b : Bool). due k b xs) unchanged.1) ∙ is)
   | inr over ↦ absurd (let both : RfChannelReleaseAck k ∷ due k (is_active_then k true (rsl_in x.out.frame)) xs ≡ activation_ack k ∷ rest = sym (ap (λ (ms : List Rsl). ms ++ due k (is_active_then k true (rsl_in x.out.frame)) xs) over.0) ∙ is in cc)
 ]
 
@@ -43,9 +43,9 @@ ends_alone : (k tenure : ℕ) (entries : List OutboxEntry) → due k true entrie
 unfolding StaysActive EndsTenure
 ends_alone k tenure [] is = absurd cc
 ends_alone k tenure (x ∷ xs) is = elim (one_entry k tenure (rsl_in x.out.frame)) [
-  | inl stays ↦
-      ap (λ (b : Bool). tenure_all k b (tenure_then k true tenure (rsl_in x.out.frame)) xs) stays.1 ∙ ap (λ (n : ℕ). tenure_all k true n xs) stays.2
-      ∙ ends_alone k tenure xs (sym (ap (λ (ms : List Rsl). ms ++ due k (is_active_then k true (rsl_in x.out.frame)) xs) stays.0 ∙ ap (λ (b : Bool). due k b xs) stays.1) ∙ is)
+  | inl unchanged ↦
+      ap (λ (b : Bool). tenure_all k b (tenure_then k true tenure (rsl_in x.out.frame)) xs) unchanged.1 ∙ ap (λ (n : ℕ). tenure_all k true n xs) unchanged.2
+      ∙ ends_alone k tenure xs (sym (ap (λ (ms : List Rsl). ms ++ due k (is_active_then k true (rsl_in x.out.frame)) xs) unchanged.0 ∙ ap (λ (b : Bool). due k b xs) unchanged.1) ∙ is)
   | inr over ↦
       let rest : due k (is_active_then k true (rsl_in x.out.frame)) xs ≡ [] = behind_same (sym (ap (λ (ms : List Rsl). ms ++ due k (is_active_then k true (rsl_in x.out.frame)) xs) over.0) ∙ is) in
       nothing_is_due k (is_active_then k true (rsl_in x.out.frame)) (tenure_then k true tenure (rsl_in x.out.frame)) xs rest ∙ over.1
@@ -94,7 +94,7 @@ present_last owner w at agrees hearing up active =
     let front : List Rsl = acknowledged_in at w.inbox ++ acknowledgements at.number (base_of w at.station).messages in
     let whole : to_come w at ++ way.lost ≡ front ++ due at.number true waits = ap (λ (ms : List Rsl). to_come w at ++ ms) (way.all up) ∙ append-nil (to_come w at)
     ∙ sym (append_assoc (acknowledged_in at w.inbox) (acknowledgements at.number (base_of w at.station).messages) (due at.number (is_active_at w at) waits)) ∙ ap (λ (b : Bool). front ++ due at.number b waits) active in
-    ap (λ (n : ℕ). record { at = at; number = n }) (ap (λ (b : Bool). tenure_all at.number b (spot_at w at).tenure waits) active ∙ by waits (last_of at.number (channel_state w.controller at) (to_come w at ++ way.lost) front (due at.number true waits) way.comes whole))
+    ap (λ (n : ℕ). record { at = at; number = n }) (ap (λ (b : Bool). tenure_all at.number b (spot_at w at).tenure waits) active ∙ by waits (last_of at.number (channel_state w.controller at) (to_come w at ++ way.lost) front (due at.number true waits) way.owed whole))
   where
     by : (entries : List OutboxEntry) → Last at.number (due at.number true entries) → tenure_all at.number true (spot_at w at).tenure entries ≡ (spot_at w at).tenure
     by entries (none_due is) = nothing_is_due at.number true (spot_at w at).tenure entries is

@@ -48,14 +48,14 @@ pub record Before (w : Actors) (event : Event) : Type 0 where
 
 -- the switch takes
 takes_keeps : (w : Actors) → NamesAgree w → w.controller.next_number ≤ 2 ^ 24 → Keeps w (unwrap_or (after_switch_takes w) w)
-takes_keeps w agree few = after_taken (Keeps w) (after_switch_takes w) w (switch_takes_leads (Keeps w) w (λ first others up stood.
-    let h : IsFirst w first others = record { agree = agree; few = few; up = up; stood = stood } in
+takes_keeps w agree few = after_taken (Keeps w) (after_switch_takes w) w (switch_takes_leads (Keeps w) w (λ first others up pending.
+    let h : IsFirst w first others = record { agree = agree; few = few; up = up; pending = pending } in
     first_keeps first others h)) (keeps_itself w)
   where
     first_keeps : (first : OutboxEntry) (others : List OutboxEntry) → IsFirst w first others → Keeps w (switch_took (sccp_in first.out.frame) (with_outbox SWITCH_LINK others w))
     first_keeps first others h = record {
       names = λ agree. names_after w first others h;
-      unheard = λ n from_one has unknown. unheard_after w first others h n from_one has unknown;
+      remains_unknown = λ n from_one has unknown. unheard_after w first others h n from_one has unknown;
       dropped = λ n from_one has closed. dropped_same w (switch_took (sccp_in first.out.frame) (with_outbox SWITCH_LINK others w)) n (same_controller (sccp_in first.out.frame)) has closed;
       peers = λ differ. peers_after w first others h differ;
     } where
@@ -97,11 +97,11 @@ new_agree settings = record {
 
 pub before_of : (settings : Parameters) (done : List Event) (w : Actors) (event : Event) → w ≡ world settings done → AreAllowed settings → AllByRecursion IsOctetStep (all_steps (new_actors settings) done) → TakesOctets w event → NamesAgree w → Before w event
 before_of settings done w event is allowed octets own agree =
-    let lives : w.controller ≡ lived settings done = ap (λ (x : Actors). x.controller) is ∙ FollowsTable-new settings done in
+    let by_table : w.controller ≡ lived settings done = ap (λ (x : Actors). x.controller) is ∙ FollowsTable-new settings done in
     record {
       agree = agree;
-      few = subst (λ (c : Controller). c.next_number ≤ 2 ^ 24) (sym lives) (life_sound settings (all_steps (new_actors settings) done) allowed octets).next;
-      laws = λ s comes. subst (λ (c : Controller). Lawful c s) (sym lives) (lawful_step settings (all_steps (new_actors settings) done) s allowed octets comes);
+      few = subst (λ (c : Controller). c.next_number ≤ 2 ^ 24) (sym by_table) (life_sound settings (all_steps (new_actors settings) done) allowed octets).next;
+      laws = λ s comes. subst (λ (c : Controller). Lawful c s) (sym by_table) (lawful_step settings (all_steps (new_actors settings) done) s allowed octets comes);
       octets = own;
     }
 

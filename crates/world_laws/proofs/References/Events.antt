@@ -37,7 +37,7 @@ pub record IsEarly (w : Actors) (n : ℕ) : Type 0 where
 -- The names agree then, and a connection that the switch never hears of stays so.
 pub record Keeps (w v : Actors) : Type 0 where
   pub names : NamesAgree w → NamesAgree v
-  pub unheard : (n : ℕ) → 1 ≤ n → HasAsked w n → IsUnknown w n → HasAsked v n × IsUnknown v n
+  pub remains_unknown : (n : ℕ) → 1 ≤ n → HasAsked w n → IsUnknown w n → HasAsked v n × IsUnknown v n
   -- and one that didn't ask, and isn't open then, becomes one
   pub dropped : (n : ℕ) → 1 ≤ n → IsEarly w n → (IsThere (controllers v.controller n) → ⊥) → HasAsked v n × IsUnknown v n
   -- and each connection of the switch has a peer of its own
@@ -57,7 +57,7 @@ pub dropped_same : (w v : Actors) (n : ℕ) → v.controller ≡ w.controller �
 dropped_same w v n is has closed = absurd (closed (subst (λ (c : Controller). IsThere (controllers c n)) (sym is) (early_there (controllers w.controller n) has.is_early)))
 
 pub keeps_itself : (w : Actors) → Keeps w w
-keeps_itself w = record { names = λ agree. agree; unheard = λ n from_one has unknown. (has, unknown); dropped = λ n from_one has closed. dropped_same w w n refl has closed; peers = λ differ. differ }
+keeps_itself w = record { names = λ agree. agree; remains_unknown = λ n from_one has unknown. (has, unknown); dropped = λ n from_one has closed. dropped_same w w n refl has closed; peers = λ differ. differ }
 
 pub by_same : (w v : Actors) → ((n : ℕ) → IsSame w v n) → ((n : ℕ) (P : ℕ → Type 0) → Confirms P w n → Confirms P v n) → outbox_of v SWITCH_LINK ≡ outbox_of w SWITCH_LINK → peers_of v.switch.connections ≡ peers_of w.switch.connections → Keeps w v
 by_same w v each confirms same same_peers = record {
@@ -65,7 +65,8 @@ by_same w v each confirms same same_peers = record {
     each = λ n from_one. same_agrees w v n (each n) (confirms n) (agree.each n from_one);
     right = subst (AllByRecursion (λ (entry : OutboxEntry). IsRight entry.out)) (sym same) agree.right;
   };
-  unheard = λ n from_one has unknown. (asked_same w v n (each n).controller_is has, same_unknown w v n (each n) (confirms n) unknown);
+  remains_unknown = λ n from_one has unknown.
+      (asked_same w v n (each n).controller_is has, same_unknown w v n (each n) (confirms n) unknown);
   dropped = λ n from_one has closed. dropped_same w v n (each n).controller_is has closed;
   peers = λ differ. subst Differ (sym same_peers) differ;
 }
@@ -84,7 +85,7 @@ pub same_by : (w v : Actors) (n : ℕ) → v.controller ≡ w.controller → v.s
 same_by w v n controller switch outbox = record {
   controller_is = controller;
   none = λ none. subst (λ (s : SwitchState). find (is_of_peer n) s.connections ≡ None) (sym switch) none;
-  stands = λ place c stands. (c, subst (λ (s : SwitchState). IsFirstAt n place c s.connections) (sym switch) stands, refl);
+  first_at = λ place c first_at. (c, subst (λ (s : SwitchState). IsFirstAt n place c s.connections) (sym switch) first_at, refl);
   quiet = λ quiet. subst (λ (entries : List OutboxEntry). AreNothing (reads_of n entries)) (sym outbox) quiet;
   once = λ once. subst (λ (entries : List OutboxEntry). AsksOnce n (reads_of n entries)) (sym outbox) once;
   runs = λ k over last runs. subst (λ (entries : List OutboxEntry). Runs k over (reads_of n entries) last) (sym outbox) runs;
@@ -125,10 +126,10 @@ push_keeps w source = by (nat_eq source SWITCH_LINK) refl where
 
 over_last : (k : ℕ) (last : Bool) (xs : List Read) → Runs k true xs last → last ≡ true
 over_last k last [] runs = sym runs
-over_last k last (x ∷ xs) runs = over_last k last xs (subst (λ (b : Bool). Runs k b xs last) (stays x) runs.1) where
-  stays : (x : Read) → over_after true x ≡ true
-  stays (Read.asks source initial) = refl
-  stays _ = refl
+over_last k last (x ∷ xs) runs = over_last k last xs (subst (λ (b : Bool). Runs k b xs last) (unchanged x) runs.1) where
+  unchanged : (x : Read) → over_after true x ≡ true
+  unchanged (Read.asks source initial) = refl
+  unchanged _ = refl
 
 knows_less : (k : ℕ) (last : Bool) (a : Reach) → Knows k last a → Knows k false a
 knows_less k last waits knows = refl
@@ -159,7 +160,7 @@ module _ (w v : Actors) (controller : v.controller ≡ w.controller) (switch : v
     place = known.place;
     of = known.of;
     last = is_over known.of.stage;
-    stands = subst (λ (s : SwitchState). IsFirstAt n known.place known.of s.connections) (sym switch) known.stands;
+    first_at = subst (λ (s : SwitchState). IsFirstAt n known.place known.of s.connections) (sym switch) known.first_at;
     fits = known.fits;
     runs = subst (λ (entries : List OutboxEntry). Runs (REFERENCE_BASE + (known.place + 1)) (is_over known.of.stage) (reads_of n entries) (is_over known.of.stage)) (sym outbox) refl;
     confirmed = confirms n (Only (REFERENCE_BASE + (known.place + 1))) known.confirmed;
@@ -170,7 +171,7 @@ module _ (w v : Actors) (controller : v.controller ≡ w.controller) (switch : v
   cut_keeps : Keeps w v
   cut_keeps = record {
     names = λ agree. record { each = λ n from_one. cut_agrees n (agree.each n from_one); right = subst (AllByRecursion (λ (entry : OutboxEntry). IsRight entry.out)) (sym outbox) tt };
-    unheard = λ n from_one has unknown. (asked_same w v n controller has, cut_unknown n unknown.none unknown.unconfirmed);
+    remains_unknown = λ n from_one has unknown. (asked_same w v n controller has, cut_unknown n unknown.none unknown.unconfirmed);
     dropped = λ n from_one has closed. dropped_same w v n controller has closed;
     peers = λ differ. subst (λ (s : SwitchState). Differ (peers_of s.connections)) (sym switch) differ;
   }
@@ -188,24 +189,24 @@ break_keeps w source = after_taken (Keeps w) (after_break w source) w (broken_le
 -- ---- the switch acts of its own
 
 -- one connection changes, and hasn't ended before or after
-set_stands : (n place : ℕ) (c : Connection) (cs : List Connection) (i : ℕ) (x own : Connection) → slice_get cs i ≡ Some x → own.peer ≡ x.peer → is_over own.stage ≡ is_over x.stage → IsFirstAt n place c cs
+first_at_set : (n place : ℕ) (c : Connection) (cs : List Connection) (i : ℕ) (x own : Connection) → slice_get cs i ≡ Some x → own.peer ≡ x.peer → is_over own.stage ≡ is_over x.stage → IsFirstAt n place c cs
     → (now : Connection) × IsFirstAt n place now (slice_set cs i own) × (is_over now.stage ≡ is_over c.stage)
-set_stands n place c [] i x own is peer over stands = absurd stands
-set_stands n zero c (y ∷ cs) zero x own is peer over stands =
-    (own, (refl, peer ∙ ap (λ (z : Connection). z.peer) (sym (same_Some _ _ is)) ∙ stands.1), over ∙ ap (λ (z : Connection). is_over z.stage) (sym (same_Some _ _ is) ∙ stands.0))
-set_stands n zero c (y ∷ cs) (suc i) x own is peer over stands = (c, (stands.0, stands.1), refl)
-set_stands n (suc place) c (y ∷ cs) zero x own is peer over stands = (c, ((λ mine. stands.0 (ap (λ (z : Connection). z.peer) (same_Some _ _ is) ∙ sym peer ∙ mine)), stands.1), refl)
-set_stands n (suc place) c (y ∷ cs) (suc i) x own is peer over stands =
-    let rest = set_stands n place c cs i x own is peer over stands.1 in
-    (rest.0, (stands.0, rest.1), rest.2)
+first_at_set n place c [] i x own is peer over first_at = absurd first_at
+first_at_set n zero c (y ∷ cs) zero x own is peer over first_at =
+    (own, (refl, peer ∙ ap (λ (z : Connection). z.peer) (sym (same_Some _ _ is)) ∙ first_at.1), over ∙ ap (λ (z : Connection). is_over z.stage) (sym (same_Some _ _ is) ∙ first_at.0))
+first_at_set n zero c (y ∷ cs) (suc i) x own is peer over first_at = (c, (first_at.0, first_at.1), refl)
+first_at_set n (suc place) c (y ∷ cs) zero x own is peer over first_at = (c, ((λ mine. first_at.0 (ap (λ (z : Connection). z.peer) (same_Some _ _ is) ∙ sym peer ∙ mine)), first_at.1), refl)
+first_at_set n (suc place) c (y ∷ cs) (suc i) x own is peer over first_at =
+    let rest = first_at_set n place c cs i x own is peer over first_at.1 in
+    (rest.0, (first_at.0, rest.1), rest.2)
 
 -- the connections are others then, but stand where they stood
 record StandSame (cs now : List Connection) (n : ℕ) : Type 0 where
   none : find (is_of_peer n) cs ≡ None → find (is_of_peer n) now ≡ None
-  stands : (place : ℕ) (c : Connection) → IsFirstAt n place c cs → (own : Connection) × IsFirstAt n place own now × (is_over own.stage ≡ is_over c.stage)
+  first_at : (place : ℕ) (c : Connection) → IsFirstAt n place c cs → (own : Connection) × IsFirstAt n place own now × (is_over own.stage ≡ is_over c.stage)
 
 stand_itself : (cs : List Connection) (n : ℕ) → StandSame cs cs n
-stand_itself cs n = record { none = λ none. none; stands = λ place c stands. (c, stands, refl) }
+stand_itself cs n = record { none = λ none. none; first_at = λ place c first_at. (c, first_at, refl) }
 
 stage-open : (c : Connection) → is_none (stage_fault c.stage) ≡ true → is_over c.stage ≡ false
 stage-open c is = by c.stage is where
@@ -213,13 +214,14 @@ stage-open c is = by c.stage is where
   by Ended is = absurd cc
   by _ is = refl
 
-clear_stands : (cs : List Connection) (number n : ℕ) → is_none (send_fault (connection_of cs number)) ≡ true → StandSame cs (connections_after_clear cs number (connection_of cs number)) n
-clear_stands cs number n open_is = by_number (nat_eq number 0) open_is where
+first_at_clear : (cs : List Connection) (number n : ℕ) → is_none (send_fault (connection_of cs number)) ≡ true → StandSame cs (connections_after_clear cs number (connection_of cs number)) n
+first_at_clear cs number n open_is = by_number (nat_eq number 0) open_is where
   by : (o : Option Connection) → slice_get cs (number - 1) ≡ o → is_none (send_fault o) ≡ true → StandSame cs (connections_after_clear cs number o) n
   by None is unclear = stand_itself cs n
   by (Some x) is unclear = record {
     none = λ none. set_none n cs (number - 1) (with_stage x Clearing) (got_other n cs (number - 1) x is none) none;
-    stands = λ place c stands. set_stands n place c cs (number - 1) x (with_stage x Clearing) is refl (sym (stage-open x unclear)) stands;
+    first_at = λ place c first_at. first_at_set n place c cs (number - 1) x (with_stage x Clearing) is refl
+        (sym (stage-open x unclear)) first_at;
   }
 
   by_number : (b : Bool) → is_none (send_fault (if b then None else slice_get cs (number - 1))) ≡ true → StandSame cs (connections_after_clear cs number (if b then None else slice_get cs (number - 1))) n
@@ -239,12 +241,12 @@ sent_keeps w number message next stand same_peers = by (may_send_on w number) re
   by false is = keeps_itself w
   by true is =
       let unclear = (and_parts (is_up w SWITCH_LINK) (is_none (send_fault (connection_of w.switch.connections number))) is).1 in
-      by_same w _ (λ n. let s = stand unclear n in record { controller_is = refl; none = s.none; stands = s.stands; quiet = λ quiet. quiet; once = λ once. once; runs = λ k over last runs. runs })
+      by_same w _ (λ n. let s = stand unclear n in record { controller_is = refl; none = s.none; first_at = s.first_at; quiet = λ quiet. quiet; once = λ once. once; runs = λ k over last runs. runs })
       (λ n P confirms. record { made = AllByRecursion-append (ConfirmsBy P n) w.switch_made (data_forms_on (connection_of w.switch.connections number) message) confirms.made (forms_confirm P n (connection_of w.switch.connections number) message); waiting = confirms.waiting }) refl same_peers
 
 pub does_keeps : (w : Actors) (action : SwitchAction) → Keeps w (unwrap_or (after_switch_does w action) w)
 does_keeps w (Assign number) = sent_keeps w number assignment_request w.switch (λ unclear n. stand_itself w.switch.connections n) refl
-does_keeps w (Clear number) = sent_keeps w number clear_command (after_clear w.switch number) (λ unclear n. clear_stands w.switch.connections number n unclear) (clear_peers w.switch.connections number)
+does_keeps w (Clear number) = sent_keeps w number clear_command (after_clear w.switch number) (λ unclear n. first_at_clear w.switch.connections number n unclear) (clear_peers w.switch.connections number)
 does_keeps w (Dtap number sapi message) = by (is_layer_3 message) where
   by : (b : Bool) → Keeps w (unwrap_or (if b then sent_on w number (Transfer (dlci_for sapi) message) w.switch else None) w)
   by true = sent_keeps w number (Transfer (dlci_for sapi) message) w.switch (λ unclear n. stand_itself w.switch.connections n) refl

@@ -14,10 +14,10 @@ use Rattle.world_laws.specs.References.Agree.{IsUnknown, NamesAgree, Runs, IsFir
 use Rattle.world_laws.specs.References.Reads.{AreNothing, IsNothing, Read, asks, carried, data_read, initial_read, nothing, sccp_read}
 use Rattle.world_laws.proofs.References.OwnTaking.{heeds_data, own_asks, own_data}
 use Rattle.world_laws.proofs.References.Peers.{Differ, HaveOwnPeers, effect_differs, peers_of}
-use Rattle.world_laws.proofs.References.Places.{stands_find}
+use Rattle.world_laws.proofs.References.Places.{first_at_find}
 use Rattle.world_laws.proofs.References.Right.{other_carries}
 use Rattle.world_laws.proofs.References.Taking.{After, asked_same, same_unknown, Effect, IsSame, Took, after_took, confirms_after}
-use Rattle.world_laws.proofs.References.Taking.{other_keeps, other_none, other_same, other_stands, same_agrees, took_nothing}
+use Rattle.world_laws.proofs.References.Taking.{other_keeps, other_none, other_same, first_at_other, same_agrees, took_nothing}
 use Rattle.world_laws.proofs.References.Taking.{took_connections, took_replies}
 use Rattle.world_laws.proofs.References.Taking.Effect.{same}
 
@@ -84,7 +84,7 @@ module _ (w v : Actors) (others : List OutboxEntry) (n : ℕ) (three : n < w.con
 
   own_nothing : (o : Option Sccp) → reads_of n (outbox_of w SWITCH_LINK) ≡ sccp_read o ∷ reads_of n others → IsNothing (sccp_read o) → Comes o → Agrees w n → Result o
   unfolding Result Comes
-  own_nothing o stood is after agrees =
+  own_nothing o pending is after agrees =
       let cs : List Connection = w.switch.connections in
       let both = nothing_same w.switch.modulus cs o is in
       let now : After w v others cs [] = subst (λ (xs : List Sccp). After w v others cs xs) both.1 (subst (λ (xs : List Connection). After w v others xs (took_replies cs o)) both.0 after) in
@@ -92,10 +92,10 @@ module _ (w v : Actors) (others : List OutboxEntry) (n : ℕ) (three : n < w.con
       let kept : IsSame w v n = record {
         controller_is = now.controller_is;
         none = λ none. subst (λ (xs : List Connection). find (is_of_peer n) xs ≡ None) (sym now.conns) none;
-        stands = λ place c stands. (c, subst (IsFirstAt n place c) (sym now.conns) stands, refl);
-        quiet = λ quiet. subst AreNothing (sym wire) (subst AreNothing stood quiet).1;
-        once = λ once. subst (AsksOnce n) (sym wire) (asks_tail n (sccp_read o) (reads_of n others) is (subst (AsksOnce n) stood once));
-        runs = λ k over last runs. subst (λ (xs : List Read). Runs k over xs last) (sym wire) (runs_tail k over last (sccp_read o) (reads_of n others) is (subst (λ (xs : List Read). Runs k over xs last) stood runs));
+        first_at = λ place c first_at. (c, subst (IsFirstAt n place c) (sym now.conns) first_at, refl);
+        quiet = λ quiet. subst AreNothing (sym wire) (subst AreNothing pending quiet).1;
+        once = λ once. subst (AsksOnce n) (sym wire) (asks_tail n (sccp_read o) (reads_of n others) is (subst (AsksOnce n) pending once));
+        runs = λ k over last runs. subst (λ (xs : List Read). Runs k over xs last) (sym wire) (runs_tail k over last (sccp_read o) (reads_of n others) is (subst (λ (xs : List Read). Runs k over xs last) pending runs));
       } in
       subst (λ (xs : List Connection). Took w v n xs (took_replies cs o) (sccp_read o)) (sym both.0)
       (subst (λ (xs : List Sccp). Took w v n cs xs (sccp_read o)) (sym both.1) (took_nothing n (sccp_read o) now is (λ P confirms. confirms_after P n now confirms tt) kept agrees))
@@ -126,24 +126,24 @@ module _ (w v : Actors) (others : List OutboxEntry) (n : ℕ) (three : n < w.con
 
   own_asking : HasAsked w n → IsOnItsWay w n → (o : Option Sccp) → (IsNothing (sccp_read o) → ⊥) → AsksOnce n (sccp_read o ∷ reads_of n others) → Comes o → Result o
   unfolding Result
-  own_asking has way (Some (ConnectionRequest s None)) heeds once after = absurd once
-  own_asking has way (Some (ConnectionRequest s (Some user))) heeds once after = own_request has way s user (message_in user) refl once after
-  own_asking has way (Some (DataForm1 d user)) heeds once after = absurd (data_asks d (message_in user) once)
-  own_asking has way _ heeds once after = absurd (heeds tt)
+  own_asking has way (Some (ConnectionRequest s None)) addressed once after = absurd once
+  own_asking has way (Some (ConnectionRequest s (Some user))) addressed once after = own_request has way s user (message_in user) refl once after
+  own_asking has way (Some (DataForm1 d user)) addressed once after = absurd (data_asks d (message_in user) once)
+  own_asking has way _ addressed once after = absurd (addressed tt)
 
   initial_unheeded : (k : ℕ) (over : Bool) (s : ℕ) (q : Option Bssap) → IsAddressedTo k over (initial_read s q) → ⊥
-  initial_unheeded k over s None heeds = heeds
-  initial_unheeded k over s (Some (Transfer dlci message)) heeds = heeds
-  initial_unheeded k over s (Some (Management (bssmap.CompleteLayer3Information cell initial))) heeds = heeds
-  initial_unheeded k over s (Some (Management _)) heeds = heeds
+  initial_unheeded k over s None addressed = addressed
+  initial_unheeded k over s (Some (Transfer dlci message)) addressed = addressed
+  initial_unheeded k over s (Some (Management (bssmap.CompleteLayer3Information cell initial))) addressed = addressed
+  initial_unheeded k over s (Some (Management _)) addressed = addressed
 
   own_form : n < w.controller.next_number → (known : IsKnown w n) (d : ℕ) (user : List ℕ) (q : Option Bssap) → message_in user ≡ q → IsAddressedTo (REFERENCE_BASE + (known.place + 1)) (is_over known.of.stage) (data_read d q)
       → Runs (REFERENCE_BASE + (known.place + 1)) (over_after (is_over known.of.stage) (data_read d q)) (reads_of n others) known.last → Comes (Some (DataForm1 d user))
       → Took w v n (took_connections w.switch.modulus w.switch.connections (Some (DataForm1 d user))) (took_replies w.switch.connections (Some (DataForm1 d user))) (data_read d q)
   unfolding Comes
-  own_form past known d user None is heeds runs after = absurd heeds
-  own_form past known d user (Some q) is heeds runs after =
-      let heedful = heeds_data (REFERENCE_BASE + (known.place + 1)) d (is_over known.of.stage) q heeds in
+  own_form past known d user None is addressed runs after = absurd addressed
+  own_form past known d user (Some q) is addressed runs after =
+      let heedful = heeds_data (REFERENCE_BASE + (known.place + 1)) d (is_over known.of.stage) q addressed in
       subst (λ (x : ℕ). IsHeeded (data_read x (Some q)) → Runs (REFERENCE_BASE + (known.place + 1)) (over_after (is_over known.of.stage) (data_read x (Some q))) (reads_of n others) known.last
       → After w v others (connections_after w.switch.modulus w.switch.connections (DataForm1 x user)) (replies w.switch.connections (DataForm1 x user))
       → Took w v n (connections_after w.switch.modulus w.switch.connections (DataForm1 x user)) (replies w.switch.connections (DataForm1 x user)) (data_read x (Some q)))
@@ -151,21 +151,22 @@ module _ (w v : Actors) (others : List OutboxEntry) (n : ℕ) (three : n < w.con
 
   own_known : n < w.controller.next_number → (known : IsKnown w n) (o : Option Sccp) → (IsNothing (sccp_read o) → ⊥) → Runs (REFERENCE_BASE + (known.place + 1)) (is_over known.of.stage) (sccp_read o ∷ reads_of n others) known.last → Comes o → Result o
   unfolding Result
-  own_known past known (Some (ConnectionRequest s None)) heeds runs after = absurd runs.0
-  own_known past known (Some (ConnectionRequest s (Some user))) heeds runs after = absurd (initial_unheeded (REFERENCE_BASE + (known.place + 1)) (is_over known.of.stage) s (message_in user) runs.0)
-  own_known past known (Some (DataForm1 d user)) heeds runs after = own_form past known d user (message_in user) refl runs.0 runs.1 after
-  own_known past known _ heeds runs after = absurd (heeds tt)
+  own_known past known (Some (ConnectionRequest s None)) addressed runs after = absurd runs.0
+  own_known past known (Some (ConnectionRequest s (Some user))) addressed runs after = absurd (initial_unheeded (REFERENCE_BASE + (known.place + 1)) (is_over known.of.stage) s (message_in user) runs.0)
+  own_known past known (Some (DataForm1 d user)) addressed runs after = own_form past known d user
+      (message_in user) refl runs.0 runs.1 after
+  own_known past known _ addressed runs after = absurd (addressed tt)
 
   own_agreed : (o : Option Sccp) → reads_of n (outbox_of w SWITCH_LINK) ≡ sccp_read o ∷ reads_of n others → (IsNothing (sccp_read o) → ⊥) → Comes o → Agrees w n → Result o
-  own_agreed o stood heeds after (is_unasked un unknown) = absurd (heeds (subst AreNothing stood unknown.quiet).0)
-  own_agreed o stood heeds after (is_unheard has unknown) = absurd (heeds (subst AreNothing stood unknown.quiet).0)
-  own_agreed o stood heeds after (is_asking has way) = own_asking has way o heeds (subst (AsksOnce n) stood way.once) after
-  own_agreed o stood heeds after (is_known past known) = own_known past known o heeds (subst (λ (xs : List Read). Runs (REFERENCE_BASE + (known.place + 1)) (is_over known.of.stage) xs known.last) stood known.runs) after
+  own_agreed o pending addressed after (is_unasked un unknown) = absurd (addressed (subst AreNothing pending unknown.quiet).0)
+  own_agreed o pending addressed after (is_unheard has unknown) = absurd (addressed (subst AreNothing pending unknown.quiet).0)
+  own_agreed o pending addressed after (is_asking has way) = own_asking has way o addressed (subst (AsksOnce n) pending way.once) after
+  own_agreed o pending addressed after (is_known past known) = own_known past known o addressed (subst (λ (xs : List Read). Runs (REFERENCE_BASE + (known.place + 1)) (is_over known.of.stage) xs known.last) pending known.runs) after
 
   own_took : (o : Option Sccp) → reads_of n (outbox_of w SWITCH_LINK) ≡ sccp_read o ∷ reads_of n others → Comes o → Agrees w n → Result o
-  own_took o stood after agrees = elim (nothing_or (sccp_read o)) [
-    | inl is ↦ own_nothing o stood is after agrees
-    | inr heeds ↦ own_agreed o stood heeds after agrees
+  own_took o pending after agrees = elim (nothing_or (sccp_read o)) [
+    | inl is ↦ own_nothing o pending is after agrees
+    | inr addressed ↦ own_agreed o pending addressed after agrees
   ]
 
 -- ---- any
@@ -175,7 +176,7 @@ pub record IsFirst (w : Actors) (first : OutboxEntry) (others : List OutboxEntry
   pub agree : NamesAgree w
   pub few : w.controller.next_number ≤ 2 ^ 24
   pub up : is_up w SWITCH_LINK ≡ true
-  pub stood : outbox_of w SWITCH_LINK ≡ first ∷ others
+  pub pending : outbox_of w SWITCH_LINK ≡ first ∷ others
 
 module _ (w : Actors) (first : OutboxEntry) (others : List OutboxEntry) (h : IsFirst w first others) where
   abbrev v : Actors
@@ -191,13 +192,13 @@ module _ (w : Actors) (first : OutboxEntry) (others : List OutboxEntry) (h : IsF
   after = after_took w others (sccp_in first.out.frame) h.up
 
   rights : AllByRecursion (λ entry. IsRight entry.out) (first ∷ others)
-  rights = subst (AllByRecursion (λ (entry : OutboxEntry). IsRight entry.out)) h.stood h.agree.right
+  rights = subst (AllByRecursion (λ (entry : OutboxEntry). IsRight entry.out)) h.pending h.agree.right
 
   -- the entry of this connection, which isn't beyond all that there were
   own_entry : (n : ℕ) → 1 ≤ n → first.out.conn ≡ n → Took w v n taken_connections taken_replies (reads first.out)
   unfolding Result Comes
   own_entry n from_one is =
-      let wire : reads_of n (outbox_of w SWITCH_LINK) ≡ reads first.out ∷ reads_of n others = ap (reads_of n) h.stood ∙ first-own n first others is in
+      let wire : reads_of n (outbox_of w SWITCH_LINK) ≡ reads first.out ∷ reads_of n others = ap (reads_of n) h.pending ∙ first-own n first others is in
       own_took w v others n less (sccp_in first.out.frame) wire after (h.agree.each n from_one)
     where
       less : n < w.controller.next_number → n < 2 ^ 24
@@ -229,7 +230,7 @@ module _ (w : Actors) (first : OutboxEntry) (others : List OutboxEntry) (h : IsF
   ])
 
   other_wire : (n : ℕ) → first.out.conn ≢ n → reads_of n others ≡ reads_of n (outbox_of w SWITCH_LINK)
-  other_wire n differ = sym (ap (reads_of n) h.stood ∙ first-other n first others differ)
+  other_wire n differ = sym (ap (reads_of n) h.pending ∙ first-other n first others differ)
 
   other_agrees : (n : ℕ) → 1 ≤ n → first.out.conn ≢ n → Agrees v n
   other_agrees n from_one differ =
@@ -255,8 +256,8 @@ module _ (w : Actors) (first : OutboxEntry) (others : List OutboxEntry) (h : IsF
   other_found n differ (is_asking has way) = ap taken_in (other_none w first.out.conn n differ effect way.none) ∙ sym (ap taken_in way.none)
   other_found n differ (is_unheard has unknown) = ap taken_in (other_none w first.out.conn n differ effect unknown.none) ∙ sym (ap taken_in unknown.none)
   other_found n differ (is_known past known) =
-      ap taken_in (stands_find n known.place known.of taken_connections (other_stands w first.out.conn n differ effect known.place known.of known.stands))
-      ∙ sym (ap taken_in (stands_find n known.place known.of w.switch.connections known.stands))
+      ap taken_in (first_at_find n known.place known.of taken_connections (first_at_other w first.out.conn n differ effect known.place known.of known.first_at))
+      ∙ sym (ap taken_in (first_at_find n known.place known.of w.switch.connections known.first_at))
 
   abbrev Delivers : ℕ → Type 0
   Delivers n = taken_of (switch_took (sccp_in first.out.frame) w) n ≡ taken_of w n ++ carried_for n first.out
@@ -291,7 +292,7 @@ module _ (w : Actors) (first : OutboxEntry) (others : List OutboxEntry) (h : IsF
   ] where
     by : first.out.conn ≡ n → HasAsked v n × IsUnknown v n
     by is =
-        let wire : reads_of n (outbox_of w SWITCH_LINK) ≡ reads first.out ∷ reads_of n others = ap (reads_of n) h.stood ∙ first-own n first others is in
+        let wire : reads_of n (outbox_of w SWITCH_LINK) ≡ reads first.out ∷ reads_of n others = ap (reads_of n) h.pending ∙ first-own n first others is in
         let quiet = subst AreNothing wire unknown.quiet in
         let both = nothing_same w.switch.modulus w.switch.connections (sccp_in first.out.frame) quiet.0 in (
           asked_same w v n after.controller_is has,

@@ -2,52 +2,52 @@
 -- What a step of the controller does to one connection, by how far that is.
 use Rattle.world_laws.proofs.Prelude.{◌≡◌, ◌⊎◌, ℕ, Bool, List, [], ◌∷◌, Option, None, refl, sym, ap, subst, inl, inr, Message, Input, Due}
 use Rattle.world_laws.proofs.Prelude.{WasAsked, Complete, State, WaitConfirm, Live, Closed, Removed, Connection, Row, OfRow, Acts, Brought}
-use Rattle.world_laws.proofs.Prelude.{IsBrought, kept_in, rests, ages, opens, goes, same_state}
+use Rattle.world_laws.proofs.Prelude.{IsBrought, kept_in, rests, ages, opens, takes_row, same_state}
 use Rattle.conn_rules.specs.declared.input.Input.TheVariants as inputs
 use Rattle.world_laws.specs.References.Naming.{AreQuiet, From, FromCleared, FromEarly, FromNamed, FromWaiting, StepsTo, Reach, early, waits}
 use Rattle.world_laws.specs.References.Naming.{due, named, cleared, reach_in, reach_of}
-use Rattle.world_laws.specs.References.Naming.StepsTo.{stays, leaves, fails, asks, confirmed, speaks, clears}
+use Rattle.world_laws.specs.References.Naming.StepsTo.{unchanged, leaves, fails, asks, confirmed, speaks, clears}
 use Rattle.world_laws.proofs.References.NamedRows.{named_row}
 
 -- ---- one row
 
-module _ (came : ℕ → Type 0) (input : Input) (put : List Message) (comes : (r : ℕ) → input ≡ inputs.ConnectionConfirm r → came r) where
-  from_early : (after : State) → FromEarly put after → StepsTo came put early (reach_in after)
+module _ (given : ℕ → Type 0) (input : Input) (put : List Message) (confirms_it : (r : ℕ) → input ≡ inputs.ConnectionConfirm r → given r) where
+  from_early : (after : State) → FromEarly put after → StepsTo given put early (reach_in after)
   from_early Removed from = leaves from
   from_early WaitConfirm from = asks from
   from_early (Live reference stage) from = absurd from
   from_early (Closed clearing) from = absurd from
-  from_early _ from = stays from
+  from_early _ from = unchanged from
 
-  from_waits : (after : State) → FromWaiting input put after → StepsTo came put waits (reach_in after)
-  from_waits WaitConfirm from = stays from
+  from_waits : (after : State) → FromWaiting input put after → StepsTo given put waits (reach_in after)
+  from_waits WaitConfirm from = unchanged from
   from_waits (Closed (Due cause)) from = fails tt tt from
   from_waits Removed from = leaves from
-  from_waits (Live reference stage) from = confirmed reference tt (comes reference from.0) from.1
-  from_waits (Closed (WasAsked reference)) from = confirmed reference tt (comes reference from.0) from.1
+  from_waits (Live reference stage) from = confirmed reference tt (confirms_it reference from.0) from.1
+  from_waits (Closed (WasAsked reference)) from = confirmed reference tt (confirms_it reference from.0) from.1
   from_waits _ from = absurd from
 
-  from_due : (after : State) → FromWaiting input put after → StepsTo came put due (reach_in after)
+  from_due : (after : State) → FromWaiting input put after → StepsTo given put due (reach_in after)
   from_due WaitConfirm from = fails tt tt from
-  from_due (Closed (Due cause)) from = stays from
+  from_due (Closed (Due cause)) from = unchanged from
   from_due Removed from = leaves from
-  from_due (Live reference stage) from = confirmed reference tt (comes reference from.0) from.1
-  from_due (Closed (WasAsked reference)) from = confirmed reference tt (comes reference from.0) from.1
+  from_due (Live reference stage) from = confirmed reference tt (confirms_it reference from.0) from.1
+  from_due (Closed (WasAsked reference)) from = confirmed reference tt (confirms_it reference from.0) from.1
   from_due _ from = absurd from
 
-  from_named : (k : ℕ) (after : State) → FromNamed k put after → StepsTo came put (named k) (reach_in after)
-  from_named k (Live own stage) from = subst (λ (r : ℕ). StepsTo came put (named k) (named r)) (sym from.0) (speaks from.1)
-  from_named k (Closed (WasAsked own)) from = subst (λ (r : ℕ). StepsTo came put (named k) (named r)) (sym from.0) (speaks from.1)
+  from_named : (k : ℕ) (after : State) → FromNamed k put after → StepsTo given put (named k) (reach_in after)
+  from_named k (Live own stage) from = subst (λ (r : ℕ). StepsTo given put (named k) (named r)) (sym from.0) (speaks from.1)
+  from_named k (Closed (WasAsked own)) from = subst (λ (r : ℕ). StepsTo given put (named k) (named r)) (sym from.0) (speaks from.1)
   from_named k (Closed Complete) from = clears from
   from_named k Removed from = leaves from
   from_named k _ from = absurd from
 
-  from_cleared : (after : State) → FromCleared put after → StepsTo came put cleared (reach_in after)
-  from_cleared (Closed Complete) from = stays from
+  from_cleared : (after : State) → FromCleared put after → StepsTo given put cleared (reach_in after)
+  from_cleared (Closed Complete) from = unchanged from
   from_cleared Removed from = leaves from
   from_cleared _ from = absurd from
 
-  goes_by : (before after : State) → From input put before after → StepsTo came put (reach_in before) (reach_in after)
+  goes_by : (before after : State) → From input put before after → StepsTo given put (reach_in before) (reach_in after)
   goes_by WaitConfirm after from = from_waits after from
   goes_by (Live k stage) after from = from_named k after from
   goes_by (Closed (Due cause)) after from = from_due after from
@@ -70,16 +70,16 @@ pub record Begins (next number : ℕ) (put : List Message) (before after : Optio
   pub is_early : reach_of after ≡ early
   pub quiet : AreQuiet put
 
-pub acts_go : {number next : ℕ} {up : Bool} {brought : Brought} {before after : Option Connection} {put : List Message} (came : ℕ → Type 0) → ((r : ℕ) → IsBrought brought (inputs.ConnectionConfirm r) → came r) → Acts number next up brought before put after
-    → Begins next number put before after ⊎ StepsTo came put (reach_of before) (reach_of after)
-acts_go {before = before} {put = put} came comes (rests silent same none) = inr (subst (λ (o : Option Connection). StepsTo came put (reach_of before) (reach_of o)) (sym same) (stays (subst AreQuiet (sym silent) tt)))
-acts_go {after = after} {put = put} came comes (ages old s is_time was aged silent same) =
-    inr (subst (λ (o : Option Connection). StepsTo came put (reach_of o) (reach_of after)) (sym was) (subst (λ (o : Option Connection). StepsTo came put (reach_in old.state) (reach_of o)) (sym same)
-    (subst (λ (state : State). StepsTo came put (reach_in old.state) (reach_in state)) (sym (same_state old s aged)) (stays (subst AreQuiet (sym silent) tt)))))
-acts_go came comes (opens begins linked channel request delay is_nothing none put_is same) = inl (record { is_next = begins; none = none; is_early = ap reach_of same; quiet = subst AreQuiet (sym put_is) (tt, tt) })
-acts_go {brought = brought} {after = after} {put = put} came comes (goes old s input offer r was aged by fits put_is same) =
+pub acts_go : {number next : ℕ} {up : Bool} {brought : Brought} {before after : Option Connection} {put : List Message} (given : ℕ → Type 0) → ((r : ℕ) → IsBrought brought (inputs.ConnectionConfirm r) → given r) → Acts number next up brought before put after
+    → Begins next number put before after ⊎ StepsTo given put (reach_of before) (reach_of after)
+acts_go {before = before} {put = put} given confirms_it (rests silent same none) = inr (subst (λ (o : Option Connection). StepsTo given put (reach_of before) (reach_of o)) (sym same) (unchanged (subst AreQuiet (sym silent) tt)))
+acts_go {after = after} {put = put} given confirms_it (ages old s is_time was aged silent same) =
+    inr (subst (λ (o : Option Connection). StepsTo given put (reach_of o) (reach_of after)) (sym was) (subst (λ (o : Option Connection). StepsTo given put (reach_in old.state) (reach_of o)) (sym same)
+    (subst (λ (state : State). StepsTo given put (reach_in old.state) (reach_in state)) (sym (same_state old s aged)) (unchanged (subst AreQuiet (sym silent) tt)))))
+acts_go given confirms_it (opens begins linked channel request delay is_nothing none put_is same) = inl (record { is_next = begins; none = none; is_early = ap reach_of same; quiet = subst AreQuiet (sym put_is) (tt, tt) })
+acts_go {brought = brought} {after = after} {put = put} given confirms_it (takes_row old s input offer r was aged by fits put_is same) =
     let from : From input r.outs s.state r.next.state = subst (OfRow (λ (q : Row). From input q.outs s.state q.next.state)) fits (named_row s input offer) in
-    let one : StepsTo came r.outs (reach_in s.state) (reach_in r.next.state) = goes_by came input r.outs (λ k is. comes k (subst (IsBrought brought) is by)) s.state r.next.state from in
-    let own : StepsTo came put (reach_in s.state) (reach_in r.next.state) = subst (λ (xs : List Message). StepsTo came xs (reach_in s.state) (reach_in r.next.state)) (sym put_is) one in
-    let whole : StepsTo came put (reach_in s.state) (reach_of after) = subst (λ (o : Option Connection). StepsTo came put (reach_in s.state) (reach_of o)) (sym same) (subst (λ (x : Reach). StepsTo came put (reach_in s.state) x) (sym (kept_reach r.next.state r.next refl)) own) in
-    inr (subst (λ (o : Option Connection). StepsTo came put (reach_of o) (reach_of after)) (sym was) (subst (λ (state : State). StepsTo came put (reach_in state) (reach_of after)) (same_state old s aged) whole))
+    let one : StepsTo given r.outs (reach_in s.state) (reach_in r.next.state) = goes_by given input r.outs (λ k is. confirms_it k (subst (IsBrought brought) is by)) s.state r.next.state from in
+    let own : StepsTo given put (reach_in s.state) (reach_in r.next.state) = subst (λ (xs : List Message). StepsTo given xs (reach_in s.state) (reach_in r.next.state)) (sym put_is) one in
+    let whole : StepsTo given put (reach_in s.state) (reach_of after) = subst (λ (o : Option Connection). StepsTo given put (reach_in s.state) (reach_of o)) (sym same) (subst (λ (x : Reach). StepsTo given put (reach_in s.state) x) (sym (kept_reach r.next.state r.next refl)) own) in
+    inr (subst (λ (o : Option Connection). StepsTo given put (reach_of o) (reach_of after)) (sym was) (subst (λ (state : State). StepsTo given put (reach_in state) (reach_of after)) (same_state old s aged) whole))

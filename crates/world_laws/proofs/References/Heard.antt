@@ -19,7 +19,7 @@ use Rattle.world_laws.specs.References.Naming.{Reach, early, waits, due, named, 
 use Rattle.world_laws.specs.References.Reads.{AreNothing, Read, asks, carried, nothing}
 use Rattle.world_laws.proofs.References.Always.{Before, names_always_agree_new, before_of, keeps}
 use Rattle.world_laws.proofs.References.FirstTaken.{IsFirst, delivers_or, first-other, first-own, names_after}
-use Rattle.world_laws.proofs.References.Places.{stands_find}
+use Rattle.world_laws.proofs.References.Places.{first_at_find}
 use Rattle.world_laws.proofs.References.Right.{other_carries}
 use Rattle.world_laws.proofs.References.Stepping.{none_beyond}
 use Rattle.world_laws.proofs.SwitchTook.{waiting_in}
@@ -105,16 +105,16 @@ to_unheard w n from_one agree has =
     record { past = has.0.past; none_taken = of.none_taken; none_waits = of.none_waits; unconfirmed = unconfirmed (connection_of w.controller n) has.0.asked }
 
 from_unheard : (w : Actors) (n : ℕ) → 1 ≤ n → NamesAgree w → IsUnknownForGood w n → HasAsked w n × IsUnknown w n
-from_unheard w n from_one agree unheard = by (agree.each n from_one) where
+from_unheard w n from_one agree unknown_for_good = by (agree.each n from_one) where
   beyond : w.controller.next_number ≤ n → n < w.controller.next_number → ⊥
   beyond more less = omega (arith, more, less)
 
   by : Agrees w n → HasAsked w n × IsUnknown w n
-  by (is_unasked (inl more) unknown) = absurd (beyond more unheard.past)
-  by (is_unasked (inr has) unknown) = absurd (early_confirmed (connection_of w.controller n) has.1 unheard.unconfirmed)
-  by (is_asking has way) = absurd (asks_waits n (outbox_of w SWITCH_LINK) from_one agree.right way.once unheard.none_waits)
+  by (is_unasked (inl more) unknown) = absurd (beyond more unknown_for_good.past)
+  by (is_unasked (inr has) unknown) = absurd (early_confirmed (connection_of w.controller n) has.1 unknown_for_good.unconfirmed)
+  by (is_asking has way) = absurd (asks_waits n (outbox_of w SWITCH_LINK) from_one agree.right way.once unknown_for_good.none_waits)
   by (is_unheard has unknown) = (has, unknown)
-  by (is_known past known) = absurd (none-some known.of (sym unheard.none_taken ∙ (stands_find n known.place known.of w.switch.connections known.stands)))
+  by (is_known past known) = absurd (none-some known.of (sym unknown_for_good.none_taken ∙ (first_at_find n known.place known.of w.switch.connections known.first_at)))
 
 -- ---- the laws
 
@@ -122,12 +122,12 @@ names_of : (settings : Parameters) (events : List Event) → AreAllowed settings
 names_of settings events allowed octets = names_always_agree_new settings events allowed octets
 
 pub unheard_stay_unheard_new : (settings : Parameters) (events : List Event) (event : Event) → UnknownStayUnknown settings events event
-unheard_stay_unheard_new settings events event n allowed octets own from_one unheard =
+unheard_stay_unheard_new settings events event n allowed octets own from_one unknown_for_good =
     let w : Actors = world settings events in
     let agree : NamesAgree w = names_of settings events allowed octets in
     let kept = keeps w event (before_of settings events w event refl allowed octets own agree) in
-    let has = from_unheard w n from_one agree unheard in
-    to_unheard (actors_after w event) n from_one (kept.names agree) (kept.unheard n from_one has.0 has.1)
+    let has = from_unheard w n from_one agree unknown_for_good in
+    to_unheard (actors_after w event) n from_one (kept.names agree) (kept.remains_unknown n from_one has.0 has.1)
 
 early_in : (state : State) → IsEarlyIn state → reach_in state ≡ early
 early_in WaitActivation is = refl
@@ -190,16 +190,16 @@ dropped_are_unheard_new settings events event n allowed octets own from_one has 
 -- the switch takes
 taken_is : (w : Actors) (first : OutboxEntry) (others : List OutboxEntry) → is_up w SWITCH_LINK ≡ true → outbox_of w SWITCH_LINK ≡ first ∷ others → actors_after w SwitchTakes ≡ switch_took (sccp_in first.out.frame) (with_outbox SWITCH_LINK others w)
 unfolding event_after
-taken_is w first others up stood =
-    ap (λ (b : Bool). unwrap_or (if b then switch_took_first (outbox_of w SWITCH_LINK) w else None) w) up ∙ ap (λ (entries : List OutboxEntry). unwrap_or (switch_took_first entries w) w) stood
+taken_is w first others up pending =
+    ap (λ (b : Bool). unwrap_or (if b then switch_took_first (outbox_of w SWITCH_LINK) w else None) w) up ∙ ap (λ (entries : List OutboxEntry). unwrap_or (switch_took_first entries w) w) pending
 
 delivers_first : (w : Actors) (n : ℕ) (entries : List OutboxEntry) → 1 ≤ n → NamesAgree w → w.controller.next_number ≤ 2 ^ 24 → is_up w SWITCH_LINK ≡ true → outbox_of w SWITCH_LINK ≡ entries → DeliversFirst w n entries ⊎ IsUnknownForGood (actors_after w SwitchTakes) n
-delivers_first w n [] from_one agree few up stood = inl tt
-delivers_first w n (first ∷ others) from_one agree few up stood =
-    let h : IsFirst w first others = record { agree = agree; few = few; up = up; stood = stood } in
+delivers_first w n [] from_one agree few up pending = inl tt
+delivers_first w n (first ∷ others) from_one agree few up pending =
+    let h : IsFirst w first others = record { agree = agree; few = few; up = up; pending = pending } in
     elim (delivers_or w first others h n from_one) [
       | inl all ↦ inl all
-      | inr never ↦ inr (subst (λ (v : Actors). IsUnknownForGood v n) (sym (taken_is w first others up stood)) (to_unheard (switch_took (sccp_in first.out.frame) (with_outbox SWITCH_LINK others w)) n from_one (names_after w first others h) never))
+      | inr never ↦ inr (subst (λ (v : Actors). IsUnknownForGood v n) (sym (taken_is w first others up pending)) (to_unheard (switch_took (sccp_in first.out.frame) (with_outbox SWITCH_LINK others w)) n from_one (names_after w first others h) never))
     ]
 
 pub switch_delivers_or_refuses_new : (settings : Parameters) (events : List Event) → SwitchDeliversOrRefuses settings events

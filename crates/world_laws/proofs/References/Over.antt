@@ -43,7 +43,7 @@ silent_step p ss s number allowed octets own from_one less over =
     let fits = life_fits p ss number from_one in
     let does = step_does number c s from_one fits.numbered in
     let silence = step_silence number c s from_one fits in
-    let closed = silence.stays less over in
+    let closed = silence.remains_away less over in
     let usual = acts_usual number c.next_number (hears c SWITCH_LINK) (brought_in c number s) (connection_of c number) (connection_of (step c s).next number) does.put does.acts in
     let rises = (step_goes c s).numbers in
     record {
@@ -90,9 +90,9 @@ module _ (number : ℕ) (w : Actors) (silent : (s : Step) → IsOctetStep s → 
 pub over_puts_no_more_new : (settings : Parameters) (events : List Event) (event : Event) → OverPutsNoMore settings events event
 over_puts_no_more_new settings events event number allowed octets own from_one over =
     let w : Actors = world settings events in
-    let lives : w.controller ≡ lived settings events = FollowsTable-new settings events in
-    let silent : (s : Step) → IsOctetStep s → IsSilent number w.controller s = λ s comes. subst (λ (c : Controller). IsSilent number c s) (sym lives)
+    let by_table : w.controller ≡ lived settings events = FollowsTable-new settings events in
+    let silent : (s : Step) → IsOctetStep s → IsSilent number w.controller s = λ s comes. subst (λ (c : Controller). IsSilent number c s) (sym by_table)
     (silent_step settings (all_steps (new_actors settings) events) s number allowed octets comes from_one
-    (subst (λ (c : Controller). number < c.next_number) lives over.past) (subst (λ (c : Controller). IsThere (connection_of c number) → ⊥) lives over.closed)) in
-    let after : IsOverIn number (actors_after w event).controller = stays_event number w silent over event own (actors_after w event).controller (moves settings events event ∙ ap (λ (c : Controller). (each step c (step_at w event)).next) (sym lives)) in
+    (subst (λ (c : Controller). number < c.next_number) by_table over.past) (subst (λ (c : Controller). IsThere (connection_of c number) → ⊥) by_table over.closed)) in
+    let after : IsOverIn number (actors_after w event).controller = stays_event number w silent over event own (actors_after w event).controller (moves settings events event ∙ ap (λ (c : Controller). (each step c (step_at w event)).next) (sym by_table)) in
     (put_empty number (is_up w SWITCH_LINK) (outputs w event) (put_event number w silent event own), record { past = after.0; closed = after.1 })

@@ -18,7 +18,7 @@ use Rattle.world_laws.specs.References.Agree.{Confirms, ConfirmsBeing, ConfirmsB
 use Rattle.world_laws.specs.References.Agree.{IsUnknown, Knows, Never, Only, Runs, IsFirstAt, is_over, over_after, reads_of}
 use Rattle.world_laws.specs.References.Naming.{Reach, waits, due, named, gone, reach_of}
 use Rattle.world_laws.specs.References.Reads.{AreNothing, Read, asks, carried, data_read}
-use Rattle.world_laws.proofs.References.Places.{push_own, set_own, stands_find, stands_get, stands_peer, stands_slot}
+use Rattle.world_laws.proofs.References.Places.{push_own, set_own, first_at_find, first_at_get, first_at_peer, first_at_slot}
 use Rattle.world_laws.proofs.References.Runs.{quiet_runs}
 use Rattle.world_laws.proofs.References.Taking.{After, IsNoConfirm, Took, asked_same, confirms_after}
 use Rattle.world_laws.proofs.References.Taking.Effect.{refuses, opens, changes}
@@ -76,7 +76,7 @@ module _ (w v : Actors) (others : List OutboxEntry) (n : ℕ) (three : n < 2 ^ 2
     place = length w.switch.connections;
     of = c;
     last = false;
-    stands = subst (IsFirstAt n (length w.switch.connections) c) (sym after.conns) (push_own n w.switch.connections c none is);
+    first_at = subst (IsFirstAt n (length w.switch.connections) c) (sym after.conns) (push_own n w.switch.connections c none is);
     fits = fits;
     runs = subst (λ (entries : List OutboxEntry). Runs (REFERENCE_BASE + (length w.switch.connections + 1)) (is_over c.stage) (reads_of n entries) false) (sym after.rest)
         (subst (λ (s : Stage). Runs (REFERENCE_BASE + (length w.switch.connections + 1)) (is_over s) (reads_of n others) false) (sym stage) (quiet_runs (REFERENCE_BASE + (length w.switch.connections + 1)) false (reads_of n others) quiet));
@@ -89,7 +89,7 @@ module _ (w v : Actors) (others : List OutboxEntry) (n : ℕ) (three : n < 2 ^ 2
       → Took w v n (connections_after w.switch.modulus w.switch.connections (ConnectionRequest n (Some user))) (replies w.switch.connections (ConnectionRequest n (Some user))) (asks n message)
   own_asks user message cell read = by (nat_le CONNECTION_LIMIT (length w.switch.connections)) refl where
     takes : taken_in (find (is_of_peer n) (w.switch.connections ++ fresh w.switch.modulus w.switch.connections n user ∷ [])) ≡ taken_of w n ++ message ∷ []
-    takes = ap taken_in (stands_find n (length w.switch.connections) (fresh w.switch.modulus w.switch.connections n user) (w.switch.connections ++ fresh w.switch.modulus w.switch.connections n user ∷ []) (push_own n w.switch.connections (fresh w.switch.modulus w.switch.connections n user) none refl)) ∙ ap initial_message_of read
+    takes = ap taken_in (first_at_find n (length w.switch.connections) (fresh w.switch.modulus w.switch.connections n user) (w.switch.connections ++ fresh w.switch.modulus w.switch.connections n user ∷ []) (push_own n w.switch.connections (fresh w.switch.modulus w.switch.connections n user) none refl)) ∙ ap initial_message_of read
         ∙ sym (ap (λ (o : Option Connection). taken_in o ++ message ∷ []) none)
 
     by : (b : Bool) → nat_le CONNECTION_LIMIT (length w.switch.connections) ≡ b
@@ -137,8 +137,8 @@ pub record IsHeedful (k d : ℕ) (over : Bool) (r : Read) : Type 0 where
   pub heeded : IsHeeded r
 
 pub heeds_data : (k d : ℕ) (over : Bool) (q : Bssap) → IsAddressedTo k over (data_read d (Some q)) → IsHeedful k d over (data_read d (Some q))
-heeds_data k d over (Management (bssmap.CompleteLayer3Information cell initial)) heeds = absurd heeds
-heeds_data k d over _ heeds = record { living = heeds.0; to = heeds.1; heeded = tt }
+heeds_data k d over (Management (bssmap.CompleteLayer3Information cell initial)) addressed = absurd addressed
+heeds_data k d over _ addressed = record { living = addressed.0; to = addressed.1; heeded = tt }
 
 module _ (w v : Actors) (others : List OutboxEntry) (n : ℕ) (past : n < w.controller.next_number) (known : IsKnown w n) where
   confirms_no : (P : ℕ → Type 0) (message : Sccp) → IsNoConfirm message → ConfirmsBy P n message
@@ -147,24 +147,24 @@ module _ (w v : Actors) (others : List OutboxEntry) (n : ℕ) (past : n < w.cont
 
   known_changes : (next : Connection) (r : Read) (o : Option Sccp) → is_over known.of.stage ≡ false → IsHeeded r → Lived known.of next r o → Runs (REFERENCE_BASE + (known.place + 1)) (over_after (is_over known.of.stage) r) (reads_of n others) known.last
       → After w v others (slice_set w.switch.connections known.place next) (option_to_list o) → Took w v n (slice_set w.switch.connections known.place next) (option_to_list o) r
-  known_changes next r o living heeded lives runs after =
-      let peer : next.peer ≡ n = lives.peer ∙ stands_peer n known.place known.of w.switch.connections known.stands in
-      let now = set_own n known.place known.of next w.switch.connections known.stands peer in
+  known_changes next r o living heeded as_lived runs after =
+      let peer : next.peer ≡ n = as_lived.peer ∙ first_at_peer n known.place known.of w.switch.connections known.first_at in
+      let now = set_own n known.place known.of next w.switch.connections known.first_at peer in
       record {
-        effect = changes known.place known.of next (option_to_list o) (stands_get n known.place known.of w.switch.connections known.stands) (stands_peer n known.place known.of w.switch.connections known.stands) peer lives.none;
+        effect = changes known.place known.of next (option_to_list o) (first_at_get n known.place known.of w.switch.connections known.first_at) (first_at_peer n known.place known.of w.switch.connections known.first_at) peer as_lived.none;
         agrees = is_known (subst (λ (c : Controller). n < c.next_number) (sym after.controller_is) past) (record {
           place = known.place;
           of = next;
           last = known.last;
-          stands = subst (IsFirstAt n known.place next) (sym after.conns) now;
+          first_at = subst (IsFirstAt n known.place next) (sym after.conns) now;
           fits = known.fits;
           runs = subst (λ (entries : List OutboxEntry). Runs (REFERENCE_BASE + (known.place + 1)) (is_over next.stage) (reads_of n entries) known.last) (sym after.rest)
-              (subst (λ (b : Bool). Runs (REFERENCE_BASE + (known.place + 1)) b (reads_of n others) known.last) (ap (λ (b : Bool). over_after b r) living ∙ sym lives.stage) runs);
-          confirmed = confirms_after (Only (REFERENCE_BASE + (known.place + 1))) n after known.confirmed (AllByRecursion-so IsNoConfirm (ConfirmsBy (Only (REFERENCE_BASE + (known.place + 1))) n) (confirms_no (Only (REFERENCE_BASE + (known.place + 1)))) (option_to_list o) lives.none);
+              (subst (λ (b : Bool). Runs (REFERENCE_BASE + (known.place + 1)) b (reads_of n others) known.last) (ap (λ (b : Bool). over_after b r) living ∙ sym as_lived.stage) runs);
+          confirmed = confirms_after (Only (REFERENCE_BASE + (known.place + 1))) n after known.confirmed (AllByRecursion-so IsNoConfirm (ConfirmsBy (Only (REFERENCE_BASE + (known.place + 1))) n) (confirms_no (Only (REFERENCE_BASE + (known.place + 1)))) (option_to_list o) as_lived.none);
           knows = subst (λ (c : Controller). Knows (REFERENCE_BASE + (known.place + 1)) known.last (reach_of (controllers c n))) (sym after.controller_is) known.knows;
         });
-        delivers = inl (ap taken_in (stands_find n known.place next (slice_set w.switch.connections known.place next) now) ∙ lives.takes
-            ∙ sym (ap (λ (x : Option Connection). taken_in x ++ carried r) (stands_find n known.place known.of w.switch.connections known.stands)));
+        delivers = inl (ap taken_in (first_at_find n known.place next (slice_set w.switch.connections known.place next) now) ∙ as_lived.takes
+            ∙ sym (ap (λ (x : Option Connection). taken_in x ++ carried r) (first_at_find n known.place known.of w.switch.connections known.first_at)));
         heeded = heeded;
       }
 
@@ -175,16 +175,16 @@ module _ (w v : Actors) (others : List OutboxEntry) (n : ℕ) (past : n < w.cont
   own_data user q read living heeded runs after =
       let k : ℕ = REFERENCE_BASE + (known.place + 1) in
       let cs : List Connection = w.switch.connections in
-      let slot : connection_of cs (k - REFERENCE_BASE) ≡ Some known.of = stands_slot n known.place known.of cs known.stands in
+      let slot : connection_of cs (k - REFERENCE_BASE) ≡ Some known.of = first_at_slot n known.place known.of cs known.first_at in
       let back : k - REFERENCE_BASE - 1 ≡ known.place = omega arith in
       let conns : connections_after w.switch.modulus cs (DataForm1 k user) ≡ slice_set cs known.place (connection_after known.of q) =
       ap (λ (x : Option Connection). connections_by cs (k - REFERENCE_BASE) x (message_in user)) slot ∙ ap (λ (x : Option Bssap). connections_by cs (k - REFERENCE_BASE) (Some known.of) x) read
       ∙ ap (λ (i : ℕ). slice_set cs i (connection_after known.of q)) back in
       let reps : replies cs (DataForm1 k user) ≡ option_to_list (reply_of known.of q) =
       ap (λ (x : Option Connection). replies_by x (message_in user)) slot ∙ ap (λ (x : Option Bssap). replies_by (Some known.of) x) read in
-      let lives : Lived known.of (connection_after known.of q) (data_read k (Some q)) (reply_of known.of q) = by_stage known.of.stage known.of k q living (lived known.of k q living heeded) in
+      let as_lived : Lived known.of (connection_after known.of q) (data_read k (Some q)) (reply_of known.of q) = by_stage known.of.stage known.of k q living (lived known.of k q living heeded) in
       let now : After w v others (slice_set cs known.place (connection_after known.of q)) (option_to_list (reply_of known.of q)) =
       subst (λ (xs : List Sccp). After w v others (slice_set cs known.place (connection_after known.of q)) xs) reps (subst (λ (xs : List Connection). After w v others xs (replies cs (DataForm1 k user))) conns after) in
       subst (λ (xs : List Connection). Took w v n xs (replies cs (DataForm1 k user)) (data_read k (Some q))) (sym conns)
       (subst (λ (xs : List Sccp). Took w v n (slice_set cs known.place (connection_after known.of q)) xs (data_read k (Some q))) (sym reps)
-      (known_changes (connection_after known.of q) (data_read k (Some q)) (reply_of known.of q) living heeded lives runs now))
+      (known_changes (connection_after known.of q) (data_read k (Some q)) (reply_of known.of q) living heeded as_lived runs now))

@@ -7,27 +7,27 @@ use Rattle.msc_end.specs.declared.connection.Connection.{Connection}
 use Rattle.msc_end.specs.Switch.{connection_of}
 use Rattle.world_laws.specs.References.Agree.{IsFirstAt}
 
-pub stands_find : (n place : ℕ) (c : Connection) (cs : List Connection) → IsFirstAt n place c cs → find (is_of_peer n) cs ≡ Some c
-stands_find n place c [] stands = absurd stands
-stands_find n zero c (x ∷ cs) stands = ap (λ (b : Bool). cond b (Some x) (find (is_of_peer n) cs)) (eq-eqb x.peer n stands.1) ∙ ap (λ (y : Connection). Some y) stands.0
-stands_find n (suc place) c (x ∷ cs) stands = ap (λ (b : Bool). cond b (Some x) (find (is_of_peer n) cs)) (ne_eqb x.peer n stands.0) ∙ stands_find n place c cs stands.1
+pub first_at_find : (n place : ℕ) (c : Connection) (cs : List Connection) → IsFirstAt n place c cs → find (is_of_peer n) cs ≡ Some c
+first_at_find n place c [] first_at = absurd first_at
+first_at_find n zero c (x ∷ cs) first_at = ap (λ (b : Bool). cond b (Some x) (find (is_of_peer n) cs)) (eq-eqb x.peer n first_at.1) ∙ ap (λ (y : Connection). Some y) first_at.0
+first_at_find n (suc place) c (x ∷ cs) first_at = ap (λ (b : Bool). cond b (Some x) (find (is_of_peer n) cs)) (ne_eqb x.peer n first_at.0) ∙ first_at_find n place c cs first_at.1
 
-pub stands_peer : (n place : ℕ) (c : Connection) (cs : List Connection) → IsFirstAt n place c cs → c.peer ≡ n
-stands_peer n place c [] stands = absurd stands
-stands_peer n zero c (x ∷ cs) stands = subst (λ (y : Connection). y.peer ≡ n) stands.0 stands.1
-stands_peer n (suc place) c (x ∷ cs) stands = stands_peer n place c cs stands.1
+pub first_at_peer : (n place : ℕ) (c : Connection) (cs : List Connection) → IsFirstAt n place c cs → c.peer ≡ n
+first_at_peer n place c [] first_at = absurd first_at
+first_at_peer n zero c (x ∷ cs) first_at = subst (λ (y : Connection). y.peer ≡ n) first_at.0 first_at.1
+first_at_peer n (suc place) c (x ∷ cs) first_at = first_at_peer n place c cs first_at.1
 
-pub stands_get : (n place : ℕ) (c : Connection) (cs : List Connection) → IsFirstAt n place c cs → slice_get cs place ≡ Some c
-stands_get n place c [] stands = absurd stands
-stands_get n zero c (x ∷ cs) stands = ap (λ (y : Connection). Some y) stands.0
-stands_get n (suc place) c (x ∷ cs) stands = stands_get n place c cs stands.1
+pub first_at_get : (n place : ℕ) (c : Connection) (cs : List Connection) → IsFirstAt n place c cs → slice_get cs place ≡ Some c
+first_at_get n place c [] first_at = absurd first_at
+first_at_get n zero c (x ∷ cs) first_at = ap (λ (y : Connection). Some y) first_at.0
+first_at_get n (suc place) c (x ∷ cs) first_at = first_at_get n place c cs first_at.1
 
 -- the connection of its reference
-pub stands_slot : (n place : ℕ) (c : Connection) (cs : List Connection) → IsFirstAt n place c cs → connection_of cs (REFERENCE_BASE + (place + 1) - REFERENCE_BASE) ≡ Some c
-stands_slot n place c cs stands =
+pub first_at_slot : (n place : ℕ) (c : Connection) (cs : List Connection) → IsFirstAt n place c cs → connection_of cs (REFERENCE_BASE + (place + 1) - REFERENCE_BASE) ≡ Some c
+first_at_slot n place c cs first_at =
     let is : REFERENCE_BASE + (place + 1) - REFERENCE_BASE ≡ place + 1 = omega arith in
     let back : place + 1 - 1 ≡ place = omega arith in
-    ap (connection_of cs) is ∙ ap (λ (b : Bool). cond b None (slice_get cs (place + 1 - 1))) (ne_eqb (place + 1) 0 some) ∙ ap (slice_get cs) back ∙ stands_get n place c cs stands
+    ap (connection_of cs) is ∙ ap (λ (b : Bool). cond b None (slice_get cs (place + 1 - 1))) (ne_eqb (place + 1) 0 some) ∙ ap (slice_get cs) back ∙ first_at_get n place c cs first_at
   where
     some : place + 1 ≡ 0 → ⊥
     some is = omega (arith, is)
@@ -35,16 +35,17 @@ stands_slot n place c cs stands =
 -- ---- one is changed
 
 pub set_own : (n place : ℕ) (c own : Connection) (cs : List Connection) → IsFirstAt n place c cs → own.peer ≡ n → IsFirstAt n place own (slice_set cs place own)
-set_own n place c own [] stands is = absurd stands
-set_own n zero c own (x ∷ cs) stands is = (refl, is)
-set_own n (suc place) c own (x ∷ cs) stands is = (stands.0, set_own n place c own cs stands.1 is)
+set_own n place c own [] first_at is = absurd first_at
+set_own n zero c own (x ∷ cs) first_at is = (refl, is)
+set_own n (suc place) c own (x ∷ cs) first_at is = (first_at.0, set_own n place c own cs first_at.1 is)
 
 pub set_other : (n place : ℕ) (c : Connection) (cs : List Connection) (i : ℕ) (x own : Connection) → slice_get cs i ≡ Some x → (x.peer ≡ n → ⊥) → (own.peer ≡ n → ⊥) → IsFirstAt n place c cs → IsFirstAt n place c (slice_set cs i own)
-set_other n place c [] i x own is other also stands = absurd stands
-set_other n zero c (y ∷ cs) zero x own is other also stands = absurd (other (subst (λ (z : Connection). z.peer ≡ n) (same_Some _ _ is) stands.1))
-set_other n zero c (y ∷ cs) (suc i) x own is other also stands = (stands.0, stands.1)
-set_other n (suc place) c (y ∷ cs) zero x own is other also stands = (also, stands.1)
-set_other n (suc place) c (y ∷ cs) (suc i) x own is other also stands = (stands.0, set_other n place c cs i x own is other also stands.1)
+set_other n place c [] i x own is other also first_at = absurd first_at
+set_other n zero c (y ∷ cs) zero x own is other also first_at = absurd (other (subst (λ (z : Connection). z.peer ≡ n) (same_Some _ _ is) first_at.1))
+set_other n zero c (y ∷ cs) (suc i) x own is other also first_at = (first_at.0, first_at.1)
+set_other n (suc place) c (y ∷ cs) zero x own is other also first_at = (also, first_at.1)
+set_other n (suc place) c (y ∷ cs) (suc i) x own is other also first_at =
+    (first_at.0, set_other n place c cs i x own is other also first_at.1)
 
 pub none_first : (n : ℕ) (x : Connection) (cs : List Connection) → find (is_of_peer n) (x ∷ cs) ≡ None → (x.peer ≡ n → ⊥) × (find (is_of_peer n) cs ≡ None)
 none_first n x cs none = (not_first, rest (x.peer == n) none) where
@@ -74,10 +75,10 @@ got_other n (y ∷ cs) (suc i) x is none own = got_other n cs i x is (none_first
 
 -- ---- one more
 
-pub push_stands : (n place : ℕ) (c : Connection) (cs : List Connection) (x : Connection) → IsFirstAt n place c cs → IsFirstAt n place c (cs ++ x ∷ [])
-push_stands n place c [] x stands = absurd stands
-push_stands n zero c (y ∷ cs) x stands = (stands.0, stands.1)
-push_stands n (suc place) c (y ∷ cs) x stands = (stands.0, push_stands n place c cs x stands.1)
+pub first_at_push : (n place : ℕ) (c : Connection) (cs : List Connection) (x : Connection) → IsFirstAt n place c cs → IsFirstAt n place c (cs ++ x ∷ [])
+first_at_push n place c [] x first_at = absurd first_at
+first_at_push n zero c (y ∷ cs) x first_at = (first_at.0, first_at.1)
+first_at_push n (suc place) c (y ∷ cs) x first_at = (first_at.0, first_at_push n place c cs x first_at.1)
 
 pub push_own : (n : ℕ) (cs : List Connection) (x : Connection) → find (is_of_peer n) cs ≡ None → x.peer ≡ n → IsFirstAt n (length cs) x (cs ++ x ∷ [])
 push_own n [] x none is = (refl, is)

@@ -134,7 +134,7 @@ stands_behind_another : IsFirstAt 7 1 (of_peer 7) (of_peer 8 ∷ of_peer 7 ∷ [
 stands_behind_another = ((λ same. absurd (omega (arith, same))), (refl, refl))
 
 not_behind_its_own : IsFirstAt 7 1 (of_peer 7) (of_peer 7 ∷ of_peer 7 ∷ []) → ⊥
-not_behind_its_own stands = stands.0 refl
+not_behind_its_own first_at = first_at.0 refl
 
 -- a second one of its peer isn't the one of its peer
 abbrev twice : Actors

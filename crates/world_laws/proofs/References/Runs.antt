@@ -8,7 +8,7 @@ use Rattle.world_laws.specs.References.Agree.{Agrees, AsksOnce, Confirms, HasAsk
 use Rattle.world_laws.specs.References.Agree.{Only, Runs, IsFirstAt, is_over, over_after, reads_of}
 use Rattle.world_laws.specs.References.Naming.{ArePlain, AreQuiet, StepsTo, IsAsking, IsClearing, IsUnnamed, Reach, early, waits, due, named}
 use Rattle.world_laws.specs.References.Naming.{cleared, gone, reach_of}
-use Rattle.world_laws.specs.References.Naming.StepsTo.{stays, leaves, fails, asks, confirmed, speaks, clears}
+use Rattle.world_laws.specs.References.Naming.StepsTo.{unchanged, leaves, fails, asks, confirmed, speaks, clears}
 use Rattle.world_laws.specs.References.Reads.{AreNothing, ArePlainReads, IsNothing, Read, asks as read_asks, carries as read_carries}
 use Rattle.world_laws.specs.References.Reads.{clears as read_clears, tells as read_tells, nothing as read_nothing}
 use Rattle.world_laws.proofs.References.Goings.{Begins}
@@ -137,22 +137,22 @@ module _ (w v : Actors) (n : ℕ) (put : List Message) (more : List Read) (grows
     unconfirmed = keeps Never unknown.unconfirmed;
   })
 
-  module _ (came : ℕ → Type 0) (told : (P : ℕ → Type 0) → Confirms P w n → (r : ℕ) → came r → P r) where
-    goes_early : n < w.controller.next_number → IsUnknown w n → {a b : Reach} → early ≡ a → reach_of (connection_of v.controller n) ≡ b → StepsTo came put a b → Agrees v n
-    goes_early past unknown from to (stays quiet) = is_unasked (inr (past_more past, to ∙ sym from)) (unknown_more unknown (says.quiet quiet))
+  module _ (given : ℕ → Type 0) (told : (P : ℕ → Type 0) → Confirms P w n → (r : ℕ) → given r → P r) where
+    goes_early : n < w.controller.next_number → IsUnknown w n → {a b : Reach} → early ≡ a → reach_of (connection_of v.controller n) ≡ b → StepsTo given put a b → Agrees v n
+    goes_early past unknown from to (unchanged quiet) = is_unasked (inr (past_more past, to ∙ sym from)) (unknown_more unknown (says.quiet quiet))
     goes_early past unknown from to (leaves quiet) = is_unheard (has_asked past gone to tt) (unknown_more unknown (says.quiet quiet))
     goes_early past unknown {a} from to (fails un_a un_b quiet) = absurd (early_unnamed a from un_a)
     goes_early past unknown from to (asks asking) = asking_now past unknown waits to tt (says.asking asking)
-    goes_early past unknown {a} from to (confirmed k un_a comes plain) = absurd (early_unnamed a from un_a)
+    goes_early past unknown {a} from to (confirmed k un_a confirms_it plain) = absurd (early_unnamed a from un_a)
     goes_early past unknown from to (speaks {reference = k} plain) = absurd (early_named k from)
     goes_early past unknown from to (clears {reference = k} clearing) = absurd (early_named k from)
 
-    goes_asked : {a b : Reach} → Confirms Never w n → IsAsked a → StepsTo came put a b → IsAsked b × AreNothing more
-    goes_asked un asked (stays quiet) = (asked, says.quiet quiet)
+    goes_asked : {a b : Reach} → Confirms Never w n → IsAsked a → StepsTo given put a b → IsAsked b × AreNothing more
+    goes_asked un asked (unchanged quiet) = (asked, says.quiet quiet)
     goes_asked un asked (leaves quiet) = (tt, says.quiet quiet)
     goes_asked {b = b} un asked (fails un_a un_b quiet) = (asked_unnamed b un_b, says.quiet quiet)
     goes_asked un asked (asks asking) = absurd asked
-    goes_asked un asked (confirmed k un_a comes plain) = absurd (told Never un k comes)
+    goes_asked un asked (confirmed k un_a confirms_it plain) = absurd (told Never un k confirms_it)
     goes_asked un asked (speaks plain) = absurd asked
     goes_asked un asked (clears clearing) = absurd asked
 
@@ -181,13 +181,13 @@ module _ (w v : Actors) (n : ℕ) (put : List Message) (more : List Read) (grows
     quiet_on : (known : IsKnown w n) (b : Reach) → Knows (REFERENCE_BASE + (known.place + 1)) known.last b → AreNothing more → RunsOn known b
     quiet_on known b knows quiet = record { then_last = known.last; on = quiet_runs (REFERENCE_BASE + (known.place + 1)) known.last more quiet; knows_then = knows }
 
-    goes_known : (known : IsKnown w n) {a b : Reach} → Knows (REFERENCE_BASE + (known.place + 1)) known.last a → StepsTo came put a b → RunsOn known b
-    goes_known known {a} knows (stays quiet) = quiet_on known a knows (says.quiet quiet)
+    goes_known : (known : IsKnown w n) {a b : Reach} → Knows (REFERENCE_BASE + (known.place + 1)) known.last a → StepsTo given put a b → RunsOn known b
+    goes_known known {a} knows (unchanged quiet) = quiet_on known a knows (says.quiet quiet)
     goes_known known knows (leaves quiet) = quiet_on known gone tt (says.quiet quiet)
     goes_known known {a} {b} knows (fails un_a un_b quiet) = quiet_on known b (unnamed_knows (REFERENCE_BASE + (known.place + 1)) known.last b un_b (knows_unnamed (REFERENCE_BASE + (known.place + 1)) known.last a un_a knows)) (says.quiet quiet)
     goes_known known knows (asks asking) = absurd knows
-    goes_known known {a} knows (confirmed k un_a comes plain) =
-        let is : k ≡ REFERENCE_BASE + (known.place + 1) = told (Only (REFERENCE_BASE + (known.place + 1))) known.confirmed k comes in
+    goes_known known {a} knows (confirmed k un_a confirms_it plain) =
+        let is : k ≡ REFERENCE_BASE + (known.place + 1) = told (Only (REFERENCE_BASE + (known.place + 1))) known.confirmed k confirms_it in
         plain_on known (knows_unnamed (REFERENCE_BASE + (known.place + 1)) known.last a un_a knows) (says.plain (REFERENCE_BASE + (known.place + 1)) known.fits (subst (λ (x : ℕ). ArePlain x put) is plain)) k is
     goes_known known knows (speaks {reference = k} plain) =
         plain_on known knows.1 (says.plain (REFERENCE_BASE + (known.place + 1)) known.fits (subst (λ (x : ℕ). ArePlain x put) knows.0 plain)) k knows.0
@@ -199,7 +199,7 @@ module _ (w v : Actors) (n : ℕ) (put : List Message) (more : List Read) (grows
       place = known.place;
       of = known.of;
       last = on.then_last;
-      stands = subst (λ (s : SwitchState). IsFirstAt n known.place known.of s.connections) (sym grows.same) known.stands;
+      first_at = subst (λ (s : SwitchState). IsFirstAt n known.place known.of s.connections) (sym grows.same) known.first_at;
       fits = known.fits;
       runs = subst (λ (xs : List Read). Runs (REFERENCE_BASE + (known.place + 1)) (is_over known.of.stage) xs on.then_last) (sym grows.all)
           (runs_more (REFERENCE_BASE + (known.place + 1)) (is_over known.of.stage) known.last on.then_last (reads_of n (outbox_of w SWITCH_LINK)) more known.runs on.on);
@@ -208,34 +208,34 @@ module _ (w v : Actors) (n : ℕ) (put : List Message) (more : List Read) (grows
     }
 
     -- one that wasn't there, or is gone, stays so
-    goes_beyond : w.controller.next_number ≤ n → reach_of (connection_of w.controller n) ≡ gone → IsUnknown w n → StepsTo came put (reach_of (connection_of w.controller n)) (reach_of (connection_of v.controller n)) → Agrees v n
-    goes_beyond beyond none unknown goes =
-        let on = goes_asked {a = gone} {b = reach_of (connection_of v.controller n)} unknown.unconfirmed tt (subst (λ (a : Reach). StepsTo came put a (reach_of (connection_of v.controller n))) none goes) in
+    goes_beyond : w.controller.next_number ≤ n → reach_of (connection_of w.controller n) ≡ gone → IsUnknown w n → StepsTo given put (reach_of (connection_of w.controller n)) (reach_of (connection_of v.controller n)) → Agrees v n
+    goes_beyond beyond none unknown steps =
+        let on = goes_asked {a = gone} {b = reach_of (connection_of v.controller n)} unknown.unconfirmed tt (subst (λ (a : Reach). StepsTo given put a (reach_of (connection_of v.controller n))) none steps) in
         goes_none unknown (reach_of (connection_of v.controller n)) refl on.0 on.1
 
-    pub goes_agree : (w.controller.next_number ≤ n → reach_of (connection_of w.controller n) ≡ gone) → StepsTo came put (reach_of (connection_of w.controller n)) (reach_of (connection_of v.controller n)) → Agrees w n → Agrees v n
-    goes_agree none goes (is_unasked (inl beyond) unknown) = goes_beyond beyond (none beyond) unknown goes
-    goes_agree none goes (is_unasked (inr (past, is)) unknown) = goes_early past unknown (sym is) refl goes
-    goes_agree none goes (is_asking has way) =
-        let on = goes_asked way.unconfirmed has.asked goes in
+    pub goes_agree : (w.controller.next_number ≤ n → reach_of (connection_of w.controller n) ≡ gone) → StepsTo given put (reach_of (connection_of w.controller n)) (reach_of (connection_of v.controller n)) → Agrees w n → Agrees v n
+    goes_agree none steps (is_unasked (inl beyond) unknown) = goes_beyond beyond (none beyond) unknown steps
+    goes_agree none steps (is_unasked (inr (past, is)) unknown) = goes_early past unknown (sym is) refl steps
+    goes_agree none steps (is_asking has way) =
+        let on = goes_asked way.unconfirmed has.asked steps in
         is_asking (has_asked has.past (reach_of (connection_of v.controller n)) refl on.0) (on_way way on.1)
-    goes_agree none goes (is_unheard has unknown) =
-        let on = goes_asked unknown.unconfirmed has.asked goes in
+    goes_agree none steps (is_unheard has unknown) =
+        let on = goes_asked unknown.unconfirmed has.asked steps in
         is_unheard (has_asked has.past (reach_of (connection_of v.controller n)) refl on.0) (unknown_more unknown on.1)
-    goes_agree none goes (is_known past known) = is_known (past_more past) (known_more known (reach_of (connection_of v.controller n)) refl (goes_known known known.knows goes))
+    goes_agree none steps (is_known past known) = is_known (past_more past) (known_more known (reach_of (connection_of v.controller n)) refl (goes_known known known.knows steps))
 
     -- one that the switch never hears of stays so
-    pub goes_unheard : StepsTo came put (reach_of (connection_of w.controller n)) (reach_of (connection_of v.controller n)) → HasAsked w n → IsUnknown w n → HasAsked v n × IsUnknown v n
-    goes_unheard goes has unknown =
-        let on = goes_asked unknown.unconfirmed has.asked goes in
+    pub goes_unheard : StepsTo given put (reach_of (connection_of w.controller n)) (reach_of (connection_of v.controller n)) → HasAsked w n → IsUnknown w n → HasAsked v n × IsUnknown v n
+    goes_unheard steps has unknown =
+        let on = goes_asked unknown.unconfirmed has.asked steps in
         (has_asked has.past (reach_of (connection_of v.controller n)) refl on.0, unknown_more unknown on.1)
 
     -- one that didn't ask stays so, or asks, or goes with nothing on its way
-    pub early_goes : n < w.controller.next_number → IsUnknown w n → {a b : Reach} → early ≡ a → reach_of (connection_of v.controller n) ≡ b → StepsTo came put a b → (reach_of (connection_of v.controller n) ≡ early) ⊎ (reach_of (connection_of v.controller n) ≡ waits) ⊎ (HasAsked v n × IsUnknown v n)
-    early_goes past unknown from to (stays quiet) = inl (to ∙ sym from)
+    pub early_goes : n < w.controller.next_number → IsUnknown w n → {a b : Reach} → early ≡ a → reach_of (connection_of v.controller n) ≡ b → StepsTo given put a b → (reach_of (connection_of v.controller n) ≡ early) ⊎ (reach_of (connection_of v.controller n) ≡ waits) ⊎ (HasAsked v n × IsUnknown v n)
+    early_goes past unknown from to (unchanged quiet) = inl (to ∙ sym from)
     early_goes past unknown from to (leaves quiet) = inr (inr (has_asked past gone to tt, unknown_more unknown (says.quiet quiet)))
     early_goes past unknown {a} from to (fails un_a un_b quiet) = absurd (early_unnamed a from un_a)
     early_goes past unknown from to (asks asking) = inr (inl to)
-    early_goes past unknown {a} from to (confirmed k un_a comes plain) = absurd (early_unnamed a from un_a)
+    early_goes past unknown {a} from to (confirmed k un_a confirms_it plain) = absurd (early_unnamed a from un_a)
     early_goes past unknown from to (speaks {reference = k} plain) = absurd (early_named k from)
     early_goes past unknown from to (clears {reference = k} clearing) = absurd (early_named k from)

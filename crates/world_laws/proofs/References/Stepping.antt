@@ -12,7 +12,7 @@ use Rattle.world_laws.proofs.Prelude.{channel_state, holder, hears, break_of, st
 use Rattle.world_laws.proofs.Prelude.{OutboxEntry, Tenure, to_link, with_turn, Actors, is_up, outbox_of, turn_leads, all_join, IsBelow}
 use Rattle.world_laws.proofs.Prelude.{IsFrom, step_numbered, life, word_of, entry_out}
 use Rattle.conn_rules.specs.declared.input.Input.TheVariants as inputs
-use Rattle.controller_model.specs.LifeLaws.Acts.{comes, nothing}
+use Rattle.controller_model.specs.LifeLaws.Acts.{of_frame, nothing}
 use Rattle.controller_model.proofs.LifeLaws.SeenFrames.{texts_back, texts_of}
 use Rattle.ruled_relay.specs.declared.item.What.TheVariants as whats
 use Rattle.world_model.specs.Relay.{entry_of}
@@ -33,8 +33,8 @@ module _ (P : ℕ → Type 0) (n r : ℕ) where
   held_comes : (o : Option ℕ) (input : Input) → IsBrought (if_held n o input) (inputs.ConnectionConfirm r) → ((holder : ℕ) → o ≡ Some holder → holder ≡ n → inputs.ConnectionConfirm r ≡ input → P r) → P r
   held_comes None input is by = absurd is
   held_comes (Some holder) input is by = elim (cases_Bool (holder == n)) [
-    | inl hit ↦ by holder refl (eqb-true holder n hit) (subst (λ (b : Bool). IsBrought (if b then comes input else nothing) (inputs.ConnectionConfirm r)) hit is)
-    | inr miss ↦ absurd (subst (λ (b : Bool). IsBrought (if b then comes input else nothing) (inputs.ConnectionConfirm r)) miss is)
+    | inl hit ↦ by holder refl (eqb-true holder n hit) (subst (λ (b : Bool). IsBrought (if b then of_frame input else nothing) (inputs.ConnectionConfirm r)) hit is)
+    | inr miss ↦ absurd (subst (λ (b : Bool). IsBrought (if b then of_frame input else nothing) (inputs.ConnectionConfirm r)) miss is)
   ]
 
   word_comes : (c : Controller) (source : ℕ) (word : Word) → IsFrom source word → ConfirmsIn P n word → IsBrought (brought_by c n word) (inputs.ConnectionConfirm r) → P r
@@ -197,23 +197,23 @@ module _ (w : Actors) (items : List Item) (target : Option Tenure) (s : Step) (l
       waiting = subst (AllByRecursion (ConfirmsBeing P n)) (sym turned.2) (left n P confirms);
     }
 
-    abbrev came : ℕ → Type 0
-    came r = IsBrought (brought_in w.controller n s) (inputs.ConnectionConfirm r)
+    abbrev given : ℕ → Type 0
+    given r = IsBrought (brought_in w.controller n s) (inputs.ConnectionConfirm r)
 
-    went : Begins w.controller.next_number n put (connection_of w.controller n) (connection_of v.controller n) ⊎ StepsTo came put (reach_of (connection_of w.controller n)) (reach_of (connection_of v.controller n))
-    went = subst (λ (c : Controller). Begins w.controller.next_number n put (connection_of w.controller n) (connection_of c n) ⊎ StepsTo came put (reach_of (connection_of w.controller n)) (reach_of (connection_of c n))) (sym controller_is)
-        (acts_go came (λ r is. is) (laws.acts n from_one).acts)
+    went : Begins w.controller.next_number n put (connection_of w.controller n) (connection_of v.controller n) ⊎ StepsTo given put (reach_of (connection_of w.controller n)) (reach_of (connection_of v.controller n))
+    went = subst (λ (c : Controller). Begins w.controller.next_number n put (connection_of w.controller n) (connection_of c n) ⊎ StepsTo given put (reach_of (connection_of w.controller n)) (reach_of (connection_of c n))) (sym controller_is)
+        (acts_go given (λ r is. is) (laws.acts n from_one).acts)
 
     step_agrees : Agrees w n → Agrees v n
     step_agrees agrees = elim went [
       | inl begins ↦ begins_agree w v n put (reads_of n more_entries) grows keeps says begins agrees
-      | inr goes ↦ goes_agree w v n put (reads_of n more_entries) grows keeps says came (told n) (λ beyond. ap reach_of (none_beyond w.controller n laws.numbered beyond)) goes agrees
+      | inr steps ↦ goes_agree w v n put (reads_of n more_entries) grows keeps says given (told n) (λ beyond. ap reach_of (none_beyond w.controller n laws.numbered beyond)) steps agrees
     ]
 
     step_unheard : HasAsked w n → IsUnknown w n → HasAsked v n × IsUnknown v n
     step_unheard has unknown = elim went [
       | inl begins ↦ absurd (beyond has.past begins.is_next)
-      | inr goes ↦ goes_unheard w v n put (reads_of n more_entries) grows keeps says came (told n) goes has unknown
+      | inr steps ↦ goes_unheard w v n put (reads_of n more_entries) grows keeps says given (told n) steps has unknown
     ] where
       beyond : n < w.controller.next_number → n ≡ w.controller.next_number → ⊥
       beyond past is = omega (arith, past, is)
@@ -221,7 +221,7 @@ module _ (w : Actors) (items : List Item) (target : Option Tenure) (s : Step) (l
     step_dropped : IsEarly w n → (IsThere (connection_of v.controller n) → ⊥) → HasAsked v n × IsUnknown v n
     step_dropped has closed = elim went [
       | inl begins ↦ absurd (beyond has.past begins.is_next)
-      | inr goes ↦ elim (early_goes w v n put (reads_of n more_entries) grows keeps says came (told n) has.past has.unknown (sym has.is_early) refl goes) [
+      | inr steps ↦ elim (early_goes w v n put (reads_of n more_entries) grows keeps says given (told n) has.past has.unknown (sym has.is_early) refl steps) [
         | inl is ↦ absurd (closed (early_there (connection_of v.controller n) is))
         | inr rest ↦ elim rest [
           | inl is ↦ absurd (closed (waits_there (connection_of v.controller n) is))
@@ -240,7 +240,7 @@ module _ (w : Actors) (items : List Item) (target : Option Tenure) (s : Step) (l
           (AllByRecursion-append (λ (entry : OutboxEntry). IsRight entry.out) (outbox_of w SWITCH_LINK) more_entries agree.right
           (put_rights (is_up w SWITCH_LINK) (map (entry_of target) (step w.controller s).outs) (rights_of target (step w.controller s).outs (outs_of_one w.controller s laws.numbered) laws.sent)));
     };
-    unheard = λ n from_one has unknown. step_unheard n from_one has unknown;
+    remains_unknown = λ n from_one has unknown. step_unheard n from_one has unknown;
     dropped = λ n from_one has closed. step_dropped n from_one has closed;
     peers = λ differ. subst (λ (s : SwitchState). Differ (peers_of s.connections)) (sym turned.0) differ;
   }

@@ -12,7 +12,7 @@ use Rattle.world_laws.specs.References.Agree.{Agrees, AsksOnce, Confirms, Confir
 use Rattle.world_laws.specs.References.Agree.{IsUnknown, Knows, Never, Only, Runs, IsFirstAt, is_over, reads_of}
 use Rattle.world_laws.specs.References.Naming.{early, reach_of}
 use Rattle.world_laws.specs.References.Reads.{AreNothing, IsNothing, Read, asks, carried, nothing}
-use Rattle.world_laws.proofs.References.Places.{push_none, push_stands, set_none, set_other}
+use Rattle.world_laws.proofs.References.Places.{push_none, first_at_push, set_none, set_other}
 
 -- ---- after it
 
@@ -87,11 +87,11 @@ module _ (w : Actors) (m n : ℕ) (differ : m ≢ n) where
   other_none (opens c is empty first second) none = push_none n w.switch.connections c (λ own. differ (sym is ∙ own)) none
   other_none (changes i x own reps got is same_peer quiet) none = set_none n w.switch.connections i own (λ mine. differ (sym same_peer ∙ mine)) none
 
-  pub other_stands : {cs : List Connection} {reps : List Sccp} → Effect m w.switch.connections cs reps → (place : ℕ) (c : Connection) → IsFirstAt n place c w.switch.connections → IsFirstAt n place c cs
-  other_stands same place c stands = stands
-  other_stands refuses place c stands = stands
-  other_stands (opens x is empty first second) place c stands = push_stands n place c w.switch.connections x stands
-  other_stands (changes i x own reps got is same_peer quiet) place c stands = set_other n place c w.switch.connections i x own got (λ mine. differ (sym is ∙ mine)) (λ mine. differ (sym same_peer ∙ mine)) stands
+  pub first_at_other : {cs : List Connection} {reps : List Sccp} → Effect m w.switch.connections cs reps → (place : ℕ) (c : Connection) → IsFirstAt n place c w.switch.connections → IsFirstAt n place c cs
+  first_at_other same place c first_at = first_at
+  first_at_other refuses place c first_at = first_at
+  first_at_other (opens x is empty first second) place c first_at = first_at_push n place c w.switch.connections x first_at
+  first_at_other (changes i x own reps got is same_peer quiet) place c first_at = set_other n place c w.switch.connections i x own got (λ mine. differ (sym is ∙ mine)) (λ mine. differ (sym same_peer ∙ mine)) first_at
 
 -- ---- the connection is as it was, but for what is its own
 
@@ -105,7 +105,7 @@ unasked_same w v n is (inr has) = inr (subst (λ (c : Controller). (n < c.next_n
 pub record IsSame (w v : Actors) (n : ℕ) : Type 0 where
   pub controller_is : v.controller ≡ w.controller
   pub none : find (is_of_peer n) w.switch.connections ≡ None → find (is_of_peer n) v.switch.connections ≡ None
-  pub stands : (place : ℕ) (c : Connection) → IsFirstAt n place c w.switch.connections → (own : Connection) × IsFirstAt n place own v.switch.connections × (is_over own.stage ≡ is_over c.stage)
+  pub first_at : (place : ℕ) (c : Connection) → IsFirstAt n place c w.switch.connections → (own : Connection) × IsFirstAt n place own v.switch.connections × (is_over own.stage ≡ is_over c.stage)
   pub quiet : AreNothing (reads_of n (outbox_of w SWITCH_LINK)) → AreNothing (reads_of n (outbox_of v SWITCH_LINK))
   pub once : AsksOnce n (reads_of n (outbox_of w SWITCH_LINK)) → AsksOnce n (reads_of n (outbox_of v SWITCH_LINK))
   pub runs : (k : ℕ) (over last : Bool) → Runs k over (reads_of n (outbox_of w SWITCH_LINK)) last → Runs k over (reads_of n (outbox_of v SWITCH_LINK)) last
@@ -120,12 +120,12 @@ same_agrees w v n is keeps (is_asking has way) =
 same_agrees w v n is keeps (is_unheard has unknown) = is_unheard (asked_same w v n is.controller_is has) (same_unknown w v n is keeps unknown)
 same_agrees w v n is keeps (is_known past known) =
     let k : ℕ = REFERENCE_BASE + (known.place + 1) in
-    let now = is.stands known.place known.of known.stands in
+    let now = is.first_at known.place known.of known.first_at in
     is_known (subst (λ (c : Controller). n < c.next_number) (sym is.controller_is) past) (record {
       place = known.place;
       of = now.0;
       last = known.last;
-      stands = now.1;
+      first_at = now.1;
       fits = known.fits;
       runs = subst (λ (b : Bool). Runs k b (reads_of n (outbox_of v SWITCH_LINK)) known.last) (sym now.2) (is.runs k (is_over known.of.stage) known.last known.runs);
       confirmed = keeps (Only k) known.confirmed;
@@ -136,7 +136,8 @@ pub other_same : {w v : Actors} {others : List OutboxEntry} {cs : List Connectio
 other_same {w} {v} m n differ after effect same_reads = record {
   controller_is = after.controller_is;
   none = λ none. subst (λ (xs : List Connection). find (is_of_peer n) xs ≡ None) (sym after.conns) (other_none w m n differ effect none);
-  stands = λ place c stands. (c, subst (IsFirstAt n place c) (sym after.conns) (other_stands w m n differ effect place c stands), refl);
+  first_at = λ place c first_at.
+      (c, subst (IsFirstAt n place c) (sym after.conns) (first_at_other w m n differ effect place c first_at), refl);
   quiet = λ quiet. subst AreNothing (sym same_wire) quiet;
   once = λ once. subst (AsksOnce n) (sym same_wire) once;
   runs = λ k over last runs. subst (λ (xs : List Read). Runs k over xs last) (sym same_wire) runs;

@@ -66,7 +66,7 @@ idle_spotted p spot u p_is here all = idle_spot p spot u p_is here (λ at at_is 
 -- where a channel isn't active, nothing goes there, and nothing stood there
 respot_idle : {w u : Actors} {event : Event} {at : Place} {spot : Spot} → Respots w u event at spot → at.station ≢ SWITCH_LINK → IdleAir u → is_active_at u at ≡ false → spot.air ≡ []
 respot_idle (short_up number tenure reached) at_is all idle = all tenure.at at_is idle
-respot_idle {u = u} (goes_down tenure first others reached stood) at_is all idle = absurd (true≢false (sym (reached_up u tenure reached).1 ∙ idle))
+respot_idle {u = u} (goes_down tenure first others reached pending) at_is all idle = absurd (true≢false (sym (reached_up u tenure reached).1 ∙ idle))
 respot_idle (is_left number tenure reached) at_is all idle = refl
 respot_idle (counts number report tenure reached) at_is all idle = all tenure.at at_is idle
 respot_idle (airs station d taken active) at_is all idle = absurd (true≢false (sym active ∙ idle))

@@ -6,7 +6,7 @@ use Rattle.world_laws.proofs.Prelude.{Assignment, Handover, Channel, Place, Mess
 use Rattle.world_laws.proofs.Prelude.{is_for, outs_for, IsSent, ChannelState, Free, InUse, Releasing, channel_state, hears, place_of}
 use Rattle.world_laws.proofs.Prelude.{Tenures, Activation, Rsl, ChannelActivation, RfChannelRelease, RfChannelReleaseAck, AirMessage}
 use Rattle.world_laws.proofs.Prelude.{Tenure, Agrees, to_come, began, begins, begins_and_ends, acknowledgements, due, Actors, is_active_at}
-use Rattle.world_laws.proofs.Prelude.{is_up, outbox_of, both_empty, Goes, Passes, Runs, said_to, runs, first_passes, activates, over}
+use Rattle.world_laws.proofs.Prelude.{is_up, outbox_of, both_empty, RunsThrough, Passes, Runs, said_to, runs, first_passes, activates, over}
 use Rattle.world_laws.proofs.Prelude.{passes, releases, IsOne, hear, acks_append, AllByRecursion-filter, out_of, IsOwed, acknowledgements_up}
 use Rattle.world_laws.proofs.Prelude.{is_release_ack, messages_up, brings, coming_up, going_down, leading_from_air, leading_from_outbox}
 use Rattle.world_laws.proofs.Prelude.{IsSettled, StandWithin, is_ending}
@@ -36,7 +36,7 @@ runs_none over = tt
 runs_none {at} (passes {out = out} beside rest) = (passes_none at out beside, runs_none rest)
 runs_none {at} (releases {out = out} says rest) = (releases_none at out says, runs_none rest)
 
-goes_none : {at : Place} {state end : ChannelState} {outs : List Out} → Goes at state outs end → (state ≡ Free → ⊥) → AllByRecursion (NotActivates at) outs
+goes_none : {at : Place} {state end : ChannelState} {outs : List Out} → RunsThrough at state outs end → (state ≡ Free → ⊥) → AllByRecursion (NotActivates at) outs
 goes_none (runs all) busy = runs_none all
 goes_none {at} (first_passes {out = out} beside rest) busy = (passes_none at out beside, goes_none rest busy)
 goes_none (activates a says same few rest) busy = absurd (busy refl)
@@ -54,7 +54,7 @@ change_seen : (n : ℕ) (change : Change) (c : Channel) → IsSent (out_of n (ch
 change_seen n Assignment c sent none = let seen = seen_activation n (place_of c) _ sent in none seen.0 seen.1 seen.2
 change_seen n Handover c sent none = let seen = seen_activation n (place_of c) _ sent in none seen.0 seen.1 seen.2
 
-pub activated_free : (n : ℕ) (change : Change) (c : Channel) (outs : List Out) (put firsts : List Message) (state end : ChannelState) → AllByRecursion IsSent outs → outs_for n outs ≡ outs_of n put → orders put ≡ firsts ++ change_activation change c ∷ [] → Goes (place_of c) state outs end → state ≡ Free
+pub activated_free : (n : ℕ) (change : Change) (c : Channel) (outs : List Out) (put firsts : List Message) (state end : ChannelState) → AllByRecursion IsSent outs → outs_for n outs ≡ outs_of n put → orders put ≡ firsts ++ change_activation change c ∷ [] → RunsThrough (place_of c) state outs end → state ≡ Free
 activated_free n change c outs put firsts state end sent is ordered goes = by state refl where
   never : (state ≡ Free → ⊥) → ⊥
   never busy = change_seen n change c (last_order IsSent n outs put firsts (change_activation change c) sent is ordered) (last_order (NotActivates (place_of c)) n outs put firsts (change_activation change c) (goes_none goes busy) is ordered)
@@ -91,7 +91,7 @@ module _ (owner : Tenure → ℕ) (w : Actors) (at : Place) (agrees : Agrees own
     by true up =
         let way = agrees.way hearing in
         let all : to_come w at ++ way.lost ≡ acknowledgements_up w at ++ due k (is_active_at w at) (outbox_of w n) = ap (λ (xs : List Rsl). to_come w at ++ xs) (way.all up) ∙ append-nil (to_come w at) ∙ up_first w at in
-        let nothing_due = (comes_idle k (channel_state w.controller at) (to_come w at ++ way.lost) (acknowledgements_up w at) (due k (is_active_at w at) (outbox_of w n)) way.comes all why).0 in
+        let nothing_due = (comes_idle k (channel_state w.controller at) (to_come w at ++ way.lost) (acknowledgements_up w at) (due k (is_active_at w at) (outbox_of w n)) way.owed all why).0 in
         none_leads k (outbox_of w n) (subst (λ (b : Bool). due k b (outbox_of w n) ≡ []) idle nothing_due) (subst (λ (b : Bool). StandWithin k b (outbox_of w n)) idle settled.line)
 
   -- once the controller took what it reads here, and frees the channel by it, if it wasn't free
@@ -121,7 +121,7 @@ module _ (owner : Tenure → ℕ) (w : Actors) (at : Place) (agrees : Agrees own
         let all : to_come w at ++ way.lost ≡ RfChannelReleaseAck channel ∷ rest =
         ap (λ (xs : List Rsl). xs ++ way.lost) (up_first w at ∙ ap (λ (xs : List Rsl). xs ++ due k (is_active_at w at) (outbox_of w n)) (acks_go ∙ ap (λ (xs : List Rsl). xs ++ acknowledgements k (messages_up v n)) is))
         ∙ ap (λ (xs : List Rsl). RfChannelReleaseAck channel ∷ xs) (append_assoc (acknowledgements k (messages_up v n)) (due k (is_active_at w at) (outbox_of w n)) way.lost) in
-        (both_empty (acknowledgements k (messages_up v n)) (due k (is_active_at w at) (outbox_of w n) ++ way.lost) (sym (comes_end k channel (channel_state w.controller at) (to_come w at ++ way.lost) rest way.comes all))).0
+        (both_empty (acknowledgements k (messages_up v n)) (due k (is_active_at w at) (outbox_of w n) ++ way.lost) (sym (comes_end k channel (channel_state w.controller at) (to_come w at ++ way.lost) rest way.owed all))).0
 
     pub freed_silent : coming_up v at ≡ []
     freed_silent = coming_read v at ∙ elim frees [

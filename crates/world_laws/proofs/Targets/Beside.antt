@@ -11,17 +11,17 @@ use Rattle.world_laws.proofs.Prelude.{signalling_brought, Actors, Mobile, base_o
 use Rattle.world_laws.proofs.Prelude.{is_up, mobile_of, put_back, tenure_at, with_base, Good, reached_up, up_right, air_up_leads}
 use Rattle.world_laws.proofs.Prelude.{after_taken, both_empty, down_after, reached_station, false≢true, same_Some, apart_behind}
 use Rattle.world_laws.proofs.Prelude.{messages_in, brings_up, coming_up, made_of, commanded_target, IsAlone, IsElsewhere, LinedUp, Sits}
-use Rattle.world_laws.proofs.Prelude.{came, BeginWith, IsAwaited, IsFreshIn, IsLedBy, IsOnPlace}
+use Rattle.world_laws.proofs.Prelude.{at_its_target, BeginWith, IsAwaited, IsFreshIn, IsLedBy, IsOnPlace}
 use Rattle.conn_rules.specs.Streams.{target_in}
 use Rattle.world_laws.specs.LineUp.Places.{Item as Brought}
 use Rattle.world_laws.proofs.LineUp.Lines.{messages_in-append}
 use Rattle.mobile_end.specs.declared.mobile_end.Place.TheVariants as places
 use Rattle.world_model.specs.Life.{event_after}
-use Rattle.world_laws.specs.Seated.Sits.{stays}
+use Rattle.world_laws.specs.Seated.Sits.{unchanged}
 use Rattle.world_laws.proofs.AirUp.{frame_lent}
 use Rattle.world_laws.proofs.Framing.{all_right}
 use Rattle.world_laws.proofs.Projecting.{active_there, coming_told}
-use Rattle.world_laws.proofs.Targets.Comings.{Comes, coming, comes_step, elsewhere_coming, is_frame, is_relays, short_coming}
+use Rattle.world_laws.proofs.Targets.Comings.{Comes, arriving, comes_step, elsewhere_coming, is_frame, is_relays, short_coming}
 use Rattle.world_laws.proofs.Targets.Comings.Comes.{begun, same}
 use Rattle.world_laws.proofs.Targets.Downs.{none_down}
 use Rattle.world_laws.proofs.Targets.Givers.{Gives, gives_step, lent_first, still_put}
@@ -29,12 +29,12 @@ use Rattle.world_laws.proofs.Targets.Places.{is_place}
 
 -- ---- a frame that the station takes on the channel
 
-there_coming : (w : Actors) (p : Mobile) (at : Place) (frame : List ℕ) → at.station ≢ 0 → is_station_up w at.station ≡ true → is_active_at w at ≡ true → coming at (brought w p at Zero frame) ≡ coming at w ++ frame ∷ []
+there_coming : (w : Actors) (p : Mobile) (at : Place) (frame : List ℕ) → at.station ≢ 0 → is_station_up w at.station ≡ true → is_active_at w at ≡ true → arriving at (brought w p at Zero frame) ≡ arriving at w ++ frame ∷ []
 there_coming w p at frame at_is up active = by p.opens where
   base : BaseState
   base = base_of w at.station
 
-  telling : (message : Rsl) → (if at.station == at.station then made_of at.number (message ∷ []) else []) ≡ brings_up frame ∷ [] → coming at (with_base at.station (after_tell base message) w) ≡ coming at w ++ frame ∷ []
+  telling : (message : Rsl) → (if at.station == at.station then made_of at.number (message ∷ []) else []) ≡ brings_up frame ∷ [] → arriving at (with_base at.station (after_tell base message) w) ≡ arriving at w ++ frame ∷ []
   telling message is =
       ap messages_in (coming_told w w at.station at (after_tell base message) (message ∷ []) at_is up (λ k. refl) refl refl (inl (active_there w at active)) ∙ ap (λ (xs : List Brought). coming_up w at ++ xs) is)
       ∙ messages_in-append (coming_up w at) (brings_up frame ∷ [])
@@ -44,7 +44,7 @@ there_coming w p at frame at_is up active = by p.opens where
   two true false x y = absurd cc
   two false b x y = absurd cc
 
-  by : (b : Bool) → coming at (with_base at.station (signalling_brought base at.number b frame) w) ≡ coming at w ++ frame ∷ []
+  by : (b : Bool) → arriving at (with_base at.station (signalling_brought base at.number b frame) w) ≡ arriving at w ++ frame ∷ []
   by true = telling (establish_indication at.number Zero (Some frame)) (two (at.station == at.station) (at.number == at.number) (eq-eqb at.station at.station refl) (eq-eqb at.number at.number refl))
   by false = telling (data_indication at.number Zero frame) (two (at.station == at.station) (at.number == at.number) (eq-eqb at.station at.station refl) (eq-eqb at.number at.number refl))
 
@@ -100,15 +100,15 @@ module _ {m : ℕ} (w : Actors) (event : Event) (mobile : ℕ) (p : Mobile) (s :
   -- ---- a target that is prepared
 
   seat_prepared : (seat : Seat) (tenure : Tenure) (command : Option Command) → seat ≡ On tenure command → Sits w s.serving None seat → tenure ≡ tenure_at w (place_of s.serving)
-  seat_prepared (On here other) tenure command is (stays there remembers) = ap (λ (x : Seat). tenure_in x tenure) (sym is) ∙ there where
+  seat_prepared (On here other) tenure command is (unchanged there remembers) = ap (λ (x : Seat). tenure_in x tenure) (sym is) ∙ there where
     tenure_in : Seat → Tenure → Tenure
     tenure_in (On t c) d = t
     tenure_in x d = d
   seat_prepared _ tenure command is sits = absurd cc
 
-  frame_prepared : (c : Channel) → target_in s.state ≡ c ∷ [] → commanded_target s.state ≡ None → (number : ℕ) (sapi : Sapi) → coming (place_of c) w ≡ [] → coming (place_of c) (unwrap_or (after_air_up w number sapi) w) ≡ []
-  frame_prepared c is idle number sapi none = after_taken (λ u. coming (place_of c) u ≡ []) (after_air_up w number sapi) w
-      (air_up_leads (λ u. coming (place_of c) u ≡ []) w number sapi (λ x tenure command frame acts seat lent reached. by sapi x tenure command frame acts seat reached ∙ none)) none where
+  frame_prepared : (c : Channel) → target_in s.state ≡ c ∷ [] → commanded_target s.state ≡ None → (number : ℕ) (sapi : Sapi) → arriving (place_of c) w ≡ [] → arriving (place_of c) (unwrap_or (after_air_up w number sapi) w) ≡ []
+  frame_prepared c is idle number sapi none = after_taken (λ u. arriving (place_of c) u ≡ []) (after_air_up w number sapi) w
+      (air_up_leads (λ u. arriving (place_of c) u ≡ []) w number sapi (λ x tenure command frame acts seat lent reached. by sapi x tenure command frame acts seat reached ∙ none)) none where
         at_is : c.station ≢ SWITCH_LINK
         at_is = (subst (AllByRecursion (λ d. d.station ≢ SWITCH_LINK)) is rest_placed.1).0
 
@@ -118,17 +118,17 @@ module _ {m : ℕ} (w : Actors) (event : Event) (mobile : ℕ) (p : Mobile) (s :
           | inl hit ↦ serving_elsewhere c is tenure (seat_prepared p.seat tenure command (ap (λ (y : Mobile). y.seat) (sym (own_of number x (eqb-true number mobile hit) acts)) ∙ seat) (subst (λ (o : Option Target). Sits w s.serving o p.seat) idle lined.sits))
         ]
 
-        by : (sapi : Sapi) (x : Mobile) (tenure : Tenure) (command : Option Command) (frame : List ℕ) → mobile_of w number ≡ Some x → x.seat ≡ On tenure command → is_reached w tenure ≡ true → coming (place_of c) (brought w x tenure.at sapi frame) ≡ coming (place_of c) w
+        by : (sapi : Sapi) (x : Mobile) (tenure : Tenure) (command : Option Command) (frame : List ℕ) → mobile_of w number ≡ Some x → x.seat ≡ On tenure command → is_reached w tenure ≡ true → arriving (place_of c) (brought w x tenure.at sapi frame) ≡ arriving (place_of c) w
         by Three x tenure command frame acts seat reached = short_coming (place_of c) w x tenure.at frame
         by Zero x tenure command frame acts seat reached = elsewhere_coming (place_of c) w x tenure.at frame at_is (reached_station w tenure reached) (away x tenure command acts seat reached)
 
-  silent_prepared : (c : Channel) → target_in s.state ≡ c ∷ [] → commanded_target s.state ≡ None → (e : Event) → e ≡ event → coming (place_of c) w ≡ [] → coming (place_of c) (actors_after w e) ≡ []
+  silent_prepared : (c : Channel) → target_in s.state ≡ c ∷ [] → commanded_target s.state ≡ None → (e : Event) → e ≡ event → arriving (place_of c) w ≡ [] → arriving (place_of c) (actors_after w e) ≡ []
   unfolding event_after
   silent_prepared c is idle (AirUp number sapi) now none = frame_prepared c is idle number sapi none
   silent_prepared c is idle e now none = by (comes_step (place_of c) w e (subst (AllByRecursion (λ d. d.station ≢ SWITCH_LINK)) is rest_placed.1).0 good (ap is_relays now ∙ beside) refl) where
-    by : Comes (place_of c) w (actors_after w e) → coming (place_of c) (actors_after w e) ≡ []
+    by : Comes (place_of c) w (actors_after w e) → arriving (place_of c) (actors_after w e) ≡ []
     by (same stays_so) = stays_so ∙ none
-    by (begun down rest all) = (both_empty (coming (place_of c) (actors_after w e)) rest (sym none ∙ all)).0
+    by (begun down rest all) = (both_empty (arriving (place_of c) (actors_after w e)) rest (sym none ∙ all)).0
 
   awaited : (c : Channel) → target_in s.state ≡ c ∷ [] → commanded_target s.state ≡ None → IsAwaited w c → IsAwaited v c
   awaited c is idle a = record {
@@ -162,11 +162,11 @@ module _ {m : ℕ} (w : Actors) (event : Event) (mobile : ℕ) (p : Mobile) (s :
       arrived : tenure ≡ tenure_at w at → Seated tenure
 
     seat_commanded : (seat : Seat) (tenure : Tenure) (command : Option Command) → seat ≡ On tenure command → Sits w s.serving (Some t) seat → Seated tenure
-    seat_commanded (On here other) tenure command same_seat (stays there remembers) = serves (ap (λ (x : Seat). tenure_in x tenure) (sym same_seat) ∙ there) where
+    seat_commanded (On here other) tenure command same_seat (unchanged there remembers) = serves (ap (λ (x : Seat). tenure_in x tenure) (sym same_seat) ∙ there) where
       tenure_in : Seat → Tenure → Tenure
       tenure_in (On a b) d = a
       tenure_in x d = d
-    seat_commanded (On here other) tenure command same_seat (came there) = arrived (ap (λ (x : Seat). tenure_in x tenure) (sym same_seat) ∙ there) where
+    seat_commanded (On here other) tenure command same_seat (at_its_target there) = arrived (ap (λ (x : Seat). tenure_in x tenure) (sym same_seat) ∙ there) where
       tenure_in : Seat → Tenure → Tenure
       tenure_in (On a b) d = a
       tenure_in x d = d
@@ -188,14 +188,14 @@ module _ {m : ℕ} (w : Actors) (event : Event) (mobile : ℕ) (p : Mobile) (s :
         gives = λ none up. gives_step w mobile p text at found (led.gives (sym stays_so ∙ none) (still_up up)) s.serving t refl refl apart sits event no_frame q found_then;
       }
       by (begun down rest all) = record {
-        first = begin_front text (coming at v) rest (subst (BeginWith text) all led.first);
+        first = begin_front text (arriving at v) rest (subst (BeginWith text) all led.first);
         gives = λ none up. absurd (false≢true (sym down ∙ up));
       }
 
     -- ---- a frame
 
     -- what is put of another frame, or of another mobile, is elsewhere
-    elsewhere_led : (number : ℕ) (x after : Mobile) (u : Actors) → mobile_of w number ≡ Some x → after.number ≡ x.number → u.mobiles ≡ put_back after w.mobiles → coming at u ≡ coming at w → is_up u t.channel.station ≡ is_up w t.channel.station
+    elsewhere_led : (number : ℕ) (x after : Mobile) (u : Actors) → mobile_of w number ≡ Some x → after.number ≡ x.number → u.mobiles ≡ put_back after w.mobiles → arriving at u ≡ arriving at w → is_up u t.channel.station ≡ is_up w t.channel.station
         → (x ≡ p → IsOnPlace after.seat at → (IsOnPlace x.seat at) × (after.end.zero ≡ x.end.zero)) → (y : Mobile) → mobile_of u mobile ≡ Some y → IsLedBy u y t
     elsewhere_led number x after u acts number_is mobiles comes links keeps y found_y = record {
       first = subst (BeginWith text) (sym comes) led.first;
@@ -210,13 +210,13 @@ module _ {m : ℕ} (w : Actors) (event : Event) (mobile : ℕ) (p : Mobile) (s :
     there_led x tenure command frame own seat there lent reached y =
         let here : tenure.at ≡ at = ap (λ (k : Tenure). k.at) there in
         let up : is_station_up w tenure.at.station ≡ true = (reached_up w tenure reached).0 in
-        let all : coming at (brought w x tenure.at Zero frame) ≡ coming at w ++ frame ∷ [] =
-        subst (λ (z : Place). coming z (brought w x tenure.at Zero frame) ≡ coming z w ++ frame ∷ []) here (there_coming w x tenure.at frame (reached_station w tenure reached) up (reached_up w tenure reached).1) in
+        let all : arriving at (brought w x tenure.at Zero frame) ≡ arriving at w ++ frame ∷ [] =
+        subst (λ (z : Place). arriving z (brought w x tenure.at Zero frame) ≡ arriving z w ++ frame ∷ []) here (there_coming w x tenure.at frame (reached_station w tenure reached) up (reached_up w tenure reached).1) in
         record {
-          first = subst (BeginWith text) (sym all) (begin_last text frame (coming at w) (λ none. lent_first x.end.zero frame text (frame_lent x.end frame lent).lent
+          first = subst (BeginWith text) (sym all) (begin_last text frame (arriving at w) (λ none. lent_first x.end.zero frame text (frame_lent x.end frame lent).lent
               (ap (λ (z : Mobile). first_in (to_be_taken z.end.zero)) own
               ∙ led.gives none (ap (λ (z : Place). is_up w z.station) (sym here) ∙ (up_right tenure.at.station w up).1) (subst (λ (z : Seat). IsOnPlace z at) (sym seat ∙ ap (λ (z : Mobile). z.seat) own) here))) led.first);
-          gives = λ none up_then. absurd (none_last (coming at w) frame (sym all ∙ none));
+          gives = λ none up_then. absurd (none_last (arriving at w) frame (sym all ∙ none));
         }
 
     frame_led : (number : ℕ) (sapi : Sapi) (y : Mobile) → mobile_of (unwrap_or (after_air_up w number sapi) w) mobile ≡ Some y → IsLedBy (unwrap_or (after_air_up w number sapi) w) y t

@@ -25,12 +25,12 @@ use Rattle.world_laws.proofs.Targets.Ways.{goes_read}
 use Rattle.world_model.proofs.Footprints.Tells.{answers, brings as brings_frame, establishes, links, opens_with}
 
 -- the messages on their way up
-abbrev pub coming : Place → Actors → List (List ℕ)
-coming at w = messages_in (coming_up w at)
+abbrev pub arriving : Place → Actors → List (List ℕ)
+arriving at w = messages_in (coming_up w at)
 
 -- ---- an end makes messages
 
-pub made_coming : (at : Place) (m : ℕ) (base : BaseState) (ms : List Rsl) (u : Actors) → base.messages ≡ (base_of u m).messages ++ ms → messages_in (made_of at.number ms) ≡ [] → coming at (with_base m base u) ≡ coming at u
+pub made_coming : (at : Place) (m : ℕ) (base : BaseState) (ms : List Rsl) (u : Actors) → base.messages ≡ (base_of u m).messages ++ ms → messages_in (made_of at.number ms) ≡ [] → arriving at (with_base m base u) ≡ arriving at u
 made_coming at m base ms u made none = elim (base_cases u m at.station base) [
   | inr same ↦ ap messages_in (coming_same u (with_base m base u) at refl same)
   | inl here ↦
@@ -45,10 +45,10 @@ made_coming at m base ms u made none = elim (base_cases u m at.station base) [
       ∙ append-nil (messages_in (inbox ++ old))
 ]
 
-told_coming : (at : Place) (m : ℕ) (message : Rsl) (u : Actors) → messages_in (made_of at.number (message ∷ [])) ≡ [] → coming at (with_base m (after_tell (base_of u m) message) u) ≡ coming at u
+told_coming : (at : Place) (m : ℕ) (message : Rsl) (u : Actors) → messages_in (made_of at.number (message ∷ [])) ≡ [] → arriving at (with_base m (after_tell (base_of u m) message) u) ≡ arriving at u
 told_coming at m message u none = made_coming at m (after_tell (base_of u m) message) (message ∷ []) u refl none
 
-spot-coming : (at p : Place) (spot : Spot) (u : Actors) → coming at (with_spot p spot u) ≡ coming at u
+spot-coming : (at p : Place) (spot : Spot) (u : Actors) → arriving at (with_spot p spot u) ≡ arriving at u
 spot-coming at p spot u = ap messages_in (coming_with_spot u p spot at)
 
 -- which messages bring none
@@ -86,10 +86,10 @@ shorts_none k channel frame = by (nat_le FIRST_SDCCH channel) (channel == k) whe
   by false true = refl
   by false false = refl
 
-pub short_coming : (at : Place) (w : Actors) (p : Mobile) (here : Place) (frame : List ℕ) → coming at (brought w p here Three frame) ≡ coming at w
+pub short_coming : (at : Place) (w : Actors) (p : Mobile) (here : Place) (frame : List ℕ) → arriving at (brought w p here Three frame) ≡ arriving at w
 short_coming at w p here frame =
     spot-coming at here (record (spot_at w here) { sapi_three_up = true }) (with_base here.station (short_message_brought (base_of w here.station) here.number (spot_at w here).sapi_three_up frame) w) ∙ by (spot_at w here).sapi_three_up where
-      by : (b : Bool) → coming at (with_base here.station (short_message_brought (base_of w here.station) here.number b frame) w) ≡ coming at w
+      by : (b : Bool) → arriving at (with_base here.station (short_message_brought (base_of w here.station) here.number b frame) w) ≡ arriving at w
       by true = told_coming at here.station (data_indication here.number Three frame) w (short_none at.number here.number frame)
       by false =
           made_coming at here.station (short_message_brought (base_of w here.station) here.number false frame) (establish_indication here.number Three None ∷ data_indication here.number Three frame ∷ []) w
@@ -98,12 +98,12 @@ short_coming at w p here frame =
 other_none : (k channel : ℕ) (message : Rsl) (xs : List Brought) → (channel == k) ≡ false → messages_in ((if channel == k then xs else []) ++ []) ≡ []
 other_none k channel message xs other = ap (λ (b : Bool). messages_in ((if b then xs else []) ++ [])) other
 
-pub elsewhere_coming : (at : Place) (w : Actors) (p : Mobile) (here : Place) (frame : List ℕ) → at.station ≢ 0 → here.station ≢ 0 → is_place here at ≡ false → coming at (brought w p here Zero frame) ≡ coming at w
+pub elsewhere_coming : (at : Place) (w : Actors) (p : Mobile) (here : Place) (frame : List ℕ) → at.station ≢ 0 → here.station ≢ 0 → is_place here at ≡ false → arriving at (brought w p here Zero frame) ≡ arriving at w
 elsewhere_coming at w p here frame at_is here_is other = elim (cases_Bool (nat_eq here.station at.station)) [
   | inr station ↦ ap messages_in (coming_same w (with_base here.station (signalling_brought (base_of w here.station) here.number p.opens frame) w) at refl (base-elsewhere w at.station here.station _ at_is here_is (λ same. eqb-false here.station at.station station (sym same))))
   | inl station ↦ by p.opens (sym (ap (λ (b : Bool). b && nat_eq here.number at.number) station) ∙ other)
 ] where
-  by : (b : Bool) → nat_eq here.number at.number ≡ false → coming at (with_base here.station (signalling_brought (base_of w here.station) here.number b frame) w) ≡ coming at w
+  by : (b : Bool) → nat_eq here.number at.number ≡ false → arriving at (with_base here.station (signalling_brought (base_of w here.station) here.number b frame) w) ≡ arriving at w
   by true channel = told_coming at here.station (establish_indication here.number Zero (Some frame)) w (other_none at.number here.number (establish_indication here.number Zero (Some frame)) (brings_up frame ∷ []) channel)
   by false channel = told_coming at here.station (data_indication here.number Zero frame) w (other_none at.number here.number (data_indication here.number Zero frame) (brings_up frame ∷ []) channel)
 
@@ -111,8 +111,8 @@ elsewhere_coming at w p here frame at_is here_is other = elim (cases_Bool (nat_e
 
 -- it is as it was; or the link broke, and it is the beginning
 pub data Comes (at : Place) (w v : Actors) : Type 0 where
-  same : coming at v ≡ coming at w → Comes at w v
-  begun : is_up v at.station ≡ false → (rest : List (List ℕ)) → coming at w ≡ coming at v ++ rest → Comes at w v
+  same : arriving at v ≡ arriving at w → Comes at w v
+  begun : is_up v at.station ≡ false → (rest : List (List ℕ)) → arriving at w ≡ arriving at v ++ rest → Comes at w v
 
 up_same : (at : Place) (w v : Actors) → messages_up w at.station ≡ messages_up v at.station → Comes at w v
 up_same at w v is = same (ap messages_in (coming_read v at ∙ ap (flat_map (brings at.number)) (sym is) ∙ sym (coming_read w at)))
@@ -153,8 +153,8 @@ abbrev pub is_frame : Event → Bool
 is_frame (AirUp number sapi) = true
 is_frame _ = false
 
-stays : (at : Place) (w : Actors) (o : Option Actors) → OfTaken (λ v. coming at v ≡ coming at w) o → Comes at w (unwrap_or o w)
-stays at w o leads = same (after_taken (λ v. coming at v ≡ coming at w) o w leads refl)
+unchanged : (at : Place) (w : Actors) (o : Option Actors) → OfTaken (λ v. arriving at v ≡ arriving at w) o → Comes at w (unwrap_or o w)
+unchanged at w o leads = same (after_taken (λ v. arriving at v ≡ arriving at w) o w leads refl)
 
 tells_none : {w : Actors} {event : Event} {n : ℕ} {message : Rsl} (k : ℕ) → is_frame event ≡ false → Tells w event n message → messages_in (made_of k (message ∷ [])) ≡ []
 tells_none k b (opens_with number p tenure frame lent) = absurd cc
@@ -165,7 +165,7 @@ tells_none k b (answers station l answer taken) = answer-none k l.channel answer
 tells_none k b _ = refl
 
 air_comes : (at : Place) (w : Actors) (event : Event) → is_on_air event ≡ true → is_frame event ≡ false → Comes at w (actors_after w event)
-air_comes at w event on b = same (air_after (λ v. coming at v ≡ coming at w) w event on (record {
+air_comes at w event on b = same (air_after (λ v. arriving at v ≡ arriving at w) w event on (record {
   puts = λ u number p q _ _ _ is. is;
   joins = λ number initial accepts _ is. is;
   tells = λ u n message _ how is. told_coming at n message u (tells_none at.number b how) ∙ is;
@@ -184,8 +184,8 @@ unfolding event_after
 comes_step at w (BasePush source) at_is good a b = plain_coming at w (BasePush source) at_is good refl (pushing at.station source w at_is)
 comes_step at w Handle at_is good a b = absurd (true≢false a)
 comes_step at w SwitchTakes at_is good a b =
-    stays at w (after_switch_takes w) (switch_takes_leads (λ v. coming at v ≡ coming at w) w (λ first others _ _. switch_took-leads (λ v. coming at v ≡ coming at w) (with_outbox SWITCH_LINK others w) (sccp_in first.out.frame) refl (λ nexts made. refl)))
-comes_step at w (SwitchDoes action) at_is good a b = stays at w (after_switch_does w action) (does_leads (λ v. coming at v ≡ coming at w) w action (λ nexts made. refl))
+    unchanged at w (after_switch_takes w) (switch_takes_leads (λ v. arriving at v ≡ arriving at w) w (λ first others _ _. switch_took-leads (λ v. arriving at v ≡ arriving at w) (with_outbox SWITCH_LINK others w) (sccp_in first.out.frame) refl (λ nexts made. refl)))
+comes_step at w (SwitchDoes action) at_is good a b = unchanged at w (after_switch_does w action) (does_leads (λ v. arriving at v ≡ arriving at w) w action (λ nexts made. refl))
 comes_step at w (Tick ms) at_is good a b = absurd (true≢false a)
 comes_step at w (BaseDown source) at_is good a b = plain_coming at w (BaseDown source) at_is good refl (breaking at.station source w at_is)
 comes_step at w event at_is good a b = air_comes at w event refl b

@@ -5,7 +5,8 @@ use Rattle.world_laws.proofs.Prelude.{Option, Some, None, refl, sym, ap, ◌∙�
 use Rattle.world_laws.proofs.Prelude.{Assignment, Handover, Place, SWITCH_LINK, Target, changes_by, is_target_at, is_dtap, same_change}
 use Rattle.world_laws.proofs.Prelude.{brought_by, brought_in, brought_with, if_held, nothing, ChannelState, InUse, Take, OnChannel}
 use Rattle.world_laws.proofs.Prelude.{channel_state, holder, hears, place_at, place_of, data_word, rsl_word, sapi_of, Sapi, Zero, Frame}
-use Rattle.world_laws.proofs.Prelude.{Item, DataMessage, Rsl, complete, rsl_in, Actors, base_of, IsKnownItem, both_empty, same_Some, comes}
+use Rattle.world_laws.proofs.Prelude.{Item, DataMessage, Rsl, complete, rsl_in, Actors, base_of, IsKnownItem, both_empty, same_Some}
+use Rattle.world_laws.proofs.Prelude.{of_frame}
 use Rattle.world_laws.proofs.Prelude.{word_of, RrCause, messages_in, ends_up, messages_up, read_of, brings, brings_if, brings_in}
 use Rattle.world_laws.proofs.Prelude.{of_establishment, of_main, initial_by, initials_up, BeginWith}
 use Rattle.conn_rules.specs.declared.input.Input.TheVariants as inputs
@@ -62,26 +63,26 @@ brings_data k _ none some = absurd (some refl)
 begin_here : (text x : List ℕ) (xs ys rest : List (List ℕ)) → xs ≡ x ∷ [] → ys ≡ xs ++ rest → BeginWith text ys → x ≡ text
 begin_here text x xs ys rest one all first = subst (BeginWith text) (all ∙ ap (λ (zs : List (List ℕ)). zs ++ rest) one) first
 
-module _ (w : Actors) (source : ℕ) (frame : Frame) (items : List Item) (stands : w.inbox ≡ record { source = source; what = whats.Frame frame } ∷ items) (known : IsKnownItem (record { source = source; what = whats.Frame frame })) (t : Target) (n : ℕ) (station_is : t.channel.station ≢ SWITCH_LINK)
-    (used : channel_state w.controller (place_of t.channel) ≡ InUse n) (hearing : hears w.controller t.channel.station ≡ true) (none : initials_up w (place_of t.channel) ≡ []) (coming rest : List (List ℕ)) (all : coming ≡ messages_in (brings_in (place_of t.channel) (record { source = source; what = whats.Frame frame })) ++ rest) (first : BeginWith (complete t.change) coming) where
+module _ (w : Actors) (source : ℕ) (frame : Frame) (items : List Item) (pending : w.inbox ≡ record { source = source; what = whats.Frame frame } ∷ items) (known : IsKnownItem (record { source = source; what = whats.Frame frame })) (t : Target) (n : ℕ) (station_is : t.channel.station ≢ SWITCH_LINK)
+    (used : channel_state w.controller (place_of t.channel) ≡ InUse n) (hearing : hears w.controller t.channel.station ≡ true) (none : initials_up w (place_of t.channel) ≡ []) (arriving rest : List (List ℕ)) (all : arriving ≡ messages_in (brings_in (place_of t.channel) (record { source = source; what = whats.Frame frame })) ++ rest) (first : BeginWith (complete t.change) arriving) where
   abbrev at : Place
   at = place_of t.channel
 
   abbrev Says : Type 0
-  Says = (cause : RrCause) × (brought_in w.controller n (Take (record { source = source; what = whats.Frame frame })) ≡ comes (inputs.Complete at t.change cause))
+  Says = (cause : RrCause) × (brought_in w.controller n (Take (record { source = source; what = whats.Frame frame })) ≡ of_frame (inputs.Complete at t.change cause))
 
   -- no initial message is among it
   no_initial : (m : Rsl) → source ≡ at.station → rsl_in frame ≡ Some m → initial_by at.number m ≡ []
   no_initial m here says =
       let read : messages_up w at.station ≡ (m ∷ []) ++ (flat_map (read_of at.station) items ++ (base_of w at.station).messages) =
-      ap (λ (xs : List Item). flat_map (read_of at.station) xs ++ (base_of w at.station).messages) stands
+      ap (λ (xs : List Item). flat_map (read_of at.station) xs ++ (base_of w at.station).messages) pending
       ∙ ap (λ (b : Bool). ((if b then option_to_list (rsl_in frame) else []) ++ flat_map (read_of at.station) items) ++ (base_of w at.station).messages) (eq-eqb source at.station here)
       ∙ ap (λ (o : Option Rsl). (option_to_list o ++ flat_map (read_of at.station) items) ++ (base_of w at.station).messages) says in
       (both_empty (initial_by at.number m) (flat_map (initial_by at.number) (flat_map (read_of at.station) items ++ (base_of w at.station).messages)) (sym (ap (flat_map (initial_by at.number)) (sym read) ∙ none))).0
 
   says_data : (m : Rsl) → source ≡ at.station → rsl_in frame ≡ Some m → messages_in (brings at.number m) ≡ messages_in (brings_in at (record { source = source; what = whats.Frame frame })) → Brings-data at.number m → Says
   says_data m here says same (as_data d is on zero one) =
-      let l3 : d.l3 ≡ complete t.change = begin_here (complete t.change) d.l3 (messages_in (brings_in at (record { source = source; what = whats.Frame frame }))) coming rest (sym same ∙ one) all first in
+      let l3 : d.l3 ≡ complete t.change = begin_here (complete t.change) d.l3 (messages_in (brings_in at (record { source = source; what = whats.Frame frame }))) arriving rest (sym same ∙ one) all first in
       let other : source ≢ SWITCH_LINK = (λ switch. station_is (sym here ∙ switch)) in
       let made = known.station other in
       let word : word_of source frame ≡ rsl_word source (rsl.DataIndication d) =
@@ -94,7 +95,7 @@ module _ (w : Actors) (source : ℕ) (frame : Frame) (items : List Item) (stands
         ap (λ (b : Bool). if b then brought_with w.controller n source (whats.Frame frame) else nothing) (ap (hears w.controller) here ∙ hearing)
             ∙ ap (brought_by w.controller n) told
             ∙ ap (λ (x : ChannelState). if_held n (holder x) (inputs.Complete at t.change complete_is.0)) used
-            ∙ ap (λ (b : Bool). if b then comes (inputs.Complete at t.change complete_is.0) else nothing) (eq-eqb n n refl),
+            ∙ ap (λ (b : Bool). if b then of_frame (inputs.Complete at t.change complete_is.0) else nothing) (eq-eqb n n refl),
       )
 
   pub says_complete : (messages_in (brings_in at (record { source = source; what = whats.Frame frame })) ≡ [] → ⊥) → Says

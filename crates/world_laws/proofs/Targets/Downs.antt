@@ -42,7 +42,7 @@ first-none k entries first others is none = (both_empty (leading_from_outbox k f
 -- the entry that is taken leads nowhere on the channel
 respot_none : {w u : Actors} {event : Event} {p : Place} {spot : Spot} (at : Place) → flat_map (leading_from_outbox at.number) (outbox_of w at.station) ≡ [] → NoAir p u → at ≡ p → Respots w u event p spot → flat_map leading_from_air spot.air ≡ []
 respot_none at outbox none is (short_up number tenure reached) = none
-respot_none at outbox none is (goes_down tenure first others reached stood) = behind_none first others (ap (flat_map leading_from_air) (sym stood) ∙ none)
+respot_none at outbox none is (goes_down tenure first others reached pending) = behind_none first others (ap (flat_map leading_from_air) (sym pending) ∙ none)
 respot_none at outbox none is (is_left number tenure reached) = refl
 respot_none at outbox none is (counts number report tenure reached) = none
 respot_none at outbox none is (asks_up station l answer taken) = none
@@ -53,7 +53,7 @@ respot_none {w} {u} at outbox none is (airs station d taken active) =
     ∙ append-nil (leading d.l3 target)
     ∙ sym (ap (λ (b : Bool). if b then leading d.l3 target else []) (eq-eqb d.channel at.number (ap (λ (q : Place). q.number) (sym is))))
     ∙ ap (leading_by at.number target) (sym taken.is)
-    ∙ first-none at.number (outbox_of w at.station) taken.first taken.others (ap (λ (q : Place). outbox_of w q.station) is ∙ taken.stood) outbox
+    ∙ first-none at.number (outbox_of w at.station) taken.first taken.others (ap (λ (q : Place). outbox_of w q.station) is ∙ taken.pending) outbox
 
 noair_step : (at : Place) (w : Actors) (event : Event) → at.station ≢ 0 → flat_map (leading_from_outbox at.number) (outbox_of w at.station) ≡ [] → NoAir at w → NoAir at (actors_after w event)
 noair_step at w event at_is outbox = event-keeps (NoAir at) w event (record {

@@ -8,7 +8,8 @@ use Rattle.world_laws.proofs.Prelude.{AreAllowed, Parameters, Event, BaseTakes, 
 use Rattle.world_laws.proofs.Prelude.{actors_after_all, Agrees, AllAgree, active_behind, is_in_use, to_come, owner_in, acknowledgements}
 use Rattle.world_laws.proofs.Prelude.{due, outputs, put, to_link, handled, target_in, with_turn, rsl_in, all_steps, first_taken, step_at}
 use Rattle.world_laws.proofs.Prelude.{Actors, base_of, is_active_at, is_up, new_actors, outbox_of, good_new, FollowsTable-new, both_empty}
-use Rattle.world_laws.proofs.Prelude.{new_outbox, Rests, beside_rests, IsKnownItem, known_inbox, Goes, Runs, entries_to, runs, first_passes}
+use Rattle.world_laws.proofs.Prelude.{new_outbox, Rests, beside_rests, IsKnownItem, known_inbox, RunsThrough, Runs, entries_to, runs}
+use Rattle.world_laws.proofs.Prelude.{first_passes}
 use Rattle.world_laws.proofs.Prelude.{activates, over, passes, releases, Right, handle_turned, heard_of, kinds, right_step, there_of}
 use Rattle.world_laws.proofs.Prelude.{tick-turned, IsOne, Serves, hear, length-stations_from, true≢false, life, tick, new_base, popped}
 use Rattle.world_laws.proofs.Prelude.{new_ends, AllAgree-new, new_down, takes_rests, HaveSpots-new, acknowledgements_up, messages_up}
@@ -48,7 +49,7 @@ quiet_of owner w at agrees none settled hearing free = record {
   nothing_due : due at.number (is_active_at w at) (outbox_of w at.station) ≡ []
   nothing_due =
       let way = agrees.way hearing in
-      let empty = comes_free at.number (channel_state w.controller at) (to_come w at ++ way.lost) way.comes free in
+      let empty = comes_free at.number (channel_state w.controller at) (to_come w at ++ way.lost) way.owed free in
       (both_empty (acknowledgements_up w at) (due at.number (is_active_at w at) (outbox_of w at.station)) (sym (sym (up_first w at) ∙ (both_empty (to_come w at) way.lost (sym empty)).0))).1
 
   by : (b : Bool) → is_up w at.station ≡ b → flat_map (leading_from_outbox at.number) (outbox_of w at.station) ≡ []
@@ -108,7 +109,7 @@ runs_free (releases says rest) is = absurd (other (runs_free rest is)) where
   other : {m : ℕ} → Releasing m ≡ Free → ⊥
   other same = absurd cc
 
-pub goes_free : {at : Place} {state end : ChannelState} {outs : List Out} → Goes at state outs end → end ≡ Free → state ≡ Free
+pub goes_free : {at : Place} {state end : ChannelState} {outs : List Out} → RunsThrough at state outs end → end ≡ Free → state ≡ Free
 goes_free (runs all) is = runs_free all is
 goes_free (first_passes beside rest) is = goes_free rest is
 goes_free (activates a says same few rest) is = refl
@@ -124,7 +125,7 @@ alone heard m rest (inr (x, one)) is = one ∙ ap (λ (y : Rsl). y ∷ []) (let 
 frees_by : (owner : Tenure → ℕ) (w : Actors) (event : Event) (at : Place) (target : Option Tenure) (t : Turn) (heard : List Rsl) → (actors_after w event).controller ≡ t.next → Serves owner w at target t heard → IsOne heard → heard ≡ acknowledgements at.number (flat_map (read_of at.station) (popped w event)) → Frees w event at
 frees_by owner w event at target t heard is serves one read = record {
   hearing = λ hearing. serves.hearing (ap (λ (c : Controller). hears c at.station) (sym is) ∙ hearing);
-  freed = λ hearing free. elim (hear_free heard (channel_state w.controller at) (goes_free (serves.goes (ap (λ (c : Controller). hears c at.station) (sym is) ∙ hearing)) (ap (λ (c : Controller). channel_state c at) (sym is) ∙ free))) [
+  freed = λ hearing free. elim (hear_free heard (channel_state w.controller at) (goes_free (serves.moves (ap (λ (c : Controller). hears c at.station) (sym is) ∙ hearing)) (ap (λ (c : Controller). channel_state c at) (sym is) ∙ free))) [
     | inl was ↦ inl was
     | inr acks ↦ inr (acks.0, sym read ∙ alone heard (RfChannelReleaseAck acks.0) acks.1 one acks.2)
   ];
@@ -161,8 +162,8 @@ works_rests : (w : Actors) (event : Event) (at : Place) → Rests at w event →
 works_rests w event at rests = record { puts = puts_rests w event at rests.outputs; frees = frees_rests w event at rests }
 
 module _ (settings : Parameters) (owner : Tenure → ℕ) (done : List Event) (w : Actors) (is : w ≡ world settings done) (allowed : AreAllowed settings) (octets : AllByRecursion IsOctetStep (all_steps (new_actors settings) done)) where
-  lives : w.controller ≡ (life settings (all_steps (new_actors settings) done)).next
-  lives = ap (λ (x : Actors). x.controller) is ∙ FollowsTable-new settings done
+  by_table : w.controller ≡ (life settings (all_steps (new_actors settings) done)).next
+  by_table = ap (λ (x : Actors). x.controller) is ∙ FollowsTable-new settings done
 
   works_handle : AllAgree settings owner w → AllByRecursion IsOctetStep (first_taken w.inbox) → ServesAt settings owner w Handle → (at : Place) → 1 ≤ at.station → at.station ≤ length settings.cells → Works w Handle at
   unfolding ServesAt event_after take
@@ -180,7 +181,7 @@ module _ (settings : Parameters) (owner : Tenure → ℕ) (done : List Event) (w
             freed = λ hearing free. inl (ap (λ (u : Actors). channel_state u.controller at) (sym same) ∙ free);
           };
         }
-    by (item ∷ items) stands = record { puts = puts; frees = frees } where
+    by (item ∷ items) pending = record { puts = puts; frees = frees } where
       target : Option Tenure
       target = target_in w item.source item.what
 
@@ -188,23 +189,23 @@ module _ (settings : Parameters) (owner : Tenure → ℕ) (done : List Event) (w
       t = take item w.controller
 
       same : actors_after w Handle ≡ with_turn target t (record w { inbox = items })
-      same = ap (λ (all : List Item). unwrap_or (handled all w) w) stands
+      same = ap (λ (all : List Item). unwrap_or (handled all w) w) pending
 
       serving : Serves owner w at target t (heard_of at item)
-      serving = serves item items stands at least most
+      serving = serves item items pending at least most
 
       frees : Frees w Handle at
-      frees = frees_by owner w Handle at target t (heard_of at item) (ap (λ (u : Actors). u.controller) same ∙ (handle_turned w at item items stands).controller) serving (handle_turned w at item items stands).one
-          (heard_read at item ∙ ap (λ (all : List Item). acknowledgements at.number (flat_map (read_of n) (first_here all))) (sym stands)) where
+      frees = frees_by owner w Handle at target t (heard_of at item) (ap (λ (u : Actors). u.controller) same ∙ (handle_turned w at item items pending).controller) serving (handle_turned w at item items pending).one
+          (heard_read at item ∙ ap (λ (all : List Item). acknowledgements at.number (flat_map (read_of n) (first_here all))) (sym pending)) where
             first_here : List Item → List Item
             first_here [] = []
             first_here (x ∷ xs) = x ∷ []
 
       laws : Lawful w.controller (Take item)
-      laws = subst (λ (c : Controller). Lawful c (Take item)) (sym lives) (lawful_life settings (all_steps (new_actors settings) done) (Take item) allowed octets (subst (λ (xs : List Item). AllByRecursion IsOctetStep (first_taken xs)) stands own).0)
+      laws = subst (λ (c : Controller). Lawful c (Take item)) (sym by_table) (lawful_life settings (all_steps (new_actors settings) done) (Take item) allowed octets (subst (λ (xs : List Item). AllByRecursion IsOctetStep (first_taken xs)) pending own).0)
 
       known : IsKnownItem item
-      known = (subst (AllByRecursion IsKnownItem) stands (subst (λ (x : Actors). AllByRecursion IsKnownItem x.inbox) (sym is) (known_inbox settings done))).0
+      known = (subst (AllByRecursion IsKnownItem) pending (subst (λ (x : Actors). AllByRecursion IsKnownItem x.inbox) (sym is) (known_inbox settings done))).0
 
       entries : StandWithin at.number (active_behind w at) (if is_up w n then entries_to at target t.outs else [])
       entries = by_link (is_up w n) (hears t.next n) refl refl where
@@ -213,10 +214,10 @@ module _ (settings : Parameters) (owner : Tenure → ℕ) (done : List Event) (w
         by_link true false up deaf = subst (StandWithin at.number (active_behind w at)) (sym (serving.silent deaf)) tt
         by_link true true up hearing =
             puts_one owner w at target t.outs (agree at least most) (serving.hearing hearing) up (one_item w item.source item.what known)
-            (item_leads settings owner w agree (ap (λ (c : Controller). c.settings) lives ∙ life-settings settings (all_steps (new_actors settings) done)) laws.ready at item.source item.what items least most stands known (serving.hearing hearing) up laws.sent)
+            (item_leads settings owner w agree (ap (λ (c : Controller). c.settings) by_table ∙ life-settings settings (all_steps (new_actors settings) done)) laws.ready at item.source item.what items least most pending known (serving.hearing hearing) up laws.sent)
 
       puts : StandWithin at.number (active_behind w at) (put n w Handle)
-      puts = subst (λ (all : List Item). StandWithin at.number (active_behind w at) (if is_up w n then to_link n (outs_at all) else [])) (sym stands) entries where
+      puts = subst (λ (all : List Item). StandWithin at.number (active_behind w at) (if is_up w n then to_link n (outs_at all) else [])) (sym pending) entries where
         outs_at : List Item → List OutboxEntry
         outs_at [] = []
         outs_at (x ∷ xs) = map (entry_of (target_in w x.source x.what)) (take x w.controller).outs

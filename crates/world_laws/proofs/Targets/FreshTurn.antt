@@ -14,7 +14,7 @@ use Rattle.world_laws.proofs.Prelude.{coming_up, going_down, leading_from_air, l
 use Rattle.world_laws.proofs.Prelude.{BeginWith, IsAwaited, IsFreshIn, IsLedBy, IsOnPlace, IsSettled}
 use Rattle.conn_rules.specs.Streams.{target_in}
 use Rattle.world_laws.proofs.LineUp.Lines.{messages_in-append}
-use Rattle.world_laws.specs.Seated.Sits.{stays}
+use Rattle.world_laws.specs.Seated.Sits.{unchanged}
 use Rattle.world_laws.proofs.Framing.{all_right}
 use Rattle.world_laws.proofs.OrderServes.{Lawful, use_free}
 use Rattle.world_laws.proofs.Targets.AckServes.{LeadsOn, ServesOn, entries_none}
@@ -61,7 +61,7 @@ pub record TurnOf (w v : Actors) (st : Step) (target : Option Tenure) (heard : P
   pub mobiles : v.mobiles ≡ w.mobiles
   pub turned : (at : Place) → Turned w v at target (step w.controller st) (heard at)
   pub spots : (at : Place) → spot_at v at ≡ spot_at w at
-  pub comes : (at : Place) → coming_up w at ≡ items at ++ coming_up v at
+  pub taken_first : (at : Place) → coming_up w at ≡ items at ++ coming_up v at
   pub ways : (n : ℕ) → messages_up w n ≡ read n ++ messages_up v n
   pub heard_is : (at : Place) → heard at ≡ acknowledgements at.number (read at.station)
   pub leads : (at : Place) → (target ≡ None) ⊎ AllByRecursion (LeadsOn at w.controller) (step w.controller st).outs
@@ -80,7 +80,7 @@ pub owns_of : (c : Controller) (number : ℕ) (x : Connection) → Ready c → c
 owns_of c number x ready there is_open = subst (OwnsOpen c.channels c.links number) there (ready.holds.each number) is_open
 
 module _ {m : ℕ} (settings : Parameters) (owner : Tenure → ℕ) (w v : Actors) (st : Step) (target : Option Tenure) (heard : Place → List Rsl) (items : Place → List Items) (read : ℕ → List Rsl) (turn : TurnOf w v st target heard items read) (before : (at : Place) → 1 ≤ at.station → at.station ≤ length settings.cells → Before owner w st target heard at) (laws : Lawful w.controller st) (ready_then : Ready v.controller) (used_then : AreUsed v.controller) (same_settings : v.controller.settings ≡ settings)
-    (mobile : ℕ) (p : Mobile) (s s2 : Connection) (found : mobile_of w mobile ≡ Some p) (lined : LinedUp m w p s) (had : IsHad w s) (had_then : IsHad v s2) (number : s2.number ≡ s.number) (stands : IsValid s) (acts : ActsOn s.number w.controller st) (fresh : IsFreshIn w p s.state)
+    (mobile : ℕ) (p : Mobile) (s s2 : Connection) (found : mobile_of w mobile ≡ Some p) (lined : LinedUp m w p s) (had : IsHad w s) (had_then : IsHad v s2) (number : s2.number ≡ s.number) (valid : IsValid s) (acts : ActsOn s.number w.controller st) (fresh : IsFreshIn w p s.state)
     (completes : (t : Target) → target_role s.state ≡ Some (role t true) → IsLedBy w p t → (messages_in (items (place_of t.channel)) ≡ [] → ⊥) → IsComplete (brought_in w.controller s.number st) (target_role s.state)) (q : Mobile) (found_then : mobile_of v mobile ≡ Some q) where
   abbrev n : ℕ
   n = s.number
@@ -140,7 +140,7 @@ module _ {m : ℕ} (settings : Parameters) (owner : Tenure → ℕ) (w v : Actor
   -- ---- the target stays prepared
 
   coming_parts : (at : Place) → messages_in (coming_up w at) ≡ messages_in (items at) ++ messages_in (coming_up v at)
-  coming_parts at = ap messages_in (turn.comes at) ∙ messages_in-append (items at) (coming_up v at)
+  coming_parts at = ap messages_in (turn.taken_first at) ∙ messages_in-append (items at) (coming_up v at)
 
   silent_then : (at : Place) → messages_in (coming_up w at) ≡ [] → messages_in (coming_up v at) ≡ []
   silent_then at none = (both_empty (messages_in (items at)) (messages_in (coming_up v at)) (sym (sym (coming_parts at) ∙ none))).1
@@ -157,7 +157,7 @@ module _ {m : ℕ} (settings : Parameters) (owner : Tenure → ℕ) (w v : Actor
   -- ---- the mobile is commanded to it, and isn't there
 
   not_there : (seat : Seat) (c : Channel) → place_of s.serving ≢ place_of c → Sits w s.serving None seat → IsOnPlace seat (place_of c) → ⊥
-  not_there (On tenure command) c apart (stays there remembers) on = apart (ap (λ (x : Tenure). x.at) (sym there) ∙ on)
+  not_there (On tenure command) c apart (unchanged there remembers) on = apart (ap (λ (x : Tenure). x.at) (sym there) ∙ on)
   not_there _ c apart sits on = on
 
   commanded_then : (t : Target) → target_role s.state ≡ Some (role t false) → IsAwaited w t.channel → IsLedBy v q t
@@ -220,7 +220,7 @@ module _ {m : ℕ} (settings : Parameters) (owner : Tenure → ℕ) (w v : Actor
     heard_before = b.serves.hearing heard_then
 
     freed : hear (heard at) (channel_state w.controller at) ≡ Free
-    freed = activated_free n t.change t.channel (step w.controller st).outs acts.put firsts (hear (heard at) (channel_state w.controller at)) (channel_state (step w.controller st).next at) laws.sent acts.outs ordered (b.serves.goes heard_then)
+    freed = activated_free n t.change t.channel (step w.controller st).outs acts.put firsts (hear (heard at) (channel_state w.controller at)) (channel_state (step w.controller st).next at) laws.sent acts.outs ordered (b.serves.moves heard_then)
 
     nobody : ServesOn at w.controller → ⊥
     nobody x =
@@ -242,4 +242,4 @@ module _ {m : ℕ} (settings : Parameters) (owner : Tenure → ℕ) (w v : Actor
   pub turn_fresh : IsFreshIn v q s2.state
   turn_fresh = of_role v q s2.state (fresh_then (target_role s.state) refl (to_role w p s.state fresh)
       (acts_role n w.controller.next_number (hears w.controller SWITCH_LINK) (brought_in w.controller n st) (connection_of w.controller n) acts.put (connection_of (step w.controller st).next n) s s2 acts.acts had.there
-      (ap (λ (c : Controller). connection_of c n) (sym turn.next) ∙ there_then) stands had.is_open had_then.is_open))
+      (ap (λ (c : Controller). connection_of c n) (sym turn.next) ∙ there_then) valid had.is_open had_then.is_open))

@@ -137,7 +137,7 @@ module _ (w : Actors) (mobile : ℕ) (p : Mobile) (text : List ℕ) (at : Place)
     still_gives : {number : ℕ} {event : Event} {x q : Mobile} → x ≡ p → is_frame event ≡ false → Becomes w number event x q → Gives text at q
     still_gives own b (queues sapi message x may) = λ on. queued_first x.end sapi message text (subst (Gives text at) (sym own) gives on)
     still_gives own b (is_acked sapi x) = λ on. acked_first x.end sapi text (subst (Gives text at) (sym own) gives on)
-    still_gives own b (hears x tenure command first others seat reached stood) = λ on.
+    still_gives own b (hears x tenure command first others seat reached pending) = λ on.
         ap (λ (e : MobileState). first_in (to_be_taken e.zero)) (hearing-end x first) ∙ subst (Gives text at) (sym own) gives (hearing_on x first at on)
     still_gives own b (misses x) = subst (Gives text at) (sym own) gives
     still_gives own b (leaves x tenure command seat reached) = λ on. absurd on

@@ -60,7 +60,7 @@ stands_while_active = ((λ idle. absurd cc), tt)
 
 stands_not_while_idle : StandWithin 0x41 false (outbox_of (told).actors 1) → ⊥
 unfolding on_literals
-stands_not_while_idle stands = let none = stands.0 refl in absurd cc
+stands_not_while_idle valid = let none = valid.0 refl in absurd cc
 
 stands_on_another : StandWithin 0x0a false (outbox_of (told).actors 1)
 unfolding on_literals

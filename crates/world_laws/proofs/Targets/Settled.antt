@@ -22,8 +22,8 @@ use Rattle.world_laws.proofs.Channels.RoleAcks.{up_first}
 -- behind it nothing is due, and the channel isn't in use
 pub comes_idle : (k : ℕ) (state : ChannelState) (all xs ys : List Rsl) → IsOwed k state all → all ≡ xs ++ ys → (state ≡ Free) ⊎ (list_any is_release_ack xs ≡ true) → (ys ≡ []) × (is_in_use state ≡ false)
 comes_idle k Free all xs ys nothing is why = ((both_empty xs ys is).1, refl)
-comes_idle k (InUse number) all xs ys comes is (inl free) = absurd cc
-comes_idle k (InUse number) all [] ys comes is (inr any) = absurd cc
+comes_idle k (InUse number) all xs ys owed is (inl free) = absurd cc
+comes_idle k (InUse number) all [] ys owed is (inr any) = absurd cc
 comes_idle k (InUse number) all (x ∷ xs) ys began is (inr any) = absurd cc
 comes_idle k (InUse number) all (x ∷ xs) ys begins is (inr any) = absurd (none xs any first (both_empty xs ys cc).0) where
   first : activation_ack k ≡ x
@@ -31,8 +31,8 @@ comes_idle k (InUse number) all (x ∷ xs) ys begins is (inr any) = absurd (none
 
   none : (zs : List Rsl) → is_release_ack x || list_any is_release_ack zs ≡ true → activation_ack k ≡ x → zs ≡ [] → ⊥
   none zs any is_ack empty = absurd (false≢true (sym (ap (list_any is_release_ack) empty) ∙ ap (λ (m : Rsl). is_release_ack m || list_any is_release_ack zs) is_ack ∙ any))
-comes_idle k (Releasing number) all xs ys comes is (inl free) = absurd cc
-comes_idle k (Releasing number) all [] ys comes is (inr any) = absurd cc
+comes_idle k (Releasing number) all xs ys owed is (inl free) = absurd cc
+comes_idle k (Releasing number) all [] ys owed is (inr any) = absurd cc
 comes_idle k (Releasing number) all (x ∷ xs) ys ends is (inr any) = ((both_empty xs ys cc).1, refl)
 comes_idle k (Releasing number) all (x ∷ []) ys begins_and_ends is (inr any) = absurd (false≢true (ap (λ (m : Rsl). is_release_ack m || false) first ∙ any)) where
   first : activation_ack k ≡ x
@@ -41,7 +41,7 @@ comes_idle k (Releasing number) all (x ∷ y ∷ xs) ys begins_and_ends is (inr 
 
 pub comes_free : (k : ℕ) (state : ChannelState) (all : List Rsl) → IsOwed k state all → state ≡ Free → all ≡ []
 comes_free k Free all nothing is = refl
-comes_free k _ all comes is = absurd cc
+comes_free k _ all owed is = absurd cc
 
 -- ---- what an event is to a channel
 
@@ -91,14 +91,14 @@ module _ (owner : Tenure → ℕ) (w : Actors) (event : Event) (at : Place) (a :
   idle_up hearing up why =
       let way = a.agrees.way hearing in
       let all : to_come v at ++ way.lost ≡ acknowledgements_up v at ++ due k (is_active_at v at) (outbox_of v n) = ap (λ (xs : List Rsl). to_come v at ++ xs) (way.all up) ∙ append-nil (to_come v at) ∙ up_first v at in
-      let both = comes_idle k (channel_state v.controller at) (to_come v at ++ way.lost) (acknowledgements_up v at) (due k (is_active_at v at) (outbox_of v n)) way.comes all why in
+      let both = comes_idle k (channel_state v.controller at) (to_come v at ++ way.lost) (acknowledgements_up v at) (due k (is_active_at v at) (outbox_of v n)) way.owed all why in
       sym (still_all k (is_active_at v at) (outbox_of v n) both.0) ∙ way.active up ∙ both.1
 
   -- no acknowledgement comes of a free channel
   none_acks : hears v.controller n ≡ true → channel_state v.controller at ≡ Free → acknowledgements k (messages_up v n) ≡ []
   none_acks hearing free =
       let way = a.agrees.way hearing in
-      let none : to_come v at ++ way.lost ≡ [] = comes_free k (channel_state v.controller at) (to_come v at ++ way.lost) way.comes free in
+      let none : to_come v at ++ way.lost ≡ [] = comes_free k (channel_state v.controller at) (to_come v at ++ way.lost) way.owed free in
       (both_empty (acknowledgements_up v at) (due k (is_active_at v at) (outbox_of v n)) (sym (sym (up_first v at) ∙ (both_empty (to_come v at) way.lost (sym none)).0))).0
 
   silent_up : hears v.controller n ≡ true → is_up v n ≡ true → channel_state v.controller at ≡ Free → coming_up v at ≡ []

@@ -44,8 +44,8 @@ same_controller w (Tick ms) is = absurd cc
 same_controller w (BaseTakes station) is = kept_controller w station
 same_controller w e is = (beside_step w e refl).controller
 
-module _ (settings : Parameters) (events : List Event) (event : Event) (mobile : ℕ) (s s2 : Connection) (q : Mobile) (allowed : AreAllowed settings) (octets_all : TookOctets settings (events ++ event ∷ [])) (lives : IsOpenAndLinedUp (modulus_in settings) (world settings events) mobile s) (alone : IsAlone (world settings events) mobile s)
-    (fresh : IsFreshIn (world settings events) lives.lined.one s.state) (number : s2.number ≡ s.number) (had_then : IsHad (actors_after (world settings events) event) s2) (found_then : mobile_of (actors_after (world settings events) event) mobile ≡ Some q) where
+module _ (settings : Parameters) (events : List Event) (event : Event) (mobile : ℕ) (s s2 : Connection) (q : Mobile) (allowed : AreAllowed settings) (octets_all : TookOctets settings (events ++ event ∷ [])) (lined_up : IsOpenAndLinedUp (modulus_in settings) (world settings events) mobile s) (alone : IsAlone (world settings events) mobile s)
+    (fresh : IsFreshIn (world settings events) lined_up.lined.one s.state) (number : s2.number ≡ s.number) (had_then : IsHad (actors_after (world settings events) event) s2) (found_then : mobile_of (actors_after (world settings events) event) mobile ≡ Some q) where
   abbrev w : Actors
   w = world settings events
 
@@ -56,7 +56,7 @@ module _ (settings : Parameters) (events : List Event) (event : Event) (mobile :
   owner = owner_in (new_actors settings) events
 
   abbrev p : Mobile
-  p = lives.lined.one
+  p = lined_up.lined.one
 
   all_octets : AllByRecursion IsOctetStep (all_steps (new_actors settings) events ++ step_at w event)
   all_octets = subst (AllByRecursion IsOctetStep) (snoc_steps (new_actors settings) events event) octets_all
@@ -74,9 +74,10 @@ module _ (settings : Parameters) (events : List Event) (event : Event) (mobile :
 
   beside : is_relays event ≡ false → IsFreshIn v q s2.state
   beside other =
-      let same : s2 ≡ s = same_Some _ _ (sym had_then.there ∙ ap (λ (c : Controller). connection_of c s2.number) (same_controller w event other) ∙ ap (connection_of w.controller) number ∙ lives.had.there) in
+      let same : s2 ≡ s = same_Some _ _ (sym had_then.there ∙ ap (λ (c : Controller). connection_of c s2.number) (same_controller w event other) ∙ ap (connection_of w.controller) number ∙ lined_up.had.there) in
       subst (λ (x : Connection). IsFreshIn v q x.state) (sym same)
-      (beside_fresh w event mobile p s lives.lined.found lives.lined.lined alone keeps.right.good other q found_then s.state refl fresh)
+      (beside_fresh w event mobile p s lined_up.lined.found lined_up.lined.lined alone keeps.right.good other q found_then s.state refl
+      fresh)
 
   -- ---- the controller works
 
@@ -96,13 +97,13 @@ module _ (settings : Parameters) (events : List Event) (event : Event) (mobile :
   same_settings = ap (λ (c : Controller). c.settings) life_then ∙ life-settings settings (all_steps (new_actors settings) (events ++ event ∷ []))
 
   acts_on : (st : Step) → ActsOn s.number w.controller st
-  acts_on st = subst (λ (c : Controller). ActsOn s.number c st) (sym by_life) (life_acts settings (all_steps (new_actors settings) events) st s.number lives.had.from_one)
+  acts_on st = subst (λ (c : Controller). ActsOn s.number c st) (sym by_life) (life_acts settings (all_steps (new_actors settings) events) st s.number lined_up.had.from_one)
 
   laws_on : (st : Step) → IsOctetStep st → Lawful w.controller st
   laws_on st own = subst (λ (c : Controller). Lawful c st) (sym by_life) (lawful_life settings (all_steps (new_actors settings) events) st allowed octets own)
 
-  stands : IsValid s
-  stands = connections_stand_new settings events s.number s lives.had.there
+  valid : IsValid s
+  valid = connections_stand_new settings events s.number s lined_up.had.there
 
   before_of : (st : Step) (target : Option Tenure) (heard : Place → List Rsl) → ((at : Place) → 1 ≤ at.station → at.station ≤ length settings.cells → Serves owner w at target (step w.controller st) (heard at)) → (at : Place) → 1 ≤ at.station → at.station ≤ length settings.cells → Before owner w st target heard at
   before_of st target heard serves at least most = record {
@@ -118,15 +119,15 @@ module _ (settings : Parameters) (events : List Event) (event : Event) (mobile :
   target_facts : (t : Target) → target_role s.state ≡ Some (role t true) → (t.channel.station ≢ SWITCH_LINK) × (channel_state w.controller (place_of t.channel) ≡ InUse s.number) × (hears w.controller t.channel.station ≡ true) × (initials_up w (place_of t.channel) ≡ [])
   target_facts t is =
       let ready_w : Ready w.controller = subst Ready (sym by_life) (life_ready settings (all_steps (new_actors settings) events) allowed) in
-      let owns : Owns w.controller.channels w.controller.links s.number (roles_of s) = owns_of w.controller s.number s ready_w lives.had.there lives.had.is_open in
+      let owns : Owns w.controller.channels w.controller.links s.number (roles_of s) = owns_of w.controller s.number s ready_w lined_up.had.there lined_up.had.is_open in
       let channel : target_in s.state ≡ t.channel ∷ [] = role_channel s.state t true is in (
-        (subst (AllByRecursion (λ c. c.station ≢ SWITCH_LINK)) channel (all_right (λ c. c.station ≢ SWITCH_LINK) (undone s.draining) (s.serving ∷ target_in s.state) lives.lined.lined.placed).1).0,
+        (subst (AllByRecursion (λ c. c.station ≢ SWITCH_LINK)) channel (all_right (λ c. c.station ≢ SWITCH_LINK) (undone s.draining) (s.serving ∷ target_in s.state) lined_up.lined.lined.placed).1).0,
         (subst (λ (o : Option TargetRole). AllByRecursion (λ c. state_in w.controller.channels (place_of c) ≡ InUse s.number) (target_channels o)) is owns.using.1).0,
         (subst (λ (o : Option TargetRole). AllByRecursion (λ c. is_link_up w.controller.links c.station ≡ true) (target_channels o)) is (all_right (λ c. is_link_up w.controller.links c.station ≡ true) (undone s.draining) (s.serving ∷ target_channels (target_role s.state)) owns.linked).1).0,
-        (subst (AllByRecursion (λ c. initials_up w (place_of c) ≡ [])) channel (all_right (λ c. initials_up w (place_of c) ≡ []) (undone s.draining) (s.serving ∷ target_in s.state) lives.opened.none_comes).1).0,
+        (subst (AllByRecursion (λ c. initials_up w (place_of c) ≡ [])) channel (all_right (λ c. initials_up w (place_of c) ≡ []) (undone s.draining) (s.serving ∷ target_in s.state) lined_up.opened.none_comes).1).0,
       )
 
-  module _ (source : ℕ) (what : What) (items : List Item) (stood : w.inbox ≡ record { source = source; what = what } ∷ items) where
+  module _ (source : ℕ) (what : What) (items : List Item) (pending : w.inbox ≡ record { source = source; what = what } ∷ items) where
     abbrev item : Item
     item = record { source = source; what = what }
 
@@ -134,18 +135,18 @@ module _ (settings : Parameters) (events : List Event) (event : Event) (mobile :
     then = handled_by w item items
 
     known : IsKnownItem item
-    known = (subst (AllByRecursion IsKnownItem) stood (known_inbox settings events)).0
+    known = (subst (AllByRecursion IsKnownItem) pending (known_inbox settings events)).0
 
     turn_of : Lawful w.controller (Take item) → TurnOf w then (Take item) (tenure_in w source what) (λ at. heard_of at item) (λ at. brings_in at item) (λ n. read_of n item)
     unfolding take
     turn_of laws = record {
-      next = (handle_turned w (place_at 0 0) item items stood).controller;
+      next = (handle_turned w (place_at 0 0) item items pending).controller;
       mobiles = turn_leads (λ u. u.mobiles ≡ w.mobiles) (tenure_in w source what) (take item w.controller) (record w { inbox = items }) (λ links. refl);
-      turned = λ at. handle_turned w at item items stood;
+      turned = λ at. handle_turned w at item items pending;
       spots = λ at. turn_leads (λ u. spot_at u at ≡ spot_at w at) (tenure_in w source what) (take item w.controller) (record w { inbox = items }) (λ links. refl);
-      comes = λ at. first_coming w item items at stood;
+      taken_first = λ at. first_coming w item items at pending;
       ways = λ n.
-          ap (λ (xs : List Item). flat_map (read_of n) xs ++ (base_of w n).messages) stood
+          ap (λ (xs : List Item). flat_map (read_of n) xs ++ (base_of w n).messages) pending
           ∙ append_assoc (read_of n item) (flat_map (read_of n) items) (base_of w n).messages
           ∙ turn_leads (λ u. read_of n item ++ messages_up (record w { inbox = items }) n ≡ read_of n item ++ messages_up u n) (tenure_in w source what) (take item w.controller) (record w { inbox = items }) (λ links. refl);
       heard_is = λ at. ap (acknowledgements at.number) (said-read at.station item);
@@ -160,8 +161,8 @@ module _ (settings : Parameters) (events : List Event) (event : Event) (mobile :
       by : (x : What) → what ≡ x → IsComplete (brought_in w.controller s.number (Take item)) (target_role s.state)
       by whats.Down same = absurd (some (ap (λ (x : What). messages_in (brings_in (place_of t.channel) (record { source = source; what = x }))) same))
       by (whats.Frame frame) same =
-          let says = says_complete w source frame items (stood ∙ ap (λ (x : What). record { source = source; what = x } ∷ items) same) (subst (λ (x : What). IsKnownItem (record { source = source; what = x })) same known) t s.number (target_facts t is).0 (target_facts t is).1 (target_facts t is).2 (target_facts t is).3 (messages_in (coming_up w (place_of t.channel))) (messages_in (coming_up then (place_of t.channel)))
-          (ap messages_in (first_coming w item items (place_of t.channel) stood) ∙ messages_in-append (brings_in (place_of t.channel) item) (coming_up then (place_of t.channel)) ∙ ap (λ (x : What). messages_in (brings_in (place_of t.channel) (record { source = source; what = x })) ++ messages_in (coming_up then (place_of t.channel))) same)
+          let says = says_complete w source frame items (pending ∙ ap (λ (x : What). record { source = source; what = x } ∷ items) same) (subst (λ (x : What). IsKnownItem (record { source = source; what = x })) same known) t s.number (target_facts t is).0 (target_facts t is).1 (target_facts t is).2 (target_facts t is).3 (messages_in (coming_up w (place_of t.channel))) (messages_in (coming_up then (place_of t.channel)))
+          (ap messages_in (first_coming w item items (place_of t.channel) pending) ∙ messages_in-append (brings_in (place_of t.channel) item) (coming_up then (place_of t.channel)) ∙ ap (λ (x : What). messages_in (brings_in (place_of t.channel) (record { source = source; what = x })) ++ messages_in (coming_up then (place_of t.channel))) same)
           led.first (λ none. some (ap (λ (x : What). messages_in (brings_in (place_of t.channel) (record { source = source; what = x }))) same ∙ none)) in
           (place_of t.channel, t.change, says.0, ap (λ (x : What). brought_in w.controller s.number (Take (record { source = source; what = x }))) same ∙ says.1, subst (λ (o : Option TargetRole). is_target_at (place_of t.channel) o && changes_by t.change o ≡ true) (sym is) (hits t))
 
@@ -170,7 +171,7 @@ module _ (settings : Parameters) (events : List Event) (event : Event) (mobile :
         let laws = laws_on (Take item) own in
         turn_fresh settings owner w then (Take item) (tenure_in w source what) (λ at. heard_of at item) (λ at. brings_in at item) (λ n. read_of n item) (turn_of laws) (before_of (Take item) (tenure_in w source what) (λ at. heard_of at item) serves) laws
         (subst (λ (u : Actors). Ready u.controller) same ready_then) (subst (λ (u : Actors). AreUsed u.controller) same used_then) (ap (λ (u : Actors). u.controller.settings) (sym same) ∙ same_settings)
-        mobile p s s2 lives.lined.found lives.lined.lined lives.had (subst (λ (u : Actors). IsHad u s2) same had_then) number stands (acts_on (Take item)) fresh no_complete q (ap (λ (u : Actors). mobile_of u mobile) (sym same) ∙ found_then)
+        mobile p s s2 lined_up.lined.found lined_up.lined.lined lined_up.had (subst (λ (u : Actors). IsHad u s2) same had_then) number valid (acts_on (Take item)) fresh no_complete q (ap (λ (u : Actors). mobile_of u mobile) (sym same) ∙ found_then)
 
   -- ---- the events
 
@@ -186,13 +187,13 @@ module _ (settings : Parameters) (events : List Event) (event : Event) (mobile :
     by : (items : List Item) → w.inbox ≡ items → IsFreshIn v q s2.state
     by [] empty =
         let same : v ≡ w = now ∙ ap (λ (items : List Item). unwrap_or (handled items w) w) empty in
-        let one : s2 ≡ s = same_Some _ _ (sym had_then.there ∙ ap (λ (u : Actors). connection_of u.controller s2.number) same ∙ ap (connection_of w.controller) number ∙ lives.had.there) in
-        let who : q ≡ p = same_Some _ _ (sym found_then ∙ ap (λ (u : Actors). mobile_of u mobile) same ∙ lives.lined.found) in
+        let one : s2 ≡ s = same_Some _ _ (sym had_then.there ∙ ap (λ (u : Actors). connection_of u.controller s2.number) same ∙ ap (connection_of w.controller) number ∙ lined_up.had.there) in
+        let who : q ≡ p = same_Some _ _ (sym found_then ∙ ap (λ (u : Actors). mobile_of u mobile) same ∙ lined_up.lined.found) in
         subst (λ (u : Actors). IsFreshIn u q s2.state) (sym same) (subst (λ (x : Mobile). IsFreshIn w x s2.state) (sym who) (subst (λ (x : Connection). IsFreshIn w p x.state) (sym one) fresh))
-    by (item ∷ items) stood =
-        let same : v ≡ handled_by w item items = now ∙ ap (λ (all : List Item). unwrap_or (handled all w) w) stood in
-        let own : IsOctetStep (Take item) = (subst (λ (all : List Item). AllByRecursion IsOctetStep (first_taken all)) stood (subst (λ (e : Event). AllByRecursion IsOctetStep (step_at w e)) is own_octets)).0 in
-        subst (λ (u : Actors). IsFreshIn u q s2.state) (sym same) (handled_fresh item.source item.what items stood own (λ at least most. serving item items stood at least most) same)
+    by (item ∷ items) pending =
+        let same : v ≡ handled_by w item items = now ∙ ap (λ (all : List Item). unwrap_or (handled all w) w) pending in
+        let own : IsOctetStep (Take item) = (subst (λ (all : List Item). AllByRecursion IsOctetStep (first_taken all)) pending (subst (λ (e : Event). AllByRecursion IsOctetStep (step_at w e)) is own_octets)).0 in
+        subst (λ (u : Actors). IsFreshIn u q s2.state) (sym same) (handled_fresh item.source item.what items pending own (λ at least most. serving item items pending at least most) same)
 
   tick_fresh : (ms : ℕ) → event ≡ Tick ms → IsFreshIn v q s2.state
   unfolding event_after ServesAt
@@ -207,7 +208,7 @@ module _ (settings : Parameters) (events : List Event) (event : Event) (mobile :
         mobiles = turn_leads (λ u. u.mobiles ≡ w.mobiles) None (tick ms w.controller) w (λ links. refl);
         turned = λ at. tick-turned w at ms;
         spots = λ at. turn_leads (λ u. spot_at u at ≡ spot_at w at) None (tick ms w.controller) w (λ links. refl);
-        comes = λ at. turn_leads (λ u. coming_up w at ≡ coming_up u at) None (tick ms w.controller) w (λ links. refl);
+        taken_first = λ at. turn_leads (λ u. coming_up w at ≡ coming_up u at) None (tick ms w.controller) w (λ links. refl);
         ways = λ n. turn_leads (λ u. messages_up w n ≡ messages_up u n) None (tick ms w.controller) w (λ links. refl);
         heard_is = λ at. refl;
         leads = λ at. inl refl;
@@ -215,7 +216,7 @@ module _ (settings : Parameters) (events : List Event) (event : Event) (mobile :
       subst (λ (u : Actors). IsFreshIn u q s2.state) (sym same)
       (turn_fresh settings owner w then (steps.Tick ms) None (λ at. []) (λ at. []) (λ n. []) turn (before_of (steps.Tick ms) None (λ at. []) (λ at least most. serving at least most)) laws
       (subst (λ (u : Actors). Ready u.controller) same ready_then) (subst (λ (u : Actors). AreUsed u.controller) same used_then) (ap (λ (u : Actors). u.controller.settings) (sym same) ∙ same_settings)
-      mobile p s s2 lives.lined.found lives.lined.lined lives.had (subst (λ (u : Actors). IsHad u s2) same had_then) number stands (acts_on (steps.Tick ms)) fresh (λ t to led some. absurd (some refl)) q (ap (λ (u : Actors). mobile_of u mobile) (sym same) ∙ found_then))
+      mobile p s s2 lined_up.lined.found lined_up.lined.lined lined_up.had (subst (λ (u : Actors). IsHad u s2) same had_then) number valid (acts_on (steps.Tick ms)) fresh (λ t to led some. absurd (some refl)) q (ap (λ (u : Actors). mobile_of u mobile) (sym same) ∙ found_then))
 
   pub stays_fresh : (e : Event) → event ≡ e → IsFreshIn v q s2.state
   stays_fresh Handle is = handle_fresh is
@@ -223,7 +224,7 @@ module _ (settings : Parameters) (events : List Event) (event : Event) (mobile :
   stays_fresh e is = beside (ap is_relays is)
 
 pub targets_stay_fresh_new : (settings : Parameters) (events : List Event) (event : Event) → TargetsStayFresh settings events event
-targets_stay_fresh_new settings events event mobile s s2 q allowed octets lives alone fresh number had found = stays_fresh settings events event mobile s s2 q allowed octets lives alone fresh number had found event refl
+targets_stay_fresh_new settings events event mobile s s2 q allowed octets lined_up alone fresh number had found = stays_fresh settings events event mobile s s2 q allowed octets lined_up alone fresh number had found event refl
 
 -- ---- so the target is fresh
 

@@ -95,5 +95,5 @@ pub record IsComing (m : ℕ) (w : Actors) (mobile : ℕ) (s : Connection) : Typ
   pub asked : s.request.access ≡ mobile
   pub one : Mobile
   pub found : mobile_of w mobile ≡ Some one
-  pub comes : IsAccessing m w s one
+  pub accessing : IsAccessing m w s one
   pub assigned : AreAssigned w mobile s

@@ -24,13 +24,13 @@ use Rattle.world_laws.specs.Access.Coming.{IsComing}
 -- channel; or it is gone.
 pub data HasAccess (Comes : Actors → ℕ → Connection → Type 0) (m : ℕ) (w : Actors)
     (mobile number : ℕ) : Type 0 where
-  comes : (next : Connection) → next.number ≡ number → Comes w mobile next
+  on_its_way : (next : Connection) → next.number ≡ number → Comes w mobile next
       → HasAccess Comes m w mobile number
   requests : (next : Connection) → next.number ≡ number → next.state ≡ WaitConfirm
       → IsOpenAndLinedUp m w mobile next → option_map (λ p. p.number)
       (mobile_on w (tenure_at w (place_of next.serving))) ≡ Some mobile
       → HasAccess Comes m w mobile number
-  goes : (IsThere (connection_of w.controller number) → ⊥) → HasAccess Comes m w mobile number
+  no_more : (IsThere (connection_of w.controller number) → ⊥) → HasAccess Comes m w mobile number
 
 -- ---- what the controller puts for others
 

@@ -4,7 +4,7 @@ use Rattle.std.specs.Prelude.{◌≡◌, ℕ, ◌+◌, ◌≤◌, Bool, true, fa
 use Rattle.std.specs.Prelude.{[], ◌∷◌}
 use Rattle.dtap_codec.specs.Places.{Rise}
 use Rattle.world_laws.specs.Prelude.{to_be_taken, DataLinkState, RunsToEnd}
-use Rattle.world_laws.specs.LineUp.Places.{Tenure, Seat, LineUp, line, controls_in, controls_of}
+use Rattle.world_laws.specs.LineUp.Places.{LineTenure, Seat, LineUp, line, controls_in, controls_of}
 use Rattle.world_laws.specs.LineUp.Places.{texts_in}
 use Rattle.world_laws.specs.LineUp.Places.Seat.{on_serving, on_target, moving, gone}
 
@@ -17,7 +17,7 @@ pub data Follows (m : ℕ) (sent messages : List (List ℕ))
 
 -- Of the oldest channel nothing is held: its messages are relayed at once. Before CC what came of
 -- the first channel is held.
-abbrev pub FirstRelays : Bool → List Tenure → List (List ℕ) → Type 0
+abbrev pub FirstRelays : Bool → List LineTenure → List (List ℕ) → Type 0
 FirstRelays confirmed [] hold = confirmed ≡ true → hold ≡ []
 FirstRelays confirmed (t ∷ ts) hold = t.hold ≡ []
 
@@ -58,7 +58,7 @@ pub data ChangePhase : Bool → Bool → ℕ → Seat → ℕ → ℕ → ℕ �
       ChangePhase false true commands seat serving texts target link
 
 -- whether something of one of these channels may be missing
-abbrev pub some_lost : List Tenure → Bool
+abbrev pub some_lost : List LineTenure → Bool
 some_lost [] = false
 some_lost (t ∷ ts) = t.is_lost || some_lost ts
 
@@ -76,7 +76,7 @@ pub data Condition : Seat → Bool → Bool → Bool → Bool → Type 0 where
 pub record Alive (m : ℕ) (l : LineUp) : Type 0 where
   pub follows : Follows m l.sent (line l) l.link l.is_intact
   pub first : FirstRelays l.is_confirmed l.old l.serving.hold
-  pub stands : ChangePhase l.is_opening l.is_changing l.commands l.seat (controls_in l.serving.items)
+  pub phase : ChangePhase l.is_opening l.is_changing l.commands l.seat (controls_in l.serving.items)
       (texts_in l.target.items) (controls_in l.target.items) (controls_of (to_be_taken l.link))
   pub condition : Condition l.seat (some_lost l.old) l.serving.is_lost l.target.is_lost l.is_intact
   -- nothing is held of the target

@@ -3,16 +3,16 @@
 -- nothing comes behind it. The link of a target that the mobile didn't come to may break without a
 -- step.
 use Rattle.std.specs.Prelude.{true, false, List, ◌∷◌, ◌++◌}
-use Rattle.world_laws.specs.LineUp.Places.{Item, Tenure, LineUp, with_items}
+use Rattle.world_laws.specs.LineUp.Places.{Item, LineTenure, LineUp, with_items}
 use Rattle.world_laws.specs.LineUp.Places.Seat.{on_target}
 use Rattle.world_laws.specs.LineUp.Alive.{IsHereOrGone}
 
 -- of this channel no more will come
-abbrev pub lost : Tenure → List Item → Tenure
+abbrev pub lost : LineTenure → List Item → LineTenure
 lost t items = record t { items = items; is_lost = true }
 
 pub data BreakStep : LineUp → LineUp → Type 0 where
-  breaks_serving : (l : LineUp) (t : Tenure) (items dropped : List Item) →
+  breaks_serving : (l : LineUp) (t : LineTenure) (items dropped : List Item) →
       BreakStep (record l {
         serving =
             with_items t (items ++ dropped);
@@ -20,12 +20,12 @@ pub data BreakStep : LineUp → LineUp → Type 0 where
         serving = lost t items;
         is_intact = false;
       })
-  breaks_target : (l : LineUp) (t : Tenure) (items dropped : List Item) → IsHereOrGone on_target l.seat →
+  breaks_target : (l : LineUp) (t : LineTenure) (items dropped : List Item) → IsHereOrGone on_target l.seat →
       BreakStep (record l {
         target =
             with_items t (items ++ dropped);
       }) (record l { target = lost t items; is_intact = false })
-  breaks_old : (l : LineUp) (before : List Tenure) (t : Tenure) (after : List Tenure)
+  breaks_old : (l : LineUp) (before : List LineTenure) (t : LineTenure) (after : List LineTenure)
       (items dropped : List Item) →
       BreakStep (record l {
         old =

@@ -3,7 +3,8 @@
 -- channels.
 use Rattle.std.specs.Prelude.{◌≡◌, ℕ, true, false, List, [], ◌∷◌, ◌++◌}
 use Rattle.world_laws.specs.Prelude.{is_control}
-use Rattle.world_laws.specs.LineUp.Places.{Item, Tenure, Seat, LineUp, fresh, with_items, emptied}
+use Rattle.world_laws.specs.LineUp.Places.{Item, LineTenure, Seat, LineUp, fresh, with_items}
+use Rattle.world_laws.specs.LineUp.Places.{emptied}
 use Rattle.world_laws.specs.LineUp.Places.Item.{brought, released}
 use Rattle.world_laws.specs.LineUp.Places.Seat.{on_serving, on_target, moving, gone}
 
@@ -15,11 +16,11 @@ after_complete moving = moving
 after_complete gone = gone
 
 -- its RF CHANNEL RELEASE ACK was taken
-abbrev pub done : Tenure → Tenure
+abbrev pub done : LineTenure → LineTenure
 done t = record t { items = []; is_done = true }
 
 -- a channel of which all came
-abbrev pub ended : List (List ℕ) → Tenure
+abbrev pub ended : List (List ℕ) → LineTenure
 ended hold = record { hold = hold; items = []; is_lost = false; is_done = true }
 
 pub data ChangeStep : LineUp → LineUp → Type 0 where
@@ -27,7 +28,7 @@ pub data ChangeStep : LineUp → LineUp → Type 0 where
   commands : (l : LineUp) →
       ChangeStep (record l { is_opening = false; is_changing = false }) (record l { is_opening = false; is_changing = true; commands = 1 })
   -- COMPLETE of the target: it serves, and the channel that served is the youngest of the old ones
-  completes : (l : LineUp) (t : Tenure) (x : List ℕ) (items : List Item) → is_control x ≡ true →
+  completes : (l : LineUp) (t : LineTenure) (x : List ℕ) (items : List Item) → is_control x ≡ true →
       ChangeStep (record l {
         is_changing =
             true;
@@ -43,11 +44,11 @@ pub data ChangeStep : LineUp → LineUp → Type 0 where
         target = fresh;
       })
   -- FAILURE of the serving channel: the target is given up
-  goes_back : (l : LineUp) (t : Tenure) (x : List ℕ) (items : List Item) → is_control x ≡ true →
+  goes_back : (l : LineUp) (t : LineTenure) (x : List ℕ) (items : List Item) → is_control x ≡ true →
       ChangeStep (record l { is_changing = true; serving = with_items t (brought x ∷ items) })
       (record l { is_changing = false; serving = with_items t items; target = fresh })
   -- the station of an old channel releases it: its RF CHANNEL RELEASE ACK comes last
-  is_released : (l : LineUp) (before : List Tenure) (t : Tenure) (after : List Tenure)
+  is_released : (l : LineUp) (before : List LineTenure) (t : LineTenure) (after : List LineTenure)
       → t.is_lost ≡ false →
       ChangeStep (record l {
         old =
@@ -57,7 +58,7 @@ pub data ChangeStep : LineUp → LineUp → Type 0 where
             ++ with_items t (t.items ++ released ∷ []) ∷ after;
       })
   -- that RF CHANNEL RELEASE ACK is taken
-  releases : (l : LineUp) (before : List Tenure) (t : Tenure) (after : List Tenure) →
+  releases : (l : LineUp) (before : List LineTenure) (t : LineTenure) (after : List LineTenure) →
       ChangeStep (record l {
         old =
             before ++ with_items t (released ∷ []) ∷ after;
@@ -66,7 +67,8 @@ pub data ChangeStep : LineUp → LineUp → Type 0 where
             ++ done t ∷ after;
       })
   -- the oldest one is released and leaves: what was held of the next is relayed
-  leaves_to_old : (l : LineUp) (hold : List (List ℕ)) (next : Tenure) (others : List Tenure) →
+  leaves_to_old : (l : LineUp) (hold : List (List ℕ)) (next : LineTenure) (others : List LineTenure)
+      →
       ChangeStep (record l { is_confirmed = true; old = ended hold ∷ next ∷ others })
       (record l { is_confirmed = true; old = emptied next ∷ others; out = l.out ++ next.hold })
   -- or of the serving channel, where it was the last one

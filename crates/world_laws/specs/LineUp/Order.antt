@@ -8,17 +8,17 @@ use Rattle.world_laws.specs.LineUp.Places.{LineUp, flow, parts_of}
 -- The switch accepted the first messages that the mobile's upper layers sent, once and in order,
 -- and judged no gap. What may still come continues there: its first message of the flow is the
 -- next one sent, or the last accepted once more, and so on, by steps of 1 or 0.
-pub record IsInOrder (m : ℕ) (sent taken coming : List (List ℕ)) : Type 0 where
+pub record IsInOrder (m : ℕ) (sent taken arriving : List (List ℕ)) : Type 0 where
   pub count : ℕ
   pub accepted : accepted_list m taken ≡ take count sent
   pub no_gap : progress m taken ≡ Some count
   pub last : ℕ
-  pub rise : Rise m sent count coming last
+  pub rise : Rise m sent count arriving last
 
 -- what may still come to the switch while the connection lives: what waits in its outbox, and what
 -- came of each channel
-abbrev pub coming : LineUp → List (List ℕ)
-coming l = flow l.out ++ parts_of (l.old ++ l.serving ∷ l.target ∷ [])
+abbrev pub arriving : LineUp → List (List ℕ)
+arriving l = flow l.out ++ parts_of (l.old ++ l.serving ∷ l.target ∷ [])
 
 -- Once the connection closed or went, what waits in the outbox alone can still come: the places of
 -- what the switch took and of what waits rise.

@@ -13,7 +13,7 @@ pub data Item : Type 0 where
   released : Item
 
 -- A tenure: the time for which the connection has one channel.
-pub record Tenure : Type 0 where
+pub record LineTenure : Type 0 where
   -- what the controller holds of the channel
   pub hold : List (List ℕ)
   -- what is on its way up from it, in order
@@ -24,7 +24,7 @@ pub record Tenure : Type 0 where
   pub is_done : Bool
 
 -- a channel of which nothing came yet
-abbrev pub fresh : Tenure
+abbrev pub fresh : LineTenure
 fresh = record { hold = []; items = []; is_lost = false; is_done = false }
 
 -- where the mobile is, seen from the connection: on its serving channel, on the target of a change
@@ -52,9 +52,9 @@ pub record LineUp : Type 0 where
   -- the switch's CC came
   pub is_confirmed : Bool
   -- channels that served before, the oldest first
-  pub old : List Tenure
-  pub serving : Tenure
-  pub target : Tenure
+  pub old : List LineTenure
+  pub serving : LineTenure
+  pub target : LineTenure
   -- what waits in the outbox to the switch
   pub out : List (List ℕ)
   -- what the switch took
@@ -72,11 +72,11 @@ messages_in (brought message ∷ items) = message ∷ messages_in items
 messages_in (released ∷ items) = messages_in items
 
 -- of a channel: what is held, then what is on its way up
-abbrev pub part_of : Tenure → List (List ℕ)
+abbrev pub part_of : LineTenure → List (List ℕ)
 part_of t = flow t.hold ++ flow (messages_in t.items)
 
 -- channel by channel, up to the first one of which something may be missing
-abbrev pub parts_of : List Tenure → List (List ℕ)
+abbrev pub parts_of : List LineTenure → List (List ℕ)
 parts_of [] = []
 parts_of (t ∷ ts) = part_of t ++ (if t.is_lost then [] else parts_of ts)
 
@@ -100,13 +100,13 @@ texts_in items = length (flow (messages_in items))
 
 -- ---- changes of a tenure
 
-abbrev pub with_items : Tenure → List Item → Tenure
+abbrev pub with_items : LineTenure → List Item → LineTenure
 with_items t items = record t { items = items }
 
 -- the first message on its way up is held, behind the others
-abbrev pub holding : Tenure → List ℕ → List Item → Tenure
+abbrev pub holding : LineTenure → List ℕ → List Item → LineTenure
 holding t message items = record t { hold = t.hold ++ message ∷ []; items = items }
 
 -- what was held is relayed
-abbrev pub emptied : Tenure → Tenure
+abbrev pub emptied : LineTenure → LineTenure
 emptied t = record t { hold = [] }

@@ -3,12 +3,12 @@
 -- switch.
 use Rattle.std.specs.Prelude.{◌≡◌, ℕ, true, false, List, [], ◌∷◌, ◌++◌}
 use Rattle.world_laws.specs.Prelude.{is_flow_message}
-use Rattle.world_laws.specs.LineUp.Places.{Item, Tenure, LineUp, with_items, holding, emptied}
+use Rattle.world_laws.specs.LineUp.Places.{Item, LineTenure, LineUp, with_items, holding, emptied}
 use Rattle.world_laws.specs.LineUp.Places.Item.{brought}
 
 pub data RelayStep : LineUp → LineUp → Type 0 where
   -- where no old channel drains, a message of the serving channel is relayed
-  relays_serving : (l : LineUp) (t : Tenure) (x : List ℕ) (items : List Item) →
+  relays_serving : (l : LineUp) (t : LineTenure) (x : List ℕ) (items : List Item) →
       RelayStep (record l {
         is_confirmed =
             true;
@@ -23,7 +23,7 @@ pub data RelayStep : LineUp → LineUp → Type 0 where
         out = l.out ++ x ∷ [];
       })
   -- before CC it is held
-  holds_before_confirm : (l : LineUp) (t : Tenure) (x : List ℕ) (items : List Item) →
+  holds_before_confirm : (l : LineUp) (t : LineTenure) (x : List ℕ) (items : List Item) →
       RelayStep (record l {
         is_confirmed =
             false;
@@ -32,12 +32,13 @@ pub data RelayStep : LineUp → LineUp → Type 0 where
       })
       (record l { is_confirmed = false; old = []; serving = holding t x items })
   -- and while an old channel drains
-  holds_serving : (l : LineUp) (oldest : Tenure) (others : List Tenure) (t : Tenure) (x : List ℕ)
+  holds_serving : (l : LineUp) (oldest : LineTenure) (others : List LineTenure) (t : LineTenure)
+      (x : List ℕ)
       (items : List Item) →
       RelayStep (record l { old = oldest ∷ others; serving = with_items t (brought x ∷ items) })
       (record l { old = oldest ∷ others; serving = holding t x items })
   -- a message of the oldest channel is relayed
-  relays_oldest : (l : LineUp) (t : Tenure) (others : List Tenure) (x : List ℕ)
+  relays_oldest : (l : LineUp) (t : LineTenure) (others : List LineTenure) (x : List ℕ)
       (items : List Item) →
       RelayStep (record l {
         old =
@@ -48,18 +49,19 @@ pub data RelayStep : LineUp → LineUp → Type 0 where
         out = l.out ++ x ∷ [];
       })
   -- one of an old channel behind it is held
-  holds_old : (l : LineUp) (oldest : Tenure) (before : List Tenure) (t : Tenure)
-      (after : List Tenure) (x : List ℕ) (items : List Item) →
+  holds_old : (l : LineUp) (oldest : LineTenure) (before : List LineTenure) (t : LineTenure)
+      (after : List LineTenure) (x : List ℕ) (items : List Item) →
       RelayStep (record l { old = oldest ∷ (before ++ with_items t (brought x ∷ items) ∷ after) })
       (record l { old = oldest ∷ (before ++ holding t x items ∷ after) })
   -- a message that isn't of the flow may be dropped
-  ignores_serving : (l : LineUp) (t : Tenure) (x : List ℕ) (items : List Item)
+  ignores_serving : (l : LineUp) (t : LineTenure) (x : List ℕ) (items : List Item)
       → is_flow_message x ≡ false →
       RelayStep (record l {
         serving =
             with_items t (brought x ∷ items);
       }) (record l { serving = with_items t items })
-  ignores_old : (l : LineUp) (before : List Tenure) (t : Tenure) (after : List Tenure) (x : List ℕ)
+  ignores_old : (l : LineUp) (before : List LineTenure) (t : LineTenure) (after : List LineTenure)
+      (x : List ℕ)
       (items : List Item) → is_flow_message x ≡ false →
       RelayStep (record l {
         old =
@@ -68,14 +70,14 @@ pub data RelayStep : LineUp → LineUp → Type 0 where
         old = before
             ++ with_items t items ∷ after;
       })
-  ignores_target : (l : LineUp) (t : Tenure) (x : List ℕ) (items : List Item)
+  ignores_target : (l : LineUp) (t : LineTenure) (x : List ℕ) (items : List Item)
       → is_flow_message x ≡ false →
       RelayStep (record l {
         target =
             with_items t (brought x ∷ items);
       }) (record l { target = with_items t items })
   -- CC: what was held is relayed
-  confirms : (l : LineUp) (t : Tenure) →
+  confirms : (l : LineUp) (t : LineTenure) →
       RelayStep (record l {
         is_confirmed =
             false;

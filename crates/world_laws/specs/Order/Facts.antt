@@ -91,6 +91,6 @@ pub record HoldsAt (m : ℕ) (w : Actors) (event : Event) : Type 0 where
   pub begun : (number : ℕ) → 1 ≤ number → is_up w SWITCH_LINK ≡ true
       → w.controller.next_number ≤ number
       → HasBegun (λ v s. IsComingTo m v s.request.access s) (actors_after w event) number
-  pub came : (mobile : ℕ) (s : Connection) → is_up w SWITCH_LINK ≡ true
+  pub has_access : (mobile : ℕ) (s : Connection) → is_up w SWITCH_LINK ≡ true
       → IsComingTo m w mobile s
       → HasAccess (IsComingTo m) m (actors_after w event) mobile s.number

@@ -9,7 +9,7 @@ use Rattle.world_laws.specs.Prelude.{Event}
 use Rattle.world_laws.specs.Prelude.{Actors, is_up, modulus_in, new_actors}
 use Rattle.world_laws.specs.Runs.{world}
 use Rattle.world_laws.specs.LineUp.Places.{LineUp, flow}
-use Rattle.world_laws.specs.LineUp.Order.{IsInOrder, coming}
+use Rattle.world_laws.specs.LineUp.Order.{IsInOrder, arriving}
 use Rattle.mobile_end.specs.DataLink.{outstanding_messages}
 use Rattle.world_laws.specs.LineUps.{line_up, taken_of}
 use Rattle.world_laws.specs.AccountedFor.{IsUnknownForGood, IsOpenAndLinedUp}
@@ -35,7 +35,7 @@ AllNumbersStand settings events =
 -- station. It ends with a channel of which something is lost. Where nothing is lost and the mobile
 -- is still there, these messages of its link come last.
 abbrev pub still_to_come : LineUp → List (List ℕ) → List (List ℕ)
-still_to_come l of_link = coming l ++ (if l.is_intact then flow of_link else [])
+still_to_come l of_link = arriving l ++ (if l.is_intact then flow of_link else [])
 
 -- The switch accepted the first messages sent. The places of what may still come begin behind them,
 -- or at the last one accepted, and rise by 1 or 0. So it is with what stations can still take of
@@ -52,8 +52,8 @@ pub record PlacesRise (m : ℕ) (taken : List (List ℕ)) (l : LineUp) : Type 0 
 pub record IsLinedUp (m : ℕ) (w : Actors) (opener : Option ℕ) (s : Connection) : Type 0 where
   pub mobile : ℕ
   pub opened : opener ≡ Some mobile
-  pub lives : IsOpenAndLinedUp m w mobile s
-  pub places : PlacesRise m (taken_of w s.number) (line_up w lives.lined.one s)
+  pub lined_up : IsOpenAndLinedUp m w mobile s
+  pub places : PlacesRise m (taken_of w s.number) (line_up w lined_up.lined.one s)
 
 -- Whatever happened, while the link of the switch is up: of each connection that asked the switch
 -- for its connection, and is open. Or the switch refused it, and never hears of it.

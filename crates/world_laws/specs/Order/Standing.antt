@@ -32,12 +32,12 @@ pub data WhileUp (m : ℕ) (w : Actors) (opener : Option ℕ) (number : ℕ) : T
   unborn : opener ≡ None → w.controller.next_number ≤ number → WhileUp m w opener number
   coming : (mobile : ℕ) (s : Connection) → opener ≡ None → s.number ≡ number
       → IsComingTo m w mobile s → WhileUp m w opener number
-  lives : (mobile : ℕ) (s : Connection) → opener ≡ Some mobile → s.number ≡ number
+  lined_up : (mobile : ℕ) (s : Connection) → opener ≡ Some mobile → s.number ≡ number
       → (l : IsOpenAndLinedUp m w mobile s) → IsFresh w l.lined.one s → WhileUp m w opener number
   ended : (mobile : ℕ) → opener ≡ Some mobile → number < w.controller.next_number
       → (IsThere (connection_of w.controller number) → ⊥) → HasEnded m w mobile number
       → WhileUp m w opener number
-  unheard : IsUnknownForGood w number → WhileUp m w opener number
+  unknown_for_good : IsUnknownForGood w number → WhileUp m w opener number
 
 -- Once the link broke nothing more of it comes to the switch: what it took is in order, or there is
 -- nothing.

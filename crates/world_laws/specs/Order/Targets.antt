@@ -19,8 +19,8 @@ use Rattle.world_laws.specs.Order.Openers.{first_served}
 pub record IsServed (m : ℕ) (w : Actors) (opener : Option ℕ) (s : Connection) : Type 0 where
   pub mobile : ℕ
   pub opened : opener ≡ Some mobile
-  pub lives : IsOpenAndLinedUp m w mobile s
-  pub fresh : IsFreshIn w lives.lined.one s.state
+  pub lined_up : IsOpenAndLinedUp m w mobile s
+  pub fresh : IsFreshIn w lined_up.lined.one s.state
 
 -- whatever happened, of each connection that the switch confirmed, while the link of the switch is
 -- up

@@ -33,7 +33,7 @@ pub record IsAsItConnected (m : ℕ) (events : List Event) (mobile : ℕ) (p : M
   pub initial : List ℕ
   pub accepts : Bool
   pub after : List Event
-  pub came : events ≡ before ++ Connect mobile station initial accepts ∷ after
+  pub connected_at : events ≡ before ++ Connect mobile station initial accepts ∷ after
   pub lawful : is_initial initial ≡ true
   pub same : p ≡ connected m mobile initial accepts
 

@@ -130,7 +130,7 @@ pub record IsKnown (w : Actors) (number : ℕ) : Type 0 where
   pub place : ℕ
   pub of : Connection
   pub last : Bool
-  pub stands : IsFirstAt number place of w.switch.connections
+  pub first_at : IsFirstAt number place of w.switch.connections
   pub fits : IsReference (REFERENCE_BASE + (place + 1))
   pub runs : Runs (REFERENCE_BASE + (place
       + 1)) (is_over of.stage) (reads_of number (outbox_of w SWITCH_LINK)) last

@@ -132,13 +132,13 @@ IsUnnamed due = Unit {0}
 IsUnnamed _ = ⊥
 
 -- One step of a connection, with what it puts, where CC with such a reference may have come.
-pub data StepsTo (came : ℕ → Type 0) (put : List Message) : Reach → Reach → Type 0 where
-  stays : {a : Reach} → AreQuiet put → StepsTo came put a a
-  leaves : {a : Reach} → AreQuiet put → StepsTo came put a gone
-  fails : {a b : Reach} → IsUnnamed a → IsUnnamed b → AreQuiet put → StepsTo came put a b
-  asks : IsAsking put → StepsTo came put early waits
-  confirmed : {a : Reach} (reference : ℕ) → IsUnnamed a → came reference → ArePlain reference put
-      → StepsTo came put a (named reference)
+pub data StepsTo (given : ℕ → Type 0) (put : List Message) : Reach → Reach → Type 0 where
+  unchanged : {a : Reach} → AreQuiet put → StepsTo given put a a
+  leaves : {a : Reach} → AreQuiet put → StepsTo given put a gone
+  fails : {a b : Reach} → IsUnnamed a → IsUnnamed b → AreQuiet put → StepsTo given put a b
+  asks : IsAsking put → StepsTo given put early waits
+  confirmed : {a : Reach} (reference : ℕ) → IsUnnamed a → given reference → ArePlain reference put
+      → StepsTo given put a (named reference)
   speaks : {reference : ℕ} → ArePlain reference put
-      → StepsTo came put (named reference) (named reference)
-  clears : {reference : ℕ} → IsClearing reference put → StepsTo came put (named reference) cleared
+      → StepsTo given put (named reference) (named reference)
+  clears : {reference : ℕ} → IsClearing reference put → StepsTo given put (named reference) cleared

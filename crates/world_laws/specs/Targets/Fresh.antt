@@ -54,9 +54,9 @@ abbrev pub TargetsStayFresh : Parameters → List Event → Event → Type 0
 TargetsStayFresh settings events event =
     (mobile : ℕ) (s s2 : Connection) (q : Mobile) → AreAllowed settings
     → TookOctets settings (events ++ event ∷ [])
-    → (lives : IsOpenAndLinedUp (modulus_in settings) (world settings events) mobile s)
+    → (lined_up : IsOpenAndLinedUp (modulus_in settings) (world settings events) mobile s)
     → IsAlone (world settings events) mobile s
-    → IsFreshIn (world settings events) lives.lined.one s.state
+    → IsFreshIn (world settings events) lined_up.lined.one s.state
     → s2.number ≡ s.number → IsHad (actors_after (world settings events) event) s2
     → mobile_of (actors_after (world settings events) event) mobile ≡ Some q
     → IsFreshIn (actors_after (world settings events) event) q s2.state

@@ -7,4 +7,4 @@ pub returns-clause-at_first : goal.returns-clause-at_first
 returns-clause-at_first c number channel request delay = IsValid-new number channel request delay
 
 pub returns-clause-by_rows : goal.returns-clause-by_rows
-returns-clause-by_rows c s input offer stands carried = IsValid-row s input offer stands carried
+returns-clause-by_rows c s input offer valid carried = IsValid-row s input offer valid carried

@@ -6,8 +6,8 @@ use Rattle.world_laws.proofs.order_laws.channel_of_a_coming_one_is_quiet_down.Go
 pub returns-clause-begins : goal.returns-clause-begins
 returns-clause-begins c = channels_begin_quiet_new
 
-pub returns-clause-stays : goal.returns-clause-stays
-returns-clause-stays c = channels_stay_quiet_new
+pub returns-clause-quiet : goal.returns-clause-quiet
+returns-clause-quiet c = channels_stay_quiet_new
 
 pub returns-clause-none_go : goal.returns-clause-none_go
 returns-clause-none_go c = quiet_lets_none_go_new

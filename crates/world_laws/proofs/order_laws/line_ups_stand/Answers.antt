@@ -2,8 +2,8 @@
 use Rattle.world_laws.proofs.Order.LineUps.{all_numbers_stand_new, all_places_rise_new}
 use Rattle.world_laws.proofs.order_laws.line_ups_stand.Goals as goal
 
-pub returns-clause-stands : goal.returns-clause-stands
-returns-clause-stands c = all_numbers_stand_new
+pub returns-clause-numbers : goal.returns-clause-numbers
+returns-clause-numbers c = all_numbers_stand_new
 
 pub returns-clause-rise : goal.returns-clause-rise
 returns-clause-rise c = all_places_rise_new
