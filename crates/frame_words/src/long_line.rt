@@ -131,8 +131,8 @@ pub fn decode_long<R: Read, W: Write, E: Write>(
 ) -> u8
     ensures status { (result ≡ 0) ⊎ (result ≡ 3) }
     ensures read { result ≡ 0 → IsAtEnd (R.remaining input.new) }
-    ensures printed { result ≡ 0
-        → Decodes long_line (R.remaining input.old) (W.contents output.old) (W.contents output.new) }
+    ensures printed { result ≡ 0 → Decodes long_line (R.remaining input.old)
+        (W.contents output.old) (W.contents output.new) }
     ensures begun { Begins long_line (codes "fault F1\n") (R.remaining input.old)
         (W.contents output.old) (W.contents output.new) }
     ensures long { IfSome (R.remaining input.old) (λ stream.

@@ -38,7 +38,9 @@ abbrev pub trace_command : App
 trace_command =
     with_rule
     (with_rule
-    (with_rule (with_rule (tool_program (codes "bsc trace")) required_config) (flag (codes "strict")))
+    (with_rule
+    (with_rule (tool_program (codes "bsc trace")) required_config)
+    (flag (codes "strict")))
     chart_option)
     capture_option
 

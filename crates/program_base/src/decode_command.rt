@@ -270,8 +270,8 @@ pub fn decode<R: Read, W: Write, E: Write>(
     ensures read { result ≡ 0 → IsAtEnd (R.remaining input.new) }
     // What is printed then are the lines of the frames that the octets are, if it is known what an
     // output holds.
-    ensures printed { result ≡ 0
-        → Decodes frame_line (R.remaining input.old) (W.contents output.old) (W.contents output.new) }
+    ensures printed { result ≡ 0 → Decodes frame_line (R.remaining input.old)
+        (W.contents output.old) (W.contents output.new) }
     // Where a frame is too long the lines end with `fault F1`. Whatever the status, what is printed
     // is a beginning of them.
     ensures begun { Begins frame_line (codes "fault F1\n") (R.remaining input.old)
