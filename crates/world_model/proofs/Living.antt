@@ -18,10 +18,10 @@ abbrev Stays : Actors → Actors → Type 0
 Stays w v = v.controller ≡ w.controller
 
 -- the controller after steps
-abbrev after_steps : Controller → List Step → Controller
+abbrev pub after_steps : Controller → List Step → Controller
 after_steps c ss = (each step c ss).next
 
-Moves : Actors → Event → Type 0
+pub Moves : Actors → Event → Type 0
 Moves w event = (actors_after w event).controller ≡ after_steps w.controller (step_at w event)
 
 still : (w : Actors) (o : Option Actors) → OfTaken (Stays w) o → (unwrap_or o w).controller ≡ w.controller
@@ -34,7 +34,7 @@ handle_moves : (w : Actors) (items : List Item) → (unwrap_or (handled items w)
 handle_moves w [] = refl
 handle_moves w (item ∷ items) = turn_moves (target_in w item.source item.what) (take item w.controller) (record w { inbox = items })
 
-moves : (w : Actors) (event : Event) → Moves w event
+pub moves : (w : Actors) (event : Event) → Moves w event
 unfolding event_after FromAir Moves
 moves w (BaseTakes station) = still w (after_base_takes w station) (taking_leads (Stays w) w station (λ first others _ _ mobiles stations. refl))
 moves w (BasePush source) = still w (after_base_push w source) (push_leads (Stays w) w source (λ first others. refl) (λ message _. refl))
