@@ -13,7 +13,7 @@ use Rattle.world_trace.specs.declared.crossing.Crossing.{Crossing}
 use Rattle.world_trace.specs.declared.crossing.End.{End as TraceEnd}
 use Rattle.world_trace.specs.declared.crossing.End.TheVariants.{Switch, Station, Controller}
 use Rattle.world_trace.specs.declared.crossing.Passage.{Passage}
-use Rattle.world_trace.specs.declared.crossing.Passage.TheVariants.{Sent, Got}
+use Rattle.world_trace.specs.declared.crossing.Passage.TheVariants.{Made, Sent, Got}
 use Rattle.world_trace.specs.Crossings.{crossings}
 
 abbrev pub end_of : TraceEnd → End
@@ -32,6 +32,7 @@ link_frame ms crossing = record {
 -- a frame that is put on a link; what is taken from one was put there before
 abbrev pub put_by : ℕ → Passage → Crossing → List LinkFrame
 put_by ms Sent crossing = link_frame ms crossing ∷ []
+put_by ms Made crossing = []
 put_by ms Got crossing = []
 
 abbrev pub put_at : ℕ → Crossing → List LinkFrame

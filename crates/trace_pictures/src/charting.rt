@@ -94,7 +94,7 @@ fn arrows_of(
 fn is_sent(passage: Passage) -> bool {
     match passage {
         Passage::Sent => true,
-        Passage::Got => false,
+        Passage::Made | Passage::Got => false,
     }
 }
 

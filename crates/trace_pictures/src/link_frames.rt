@@ -38,7 +38,7 @@ fn add_frame(
             frames.push(link_frame(alloc, ms, crossing)?)?;
             Ok(())
         }
-        Passage::Got => Ok(()),
+        Passage::Made | Passage::Got => Ok(()),
     }
 }
 

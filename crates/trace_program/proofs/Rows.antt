@@ -8,9 +8,16 @@ use Rattle.hex.proofs.OnLiterals.{hex_on_literals}
 use Rattle.world_model.proofs.Worlds.{on_literals}
 use Rattle.world_trace.specs.declared.cause.Cause.TheVariants as causes
 use Rattle.world_trace.specs.declared.crossing.End.TheVariants.{Switch, Station, Controller}
-use Rattle.world_trace.specs.declared.crossing.Passage.TheVariants.{Sent, Got}
+use Rattle.world_trace.specs.declared.crossing.Passage.TheVariants.{Made, Sent, Got}
 use Rattle.frame_words.specs.Carried.{carried_by}
-use Rattle.trace_program.specs.TraceLines.{crossing_line, event_line}
+use Rattle.dtap_codec.specs.declared.sapi.Sapi.TheVariants.{Zero, Three}
+use Rattle.world_trace.specs.declared.fate.Fate.TheVariants.{Accepted, Duplicate, Gap, Unnumbered}
+use Rattle.world_trace.specs.declared.note.Holding.TheVariants.{Held, Relayed, Dropped}
+use Rattle.world_trace.specs.declared.note.Note.TheVariants.{Expired, Changed, Hold}
+use Rattle.world_trace.specs.declared.note.Timer.TheVariants.{T3101, T3103, T3107, Drain}
+use Rattle.world_trace.specs.declared.note.Way.TheVariants.{Down, Up}
+use Rattle.world_trace.specs.declared.sight.Phase.TheVariants as phases
+use Rattle.trace_program.specs.TraceLines.{crossing_line, event_line, fate_text, note_line, note_text}
 use Rattle.trace_program.specs.Traced.{behind_line, line_of}
 
 first_line : line_of (codes "basepush 1\nhandle\n") ≡ codes "basepush 1"
@@ -30,7 +37,7 @@ not_taken : event_line 12 (codes "handle") (Some causes.InboxEmpty) ≡ codes "1
 unfolding digits
 not_taken = refl
 
-required : crossing_line 4 2 (record {
+required : crossing_line 4 2 None (record {
   passage = Sent;
   from = Station 1;
   to = Controller;
@@ -41,16 +48,54 @@ required : crossing_line 4 2 (record {
 unfolding digits hex_on_literals on_literals
 required = refl
 
-dt1 : crossing_line 4 20 (record {
+dt1 : crossing_line 4 20 (Some Accepted) (record {
   passage = Got;
   from = Controller;
   to = Switch;
   frame = record
       { stream = 253; body = hex "06 80 00 01 00 01 05 01 00 02 03 45" };
 })
-    ≡ codes "20\tbsc\tswitch\tDT1 DTAP SAPI 0\tgot to 800001 N(SD) 1\t068000010001050100020345\n"
+    ≡ codes "20\tbsc\tswitch\tDT1 DTAP SAPI 0\tgot to 800001 N(SD) 1 accepted\t068000010001050100020345\n"
 unfolding digits hex_on_literals on_literals
 dt1 = refl
+
+made : crossing_line 4 1 None (record {
+  passage = Made;
+  from = Station 1;
+  to = Controller;
+  frame = record
+      { stream = 0; body = hex "0c 13 01 88 13 01 00 00 11 00" };
+})
+    ≡ codes "1\tstation 1\tbsc\tCHANNEL REQUIRED\tmade channel 88\t0c130188130100001100\n"
+unfolding digits hex_on_literals on_literals
+made = refl
+
+fates : fate_text (Some Duplicate) ++ fate_text (Some Gap) ++ fate_text (Some Unnumbered) ++ fate_text None ≡ codes " duplicate gap unnumbered"
+fates = refl
+
+-- ---- what became of a connection
+
+changed : note_line 29 (Changed 1 phases.Active phases.Preparing) ≡ codes "29\tbsc\tbsc\tconn 1\tActive to Preparing\t\n"
+unfolding digits
+changed = refl
+
+begun_and_over : note_text (Changed 1 phases.Absent phases.WaitActivation) ++ codes ", " ++ note_text (Changed 1 phases.Closed phases.Absent)
+    ≡ codes "none to WaitActivation, Closed to none"
+begun_and_over = refl
+
+held : note_line 40 (Hold 12 Held 1 Down Zero) ≡ codes "40\tbsc\tbsc\tconn 12\theld 1 down SAPI 0\t\n"
+unfolding digits
+held = refl
+
+left : note_text (Hold 1 Relayed 16 Up Three) ++ codes ", " ++ note_text (Hold 1 Dropped 2 Down Zero)
+    ≡ codes "relayed 16 up SAPI 3, dropped 2 down SAPI 0"
+unfolding digits
+left = refl
+
+timers : note_text (Expired 1 T3101) ++ codes ", " ++ note_text (Expired 1 T3103) ++ codes ", " ++ note_text (Expired 1 T3107) ++ codes ", "
+    ++ note_text (Expired 1 Drain)
+    ≡ codes "T3101 expired, T3103 expired, T3107 expired, drain time expired"
+timers = refl
 
 -- ---- the message inside a frame (TS 48.058, TS 44.018, Q.713, TS 48.008)
 

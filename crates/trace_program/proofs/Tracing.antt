@@ -17,34 +17,53 @@ use Rattle.world_trace.specs.declared.cause.Cause.{Cause}
 use Rattle.world_trace.specs.declared.crossing.Crossing.{Crossing}
 use Rattle.world_trace.specs.Causes.{refusal}
 use Rattle.world_trace.specs.Crossings.{crossings}
+use Rattle.world_trace.specs.declared.fate.Fate.{Fate}
+use Rattle.world_trace.specs.declared.note.Note.{Note}
 use Rattle.trace_program.specs.declared.run.Tally.{Tally}
+use Rattle.world_trace.specs.Fates.{fate_at}
+use Rattle.world_trace.specs.Makings.{made_at}
+use Rattle.world_trace.specs.Notes.{notes_at}
 use Rattle.std.specs.Prelude.{codes, decimal}
-use Rattle.trace_program.specs.TraceLines.{crossing_line, ends_text, event_lines, frame_text}
+use Rattle.trace_program.specs.TraceLines.{crossing_line, ends_text, event_lines, frame_text, note_line}
 use Rattle.trace_program.specs.Traced.{behind_line, counted, line_of, tally_of, trace_text}
 
 -- ---- the frames of an event
 
-pub crossings_more : (m number next : ℕ) (xs : List Crossing) (x : Crossing) (old mid new : Option (List ℕ))
-    → Appends old mid (flat_map (crossing_line m number) (take next xs)) → next < length xs → x ≡ get_or xs next x
-    → Appends mid new (crossing_line m number x) → Appends old new (flat_map (crossing_line m number) (take (next + 1) xs))
-crossings_more m number next xs x old mid new some less is line =
+pub crossings_more : (m number next : ℕ) (fate : Option Fate) (xs : List Crossing) (x : Crossing) (old mid new : Option (List ℕ))
+    → Appends old mid (flat_map (crossing_line m number fate) (take next xs)) → next < length xs → x ≡ get_or xs next x
+    → Appends mid new (crossing_line m number fate x) → Appends old new (flat_map (crossing_line m number fate) (take (next + 1) xs))
+crossings_more m number next fate xs x old mid new some less is line =
     let front : List Crossing = take next xs in
     let longer : front ++ x ∷ [] ≡ take (next + 1) xs = ap (λ (y : Crossing). front ++ y ∷ []) is ∙ sym (take_more xs next x less) in
-    subst (Appends old new) (flat_map_more (crossing_line m number) [] front x ∙ ap (flat_map (crossing_line m number)) longer)
-    (Appends-trans old mid new (flat_map (crossing_line m number) front) (crossing_line m number x) some line)
+    subst (Appends old new) (flat_map_more (crossing_line m number fate) [] front x ∙ ap (flat_map (crossing_line m number fate)) longer)
+    (Appends-trans old mid new (flat_map (crossing_line m number fate) front) (crossing_line m number fate x) some line)
 
-pub crossings_all : (m number next : ℕ) (xs : List Crossing) (old new : Option (List ℕ))
-    → Appends old new (flat_map (crossing_line m number) (take next xs)) → length xs ≤ next
-    → Appends old new (flat_map (crossing_line m number) xs)
-crossings_all m number next xs old new some all = subst (λ (ys : List Crossing). Appends old new (flat_map (crossing_line m number) ys))
+pub crossings_all : (m number next : ℕ) (fate : Option Fate) (xs : List Crossing) (old new : Option (List ℕ))
+    → Appends old new (flat_map (crossing_line m number fate) (take next xs)) → length xs ≤ next
+    → Appends old new (flat_map (crossing_line m number fate) xs)
+crossings_all m number next fate xs old new some all = subst (λ (ys : List Crossing). Appends old new (flat_map (crossing_line m number fate) ys))
+    (take_all next xs all) some
+
+pub notes_more : (number next : ℕ) (xs : List Note) (x : Note) (old mid new : Option (List ℕ))
+    → Appends old mid (flat_map (note_line number) (take next xs)) → next < length xs → x ≡ get_or xs next x
+    → Appends mid new (note_line number x) → Appends old new (flat_map (note_line number) (take (next + 1) xs))
+notes_more number next xs x old mid new some less is line =
+    let front : List Note = take next xs in
+    let longer : front ++ x ∷ [] ≡ take (next + 1) xs = ap (λ (y : Note). front ++ y ∷ []) is ∙ sym (take_more xs next x less) in
+    subst (Appends old new) (flat_map_more (note_line number) [] front x ∙ ap (flat_map (note_line number)) longer)
+    (Appends-trans old mid new (flat_map (note_line number) front) (note_line number x) some line)
+
+pub notes_all : (number next : ℕ) (xs : List Note) (old new : Option (List ℕ)) → Appends old new (flat_map (note_line number) (take next xs))
+    → length xs ≤ next → Appends old new (flat_map (note_line number) xs)
+notes_all number next xs old new some all = subst (λ (ys : List Note). Appends old new (flat_map (note_line number) ys))
     (take_all next xs all) some
 
 -- the line of a frame, from its three parts
-pub line_written : (m number : ℕ) (crossing : Crossing) (old one two new : Option (List ℕ)) → Appends old one (decimal number ++ codes "\t")
-    → Appends one two (ends_text crossing.from crossing.to) → Appends two new (frame_text m crossing)
-    → Appends old new (crossing_line m number crossing)
-line_written m number crossing old one two new first ends frame =
-    Appends-trans old two new (decimal number ++ codes "\t" ++ ends_text crossing.from crossing.to) (frame_text m crossing)
+pub line_written : (m number : ℕ) (fate : Option Fate) (crossing : Crossing) (old one two new : Option (List ℕ)) → Appends old one (decimal number ++ codes "\t")
+    → Appends one two (ends_text crossing.from crossing.to) → Appends two new (frame_text m fate crossing)
+    → Appends old new (crossing_line m number fate crossing)
+line_written m number fate crossing old one two new first ends frame =
+    Appends-trans old two new (decimal number ++ codes "\t" ++ ends_text crossing.from crossing.to) (frame_text m fate crossing)
     (Appends-trans old one two (decimal number ++ codes "\t") (ends_text crossing.from crossing.to) first ends) frame
 
 -- ---- a line
@@ -100,18 +119,34 @@ pub traces_none : (m : ℕ) (start : Actors) (script : List ℕ) (events : List 
     → Traces m start script events start 1 script events old old
 traces_none m start script events old = record { text = []; written = Appends-nil old; whole = refl }
 
-pub traces_more : (m : ℕ) (start : Actors) (script : List ℕ) (events : List Event) (w v : Actors) (number : ℕ) (rest behind line : List ℕ)
-    (event : Event) (left others : List Event) (why : Option Cause) (frames : List Crossing) (old mid new : Option (List ℕ))
-    → Traces m start script events w number rest left old mid → left ≡ event ∷ others → line ≡ line_of rest → behind ≡ behind_line rest
-    → v ≡ actors_after w event → why ≡ refusal w event → frames ≡ crossings w event
-    → Appends mid new (event_lines m number line why frames) → Traces m start script events v (number + 1) behind others old new
-traces_more m start script events w v number rest behind line event left others why frames old mid new some is lines parts after refused
-    crossed written =
-    let more : List ℕ = event_lines m number (line_of rest) (refusal w event) (crossings w event) in
-    let here : Appends mid new more =
-    subst (λ (l : List ℕ). Appends mid new (event_lines m number l (refusal w event) (crossings w event))) lines
-    (subst (λ (o : Option Cause). Appends mid new (event_lines m number line o (crossings w event))) refused
-    (subst (λ (cs : List Crossing). Appends mid new (event_lines m number line why cs)) crossed written)) in
+-- the lines of an event, from what is known of it
+pub lines_of : ℕ → ℕ → List ℕ → Actors → Event → List ℕ
+lines_of m number line w event = event_lines m number line (refusal w event) (fate_at w event) (crossings w event) (made_at w event)
+    (notes_at w event)
+
+pub lines_are : (m number : ℕ) (w : Actors) (event : Event) (rest line : List ℕ) (why : Option Cause) (fate : Option Fate)
+    (frames made : List Crossing) (notes : List Note) → line ≡ line_of rest → why ≡ refusal w event → fate ≡ fate_at w event
+    → frames ≡ crossings w event → made ≡ made_at w event → notes ≡ notes_at w event
+    → event_lines m number line why fate frames made notes ≡ lines_of m number (line_of rest) w event
+unfolding lines_of
+lines_are m number w event rest line why fate frames made notes is refused became crossed making noted =
+    ap (λ (l : List ℕ). event_lines m number l why fate frames made notes) is
+    ∙ ap (λ (o : Option Cause). event_lines m number (line_of rest) o fate frames made notes) refused
+    ∙ ap (λ (f : Option Fate). event_lines m number (line_of rest) (refusal w event) f frames made notes) became
+    ∙ ap (λ (cs : List Crossing). event_lines m number (line_of rest) (refusal w event) (fate_at w event) cs made notes) crossed
+    ∙ ap (λ (cs : List Crossing). event_lines m number (line_of rest) (refusal w event) (fate_at w event) (crossings w event) cs notes) making
+    ∙ ap (λ (ns : List Note). event_lines m number (line_of rest) (refusal w event) (fate_at w event) (crossings w event) (made_at w event) ns)
+    noted
+
+pub traces_more : (m : ℕ) (start : Actors) (script : List ℕ) (events : List Event) (w v : Actors) (number : ℕ) (rest behind text : List ℕ)
+    (event : Event) (left others : List Event) (old mid new : Option (List ℕ))
+    → Traces m start script events w number rest left old mid → left ≡ event ∷ others → behind ≡ behind_line rest
+    → v ≡ actors_after w event → text ≡ lines_of m number (line_of rest) w event
+    → Appends mid new text → Traces m start script events v (number + 1) behind others old new
+unfolding lines_of
+traces_more m start script events w v number rest behind text event left others old mid new some is parts after lines written =
+    let more : List ℕ = lines_of m number (line_of rest) w event in
+    let here : Appends mid new more = subst (Appends mid new) lines written in
     record {
       text = some.text ++ more;
       written = Appends-trans old mid new some.text more some.written here;

@@ -11,10 +11,24 @@ use Rattle.world_trace.specs.declared.crossing.Crossing.{Crossing}
 use Rattle.world_trace.specs.declared.crossing.End.{End}
 use Rattle.world_trace.specs.declared.crossing.End.TheVariants.{Switch, Station, Controller}
 use Rattle.world_trace.specs.declared.crossing.Passage.{Passage}
-use Rattle.world_trace.specs.declared.crossing.Passage.TheVariants.{Sent, Got}
+use Rattle.world_trace.specs.declared.crossing.Passage.TheVariants.{Made, Sent, Got}
 use Rattle.frame_words.specs.Fields.{fields_text}
 use Rattle.frame_words.specs.MessageName.{message_name}
 use Rattle.frame_words.specs.Numbered.{number_field, number_in_frame}
+use Rattle.dtap_codec.specs.declared.sapi.Sapi.{Sapi}
+use Rattle.dtap_codec.specs.declared.sapi.Sapi.TheVariants.{Zero, Three}
+use Rattle.world_trace.specs.declared.fate.Fate.{Fate}
+use Rattle.world_trace.specs.declared.fate.Fate.TheVariants.{Accepted, Duplicate, Gap, Unnumbered}
+use Rattle.world_trace.specs.declared.note.Holding.{Holding}
+use Rattle.world_trace.specs.declared.note.Holding.TheVariants.{Held, Relayed, Dropped}
+use Rattle.world_trace.specs.declared.note.Note.{Note}
+use Rattle.world_trace.specs.declared.note.Note.TheVariants.{Expired, Changed, Hold}
+use Rattle.world_trace.specs.declared.note.Timer.{Timer}
+use Rattle.world_trace.specs.declared.note.Timer.TheVariants.{T3101, T3103, T3107, Drain}
+use Rattle.world_trace.specs.declared.note.Way.{Way}
+use Rattle.world_trace.specs.declared.note.Way.TheVariants.{Down, Up}
+use Rattle.world_trace.specs.declared.sight.Phase.{Phase}
+use Rattle.world_trace.specs.declared.sight.Phase.TheVariants as phases
 
 abbrev pub end_text : End → List ℕ
 end_text Switch = codes "switch"
@@ -22,6 +36,7 @@ end_text (Station number) = codes "station " ++ decimal number
 end_text Controller = codes "bsc"
 
 abbrev pub passage_text : Passage → List ℕ
+passage_text Made = codes "made"
 passage_text Sent = codes "sent"
 passage_text Got = codes "got"
 
@@ -70,24 +85,86 @@ number_said m crossing =
     if is_uplink crossing.from crossing.to
     then number_field (number_in_frame m crossing.frame) else []
 
+-- what the switch made of what it took
+abbrev pub fate_text : Option Fate → List ℕ
+fate_text None = []
+fate_text (Some Accepted) = codes " accepted"
+fate_text (Some Duplicate) = codes " duplicate"
+fate_text (Some Gap) = codes " gap"
+fate_text (Some Unnumbered) = codes " unnumbered"
+
 -- the column of what else is said of a frame
-abbrev pub said_column : ℕ → Crossing → List ℕ
-said_column m crossing =
+abbrev pub said_column : ℕ → Option Fate → Crossing → List ℕ
+said_column m fate crossing =
     codes "\t" ++ passage_text crossing.passage ++ fields_text crossing.frame
-    ++ number_said m crossing ++ codes "\t"
+    ++ number_said m crossing ++ fate_text fate ++ codes "\t"
 
 -- a frame: its name, what else is said of it, and the octets of its body
-abbrev pub frame_text : ℕ → Crossing → List ℕ
-frame_text m crossing =
-    message_name crossing.frame ++ said_column m crossing ++ encode_lower crossing.frame.body
-    ++ codes "\n"
+abbrev pub frame_text : ℕ → Option Fate → Crossing → List ℕ
+frame_text m fate crossing =
+    message_name crossing.frame ++ said_column m fate crossing
+    ++ encode_lower crossing.frame.body ++ codes "\n"
 
 -- its line, where messages have m numbers
-abbrev pub crossing_line : ℕ → ℕ → Crossing → List ℕ
-crossing_line m number crossing =
-    decimal number ++ codes "\t" ++ ends_text crossing.from crossing.to ++ frame_text m crossing
+abbrev pub crossing_line : ℕ → ℕ → Option Fate → Crossing → List ℕ
+crossing_line m number fate crossing =
+    decimal number ++ codes "\t" ++ ends_text crossing.from crossing.to
+    ++ frame_text m fate crossing
 
--- an event and the frames that crossed a link at it
-abbrev pub event_lines : ℕ → ℕ → List ℕ → Option Cause → List Crossing → List ℕ
-event_lines m number line refusal crossings =
-    event_line number line refusal ++ flat_map (crossing_line m number) crossings
+-- ---- what became of a connection of the controller
+
+abbrev pub timer_text : Timer → List ℕ
+timer_text T3101 = codes "T3101"
+timer_text T3103 = codes "T3103"
+timer_text T3107 = codes "T3107"
+timer_text Drain = codes "drain time"
+
+abbrev pub phase_text : Phase → List ℕ
+phase_text phases.Absent = codes "none"
+phase_text phases.WaitActivation = codes "WaitActivation"
+phase_text phases.WaitEstablish = codes "WaitEstablish"
+phase_text phases.WaitConfirm = codes "WaitConfirm"
+phase_text phases.Active = codes "Active"
+phase_text phases.Preparing = codes "Preparing"
+phase_text phases.Changing = codes "Changing"
+phase_text phases.Draining = codes "Draining"
+phase_text phases.Closed = codes "Closed"
+
+abbrev pub holding_text : Holding → List ℕ
+holding_text Held = codes "held"
+holding_text Relayed = codes "relayed"
+holding_text Dropped = codes "dropped"
+
+abbrev pub way_text : Way → List ℕ
+way_text Down = codes "down"
+way_text Up = codes "up"
+
+abbrev pub sapi_text : Sapi → List ℕ
+sapi_text Zero = codes "SAPI 0"
+sapi_text Three = codes "SAPI 3"
+
+abbrev pub connection_of : Note → ℕ
+connection_of (Expired connection timer) = connection
+connection_of (Changed connection from to) = connection
+connection_of (Hold connection holding count way sapi) = connection
+
+abbrev pub note_text : Note → List ℕ
+note_text (Expired connection timer) = timer_text timer ++ codes " expired"
+note_text (Changed connection from to) = phase_text from ++ codes " to " ++ phase_text to
+note_text (Hold connection holding count way sapi) =
+    holding_text holding ++ codes " " ++ decimal count ++ codes " " ++ way_text way
+    ++ codes " " ++ sapi_text sapi
+
+abbrev pub note_line : ℕ → Note → List ℕ
+note_line number note =
+    decimal number ++ codes "\tbsc\tbsc\tconn " ++ decimal (connection_of note)
+    ++ codes "\t" ++ note_text note ++ codes "\t\n"
+
+-- ---- an event: the frames that crossed a link at it, what was made, and what became of
+-- connections
+
+abbrev pub event_lines : ℕ → ℕ → List ℕ → Option Cause → Option Fate → List Crossing
+    → List Crossing → List Note → List ℕ
+event_lines m number line refusal fate crossings made notes =
+    event_line number line refusal ++ flat_map (crossing_line m number fate) crossings
+    ++ flat_map (crossing_line m number None) made ++ flat_map (note_line number) notes

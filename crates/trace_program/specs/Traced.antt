@@ -15,6 +15,9 @@ use Rattle.world_model.specs.World.{Actors, modulus_in, new_actors}
 use Rattle.world_trace.specs.declared.cause.Cause.{Cause}
 use Rattle.world_trace.specs.Causes.{refusal}
 use Rattle.world_trace.specs.Crossings.{crossings}
+use Rattle.world_trace.specs.Fates.{fate_at}
+use Rattle.world_trace.specs.Makings.{made_at}
+use Rattle.world_trace.specs.Notes.{notes_at}
 use Rattle.trace_program.specs.TraceLines.{event_lines}
 use Rattle.trace_program.specs.declared.run.Tally.{Tally}
 
@@ -32,7 +35,8 @@ behind_line (octet ∷ octets) = if octet == 10 then octets else behind_line oct
 abbrev pub trace_text : ℕ → Actors → ℕ → List ℕ → List Event → List ℕ
 trace_text m w number octets [] = []
 trace_text m w number octets (event ∷ events) =
-    event_lines m number (line_of octets) (refusal w event) (crossings w event)
+    event_lines m number (line_of octets) (refusal w event) (fate_at w event)
+    (crossings w event) (made_at w event) (notes_at w event)
     ++ trace_text m (actors_after w event) (number + 1) (behind_line octets) events
 
 -- how many events weren't taken, and the number of the first of them

@@ -6,6 +6,7 @@ pub use run::{Tally, write_trace};
 pub use trace_command::trace;
 
 mod lines;
+mod notes;
 mod run;
 mod trace_command;
 mod words;

@@ -8,15 +8,17 @@ ghost use Rattle.trace_program.specs.TraceLines.{crossing_line, end_text, ends_t
 ghost use Rattle.trace_program.specs.TraceLines.{event_lines, frame_text, outcome_text};
 ghost use Rattle.trace_program.specs.TraceLines.{is_uplink, number_said, said_column};
 
-use crate::words::{cause_text, passage_text};
+use crate::notes::write_notes;
+use crate::words::{cause_text, fate_text, passage_text};
 use dtap_codec::Modulus;
 use frame_words::{write_digits, write_fields, write_message_name, write_number};
 use program_base::{Failure, put};
 use std::alloc::Global;
 use std::io::Write;
-use world_trace::{Cause, Crossing, End, EventTrace, Passage};
+use world_trace::{Cause, Crossing, End, EventTrace, Fate};
 
-/// Writes the line of an event, and a line for each frame that crossed a link at it.
+/// Writes the line of an event, a line for each frame that crossed a link at it or was made, and a
+/// line for each thing that became of a connection.
 pub(crate) fn write_event<W: Write>(
     alloc: Global,
     modulus: Modulus,
@@ -27,11 +29,15 @@ pub(crate) fn write_event<W: Write>(
 ) -> Result<(), Failure>
     ensures text { OnOk result (Appends (W.contents output.old) (W.contents output.new)
         (event_lines (count_of modulus) number line.now
-        trace.now.refusal trace.now.crossings.items)) }
+        trace.now.refusal trace.now.fate trace.now.crossings.items
+        trace.now.made.items trace.now.notes.items)) }
     ensures err { IfErr result (λ failure. status_of failure ≡ 3) }
 {
     write_event_line(number, line, trace.refusal, output)?;
-    write_crossings(alloc, modulus, number, trace.crossings.as_slice(), output)
+    let crossings = trace.crossings.as_slice();
+    write_crossings(alloc, modulus, number, trace.fate, crossings, output)?;
+    write_crossings(alloc, modulus, number, None, trace.made.as_slice(), output)?;
+    write_notes(number, trace.notes.as_slice(), output)
 }
 
 fn write_event_line<W: Write>(
@@ -66,15 +72,16 @@ fn write_crossings<W: Write>(
     alloc: Global,
     modulus: Modulus,
     number: u64,
+    fate: Option<Fate>,
     crossings: &[Crossing],
     output: &mut W,
 ) -> Result<(), Failure>
     ensures text { OnOk result (Appends (W.contents output.old) (W.contents output.new)
-        (flat_map (crossing_line (count_of modulus) number) crossings.now)) }
+        (flat_map (crossing_line (count_of modulus) number fate) crossings.now)) }
     ensures err { IfErr result (λ failure. status_of failure ≡ 3) }
 {
     for crossing in crossings {
-        write_crossing(alloc, modulus, number, crossing, output)?;
+        write_crossing(alloc, modulus, number, fate, crossing, output)?;
     }
     Ok(())
 }
@@ -83,16 +90,17 @@ fn write_crossing<W: Write>(
     alloc: Global,
     modulus: Modulus,
     number: u64,
+    fate: Option<Fate>,
     crossing: &Crossing,
     output: &mut W,
 ) -> Result<(), Failure>
     ensures text { OnOk result (Appends (W.contents output.old) (W.contents output.new)
-        (crossing_line (count_of modulus) number crossing.now)) }
+        (crossing_line (count_of modulus) number fate crossing.now)) }
     ensures err { IfErr result (λ failure. status_of failure ≡ 3) }
 {
     write!(output, "{number}\t")?;
     write_ends(crossing.from, crossing.to, output)?;
-    write_frame(alloc, modulus, crossing, output)
+    write_frame(alloc, modulus, fate, crossing, output)
 }
 
 /// Writes the columns of the ends of a link, from which to which.
@@ -112,15 +120,16 @@ fn write_ends<W: Write>(from: End, to: End, output: &mut W) -> Result<(), Failur
 fn write_frame<W: Write>(
     alloc: Global,
     modulus: Modulus,
+    fate: Option<Fate>,
     crossing: &Crossing,
     output: &mut W,
 ) -> Result<(), Failure>
     ensures text { OnOk result (Appends (W.contents output.old) (W.contents output.new)
-        (frame_text (count_of modulus) crossing.now)) }
+        (frame_text (count_of modulus) fate crossing.now)) }
     ensures err { IfErr result (λ failure. status_of failure ≡ 3) }
 {
     write_message_name(alloc, &crossing.frame, output)?;
-    write_said(alloc, modulus, crossing, output)?;
+    write_said(alloc, modulus, fate, crossing, output)?;
     write_digits(alloc, crossing.frame.body.as_slice(), output)?;
     put(output, b"\n")?;
     Ok(())
@@ -130,17 +139,19 @@ fn write_frame<W: Write>(
 fn write_said<W: Write>(
     alloc: Global,
     modulus: Modulus,
+    fate: Option<Fate>,
     crossing: &Crossing,
     output: &mut W,
 ) -> Result<(), Failure>
     ensures text { OnOk result (Appends (W.contents output.old) (W.contents output.new)
-        (said_column (count_of modulus) crossing.now)) }
+        (said_column (count_of modulus) fate crossing.now)) }
     ensures err { IfErr result (λ failure. status_of failure ≡ 3) }
 {
     let word = passage_text(crossing.passage);
     write!(output, "\t{word}")?;
     write_fields(alloc, &crossing.frame, output)?;
     write_number_said(alloc, modulus, crossing, output)?;
+    put(output, fate_text(fate).as_bytes())?;
     put(output, b"\t")?;
     Ok(())
 }

@@ -11,9 +11,10 @@ use Rattle.world_model.proofs.Rows.{opened}
 use Rattle.world_model.proofs.Worlds.{after_all, on_literals}
 use Rattle.world_trace.specs.declared.cause.Cause.TheVariants as causes
 use Rattle.world_trace.specs.declared.crossing.End.TheVariants.{Switch, Station, Controller}
-use Rattle.world_trace.specs.declared.crossing.Passage.TheVariants.{Sent, Got}
+use Rattle.world_trace.specs.declared.crossing.Passage.TheVariants.{Made, Sent, Got}
 use Rattle.world_trace.specs.Causes.{refusal}
 use Rattle.world_trace.specs.Crossings.{crossings}
+use Rattle.world_trace.specs.Makings.{made_at}
 
 abbrev asking : World
 asking = after_all (new_world usual_settings) (Connect 1 1 (hex "05 24 71") true ∷ [])
@@ -89,3 +90,22 @@ cleared : map (refusal (after_all opened (SwitchDoes (Clear 1) ∷ BaseDown 1 �
     ≡ Some causes.ConnectionClosed ∷ Some causes.LinkDown ∷ Some causes.LinkDown ∷ Some causes.LinkDown ∷ []
 unfolding on_literals
 cleared = refl
+
+-- ---- what is made: CHANNEL REQUIRED, which waits with its station; CC, which waits with the switch
+
+making_is_noted : made_at (new_world usual_settings).actors (Connect 1 1 (hex "05 24 71") true)
+    ≡ record { passage = Made; from = Station 1; to = Controller; frame = record { stream = 0; body = hex "0c 13 01 88 13 01 00 00 11 00" } } ∷ []
+unfolding on_literals
+making_is_noted = refl
+
+pushing_makes_nothing : made_at asking.actors (BasePush 1) ≡ []
+unfolding on_literals
+pushing_makes_nothing = refl
+
+breaking_makes_nothing : made_at asking.actors (BaseDown 1) ≡ []
+unfolding on_literals
+breaking_makes_nothing = refl
+
+clearing_is_made : map (λ crossing. crossing.from) (made_at opened.actors (SwitchDoes (Clear 1))) ≡ Switch ∷ []
+unfolding on_literals
+clearing_is_made = refl

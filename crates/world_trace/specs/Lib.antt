@@ -1,4 +1,9 @@
 -- SPDX-License-Identifier: MIT OR Apache-2.0
 pub mod Crossings
+pub mod Fates
+pub mod Makings
 pub mod Marks
+pub mod Notes
+pub mod Sights
+pub mod Turns
 pub mod Causes

@@ -21,6 +21,8 @@ pub enum End {
 /// Which side of a link a frame passes.
 #[derive(Clone, Copy)]
 pub enum Passage {
+    /// It was made, and waits until it is put on the link.
+    Made,
     /// It is put on the link.
     Sent,
     /// It is taken from the link.

@@ -3,11 +3,19 @@ ghost use Rattle.std.specs.Prelude.{◌≡◌, IfOk, OnOk, None, Some, if◌then
 ghost use Rattle.world_model.specs.Life.{actors_after};
 ghost use Rattle.world_trace.specs.Causes.{cause, refusal};
 ghost use Rattle.world_trace.specs.Crossings.{crossings};
+ghost use Rattle.world_trace.specs.Fates.{fate_at};
+ghost use Rattle.world_trace.specs.Makings.{made_at};
+ghost use Rattle.world_trace.specs.Notes.{notes_at};
 
 use crate::cause::{Cause, cause_of};
 use crate::crossing::Crossing;
+use crate::expiry::note_expired;
+use crate::fate::{Fate, connection_at, counts_of, fate_by};
 use crate::got::{got, waiting};
+use crate::made::Makings;
+use crate::note::{Note, puts_of};
 use crate::sent::Marks;
+use crate::turn::{note_turn, turn_sights};
 use octets::Memory;
 use std::alloc::Global;
 use world_actors::Network;
@@ -20,15 +28,60 @@ pub struct EventTrace {
     pub refusal: Option<Cause>,
     /// The frames that crossed a link of the controller: first those that were taken from one.
     pub crossings: Vec<Crossing>,
+    /// What the switch made of the message that it took, if it took one.
+    pub fate: Option<Fate>,
+    /// What stations and the switch made for the controller.
+    pub made: Vec<Crossing>,
+    /// What became of the controller's connections: first the timers that expired.
+    pub notes: Vec<Note>,
 }
 
-/// Lets the event's actor act, where it can, and says what crossed the links of the controller. It
-/// is refused only for lack of memory, and then nothing is said of the actors.
+/// What crossed the links at an event, or why it wasn't taken.
+#[derive(Drop)]
+struct Passed {
+    refusal: Option<Cause>,
+    crossings: Vec<Crossing>,
+}
+
+/// Lets the event's actor act, where it can, and says what crossed the links of the controller,
+/// what was made for it, and what became of its connections. It is refused only for lack of memory,
+/// and then nothing is said of the actors.
 pub fn step(alloc: Global, network: &mut Network, event: &Event) -> Result<EventTrace, Memory>
     ensures actors { OnOk result (network.new ≡ actors_after network.old event.now) }
     ensures refusal { IfOk result (λ trace. trace.refusal ≡ refusal network.old event.now) }
     ensures crossings { IfOk result (λ trace.
         trace.crossings.items ≡ crossings network.old event.now) }
+    ensures fate { IfOk result (λ trace. trace.fate ≡ fate_at network.old event.now) }
+    ensures made { IfOk result (λ trace. trace.made.items ≡ made_at network.old event.now) }
+    ensures notes { IfOk result (λ trace. trace.notes.items ≡ notes_at network.old event.now) }
+{
+    let connection = connection_at(alloc, network, event)?;
+    let counts = counts_of(network, connection);
+    let makings = Makings::of(alloc, network)?;
+    let mut notes = Vec::new(alloc);
+    note_expired(network, event, &mut notes)?;
+    let sights = turn_sights(alloc, network, event)?;
+    let Passed { refusal, crossings } = pass(alloc, network, event)?;
+    let fate = fate_by(counts, counts_of(network, connection));
+    let mut made = Vec::new(alloc);
+    makings.note_behind(alloc, network, &mut made)?;
+    let puts = puts_of(crossings.as_slice());
+    note_turn(alloc, network, event, puts, sights.as_slice(), &mut notes)?;
+    Ok(EventTrace {
+        refusal,
+        crossings,
+        fate,
+        made,
+        notes,
+    })
+}
+
+/// Lets the event's actor act, where it can, and says what crossed the links of the controller.
+fn pass(alloc: Global, network: &mut Network, event: &Event) -> Result<Passed, Memory>
+    ensures actors { OnOk result (network.new ≡ actors_after network.old event.now) }
+    ensures refusal { IfOk result (λ passed. passed.refusal ≡ refusal network.old event.now) }
+    ensures crossings { IfOk result (λ passed.
+        passed.crossings.items ≡ crossings network.old event.now) }
 {
     let first = waiting(alloc, network, event)?;
     let marks = Marks::of(alloc, network)?;
@@ -36,7 +89,7 @@ pub fn step(alloc: Global, network: &mut Network, event: &Event) -> Result<Event
     let mut crossings = got(alloc, taken, first)?;
     marks.note_behind(alloc, network, &mut crossings)?;
     let refusal = refusal_of(network, event, taken);
-    Ok(EventTrace { refusal, crossings })
+    Ok(Passed { refusal, crossings })
 }
 
 /// Why an event that was tried wasn't taken, if it wasn't.

@@ -1,14 +1,25 @@
 // SPDX-License-Identifier: MIT OR Apache-2.0
-//! What crosses the links of the controller in a world, event by event: the frames that are put on
-//! a link, and those that are taken from one; and why an event isn't taken.
+//! What happens in a world, event by event: the frames that cross the links of the controller, and
+//! those that are made for it; what becomes of its connections, and what the switch makes of what
+//! it takes; and why an event isn't taken.
 #![tactic(auto)]
 
 pub use cause::Cause;
 pub use crossing::{Crossing, End, Passage};
 pub use event_trace::{EventTrace, step};
+pub use fate::Fate;
+pub use made::SOURCE_LIMIT;
+pub use note::{Holding, Note, Timer, Way};
+pub use sight::Phase;
 
 mod cause;
 mod crossing;
 mod event_trace;
+mod expiry;
+mod fate;
 mod got;
+mod made;
+mod note;
 mod sent;
+mod sight;
+mod turn;

@@ -11,7 +11,7 @@ returns-clause-text g c =
     let first : Appends (g.W.Write.contents c.args.output.now) (g.W.Write.contents c.write.new.self) (decimal c.args.number ++ codes "\t") =
     search rules in
     on_ok_weaker c.write_frame.result
-    (line_written (count_of c.args.modulus) c.args.number c.args.crossing.now (g.W.Write.contents c.args.output.now)
+    (line_written (count_of c.args.modulus) c.args.number c.args.fate c.args.crossing.now (g.W.Write.contents c.args.output.now)
     (g.W.Write.contents c.write.new.self) (g.W.Write.contents c.write_ends.new.output) (g.W.Write.contents c.write_frame.new.output)
     first c.in_ok-write_ends.ensures.text)
     c.write_frame.ensures.text

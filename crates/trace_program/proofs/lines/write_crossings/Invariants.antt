@@ -8,4 +8,4 @@ use Rattle.trace_program.proofs.lines.write_crossings.Given as goal
 
 abbrev pub invariant-loop-crossing : goal.invariant-loop-crossing
 invariant-loop-crossing g l = Appends (g.W.Write.contents l.fn.output) (g.W.Write.contents l.output)
-    (flat_map (crossing_line (count_of l.modulus) l.number) (take l.crossing-index l.crossings))
+    (flat_map (crossing_line (count_of l.modulus) l.number l.fate) (take l.crossing-index l.crossings))

@@ -1,7 +1,7 @@
 -- SPDX-License-Identifier: MIT OR Apache-2.0
 use Rattle.std.proofs.Common.{option_to_list}
 use Rattle.world_trace.proofs.Crosses.{crossings_are}
-use Rattle.world_trace.proofs.event_trace.step.Goals as goal
+use Rattle.world_trace.proofs.event_trace.pass.Goals as goal
 
 pub returns-clause-crossings : goal.returns-clause-crossings
 returns-clause-crossings c =

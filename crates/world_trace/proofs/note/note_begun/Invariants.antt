@@ -1,0 +1,8 @@
+-- SPDX-License-Identifier: MIT OR Apache-2.0
+use Rattle.std.proofs.Common.{◌≡◌, ◌++◌, [], drop}
+use Rattle.world_trace.specs.Notes.{notes_between}
+use Rattle.world_trace.proofs.note.note_begun.Given as goal
+
+abbrev pub invariant-loop-place : goal.invariant-loop-place
+invariant-loop-place l = l.notes.items ++ notes_between l.puts [] (drop l.place l.behind)
+    ≡ l.fn.notes.items ++ notes_between l.puts [] (drop l.next l.behind)

@@ -1,0 +1,103 @@
+// SPDX-License-Identifier: MIT OR Apache-2.0
+ghost use Rattle.std.specs.Prelude.{◌≡◌, ◌≤◌, ◌++◌, IfOk, OnOk, drop, length, option_to_list};
+ghost use Rattle.std.specs.Prelude.{slice_get};
+ghost use Rattle.std.specs.List.{flat_map};
+ghost use Rattle.world_model.specs.Queues.{made_items};
+ghost use Rattle.world_trace.specs.declared.crossing.Passage.TheVariants.{Made};
+ghost use Rattle.world_trace.specs.Crossings.{up};
+ghost use Rattle.world_trace.specs.Makings.{AreMakings, made_behind, sources};
+
+use crate::crossing::{Crossing, Passage};
+use octets::Memory;
+use std::alloc::Global;
+use world_actors::Network;
+
+/// The most sources that a controller has: the switch, and a station for each of 255 cells.
+pub const SOURCE_LIMIT: u16 = 256;
+
+/// How much each source made that isn't in the inbox, before an event, the switch first.
+#[derive(Drop)]
+pub(crate) struct Makings {
+    counts: Vec<usize>,
+}
+
+impl Makings {
+    pub(crate) fn of(alloc: Global, network: &Network) -> Result<Makings, Memory>
+        ensures { IfOk result (λ makings. AreMakings network.now makings) }
+    {
+        let mut counts = Vec::new(alloc);
+        for source in 0..sources(network) {
+            counts.push(network.made_count(source))?;
+        }
+        Ok(Makings { counts })
+    }
+
+    /// Notes what was made behind these.
+    pub(crate) fn note_behind(
+        &self,
+        alloc: Global,
+        network: &Network,
+        crossings: &mut Vec<Crossing>,
+    ) -> Result<(), Memory>
+        requires { length self.now.counts.items ≤ SOURCE_LIMIT }
+        ensures { OnOk result (crossings.new.items
+            ≡ crossings.old.items ++ made_behind self.now network.now) }
+    {
+        for source in 0..self.counts.len() {
+            let count = self.counts[source];
+            note_source(alloc, network, source as u16, count, crossings)?;
+        }
+        Ok(())
+    }
+}
+
+/// Notes what a source made from a place on.
+fn note_source(
+    alloc: Global,
+    network: &Network,
+    source: u16,
+    mark: usize,
+    crossings: &mut Vec<Crossing>,
+) -> Result<(), Memory>
+    ensures { OnOk result (crossings.new.items ≡ crossings.old.items
+        ++ flat_map (up Made) (drop mark (made_items network.now source))) }
+{
+    for place in mark..network.made_count(source) {
+        note_made(alloc, network, source, place, crossings)?;
+    }
+    Ok(())
+}
+
+fn note_made(
+    alloc: Global,
+    network: &Network,
+    source: u16,
+    place: usize,
+    crossings: &mut Vec<Crossing>,
+) -> Result<(), Memory>
+    ensures { OnOk result (crossings.new.items ≡ crossings.old.items ++ flat_map (up Made)
+        (option_to_list (slice_get (made_items network.now source) place))) }
+{
+    let Some(item) = network.made_item(source, place)? else {
+        return Ok(());
+    };
+    match Crossing::up(alloc, Passage::Made, &item)? {
+        Some(crossing) => {
+            crossings.push(crossing)?;
+            Ok(())
+        }
+        None => Ok(()),
+    }
+}
+
+/// How many sources there are.
+fn sources(network: &Network) -> u16
+    ensures { result ≡ sources network.now }
+{
+    let links = network.link_count();
+    if links < usize::from(SOURCE_LIMIT) {
+        links as u16
+    } else {
+        SOURCE_LIMIT
+    }
+}

@@ -1,0 +1,293 @@
+// SPDX-License-Identifier: MIT OR Apache-2.0
+ghost use Rattle.std.specs.Prelude.{◌≡◌, ◌∷◌, ◌++◌, [], IfOk, List, OnOk, drop, slice_get};
+ghost use Rattle.world_trace.specs.declared.sight.Sight.{Sight as SightState};
+ghost use Rattle.world_trace.specs.Notes.{absent, change_of, down_notes, goes, hold_notes};
+ghost use Rattle.world_trace.specs.Notes.{is_live, is_put, puts_of};
+ghost use Rattle.world_trace.specs.Notes.{notes_between, order, phase_notes, same, step_notes};
+ghost use Rattle.world_trace.specs.Notes.{up_notes};
+
+use crate::crossing::{Crossing, End, Passage};
+use crate::sight::{Phase, Sight};
+use dtap_codec::Sapi;
+use octets::Memory;
+
+/// A timer of a connection (TS 44.018 clause 11.1.2, TS 48.008 clause 3.1.5), and the time for
+/// which an old channel may drain.
+#[derive(Clone, Copy)]
+pub enum Timer {
+    T3101,
+    T3103,
+    T3107,
+    Drain,
+}
+
+/// Whose messages are held.
+#[derive(Clone, Copy)]
+pub enum Way {
+    /// The switch's, for the mobile.
+    Down,
+    /// The mobile's, for the switch.
+    Up,
+}
+
+/// Which way the controller puts a frame at an event.
+#[derive(Clone, Copy)]
+pub(crate) struct Puts {
+    pub(crate) down: bool,
+    pub(crate) up: bool,
+}
+
+/// What became of messages that wait, or that waited.
+#[derive(Clone, Copy)]
+pub enum Holding {
+    /// They wait from now on.
+    Held,
+    /// They waited, and were put.
+    Relayed,
+    /// They waited, and are lost.
+    Dropped,
+}
+
+/// What happened to a connection of the controller, by its number.
+#[derive(Clone, Copy)]
+pub enum Note {
+    Expired {
+        number: u32,
+        timer: Timer,
+    },
+    Changed {
+        number: u32,
+        from: Phase,
+        to: Phase,
+    },
+    /// So many of its messages joined those that wait, or left them.
+    Hold {
+        number: u32,
+        holding: Holding,
+        count: usize,
+        way: Way,
+        sapi: Sapi,
+    },
+}
+
+/// Which way frames are put, of those that cross a link.
+pub(crate) fn puts_of(crossings: &[Crossing]) -> Puts
+    ensures { result ≡ puts_of crossings.now }
+{
+    Puts {
+        down: is_put(Way::Down, crossings),
+        up: is_put(Way::Up, crossings),
+    }
+}
+
+fn is_put(way: Way, crossings: &[Crossing]) -> bool
+    ensures { result ≡ is_put way crossings.now }
+{
+    for crossing in crossings {
+        if goes(way, crossing) {
+            return true;
+        }
+    }
+    false
+}
+
+/// Whether a frame is put on a station's link, or on the switch's.
+fn goes(way: Way, crossing: &Crossing) -> bool
+    ensures { result ≡ goes way crossing.now }
+{
+    match (way, crossing.passage, crossing.to) {
+        (Way::Down, Passage::Sent, End::Station(_)) => true,
+        (Way::Up, Passage::Sent, End::Switch) => true,
+        _ => false,
+    }
+}
+
+/// The place of a phase in the order of a connection's life.
+fn order(phase: Phase) -> u8
+    ensures { result ≡ order phase }
+{
+    match phase {
+        Phase::Absent => 0,
+        Phase::WaitActivation => 1,
+        Phase::WaitEstablish => 2,
+        Phase::WaitConfirm => 3,
+        Phase::Active => 4,
+        Phase::Preparing => 5,
+        Phase::Changing => 6,
+        Phase::Draining => 7,
+        Phase::Closed => 8,
+    }
+}
+
+/// Whether the switch confirmed the connection, and neither side cleared it.
+fn is_live(phase: Phase) -> bool
+    ensures { result ≡ is_live phase }
+{
+    matches!(
+        phase,
+        Phase::Active | Phase::Preparing | Phase::Changing | Phase::Draining
+    )
+}
+
+/// What is seen of a connection that isn't there.
+fn absent(number: u32) -> Sight
+    ensures { result ≡ absent number }
+{
+    Sight {
+        number,
+        phase: Phase::Absent,
+        down_zero: 0,
+        down_three: 0,
+        up_zero: 0,
+        up_three: 0,
+    }
+}
+
+/// Notes what a step made of the connections, of which this was seen before it and behind it.
+pub(crate) fn note_steps(
+    puts: Puts,
+    before: &[Sight],
+    behind: &[Sight],
+    notes: &mut Vec<Note>,
+) -> Result<(), Memory>
+    ensures { OnOk result
+        (notes.new.items ≡ notes.old.items ++ notes_between puts before.now behind.now) }
+{
+    let mut next = 0;
+    for sight in before {
+        next = note_beside(puts, *sight, behind, next, notes)?;
+    }
+    note_begun(puts, behind, next, notes)
+}
+
+/// Notes what became of a connection, which is the next one behind the step if it is still there,
+/// and gives the place of the one behind that.
+fn note_beside(
+    puts: Puts,
+    before: Sight,
+    behind: &[Sight],
+    next: usize,
+    notes: &mut Vec<Note>,
+) -> Result<usize, Memory>
+    ensures { IfOk result (λ last. (others : List SightState) →
+        notes.new.items ++ notes_between puts others (drop last behind.now)
+        ≡ notes.old.items ++ notes_between puts (before ∷ others) (drop next behind.now)) }
+{
+    match same_at(behind, next, before.number) {
+        Some(sight) => {
+            note_step(puts, before, sight, notes)?;
+            Ok(next + 1)
+        }
+        None => {
+            note_step(puts, before, absent(before.number), notes)?;
+            Ok(next)
+        }
+    }
+}
+
+/// The connection at a place, where it has this number.
+fn same_at(sights: &[Sight], place: usize, number: u32) -> Option<Sight>
+    ensures { result ≡ same number (slice_get sights.now place) }
+{
+    match sights.get(place) {
+        Some(sight) if sight.number == number => Some(*sight),
+        _ => None,
+    }
+}
+
+/// Notes the connections from a place on, which began.
+fn note_begun(
+    puts: Puts,
+    behind: &[Sight],
+    next: usize,
+    notes: &mut Vec<Note>,
+) -> Result<(), Memory>
+    ensures { OnOk result
+        (notes.new.items ≡ notes.old.items ++ notes_between puts [] (drop next behind.now)) }
+{
+    for place in next..behind.len() {
+        let sight = behind[place];
+        note_step(puts, absent(sight.number), sight, notes)?;
+    }
+    Ok(())
+}
+
+/// Notes what became of one connection.
+fn note_step(puts: Puts, before: Sight, behind: Sight, notes: &mut Vec<Note>) -> Result<(), Memory>
+    ensures { OnOk result (notes.new.items ≡ notes.old.items ++ step_notes puts before behind) }
+{
+    note_phase(before.number, before.phase, behind.phase, notes)?;
+    note_down(puts, before, behind, notes)?;
+    note_up(puts, before, behind, notes)
+}
+
+fn note_phase(number: u32, from: Phase, to: Phase, notes: &mut Vec<Note>) -> Result<(), Memory>
+    ensures { OnOk result (notes.new.items ≡ notes.old.items ++ phase_notes number from to) }
+{
+    if order(from) != order(to) {
+        notes.push(Note::Changed { number, from, to })?;
+    }
+    Ok(())
+}
+
+/// Notes what became of the messages that are held for the mobile.
+fn note_down(puts: Puts, before: Sight, behind: Sight, notes: &mut Vec<Note>) -> Result<(), Memory>
+    ensures { OnOk result (notes.new.items ≡ notes.old.items ++ down_notes puts before behind) }
+{
+    let number = before.number;
+    let are_put = puts.down && is_live(behind.phase);
+    let zero = change_of(are_put, before.down_zero, behind.down_zero);
+    let three = change_of(are_put, before.down_three, behind.down_three);
+    note_hold(number, Way::Down, Sapi::Zero, zero, notes)?;
+    note_hold(number, Way::Down, Sapi::Three, three, notes)
+}
+
+/// Notes what became of the messages that are held for the switch.
+fn note_up(puts: Puts, before: Sight, behind: Sight, notes: &mut Vec<Note>) -> Result<(), Memory>
+    ensures { OnOk result (notes.new.items ≡ notes.old.items ++ up_notes puts before behind) }
+{
+    let number = before.number;
+    let are_put = puts.up && is_live(behind.phase);
+    let zero = change_of(are_put, before.up_zero, behind.up_zero);
+    let three = change_of(are_put, before.up_three, behind.up_three);
+    note_hold(number, Way::Up, Sapi::Zero, zero, notes)?;
+    note_hold(number, Way::Up, Sapi::Three, three, notes)
+}
+
+/// What became of held messages, and of how many, by their number before a step and behind it;
+/// those that left were put, or dropped.
+fn change_of(are_put: bool, before: usize, behind: usize) -> Option<(Holding, usize)>
+    ensures { result ≡ change_of are_put before behind }
+{
+    if before < behind {
+        Some((Holding::Held, behind - before))
+    } else if before == behind {
+        None
+    } else if are_put {
+        Some((Holding::Relayed, before - behind))
+    } else {
+        Some((Holding::Dropped, before - behind))
+    }
+}
+
+fn note_hold(
+    number: u32,
+    way: Way,
+    sapi: Sapi,
+    change: Option<(Holding, usize)>,
+    notes: &mut Vec<Note>,
+) -> Result<(), Memory>
+    ensures { OnOk result
+        (notes.new.items ≡ notes.old.items ++ hold_notes number way sapi change) }
+{
+    if let Some((holding, count)) = change {
+        notes.push(Note::Hold {
+            number,
+            holding,
+            count,
+            way,
+            sapi,
+        })?;
+    }
+    Ok(())
+}

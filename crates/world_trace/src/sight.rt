@@ -1,0 +1,107 @@
+// SPDX-License-Identifier: MIT OR Apache-2.0
+ghost use Rattle.std.specs.Prelude.{◌≡◌, ◌++◌, IfOk, OnOk, option_to_list, slice_get};
+ghost use Rattle.world_trace.specs.Sights.{phase_in, phase_of, sight_of, sights_of};
+
+use conn_fsm::Conn;
+use conn_rules::{Stage, State};
+use dtap_codec::Sapi;
+use octets::Memory;
+use std::alloc::Global;
+use world_actors::Network;
+
+/// How far a connection of the controller is.
+#[derive(Clone, Copy)]
+pub enum Phase {
+    /// It isn't there yet, or any more.
+    Absent,
+    /// Its access channel is being activated.
+    WaitActivation,
+    /// The mobile was told the channel.
+    WaitEstablish,
+    /// The switch was asked for a connection.
+    WaitConfirm,
+    /// The serving channel alone is there.
+    Active,
+    /// The target of a change is being activated.
+    Preparing,
+    /// The mobile was commanded to the target.
+    Changing,
+    /// Old channels, which the mobile left, aren't released yet.
+    Draining,
+    /// The mobile was dismissed.
+    Closed,
+}
+
+/// What is seen of a connection: how far it is, and how many messages of each SAPI are held for the
+/// mobile and for the switch.
+#[derive(Clone, Copy)]
+pub(crate) struct Sight {
+    pub(crate) number: u32,
+    pub(crate) phase: Phase,
+    pub(crate) down_zero: usize,
+    pub(crate) down_three: usize,
+    pub(crate) up_zero: usize,
+    pub(crate) up_three: usize,
+}
+
+/// What is seen of each connection, by rising number.
+pub(crate) fn sights(alloc: Global, network: &Network) -> Result<Vec<Sight>, Memory>
+    ensures { IfOk result (λ sights. sights.items ≡ sights_of network.now.controller.entries) }
+{
+    let mut sights = Vec::new(alloc);
+    for place in 0..network.connection_count() {
+        note_sight(network, place, &mut sights)?;
+    }
+    Ok(sights)
+}
+
+#[tactic(auto, using(crate::proofs::Seeing::sight_some, crate::proofs::Seeing::sight_none))]
+fn note_sight(network: &Network, place: usize, sights: &mut Vec<Sight>) -> Result<(), Memory>
+    ensures { OnOk result (sights.new.items ≡ sights.old.items ++ sights_of
+        (option_to_list (slice_get network.now.controller.entries place))) }
+{
+    match network.connection_at(place) {
+        Some(conn) => {
+            sights.push(sight_of(conn)?)?;
+            Ok(())
+        }
+        None => Ok(()),
+    }
+}
+
+fn sight_of(conn: &Conn) -> Result<Sight, Memory>
+    ensures { IfOk result (λ sight. sight ≡ sight_of conn.now) }
+{
+    Ok(Sight {
+        number: conn.number(),
+        phase: phase_of(conn.state()),
+        down_zero: conn.held(Sapi::Zero)?.len(),
+        down_three: conn.held(Sapi::Three)?.len(),
+        up_zero: conn.held_up(Sapi::Zero)?.len(),
+        up_three: conn.held_up(Sapi::Three)?.len(),
+    })
+}
+
+fn phase_of(state: State) -> Phase
+    ensures { result ≡ phase_of state }
+{
+    match state {
+        State::WaitActivation => Phase::WaitActivation,
+        State::WaitEstablish => Phase::WaitEstablish,
+        State::WaitConfirm => Phase::WaitConfirm,
+        State::Live(_, stage) => phase_in(stage),
+        State::Closed(_) => Phase::Closed,
+        State::Removed => Phase::Absent,
+    }
+}
+
+fn phase_in(stage: Stage) -> Phase
+    ensures { result ≡ phase_in stage }
+{
+    match stage {
+        Stage::Active => Phase::Active,
+        Stage::Preparing(_) => Phase::Preparing,
+        Stage::Changing(_) => Phase::Changing,
+        Stage::Draining => Phase::Draining,
+    }
+}
