@@ -14,5 +14,8 @@ mod ending;
 mod limits;
 mod mark;
 mod sending;
+mod slow;
 mod stepping;
+mod taking;
+mod waiting;
 mod worker;
