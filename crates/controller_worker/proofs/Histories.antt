@@ -1,6 +1,6 @@
 -- SPDX-License-Identifier: MIT OR Apache-2.0
 -- Lists of steps, of items and of moves, one behind the other.
-use Rattle.std.proofs.Common.{◌≡◌, ◌≢◌, ◌⊎◌, ℕ, ◌+◌, ◌<◌, ◌==◌, true, false, List, [], ◌∷◌, ◌++◌, length, map, replicate, refl, sym, ap, ◌∙◌, append-nil, append_assoc, arith, inl, inr, eqb, ⊎_elim, zero, suc}
+use Rattle.std.proofs.Common.{◌≡◌, ◌≢◌, ◌⊎◌, ℕ, ◌+◌, ◌<◌, ◌==◌, true, false, List, [], ◌∷◌, ◌++◌, length, map, replicate, refl, sym, ap, ◌∙◌, append_assoc, arith, inl, inr, eqb, ⊎_elim, zero, suc}
 use Rattle.std.specs.List.{AllByRecursion, filter}
 use Rattle.std.proofs.lemmas.Bool.{eq-eqb, ne_eqb}
 use Rattle.std.proofs.lemmas.Bool.Decides.{eqb_tells}
@@ -11,9 +11,7 @@ use Rattle.controller_model.specs.declared.step.Step.{Step}
 use Rattle.controller_model.specs.declared.step.Step.TheVariants.{Take, Tick}
 use Rattle.controller_model.specs.Controller.{Controller}
 use Rattle.controller_model.specs.Life as words
-use Rattle.ipa_framing.specs.declared.frame.Frame.{Frame}
-use Rattle.ruled_relay.specs.declared.item.What.{What}
-use Rattle.controller_worker.specs.Moves.{AreElsewhere, AreOther, IsElsewhere, IsOther, Move, Part, takes, ticks, adds, refuses, down_of, frames_in, moves_in, parts_of, refusals_in, refusing_of, steps_of, taken_in, taken_of, times, turn_at}
+use Rattle.controller_worker.specs.Moves.{AreElsewhere, AreOther, IsElsewhere, Move, Part, takes, ticks, adds, refuses, down_of, frames_in, moves_in, parts_of, refusals_in, refusing_of, steps_of, taken_in, taken_of, times, turn_at}
 use Rattle.ruled_relay.specs.declared.item.Item.{Item}
 
 pub same_or : (a b : ℕ) → (a ≡ b) ⊎ (a ≢ b)

@@ -1,14 +1,11 @@
 -- SPDX-License-Identifier: MIT OR Apache-2.0
 -- What one outbox carries and what waits for it, put by put.
-use Rattle.std.proofs.Common.{◌≡◌, ℕ, ◌+◌, ◌<◌, ◌≤◌, nat_le, Bool, true, false, List, [], ◌∷◌, ◌++◌, Ok, Err, refl, sym, ap, ◌∙◌, subst, append-nil, append_assoc, arith}
+use Rattle.std.proofs.Common.{◌≡◌, ℕ, ◌+◌, Bool, true, false, List, [], ◌∷◌, ◌++◌, Ok, Err, refl, sym, ap, ◌∙◌, subst, append-nil, append_assoc, arith}
 use Rattle.std.proofs.lemmas.Bool.{false≢true}
-use Rattle.std.proofs.lemmas.Bool.Decides.{nat_tests}
 use Rattle.std.proofs.lemmas.List.{map-append}
-use Rattle.controller_worker.specs.declared.limits.TheConstants.{MAX_REFUSALS}
 use Rattle.controller_worker.specs.Advancing.{AreSent, IsCounted, Sends, SendsSome}
 use Rattle.controller_worker.specs.Links.{is_given_up, lines}
 use Rattle.ipa_framing.specs.declared.frame.Frame.{Frame}
-use Rattle.ruled_relay.specs.declared.outbox.Line.{Line}
 use Rattle.ruled_relay.specs.declared.outbox.Line.TheVariants as marks
 use Rattle.ruled_relay.specs.declared.outbox.Full.{Full}
 use Rattle.ruled_relay.specs.Outbox.{PutsLine, PutterView}
@@ -52,13 +49,16 @@ first_of true now waited frame waiting h same is = absurd (false≢true (sym h))
 -- the first that waits is put
 pub accepted : (p q : PutterView) (waited : List Frame) (frame : Frame) (waiting : List Frame) → is_given_up p ≡ false → waited ≡ frame ∷ waiting → PutsLine p (marks.Frame frame) (Ok tt) q
     → SendsSome p waited [] q waiting
-accepted p q waited frame waiting up is puts = (0, record {
-  queue = ap (λ y. y.queue) puts;
-  sent = frame ∷ [];
-  put = ap (λ y. y.put) puts;
-  which = first_of (is_given_up p) (is_given_up q) waited frame waiting up (ap (λ y. is_given_up y) puts) is;
-  counted = λ before h. (let a = ap (λ y. y.refused) puts in omega arith, let a = ap (λ y. y.refusals) puts in let b = h.1 in omega arith);
-})
+accepted p q waited frame waiting up is puts = (
+  0,
+  record {
+    queue = ap (λ y. y.queue) puts;
+    sent = frame ∷ [];
+    put = ap (λ y. y.put) puts;
+    which = first_of (is_given_up p) (is_given_up q) waited frame waiting up (ap (λ y. is_given_up y) puts) is;
+    counted = λ before h. (let a = ap (λ y. y.refused) puts in omega arith, let a = ap (λ y. y.refusals) puts in let b = h.1 in omega arith);
+  },
+)
 
 kept_of : (before now : Bool) (waited : List Frame) → before ≡ false → now ≡ false → AreSent before now waited [] [] waited 1
 kept_of false false waited h k = sym (append-nil waited)
@@ -80,17 +80,20 @@ refused_which before false waited frame rest waiting up is gone kept =
 -- the first that waits is refused: it stays the first, unless the outbox is given up now
 pub refused : (p q : PutterView) (waited : List Frame) (frame : Frame) (rest waiting : List Frame) (full : Full) → is_given_up p ≡ false → waited ≡ frame ∷ rest
     → PutsLine p (marks.Frame frame) (Err full) q → (is_given_up q ≡ true → waiting ≡ []) → (is_given_up q ≡ false → waiting ≡ frame ∷ rest) → SendsSome p waited [] q waiting
-refused p q waited frame rest waiting full up is puts gone kept = (1, record {
-  queue = ap (λ y. y.queue) puts.2;
-  sent = [];
-  put = ap (λ y. y.put) puts.2 ∙ sym (append-nil p.put);
-  which = refused_which (is_given_up p) (is_given_up q) waited frame rest waiting up is gone kept;
-  counted = λ before h.
-      let a = ap (λ y. y.refused) puts.2 in
-      let b = ap (λ y. y.refusals) puts.2 in
-      let c = h.0 in
-      let d = h.1 in (omega arith, omega arith);
-})
+refused p q waited frame rest waiting full up is puts gone kept = (
+  1,
+  record {
+    queue = ap (λ y. y.queue) puts.2;
+    sent = [];
+    put = ap (λ y. y.put) puts.2 ∙ sym (append-nil p.put);
+    which = refused_which (is_given_up p) (is_given_up q) waited frame rest waiting up is gone kept;
+    counted = λ before h.
+        let a = ap (λ y. y.refused) puts.2 in
+        let b = ap (λ y. y.refusals) puts.2 in
+        let c = h.0 in
+        let d = h.1 in (omega arith, omega arith);
+  },
+)
 
 -- ---- one behind the other
 

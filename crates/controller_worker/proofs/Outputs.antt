@@ -1,6 +1,6 @@
 -- SPDX-License-Identifier: MIT OR Apache-2.0
 -- Outputs of a step, added to what the outboxes carry and to what waits.
-use Rattle.std.proofs.Common.{◌≡◌, ◌≢◌, ℕ, ◌+◌, ◌<◌, ◌≤◌, ◌==◌, true, false, List, [], ◌∷◌, ◌++◌, length, map, replicate, refl, sym, ap, ◌∙◌, subst, append_assoc, arith, set, ⊎_elim, get_or, get_or-set_same, get_or-set_other, zero, suc}
+use Rattle.std.proofs.Common.{◌≡◌, ◌≢◌, ℕ, ◌+◌, ◌<◌, ◌≤◌, ◌==◌, true, false, List, [], ◌∷◌, ◌++◌, length, map, replicate, refl, sym, ap, ◌∙◌, subst, append_assoc, arith, set, ⊎_elim, get_or-set_same, get_or-set_other, zero, suc}
 use Rattle.std.specs.List.{filter}
 use Rattle.std.proofs.lemmas.Bool.{eq-eqb, ne_eqb}
 use Rattle.std.proofs.lemmas.List.{map-append}
@@ -92,9 +92,9 @@ sends_at putters ms at outs p q v n room here else sends =
     let is : mark_at new at ≡ m = there_now ms at at m refl room in
     let same : (link : ℕ) → link ≢ at → mark_at new link ≡ mark_at ms link = λ link e. elsewhere ms at link m e in
     let kept_here : mark_at new at ≡ record (mark_at ms at) { waiting = (mark_at new at).waiting } =
-        is ∙ ap (λ (l : List Frame). let k : Mark = record (mark_at ms at) { waiting = l } in k) (sym (ap (λ y. y.waiting) is)) in
+    is ∙ ap (λ (l : List Frame). let k : Mark = record (mark_at ms at) { waiting = l } in k) (sym (ap (λ y. y.waiting) is)) in
     let kept_else : (link : ℕ) → link ≢ at → mark_at new link ≡ record (mark_at ms link) { waiting = (mark_at new link).waiting } =
-        λ link e. same link e ∙ ap (λ (l : List Frame). let k : Mark = record (mark_at ms link) { waiting = l } in k) (sym (ap (λ y. y.waiting) (same link e))) in
+    λ link e. same link e ∙ ap (λ (l : List Frame). let k : Mark = record (mark_at ms link) { waiting = l } in k) (sym (ap (λ y. y.waiting) (same link e))) in
     record {
       count = length_set putters at q;
       marks = length_set ms at m;
@@ -106,9 +106,9 @@ sends_at putters ms at outs p q v n room here else sends =
           ⊎_elim
           (λ (h : (link ≡ at) × (q ≡ r)).
           let sent : Sends p (mark_at ms at).waiting (frames_to at outs) (times at tries) r (mark_at new at).waiting =
-              subst (λ (y : PutterView). Sends p (mark_at ms at).waiting (frames_to at outs) (times at tries) y (mark_at new at).waiting) h.1
-              (subst (λ (l : List Frame). Sends p (mark_at ms at).waiting (frames_to at outs) (times at tries) q l) (sym (ap (λ y. y.waiting) is))
-              (subst (λ (k : ℕ). Sends p (mark_at ms at).waiting (frames_to at outs) k q v) (sym (times_same at n)) sends)) in (
+          subst (λ (y : PutterView). Sends p (mark_at ms at).waiting (frames_to at outs) (times at tries) y (mark_at new at).waiting) h.1
+          (subst (λ (l : List Frame). Sends p (mark_at ms at).waiting (frames_to at outs) (times at tries) q l) (sym (ap (λ y. y.waiting) is))
+          (subst (λ (k : ℕ). Sends p (mark_at ms at).waiting (frames_to at outs) k q v) (sym (times_same at n)) sends)) in (
             p,
             subst (λ (i : ℕ). get_elem? putters i ≡ some p) (sym h.0) here,
             subst (λ (i : ℕ). Sends p (mark_at ms i).waiting (frames_to i outs) (times i tries) r (mark_at new i).waiting) (sym h.0) sent,
@@ -160,3 +160,7 @@ tried_at putters ms at p q m m' count here mark kept sends =
 -- one more of a list is done
 pub next_done : (done : List Out) (out : Out) (left next all : List Out) → done ++ left ≡ all → left ≡ out ∷ next → (done ++ out ∷ []) ++ next ≡ all
 next_done done out left next all so_far step = append_assoc done (out ∷ []) next ∙ ap (λ os. done ++ os) (sym step) ∙ so_far
+
+pub no_outs : (outs : List Out) → length outs ≡ 0 → outs ≡ []
+no_outs [] none = refl
+no_outs (out ∷ outs) none = absurd (omega arith)

@@ -1,6 +1,6 @@
 -- SPDX-License-Identifier: MIT OR Apache-2.0
 -- What the definitions say of literal steps and lines.
-use Rattle.std.proofs.Common.{◌≡◌, ℕ, ◌+◌, ◌≤◌, true, false, List, [], ◌∷◌, ◌++◌, replicate, refl, ap, arith, inl, inr, zero, suc}
+use Rattle.std.proofs.Common.{◌≡◌, ℕ, ◌+◌, true, false, List, [], ◌∷◌, ◌++◌, replicate, refl, arith, inl, inr, zero, suc}
 use Rattle.atomic_table.specs.Seated.{TableId}
 use Rattle.controller_worker.specs.declared.limits.TheConstants.{TICK_MS}
 use Rattle.controller_worker.specs.Links.{HasDown, is_given_up, lines}

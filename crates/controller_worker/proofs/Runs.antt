@@ -72,7 +72,7 @@ serves fault old new link moves p q is_new none unended here ended finishes goes
     let all : ended_of new link ≡ true = grind (arith, nat_tests) in
     let c = subst (λ b. Fits b q m link parts) all f in
     let which : IsSent (is_given_up q) m.added link parts c.sent =
-        subst (λ fs. IsSent (is_given_up q) m.added link parts fs) (ap (λ fs. c.sent ++ fs) (c.none.0 refl) ∙ append-nil c.sent) c.which in record {
+    subst (λ fs. IsSent (is_given_up q) m.added link parts fs) (ap (λ fs. c.sent ++ fs) (c.none.0 refl) ∙ append-nil c.sent) c.which in record {
       queue = goes.queue;
       sent = c.sent;
       put = c.put;

@@ -1,8 +1,7 @@
 -- SPDX-License-Identifier: MIT OR Apache-2.0
 -- Each kind of step, from state to state.
-use Rattle.std.proofs.Common.{◌≡◌, ◌≢◌, ℕ, ◌+◌, ◌&&◌, not, ◌<◌, ◌≤◌, nat_lt, nat_le, Bool, true, false, List, [], ◌∷◌, ◌++◌, length, map, refl, sym, ap, ◌∙◌, subst, append-nil, append_assoc, arith, set, ⊎_elim, ◌⊎◌, inl, inr, get_or}
+use Rattle.std.proofs.Common.{◌≡◌, ◌≢◌, ℕ, ◌+◌, ◌&&◌, not, ◌<◌, ◌≤◌, nat_lt, nat_le, Bool, true, false, List, [], ◌∷◌, ◌++◌, length, refl, sym, ap, ◌∙◌, subst, append-nil, append_assoc, arith, ⊎_elim, ◌⊎◌, inl, inr, get_or}
 use Rattle.std.proofs.lemmas.Bool.{eq-eqb, ne_eqb, false≢true}
-use Rattle.std.specs.List.{AllByRecursion}
 use Rattle.std.proofs.lemmas.List.{get_or_read, length-append, map-append}
 use Rattle.std.proofs.lemmas.Bool.Decides.{nat_tests}
 use mathlib.Core.Option.{some, some-injective}
@@ -10,13 +9,13 @@ use lib.ListN.{get_elem?}
 use Rattle.atomic_table.proofs.Lists.{at_index, at_set}
 use Rattle.controller_worker.specs.declared.limits.TheConstants.{MAX_REFUSALS}
 use Rattle.controller_worker.specs.declared.mark.Mark.{Mark}
-use Rattle.controller_worker.specs.Advancing.{AreSent, DoesStep, Fits, Advances, AdvancesAlone, AdvancesPartly, Extends, IsCounted, IsPending, IsSettled, Sends, SendsAll, State, IsValid, end_mark, ended_of, mark_at, noted, unmarked, with_added}
+use Rattle.controller_worker.specs.Advancing.{AreSent, DoesStep, Fits, Advances, AdvancesAlone, AdvancesPartly, IsCounted, IsPending, IsSettled, Sends, SendsAll, State, IsValid, end_mark, ended_of, mark_at, noted, unmarked, with_added}
 use Rattle.controller_worker.specs.Links.{HasDown, is_given_up, lines}
-use Rattle.controller_worker.specs.Moves.{AreElsewhere, AreOther, IsElsewhere, IsOther, IsRefused, IsSent, Move, Part, takes, ticks, adds, refuses, down_of, frames_in, parts_of, refusals_in, steps_of, taken_in, taken_of, times}
+use Rattle.controller_worker.specs.Moves.{AreElsewhere, AreOther, IsElsewhere, IsOther, IsRefused, IsSent, Part, takes, ticks, adds, refuses, down_of, frames_in, refusals_in, steps_of, taken_in, times}
 use Rattle.controller_worker.specs.Steps.{AreOfLinks, frames_to, over, ticked, whats_of}
 use Rattle.controller_worker.specs.Taking.{HasTaken}
 use Rattle.controller_worker.proofs.Courses.{goes_still, taken_none}
-use Rattle.controller_worker.proofs.Histories.{Last, all_both_parts, elsewhere_tried, frames_in_both, frames_tried, last_tried, other_tried, parts_tried, refusals, refusals_in_both, refusals_tried, same_or, steps_tried, taken_in_both, taken_tried, tried}
+use Rattle.controller_worker.proofs.Histories.{all_both_parts, elsewhere_tried, frames_in_both, frames_tried, last_tried, other_tried, parts_tried, refusals, refusals_in_both, refusals_tried, same_or, steps_tried, taken_in_both, taken_tried, tried}
 use Rattle.controller_worker.proofs.Outputs.{all_none, elsewhere, there_now}
 use Rattle.controller_worker.proofs.Resting.{rests}
 use Rattle.conn_messages.specs.declared.out.Out.{Out}
@@ -139,7 +138,7 @@ refused_now link past first tries sent w came more v refused rest so_far put all
     let b : List Part = refusals found.before in
     let x : List Part = last ∷ refusals found.behind in
     let cut : refusals tries ≡ b ++ x =
-        ap (λ (ls : List ℕ). refusals ls) found.whole ∙ map-append (λ (at : ℕ). let p : Part = record { move = refuses at; frames = [] } in p) found.before (link ∷ found.behind) in
+    ap (λ (ls : List ℕ). refusals ls) found.whole ∙ map-append (λ (at : ℕ). let p : Part = record { move = refuses at; frames = [] } in p) found.before (link ∷ found.behind) in
     record {
       earlier = past ++ (first ++ b);
       last = last;
@@ -219,9 +218,9 @@ fits_on : (ended : Bool) (p q : PutterView) (m m' : Mark) (link : ℕ) (past mor
     → (m'.down ≡ true → HasDown (taken_in link past ++ taken_in link more)) → Fits ended q m' link (past ++ more)
 fits_on ended p q m m' link past more came n sends times_is quiet f which down =
     let counted : IsCounted (refusals_in link (past ++ more)) q =
-        subst (λ (k : ℕ). IsCounted k q) (sym (refusals_in_both link past more ∙ ap (λ (k : ℕ). refusals_in link past + k) times_is)) (sends.counted (refusals_in link past) f.counted) in
+    subst (λ (k : ℕ). IsCounted k q) (sym (refusals_in_both link past more ∙ ap (λ (k : ℕ). refusals_in link past + k) times_is)) (sends.counted (refusals_in link past) f.counted) in
     let none : (ended ≡ true) → (sends.sent ≡ []) × (m'.waiting ≡ []) =
-        λ h. none_more (is_given_up p) (is_given_up q) m.waiting came sends.sent m'.waiting n sends.which (f.none.0 h) (quiet h) in record {
+    λ h. none_more (is_given_up p) (is_given_up q) m.waiting came sends.sent m'.waiting n sends.which (f.none.0 h) (quiet h) in record {
       sent = f.sent ++ sends.sent;
       put = put_on ended p.put q.put f.sent sends.sent f.put sends.put (λ h. (none h).0);
       which = which (often_of q (refusals_in link (past ++ more)) counted);
@@ -348,7 +347,7 @@ goes_added old c putters kept tries source next sent quiet pending room =
     let outs : List Out = (words.step old.controller s).outs in
     let new : Mark = record (mark_at kept source) { added = true } in
     let downs : (link : ℕ) → (mark_at (with_added source kept) link).down ≡ (mark_at old.marks link).down =
-        λ link. added_same (λ y. y.down) (λ y. refl) source kept link room ∙ ap (λ y. y.down) (sent.kept link) in record {
+    λ link. added_same (λ y. y.down) (λ y. refl) source kept link room ∙ ap (λ y. y.down) (sent.kept link) in record {
       moves = adds source ∷ tried tries;
       controller = next ∙ ap (λ (ss : List Step). (over after ss).next) (sym (steps_tried tries));
       desk = subst (λ is. HasTaken old.desk (is ++ []) old.desk) (sym (taken_tried tries)) (taken_none old.desk);
@@ -380,9 +379,9 @@ goes_added old c putters kept tries source next sent quiet pending room =
                   let up : is_given_up p.0 ≡ true = pending.given_up link p.0 p.1 e in
                   let unadded : m.added ≡ false = ap (λ i. (mark_at old.marks i).added) e ∙ pending.added in
                   let was : IsSent true false link past (f.sent ++ m.waiting) =
-                      subst (λ a. IsSent true a link past (f.sent ++ m.waiting)) unadded (subst (λ b. IsSent b m.added link past (f.sent ++ m.waiting)) up f.which) in
+                  subst (λ a. IsSent true a link past (f.sent ++ m.waiting)) unadded (subst (λ b. IsSent b m.added link past (f.sent ++ m.waiting)) up f.which) in
                   let g : AreSent true (is_given_up q) m.waiting came sends.sent m'.waiting (times link tries) =
-                      subst (λ b. AreSent b (is_given_up q) m.waiting came sends.sent m'.waiting (times link tries)) up sends.which in
+                  subst (λ b. AreSent b (is_given_up q) m.waiting came sends.sent m'.waiting (times link tries)) up sends.which in
                   subst (λ a. IsSent (is_given_up q) a link (past ++ more) ((f.sent ++ sends.sent) ++ m'.waiting)) (sym (ap (λ y. y.added) now))
                   (which_here (is_given_up q) link past part tries f.sent m.waiting came sends.sent m'.waiting was g (ap adds (sym e))))
                   (λ (e : link ≢ source).

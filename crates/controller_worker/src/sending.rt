@@ -37,12 +37,7 @@ pub(crate) fn send_all<R: Wait>(
     is_slow
 }
 
-fn send_to<R: Wait>(
-    rt: &R,
-    putters: &mut Vec<Putter>,
-    marks: &mut Vec<Mark>,
-    out: Out,
-) -> bool
+fn send_to<R: Wait>(rt: &R, putters: &mut Vec<Putter>, marks: &mut Vec<Mark>, out: Out) -> bool
     requires { length marks.old.items ≡ length putters.old.items }
     ensures { (tries : List ℕ) × SendsAll putters.old.items marks.old.items (out ∷ []) tries
         putters.new.items marks.new.items }
@@ -57,11 +52,7 @@ fn send_to<R: Wait>(
 }
 
 /// Puts what waits for each outbox, until that refuses. Says whether a frame still waits.
-pub(crate) fn try_all<R: Wait>(
-    rt: &R,
-    putters: &mut Vec<Putter>,
-    marks: &mut Vec<Mark>,
-) -> bool
+pub(crate) fn try_all<R: Wait>(rt: &R, putters: &mut Vec<Putter>, marks: &mut Vec<Mark>) -> bool
     requires { length marks.old.items ≡ length putters.old.items }
     ensures { (tries : List ℕ) × SendsAll putters.old.items marks.old.items [] tries
         putters.new.items marks.new.items }

@@ -28,12 +28,7 @@ pub(crate) fn next_item<R: Wait>(
 }
 
 // Asks the sources in turn, beginning with this one.
-fn take_open<R: Wait>(
-    rt: &R,
-    desk: &mut Desk,
-    marks: &[Mark],
-    turn: u16,
-) -> Option<Item>
+fn take_open<R: Wait>(rt: &R, desk: &mut Desk, marks: &[Mark], turn: u16) -> Option<Item>
     ensures takes { MatchOption result (desk.new ≡ desk.old)
         (λ item. TakesItem desk.old item desk.new) }
     ensures same { queues_of desk.new ≡ queues_of desk.old }
@@ -46,13 +41,7 @@ fn take_open<R: Wait>(
 }
 
 // Asks the sources from one on, up to another, until one of them gives an item.
-fn take_among<R: Wait>(
-    rt: &R,
-    desk: &mut Desk,
-    marks: &[Mark],
-    from: u16,
-    to: u16,
-) -> Option<Item>
+fn take_among<R: Wait>(rt: &R, desk: &mut Desk, marks: &[Mark], from: u16, to: u16) -> Option<Item>
     ensures takes { MatchOption result (desk.new ≡ desk.old)
         (λ item. TakesItem desk.old item desk.new) }
     ensures same { queues_of desk.new ≡ queues_of desk.old }

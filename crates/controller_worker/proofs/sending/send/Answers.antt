@@ -13,9 +13,9 @@ returns-then-is_given_up g c =
 pub returns : goal.returns
 returns g c =
     let queued : SendsSome c.args.putter.now c.args.waiting.now (c.args.frame ∷ []) c.make_room.new.putter c.push.new.self =
-        subst (λ l. SendsSome c.args.putter.now c.args.waiting.now (c.args.frame ∷ []) c.make_room.new.putter l) (sym c.push.ensures)
-        (some_both c.args.putter.now c.make_room.new.putter c.make_room.new.putter c.args.waiting.now [] c.make_room.new.waiting (c.args.frame ∷ [])
-        (c.make_room.new.waiting ++ c.args.frame ∷ []) c.make_room.ensures.sends (0, sends_queued c.make_room.new.putter c.make_room.new.waiting (c.args.frame ∷ []) (sym c.if-is_given_up.ensures))) in
+    subst (λ l. SendsSome c.args.putter.now c.args.waiting.now (c.args.frame ∷ []) c.make_room.new.putter l) (sym c.push.ensures)
+    (some_both c.args.putter.now c.make_room.new.putter c.make_room.new.putter c.args.waiting.now [] c.make_room.new.waiting (c.args.frame ∷ [])
+    (c.make_room.new.waiting ++ c.args.frame ∷ []) c.make_room.ensures.sends (0, sends_queued c.make_room.new.putter c.make_room.new.waiting (c.args.frame ∷ []) (sym c.if-is_given_up.ensures))) in
     elim c.if-is_first.branch [
       | then-is_first w ↦
           subst (λ l. SendsSome c.args.putter.now c.args.waiting.now (c.args.frame ∷ []) c.if-is_first.putter l) (sym w.waiting-is)

@@ -1,7 +1,7 @@
 -- SPDX-License-Identifier: MIT OR Apache-2.0
-use Rattle.std.proofs.Common.{[], ◌∷◌, ◌++◌, sym, ap, ◌∙◌, subst, append-nil, rules}
+use Rattle.std.proofs.Common.{◌≡◌, [], ◌∷◌, ◌++◌, sym, ap, ◌∙◌, subst, append-nil, arith, rules}
 use Rattle.std.specs.Vec.Iter.{into_iter_items}
-use Rattle.controller_worker.proofs.Outputs.{SomeAll, all_none, next_done, some_all_both}
+use Rattle.controller_worker.proofs.Outputs.{SomeAll, all_none, next_done, no_outs, some_all_both}
 use Rattle.controller_worker.proofs.sending.send_all.Goals as goal
 
 pub loop-out-init : goal.loop-out-init
@@ -42,5 +42,7 @@ loop-out-preserved g c =
 pub returns : goal.returns
 returns g c =
     let so_far = c.loop-out.invariant.3 in
+    let e = c.in-None.ensures.steps.0 in
+    let none : into_iter_items c.loop-out.out-iterator ≡ [] = no_outs (into_iter_items c.loop-out.out-iterator) (omega (arith, c.loop-out.out-iterator.rest.ok.0)) in
     subst (λ os. SomeAll c.args.putters.now.items c.args.marks.now.items os c.loop-out.putters.items c.loop-out.marks.items)
-    (sym (append-nil so_far.0) ∙ ap (λ l. so_far.0 ++ l) (sym c.in-None.ensures.steps.0) ∙ so_far.1) so_far.2
+    (sym (append-nil so_far.0) ∙ ap (λ l. so_far.0 ++ l) (sym none) ∙ so_far.1) so_far.2

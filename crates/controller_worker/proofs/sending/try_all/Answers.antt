@@ -15,11 +15,11 @@ loop-link-preserved g c =
     let n = so_far.0 in
     let m = so_far.1 in
     let here =
-        tried_at c.loop-link.putters.items c.loop-link.marks.items c.loop-link.link c.index_mut.result.now c.put_waiting.new.putter c.index_mut-in-loop-link.result.now
-        (record { added = c.index_mut-in-loop-link.result.now.added; down = c.index_mut-in-loop-link.result.now.down; waiting = c.put_waiting.new.waiting }) so_far.0
-        (at_index c.loop-link.putters.items c.loop-link.link c.index_mut.result.now (omega (arith, c.args.putters.now.ok.0)) c.index_mut.ensures.value)
-        (at_index c.loop-link.marks.items c.loop-link.link c.index_mut-in-loop-link.result.now (omega (arith, c.args.putters.now.ok.0)) c.index_mut-in-loop-link.ensures.value) refl
-        c.put_waiting.ensures in (
+    tried_at c.loop-link.putters.items c.loop-link.marks.items c.loop-link.link c.index_mut.result.now c.put_waiting.new.putter c.index_mut-in-loop-link.result.now
+    (record { added = c.index_mut-in-loop-link.result.now.added; down = c.index_mut-in-loop-link.result.now.down; waiting = c.put_waiting.new.waiting }) so_far.0
+    (at_index c.loop-link.putters.items c.loop-link.link c.index_mut.result.now (omega (arith, c.args.putters.now.ok.0)) c.index_mut.ensures.value)
+    (at_index c.loop-link.marks.items c.loop-link.link c.index_mut-in-loop-link.result.now (omega (arith, c.args.putters.now.ok.0)) c.index_mut-in-loop-link.ensures.value) refl
+    c.put_waiting.ensures in (
       here.1.marks ∙ so_far.0 ∙ sym here.1.count,
       here.1.count ∙ so_far.1,
       some_all_both c.args.putters.now.items c.args.marks.now.items c.loop-link.putters.items c.loop-link.marks.items _ _ [] [] so_far.2 here,

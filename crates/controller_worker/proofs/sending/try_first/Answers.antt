@@ -1,6 +1,4 @@
 -- SPDX-License-Identifier: MIT OR Apache-2.0
-use Rattle.std.proofs.Common.{◌≡◌}
-use Rattle.ruled_relay.specs.declared.outbox.Line.TheVariants as marks
 use Rattle.controller_worker.proofs.Outboxes.{accepted, refused}
 use Rattle.controller_worker.proofs.sending.try_first.Goals as goal
 
@@ -11,5 +9,4 @@ pub returns-in-Err : goal.returns-in-Err
 returns-in-Err g c =
     refused c.args.putter.now c.put.new.self c.args.waiting.now c.in-Some.frame c.pop.new.self c.keep.new.waiting c.in-Err.field-0 c.requires c.in-Some.ensures.first c.in-Err.ensures.puts
     c.keep.ensures.dropped
-    (λ h. c.keep.ensures.kept h c.in-Some.frame
-    (let a = c.in-Err.line-is in let b = c.in-Err.ensures.puts.0 in let same : c.in-Err.line ≡ marks.Frame c.in-Some.frame = cc in same))
+    (λ h. c.keep.ensures.kept h c.in-Some.frame c.in-Err.ensures.puts.0)

@@ -18,6 +18,6 @@ loop-preserved g c = (
   tt,
   tt,
   alone_ends (seen g.K.Clock.told c.args.self.now) (seen g.K.Clock.told c.put_waiting.new.self) (seen g.K.Clock.told c.put_ends.new.self)
-    (alone_both (seen g.K.Clock.told c.args.self.now) (seen g.K.Clock.told c.loop.self) (seen g.K.Clock.told c.put_waiting.new.self) c.loop.invariant.2 c.put_waiting.ensures.goes) c.put_ends.ensures,
+      (alone_both (seen g.K.Clock.told c.args.self.now) (seen g.K.Clock.told c.loop.self) (seen g.K.Clock.told c.put_waiting.new.self) c.loop.invariant.2 c.put_waiting.ensures.goes) c.put_ends.ensures,
   ap (λ s. length s.marks) c.put_ends.ensures.kept ∙ c.put_waiting.ensures.marks ∙ c.loop.invariant.3 ∙ sym c.put_waiting.ensures.count ∙ sym c.put_ends.ensures.count,
 )

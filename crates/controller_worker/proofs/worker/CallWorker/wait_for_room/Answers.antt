@@ -1,5 +1,5 @@
 -- SPDX-License-Identifier: MIT OR Apache-2.0
-use Rattle.std.proofs.Common.{[], ◌<◌, sym, ap, ◌∙◌, subst, arith}
+use Rattle.std.proofs.Common.{[], ◌<◌, sym, subst, arith}
 use Rattle.controller_worker.specs.declared.limits.TheConstants.{TICK_MS}
 use Rattle.controller_worker.specs.Advancing.{Advances, IsSettled, IsValid}
 use Rattle.controller_worker.specs.Seen.{seen}
@@ -37,7 +37,7 @@ returns-then-was_taken-clause-goes g c =
 pub loop-preserved : goal.loop-preserved
 loop-preserved g c = (
   goes_both [] (seen g.K.Clock.told c.args.self.now) (seen g.K.Clock.told c.try_outboxes.new.self) (seen g.K.Clock.told c.take.new.self)
-    (goes_both [] (seen g.K.Clock.told c.args.self.now) (seen g.K.Clock.told c.loop.self) (seen g.K.Clock.told c.try_outboxes.new.self) c.loop.invariant.0 c.in_ok-try_outboxes.ensures.goes) c.in_ok-was_taken.ensures.goes,
+      (goes_both [] (seen g.K.Clock.told c.args.self.now) (seen g.K.Clock.told c.loop.self) (seen g.K.Clock.told c.try_outboxes.new.self) c.loop.invariant.0 c.in_ok-try_outboxes.ensures.goes) c.in_ok-was_taken.ensures.goes,
   c.in_ok-was_taken.ensures.stands,
   c.in_ok-was_taken.ensures.settled,
   let a = c.in_ok-was_taken.ensures.gathered in let b = c.in_ok-try_outboxes.ensures.gathered in let d = c.loop.invariant.3 in omega arith,
