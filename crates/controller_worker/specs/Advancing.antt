@@ -35,9 +35,10 @@ end_mark true = marks.End ∷ []
 abbrev pub IsCounted : ℕ → PutterView → Type 0
 IsCounted most p = (p.refused ≤ most) × (p.refusals ≤ most)
 
--- What was sent of the frames that waited and of those that came behind them, and what waits now, by
--- whether the outbox was given up before and is now. What was sent and what waits are all; or what
--- was sent are those before the one that was refused so often, and none waits; or nothing is tried.
+-- What was sent of the frames that waited and of those that came behind them, and what waits now,
+-- by whether the outbox was given up before and is now. What was sent and what waits are all; or
+-- what was sent are those before the one that was refused so often, and none waits; or nothing is
+-- tried.
 abbrev pub AreSent : Bool → Bool → List Frame → List Frame → List Frame → List Frame → ℕ → Type 0
 AreSent false false waited came sent waiting refusals = sent ++ waiting ≡ waited ++ came
 AreSent false true waited came sent waiting refusals =
@@ -65,8 +66,8 @@ unmarked = record { added = false; down = false; waiting = [] }
 abbrev pub mark_at : List Mark → ℕ → Mark
 mark_at ms link = slice_index_or ms link unmarked
 
--- Each output came to its link's outbox, behind what waited; these outboxes refused a frame, in this
--- order.
+-- Each output came to its link's outbox, behind what waited; these outboxes refused a frame, in
+-- this order.
 pub record SendsAll (old : List PutterView) (before : List Mark) (outs : List Out) (tries : List ℕ)
     (new : List PutterView) (after : List Mark) : Type 0 where
   pub count : length new ≡ length old
@@ -116,7 +117,8 @@ ended_of s link = nat_lt link s.ended
 
 -- ---- what calls do
 
--- A step was done, and what it puts was sent, or waits; that is nothing once an outbox has its mark.
+-- A step was done, and what it puts was sent, or waits; that is nothing once an outbox has its
+-- mark.
 pub record DoesStep (s : Step) (old new : State) : Type 0 where
   pub controller : new.controller ≡ (words.step old.controller s).next
   pub tries : List ℕ

@@ -14,8 +14,8 @@ use Rattle.ruled_relay.specs.declared.item.Item.{Item}
 use Rattle.ruled_relay.specs.declared.item.What.{What}
 use Rattle.ruled_relay.specs.declared.item.What.TheVariants as whats
 
--- An item is taken from the desk; time is passed on, in milliseconds; the `Down` of a link is added;
--- or the outbox of a link refuses a frame, once.
+-- An item is taken from the desk; time is passed on, in milliseconds; the `Down` of a link is
+-- added; or the outbox of a link refuses a frame, once.
 pub data Move : Type 0 where
   takes : Item → Move
   ticks : ℕ → Move

@@ -35,8 +35,8 @@ pub struct HasRelayed<K> {
 ///
 /// What a full outbox refuses waits in a list of its link, 1,024 frames at most, and what comes
 /// behind it too. The outbox is tried again once a millisecond, while the worker goes on with the
-/// other links; of a link whose list is full no item is taken. Only where the list of a link is full
-/// and another link gives a frame for it, the worker waits for it.
+/// other links; of a link whose list is full no item is taken. Only where the list of a link is
+/// full and another link gives a frame for it, the worker waits for it.
 ///
 /// An outbox that refused a frame 1,000 times in a row is given up: nothing more but `End` is put
 /// there, and its link's `Down` is the next step, once for each link.
@@ -140,8 +140,8 @@ impl<K: Clock> CallWorker<K> {
         true
     }
 
-    // Until something is there to be taken, or a tick is due; but while frames wait for an outbox that
-    // is tried again.
+    // Until something is there to be taken, or a tick is due; but while frames wait for an outbox
+    // that is tried again.
     fn rest<R: Wait>(&mut self, rt: &R) -> Result<(), Memory>
         requires stands { IsValid (seen K.told self.old) }
         requires settled { IsSettled (seen K.told self.old) }

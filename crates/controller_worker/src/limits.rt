@@ -8,8 +8,8 @@ pub const TICK_MS: u64 = 100;
 /// So many frames of a link wait at most while its outbox is full.
 pub(crate) const MAX_WAITING: usize = 1_024;
 
-/// While an outbox is full and no link gives anything, the clock is asked at the latest after so many
-/// tries, a millisecond each.
+/// While an outbox is full and no link gives anything, the clock is asked at the latest after so
+/// many tries, a millisecond each.
 pub(crate) const TRIES_A_TURN: u32 = 300;
 
 /// The bells of the outboxes are rung at the latest after so many outputs, and steps that put

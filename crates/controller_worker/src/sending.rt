@@ -113,8 +113,8 @@ fn put_waiting<R: Wait>(rt: &R, putter: &mut Putter, waiting: &mut Waiting) -> b
     !waiting.is_empty()
 }
 
-// Tries to put the first that waits, and says whether it was put. It stays the first where the outbox
-// refuses it; where that is given up now, none waits any more.
+// Tries to put the first that waits, and says whether it was put. It stays the first where the
+// outbox refuses it; where that is given up now, none waits any more.
 fn try_first<R: Wait>(rt: &R, putter: &mut Putter, waiting: &mut Waiting) -> bool
     requires { given_up putter.old ≡ false }
     ensures { SendsSome putter.old waiting.old [] putter.new waiting.new }

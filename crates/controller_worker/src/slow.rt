@@ -14,8 +14,9 @@ use std::thread::Parker;
 use std::time::Duration;
 
 impl<K: Clock> CallWorker<K> {
-    /// Where no item is there to be taken, but frames wait: tries their outboxes once a millisecond,
-    /// until an item is there and was taken, none waits, or it is time to ask the clock.
+    /// Where no item is there to be taken, but frames wait: tries their outboxes once a
+    /// millisecond, until an item is there and was taken, none waits, or it is time to ask the
+    /// clock.
     pub(crate) fn wait_for_room<R: Wait>(&mut self, rt: &R) -> Result<(), Memory>
         requires stands { IsValid (seen K.told self.old) }
         requires settled { IsSettled (seen K.told self.old) }
@@ -57,7 +58,8 @@ impl<K: Clock> CallWorker<K> {
         Ok(())
     }
 
-    // Puts what waits, as far as it can be put. Where an outbox is given up its link's `Down` is next.
+    // Puts what waits, as far as it can be put. Where an outbox is given up its link's `Down` is
+    // next.
     fn try_outboxes<R: Wait>(&mut self, rt: &R) -> Result<(), Memory>
         requires stands { IsValid (seen K.told self.old) }
         ensures stands { IsValid (seen K.told self.new) }

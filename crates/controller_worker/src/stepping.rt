@@ -24,8 +24,8 @@ use ruled_relay::{Item, Putter, What};
 use std::sync::Wait;
 
 impl<K: Clock> CallWorker<K> {
-    /// Asks the clock, passes on what has gathered once that is a tick, tries the full outboxes once
-    /// a millisecond has passed, and takes an item, if there is one. Says whether there was.
+    /// Asks the clock, passes on what has gathered once that is a tick, tries the full outboxes
+    /// once a millisecond has passed, and takes an item, if there is one. Says whether there was.
     pub(crate) fn turn<R: Wait>(&mut self, rt: &R) -> Result<bool, Memory>
         requires stands { IsValid (seen K.told self.old) }
         requires settled { IsSettled (seen K.told self.old) }

@@ -7,8 +7,8 @@ use crate::mark::Mark;
 use ruled_relay::{Desk, Item};
 use std::sync::Wait;
 
-/// Takes an item, if a source has one; while frames wait, only of a link whose list has room. Then the
-/// sources are asked in turn, beginning with this one.
+/// Takes an item, if a source has one; while frames wait, only of a link whose list has room. Then
+/// the sources are asked in turn, beginning with this one.
 pub(crate) fn next_item<R: Wait>(
     rt: &R,
     desk: &mut Desk,

@@ -9,8 +9,8 @@ use std::alloc::Global;
 use std::collections::VecDeque;
 use std::marker::Model;
 
-/// The frames of a link that its full outbox has refused, or that came behind such a frame. Contracts
-/// see them in their order.
+/// The frames of a link that its full outbox has refused, or that came behind such a frame.
+/// Contracts see them in their order.
 #[derive(Drop)]
 pub(crate) struct Waiting {
     frames: VecDeque<Frame>,

@@ -222,9 +222,9 @@ struct Full<'a> {
     gets: &'a [Text<'a>],
 }
 
-/// What it gives is taken while its outbox is tried again, and so is its own `Down`: the one that is
-/// added behind it is ignored. In the last row two frames are for it in one step, and the second isn't
-/// tried any more.
+/// What it gives is taken while its outbox is tried again, and so is its own `Down`: the one that
+/// is added behind it is ignored. In the last row two frames are for it in one step, and the second
+/// isn't tried any more.
 const FULL: [Full<'_>; 4] = [
     Full {
         is_switch: false,
