@@ -48,7 +48,7 @@ fn take_among<R: Wait>(rt: &R, desk: &mut Desk, marks: &[Mark], from: u16, to: u
 {
     for source in from..to {
         if has_room(marks, source) {
-            if let Some(item) = desk.take(rt) {
+            if let Some(item) = desk.take_of(rt, source) {
                 return Some(item);
             }
         }
