@@ -1,7 +1,7 @@
 // SPDX-License-Identifier: MIT OR Apache-2.0
 //! The outputs of a step, into the outboxes of their links. What a full outbox refuses waits in a
 //! list of its link, and what comes behind it too.
-ghost use Rattle.std.specs.Prelude.{◌≡◌, ◌<◌, ℕ, List, [], ◌∷◌, length, true, false, vec_len};
+ghost use Rattle.std.specs.Prelude.{◌≡◌, ◌<◌, ℕ, List, [], ◌∷◌, length, true, false};
 ghost use Rattle.controller_worker.specs.Advancing.{SendsAll, SendsSome};
 ghost use Rattle.controller_worker.specs.Links.{is_given_up as given_up};
 ghost use Rattle.ipa_framing.specs.declared.frame.Frame.{Frame};
