@@ -214,8 +214,10 @@ taken_again zero moves = refl
 taken_again (suc n) moves = taken_again n moves
 
 refused_again : (n : ℕ) (parts : List Part) → refusals_in 1 (replicate n refusal ++ parts) ≡ n + refusals_in 1 parts
-refused_again zero parts = refl
-refused_again (suc n) parts = ap suc (refused_again n parts)
+refused_again zero parts = omega arith
+refused_again (suc n) parts =
+    let one : refusals_in 1 (replicate (suc n) refusal ++ parts) ≡ suc (refusals_in 1 (replicate n refusal ++ parts)) = refl in
+    let h = refused_again n parts in omega arith
 
 refusal_not_added : (at number : ℕ) → refuses at ≡ adds number → ⊥
 refusal_not_added at number e = cc

@@ -296,10 +296,7 @@ where
     } else {
         (0, 1_000)
     };
-    ended.fault.is_none()
-        && ended.ignored == 1
-        && ended.refusals == refusals
-        && others.join(&rt)
+    ended.fault.is_none() && ended.ignored == 1 && ended.refusals == refusals && others.join(&rt)
 }
 
 #[test]
