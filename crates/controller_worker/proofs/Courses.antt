@@ -5,7 +5,7 @@ use Rattle.std.specs.Prelude.{MatchResult}
 use Rattle.std.proofs.lemmas.Bool.{false≢true}
 use Rattle.std.specs.Result.{IsErr}
 use lib.ListN.{get_elem?}
-use Rattle.controller_worker.specs.Advancing.{Fits, Advances, Extends, AdvancesPartly, State, ended_of, mark_at}
+use Rattle.controller_worker.specs.Advancing.{Fits, Advances, AdvancesAlone, Extends, AdvancesPartly, State, ended_of, mark_at}
 use Rattle.controller_worker.specs.Moves.{Part, parts_of, steps_of, taken_of}
 use Rattle.controller_worker.specs.Steps.{AreOfLinks, over, ticked, whats_of}
 use Rattle.controller_worker.specs.Taking.{HasTaken}
@@ -42,17 +42,16 @@ on_both a b c link xs ys p q r f g = record {
 
 -- ---- the whole
 
-pub goes_both : (last : List Item) (a b c : State) → Advances [] a b → Advances last b c → Advances last a c
-goes_both last a b c f g = record {
+goes_on : (first last both : List Item) (a b c : State) (f : Advances first a b) (g : Advances last b c)
+    → (taken_of f.moves ++ first) ++ (taken_of g.moves ++ last) ≡ (taken_of f.moves ++ taken_of g.moves) ++ both → Advances both a c
+goes_on first last both a b c f g items = record {
   moves = f.moves ++ g.moves;
   controller =
       g.controller ∙ ap (λ d. (over d (steps_of g.moves)).next) f.controller ∙ sym (next_both a.controller (steps_of f.moves) (steps_of g.moves))
       ∙ ap (λ ss. (over a.controller ss).next) (sym (steps_both f.moves g.moves));
   desk =
-      subst (λ is. HasTaken a.desk is c.desk)
-      (ap (λ is. is ++ (taken_of g.moves ++ last)) (append-nil (taken_of f.moves)) ∙ sym (append_assoc (taken_of f.moves) (taken_of g.moves) last)
-      ∙ ap (λ is. is ++ last) (sym (taken_of_both f.moves g.moves)))
-      (taken_both a.desk b.desk c.desk (taken_of f.moves ++ []) (taken_of g.moves ++ last) f.desk g.desk);
+      subst (λ is. HasTaken a.desk is c.desk) (items ∙ ap (λ is. is ++ both) (sym (taken_of_both f.moves g.moves)))
+      (taken_both a.desk b.desk c.desk (taken_of f.moves ++ first) (taken_of g.moves ++ last) f.desk g.desk);
   time =
       let x = f.time in
       let y = g.time in
@@ -72,6 +71,26 @@ goes_both last a b c f g = record {
             (on_both a b c link xs (parts_of link b.controller g.moves) before.0 later.0 r before.2 later.2),
       );
 }
+
+pub goes_both : (last : List Item) (a b c : State) → Advances [] a b → Advances last b c → Advances last a c
+goes_both last a b c f g =
+    goes_on [] last last a b c f g
+    (ap (λ is. is ++ (taken_of g.moves ++ last)) (append-nil (taken_of f.moves)) ∙ sym (append_assoc (taken_of f.moves) (taken_of g.moves) last))
+
+-- no item was taken in the second part
+pub part_both_alone : (a b c : State) → AdvancesPartly a b → AdvancesAlone b c → AdvancesPartly a c
+part_both_alone a b c (last, one, f) (g, none) =
+    let ts : List Item = taken_of f.moves in (
+      last,
+      one,
+      goes_on last [] last a b c f g
+          (ap (λ is. (ts ++ last) ++ (is ++ [])) none ∙ append-nil (ts ++ last) ∙ ap (λ is. is ++ last) (sym (append-nil ts) ∙ ap (λ is. ts ++ is) (sym none))),
+    )
+
+pub alone_both : (a b c : State) → AdvancesAlone a b → AdvancesAlone b c → AdvancesAlone a c
+unfolding goes_both goes_on
+alone_both a b c (f, none) (g, nothing) =
+    (goes_both [] a b c f g, taken_of_both f.moves g.moves ∙ ap (λ is. is ++ taken_of g.moves) none ∙ nothing)
 
 pub goes_both_part : (a b c : State) → Advances [] a b → AdvancesPartly b c → AdvancesPartly a c
 goes_both_part a b c f g = (g.0, g.1, goes_both g.0 a b c f g.2)
@@ -103,6 +122,10 @@ goes_still last old new controller putters ended marks desk time = record {
 
 pub goes_none : (s : State) → Advances [] s s
 goes_none s = goes_still [] s s refl refl refl (λ link. refl) (taken_none s.desk) refl
+
+pub alone_none : (s : State) → AdvancesAlone s s
+unfolding goes_none goes_still
+alone_none s = (goes_none s, refl)
 
 -- ---- calls that may run out of memory
 

@@ -8,7 +8,7 @@ use lib.ListN.{get_elem?}
 use Rattle.atomic_table.proofs.Lists.{at_set}
 use Rattle.controller_worker.specs.declared.mark.Mark.{Mark}
 use Rattle.controller_worker.specs.declared.limits.TheConstants.{MAX_REFUSALS, TICK_MS}
-use Rattle.controller_worker.specs.Advancing.{Ends, Finishes, Fits, Advances, Extends, AdvancesPartly, IsSettled, PutsEnd, State, mark_at}
+use Rattle.controller_worker.specs.Advancing.{Ends, Finishes, Fits, Advances, AdvancesAlone, Extends, IsSettled, PutsEnd, State, mark_at}
 use Rattle.controller_worker.specs.Links.{is_given_up, lines}
 use Rattle.controller_worker.specs.Moves.{IsSent, Part, parts_of, taken_of}
 use Rattle.controller_worker.specs.Taking.{HasTaken}
@@ -49,21 +49,24 @@ goes_ends last a b c f g = record {
       (before.0, before.1, on_ends a b c link (parts_of link a.controller f.moves) before.0 later.0 r before.2 later.2);
 }
 
-pub ends_part : (a b c : State) → AdvancesPartly a b → Ends b c → AdvancesPartly a c
-ends_part a b c f g = (f.0, f.1, goes_ends f.0 a b c f.2 g)
+pub alone_ends : (a b c : State) → AdvancesAlone a b → Ends b c → AdvancesAlone a c
+unfolding goes_ends
+alone_ends a b c f g = (goes_ends [] a b c f.0 g, f.1)
 
 -- one outbox gets its mark
-fits_marked : (p q : PutterView) (m : Mark) (link : ℕ) (past : List Part) → PutsEnd p true q → Fits false p m link past → Fits true q m link (past ++ [])
-fits_marked p q m link past puts f = subst (λ ps. Fits true q m link ps) (sym (append-nil past)) (record {
+fits_marked : (p q : PutterView) (m : Mark) (link : ℕ) (past : List Part) → PutsEnd p true q → m.waiting ≡ [] → Fits false p m link past → Fits true q m link (past ++ [])
+fits_marked p q m link past puts none f = subst (λ ps. Fits true q m link ps) (sym (append-nil past)) (record {
   sent = f.sent;
   put = puts.2 ∙ ap (λ ls. ls ++ marks.End ∷ []) (f.put ∙ append-nil (lines f.sent));
-  which = subst (λ b. IsSent b m.added link past f.sent) (sym (ap (λ n. nat_le MAX_REFUSALS n) puts.1)) f.which;
+  which = subst (λ b. IsSent b m.added link past (f.sent ++ m.waiting)) (sym (ap (λ n. nat_le MAX_REFUSALS n) puts.1)) f.which;
+  none = (λ h. none, λ h. none);
+  counted = (let z = puts.3 in omega arith, let z = puts.1 in let c = f.counted.1 in omega arith);
   down = f.down;
 })
 
-pub ends_one : (old : State) (at : ℕ) (p q : PutterView) → at ≡ old.ended → get_elem? old.putters at ≡ some p → PutsEnd p true q
+pub ends_one : (old : State) (at : ℕ) (p q : PutterView) → at ≡ old.ended → get_elem? old.putters at ≡ some p → (mark_at old.marks at).waiting ≡ [] → PutsEnd p true q
     → Ends old (record old { putters = set old.putters at q; ended = at + 1 })
-ends_one old at p q is here puts =
+ends_one old at p q is here none puts =
     let new : State = record old { putters = set old.putters at q; ended = at + 1 } in record {
       kept = refl;
       count = length_set old.putters at q;
@@ -79,7 +82,7 @@ ends_one old at p q is here puts =
               fits = λ past f.
                   subst (λ b. Fits b r (mark_at old.marks link) link (past ++ [])) (sym now)
                   (subst (λ y. Fits true y (mark_at old.marks link) link (past ++ [])) h.1
-                  (fits_marked p q (mark_at old.marks link) link past puts (subst (λ b. Fits b p (mark_at old.marks link) link past) was f)));
+                  (fits_marked p q (mark_at old.marks link) link past puts (ap (λ i. (mark_at old.marks i).waiting) h.0 ∙ none) (subst (λ b. Fits b p (mark_at old.marks link) link past) was f)));
             },
           ))
           (λ (h : (link ≢ at) × (get_elem? old.putters link ≡ some r)).

@@ -1,10 +1,10 @@
 -- SPDX-License-Identifier: MIT OR Apache-2.0
 -- What the definitions say of literal steps and lines.
-use Rattle.std.proofs.Common.{◌≡◌, ℕ, true, false, List, [], ◌∷◌, refl}
+use Rattle.std.proofs.Common.{◌≡◌, ℕ, ◌+◌, true, false, List, [], ◌∷◌, ◌++◌, replicate, refl, arith, inl, inr, zero, suc}
 use Rattle.atomic_table.specs.Seated.{TableId}
 use Rattle.controller_worker.specs.declared.limits.TheConstants.{TICK_MS}
 use Rattle.controller_worker.specs.Links.{HasDown, is_given_up, lines}
-use Rattle.controller_worker.specs.Moves.{IsSent, Move, Part, takes, ticks, adds, steps_of, taken_of}
+use Rattle.controller_worker.specs.Moves.{AreOther, IsElsewhere, IsRefused, IsSent, Move, Part, takes, ticks, adds, refuses, frames_in, refusals_in, refusing_of, steps_of, taken_of, times}
 use Rattle.controller_worker.specs.Steps.{frames_to, items_of, ticked, whats_of}
 use Rattle.conn_messages.specs.declared.out.Out.{Out}
 use Rattle.controller_model.specs.declared.step.Step.{Step}
@@ -67,7 +67,7 @@ abbrev part : Move → List Frame → Part
 part move frames = record { move = move; frames = frames }
 
 abbrev some_moves : List Move
-some_moves = takes (of_frame 1 10) ∷ ticks 250 ∷ adds 1 ∷ takes (of_down 1) ∷ []
+some_moves = takes (of_frame 1 10) ∷ refuses 2 ∷ ticks 250 ∷ refuses 1 ∷ refuses 2 ∷ adds 1 ∷ takes (of_down 1) ∷ []
 
 steps_of_moves : steps_of some_moves ≡ Take (of_frame 1 10) ∷ Tick 250 ∷ Take (of_down 1) ∷ Take (of_down 1) ∷ []
 steps_of_moves = refl
@@ -75,40 +75,81 @@ steps_of_moves = refl
 taken_of_moves : taken_of some_moves ≡ of_frame 1 10 ∷ of_down 1 ∷ []
 taken_of_moves = refl
 
-all_sent : IsSent false false 1 (part (takes (of_frame 1 10)) (frame 10 ∷ frame 11 ∷ []) ∷ part (ticks 250) (frame 12 ∷ []) ∷ []) (frame 10 ∷ frame 11 ∷ frame 12 ∷ [])
-all_sent = (refl, ((λ e. cc), ((λ e. cc), tt)))
+refusing_of_moves : refusing_of some_moves ≡ 2 ∷ 1 ∷ 2 ∷ []
+refusing_of_moves = refl
+
+refused_twice : times 2 (refusing_of some_moves) ≡ 2
+refused_twice = refl
+
+refused_never : times 3 (refusing_of some_moves) ≡ 0
+refused_never = refl
+
+all_sent : IsSent false false 1 (part (takes (of_frame 1 10)) (frame 10 ∷ frame 11 ∷ []) ∷ part (refuses 1) [] ∷ part (ticks 250) (frame 12 ∷ []) ∷ []) (frame 10 ∷ frame 11 ∷ frame 12 ∷ [])
+all_sent = (refl, ((λ e. cc), ((λ e. cc), ((λ e. cc), tt))))
 
 added_without_a_cause : IsSent false true 1 [] [] → ⊥
 added_without_a_cause bad = bad
 
--- Two frames come of one step: the second is refused until links 1 and 2 are given up, and each
--- `Down` is added. Link 2's own, which waited behind, is taken later.
-abbrev given_up_at_once : List Part
-given_up_at_once =
-    part (takes (of_frame 1 10)) (frame 10 ∷ frame 11 ∷ []) ∷ part (adds 1) [] ∷ part (adds 2) (frame 12 ∷ []) ∷ part (takes (of_down 2)) [] ∷ []
+-- so many refusals of link 2
+abbrev refusing : ℕ → List Part
+refusing n = replicate n (part (refuses 2) [])
 
-down_is_next : IsSent true true 2 given_up_at_once (frame 10 ∷ [])
+refusals_counted : (n : ℕ) (parts : List Part) → refusals_in 2 (refusing n ++ parts) ≡ n + refusals_in 2 parts
+refusals_counted zero parts = omega arith
+refusals_counted (suc n) parts =
+    let one : refusals_in 2 (refusing (suc n) ++ parts) ≡ suc (refusals_in 2 (refusing n ++ parts)) = refl in
+    let h = refusals_counted n parts in omega arith
+
+refusals_add_nothing : (n : ℕ) (parts : List Part) → AreOther 2 parts → AreOther 2 (refusing n ++ parts)
+refusals_add_nothing zero parts other = other
+refusals_add_nothing (suc n) parts other = ((λ e. cc), refusals_add_nothing n parts other)
+
+-- Two frames come of one step: the second is refused, while an item is taken that puts a third. Behind
+-- the last refusal link 1's outbox refuses, and its `Down` is added.
+abbrev given_up_behind : ℕ → List Part
+given_up_behind n =
+    part (takes (of_frame 1 10)) (frame 10 ∷ frame 11 ∷ []) ∷ part (refuses 2) [] ∷ part (takes (of_frame 1 12)) (frame 12 ∷ [])
+    ∷ (refusing n ++ part (refuses 2) [] ∷ part (refuses 1) [] ∷ part (adds 1) [] ∷ [])
+
+refused_a_thousand_times : IsRefused 2 (given_up_behind 998) (frame 10 ∷ [])
+refused_a_thousand_times = record {
+  earlier = part (takes (of_frame 1 10)) (frame 10 ∷ frame 11 ∷ []) ∷ part (refuses 2) [] ∷ part (takes (of_frame 1 12)) (frame 12 ∷ []) ∷ refusing 998;
+  last = part (refuses 2) [];
+  others = part (refuses 1) [] ∷ part (adds 1) [] ∷ [];
+  whole = refl;
+  refusal = refl;
+  elsewhere = ((1, (λ e. cc), inr refl), ((1, (λ e. cc), inl refl), tt));
+  often = let c = refusals_counted 998 (part (refuses 2) [] ∷ part (refuses 1) [] ∷ part (adds 1) [] ∷ []) in omega arith;
+  refused = frame 11;
+  rest = frame 12 ∷ frames_in (refusing 998);
+  frames = refl;
+}
+
+refused_too_seldom_to_be_given_up : (sent : List Frame) → IsRefused 2 (given_up_behind 997) sent → ⊥
+refused_too_seldom_to_be_given_up sent r =
+    let c = refusals_counted 997 (part (refuses 2) [] ∷ part (refuses 1) [] ∷ part (adds 1) [] ∷ []) in let often = r.often in omega arith
+
+-- link 2's own `Down` is taken later
+down_is_next : IsSent true true 2 (given_up_behind 998 ++ part (adds 2) (frame 13 ∷ []) ∷ part (takes (of_down 2)) [] ∷ []) (frame 10 ∷ [])
 down_is_next = (
-  part (takes (of_frame 1 10)) (frame 10 ∷ frame 11 ∷ []) ∷ part (adds 1) [] ∷ [],
-  part (adds 2) (frame 12 ∷ []),
+  given_up_behind 998,
+  part (adds 2) (frame 13 ∷ []),
   part (takes (of_down 2)) [] ∷ [],
   refl,
-  record {
-    earlier = [];
-    last = part (takes (of_frame 1 10)) (frame 10 ∷ frame 11 ∷ []);
-    downs = part (adds 1) [] ∷ [];
-    whole = refl;
-    added = ((1, refl), tt);
-    first = frame 10 ∷ [];
-    refused = frame 11;
-    rest = [];
-    frames = refl;
-    before = refl;
-  },
+  refused_a_thousand_times,
   refl,
-  ((λ e. cc), ((λ e. cc), tt)),
+  ((λ e. cc), ((λ e. cc), ((λ e. cc), refusals_add_nothing 998 (part (refuses 2) [] ∷ part (refuses 1) [] ∷ part (adds 1) [] ∷ []) ((λ e. cc), ((λ e. cc), ((λ e. cc), tt)))))),
   ((λ e. cc), tt),
 )
+
+-- an item that is taken isn't elsewhere, nor is the link's own refusal
+taken_is_not_elsewhere : IsElsewhere 2 (part (takes (of_frame 1 12)) []) → ⊥
+taken_is_not_elsewhere (other, differs, inl e) = cc
+taken_is_not_elsewhere (other, differs, inr e) = cc
+
+own_refusal_is_not_elsewhere : IsElsewhere 2 (part (refuses 2) []) → ⊥
+own_refusal_is_not_elsewhere (other, differs, inl e) = cc
+own_refusal_is_not_elsewhere (other, differs, inr e) = differs (let same : other ≡ 2 = cc in same)
 
 down_taken : HasDown (whats.Frame (frame 10) ∷ whats.Down ∷ whats.Frame (frame 11) ∷ [])
 down_taken = (whats.Frame (frame 10) ∷ [], whats.Frame (frame 11) ∷ [], refl)

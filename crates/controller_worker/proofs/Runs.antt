@@ -1,18 +1,19 @@
 -- SPDX-License-Identifier: MIT OR Apache-2.0
 -- From the way of the call worker to its whole run.
-use Rattle.std.proofs.Common.{◌≡◌, ℕ, ◌<◌, ◌≤◌, nat_lt, nat_le, Bool, true, false, List, [], length, replicate, Option, Some, None, refl, sym, ap, ◌∙◌, subst, arith, zero, suc}
+use Rattle.std.proofs.Common.{◌≡◌, ℕ, ◌<◌, ◌≤◌, nat_lt, nat_le, Bool, true, false, List, [], ◌++◌, length, replicate, Option, Some, None, refl, sym, ap, ◌∙◌, subst, append-nil, arith, zero, suc}
 use Rattle.std.proofs.lemmas.Bool.{false≢true}
 use Rattle.std.proofs.lemmas.Bool.Decides.{nat_tests}
 use mathlib.Core.Option.{some}
 use lib.ListN.{get_elem?}
 use Rattle.controller_worker.specs.declared.mark.Mark.{Mark}
 use Rattle.controller_worker.specs.Call.{AreNew, IsNew, Parts, Runs, Serves}
-use Rattle.controller_worker.specs.Advancing.{Ends, Finishes, Fits, Advances, Extends, AdvancesPartly, IsSettled, State, ended_of, mark_at, unmarked}
+use Rattle.controller_worker.specs.Advancing.{Finishes, Fits, Advances, AdvancesAlone, Extends, AdvancesPartly, IsSettled, State, ended_of, mark_at, unmarked}
 use Rattle.controller_worker.specs.Links.{HasDown, is_given_up}
 use Rattle.controller_worker.specs.Moves.{IsSent, Move, Part, parts_of, taken_of}
 use Rattle.controller_worker.specs.Steps.{whats_of}
+use Rattle.controller_worker.proofs.Courses.{part_both_alone}
 use Rattle.controller_worker.proofs.Histories.{moves_of_parts}
-use Rattle.controller_worker.proofs.Marking.{ends_part, settled_by}
+use Rattle.controller_worker.proofs.Marking.{settled_by}
 use Rattle.ipa_framing.specs.declared.frame.Frame.{Frame}
 use Rattle.link_workers.specs.declared.fault.IoFault.{IoFault}
 use Rattle.ruled_relay.specs.declared.item.Item.{Item}
@@ -37,6 +38,8 @@ fits_new link p new = record {
   sent = [];
   put = new.0;
   which = subst (λ b. IsSent b false link [] []) (sym (ap (λ n. nat_le 1000 n) new.2)) (refl, tt);
+  none = (λ h. refl, λ h. refl);
+  counted = (let z = new.1 in omega arith, let z = new.2 in omega arith);
   down = λ h. absurd (false≢true h);
 }
 
@@ -67,13 +70,15 @@ serves fault old new link moves p q is_new none unended here ended finishes goes
     let f = goes.fits [] before in
     let m : Mark = mark_at new.marks link in
     let all : ended_of new link ≡ true = grind (arith, nat_tests) in
-    let c = subst (λ b. Fits b q m link parts) all f in record {
+    let c = subst (λ b. Fits b q m link parts) all f in
+    let which : IsSent (is_given_up q) m.added link parts c.sent =
+    subst (λ fs. IsSent (is_given_up q) m.added link parts fs) (ap (λ fs. c.sent ++ fs) (c.none.0 refl) ∙ append-nil c.sent) c.which in record {
       queue = goes.queue;
       sent = c.sent;
       put = c.put;
       added = m.added;
-      which = c.which;
-      whole = λ no. same_bool m.added (is_given_up q) (up_where_added (is_given_up q) m.added link parts c.sent c.which) ((finishes no).settled link q here);
+      which = which;
+      whole = λ no. same_bool m.added (is_given_up q) (up_where_added (is_given_up q) m.added link parts c.sent which) ((finishes no).settled link q here);
       down = λ no. subst (λ ms. HasDown (whats_of link (taken_of ms))) (moves_of_parts link old.controller moves) (c.down ((finishes no).down link room));
     }
 
@@ -107,8 +112,8 @@ runs_whole old new n fresh none unended start goes finishes ended =
 no_fault : (fault : IoFault) → Some fault ≡ None → ⊥
 no_fault fault e = cc
 
-pub runs_part : (fault : IoFault) (old mid new : State) (n : ℕ) → AreNew old.putters → old.marks ≡ replicate n unmarked → old.ended ≡ 0 → old.gathered ≡ 0 → AdvancesPartly old mid → Ends mid new
+pub runs_part : (fault : IoFault) (old mid new : State) (n : ℕ) → AreNew old.putters → old.marks ≡ replicate n unmarked → old.ended ≡ 0 → old.gathered ≡ 0 → AdvancesPartly old mid → AdvancesAlone mid new
     → new.ended ≡ length new.putters → Runs (Some fault) (parts_given old) (parts_given new)
 runs_part fault old mid new n fresh none unended start goes ends ended =
-    let p = ends_part old mid new goes ends in
+    let p = part_both_alone old mid new goes ends in
     runs (Some fault) p.0 old new n fresh none unended start p.2 ended p.1 (λ no. absurd (no_fault fault no)) (λ no. absurd (no_fault fault no))

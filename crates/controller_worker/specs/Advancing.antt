@@ -9,8 +9,8 @@ use lib.ListN.{get_elem?}
 use Rattle.controller_worker.specs.declared.limits.TheConstants.{TICK_MS}
 use Rattle.controller_worker.specs.declared.mark.Mark.{Mark}
 use Rattle.controller_worker.specs.Links.{HasDown, is_given_up, lines}
-use Rattle.controller_worker.specs.Moves.{IsSent, Move, Part, parts_of, steps_of, taken_in}
-use Rattle.controller_worker.specs.Moves.{taken_of}
+use Rattle.controller_worker.specs.Moves.{IsSent, Move, Part, parts_of, refusals_in, steps_of}
+use Rattle.controller_worker.specs.Moves.{taken_in, taken_of, times}
 use Rattle.controller_worker.specs.Steps.{AreOfLinks, frames_to, over, ticked}
 use Rattle.controller_worker.specs.Taking.{HasTaken}
 use Rattle.conn_messages.specs.declared.out.Out.{Out}
@@ -20,7 +20,6 @@ use Rattle.controller_model.specs.Controller.{Controller}
 use Rattle.controller_model.specs.Life as words
 use Rattle.ipa_framing.specs.declared.frame.Frame.{Frame}
 use Rattle.ruled_relay.specs.declared.item.Item.{Item}
-use Rattle.ruled_relay.specs.declared.item.What.{What}
 use Rattle.ruled_relay.specs.declared.outbox.Line.{Line}
 use Rattle.ruled_relay.specs.declared.outbox.Line.TheVariants as marks
 use Rattle.ruled_relay.specs.Outbox.{PutterView}
@@ -32,28 +31,52 @@ abbrev pub end_mark : Bool → List Line
 end_mark false = []
 end_mark true = marks.End ∷ []
 
--- What was sent of these frames, by whether the outbox was given up before and is now: all, those
--- before the one that was refused so often, or none.
-abbrev pub AreSent : Bool → Bool → List Frame → List Frame → Type 0
-AreSent false false frames sent = sent ≡ frames
-AreSent false true frames sent =
-    (refused : Frame) × (rest : List Frame) × (frames ≡ sent ++ refused ∷ rest)
-AreSent true true frames sent = sent ≡ []
-AreSent true false frames sent = ⊥
+-- a refusal was counted at most so often
+abbrev pub IsCounted : ℕ → PutterView → Type 0
+IsCounted most p = (p.refused ≤ most) × (p.refusals ≤ most)
 
--- these frames came to the outbox
-pub record Sends (old : PutterView) (frames : List Frame) (new : PutterView) : Type 0 where
+-- What was sent of the frames that waited and of those that came behind them, and what waits now,
+-- by whether the outbox was given up before and is now. What was sent and what waits are all; or
+-- what was sent are those before the one that was refused so often, and none waits; or nothing is
+-- tried.
+abbrev pub AreSent : Bool → Bool → List Frame → List Frame → List Frame → List Frame → ℕ → Type 0
+AreSent false false waited came sent waiting refusals = sent ++ waiting ≡ waited ++ came
+AreSent false true waited came sent waiting refusals =
+    (refused : Frame) × (rest : List Frame) × (waited ++ came ≡ sent ++ refused ∷ rest)
+    × (waiting ≡ []) × (0 < refusals)
+AreSent true true waited came sent waiting refusals =
+    (sent ≡ []) × (waiting ≡ waited) × (refusals ≡ 0)
+AreSent true false waited came sent waiting refusals = ⊥
+
+-- these frames came for a link, and its outbox refused so often
+pub record Sends (old : PutterView) (waited came : List Frame) (refusals : ℕ)
+    (new : PutterView) (waiting : List Frame) : Type 0 where
   pub queue : new.queue ≡ old.queue
   pub sent : List Frame
   pub put : new.put ≡ old.put ++ lines sent
-  pub which : AreSent (is_given_up old) (is_given_up new) frames sent
+  pub which : AreSent (is_given_up old) (is_given_up new) waited came sent waiting refusals
+  pub counted : (before : ℕ) → IsCounted before old → IsCounted (before + refusals) new
 
--- each output came to its link's outbox
-pub record SendsAll (old : List PutterView) (outs : List Out)
-    (new : List PutterView) : Type 0 where
+abbrev pub SendsSome : PutterView → List Frame → List Frame → PutterView → List Frame → Type 0
+SendsSome old waited came new waiting = (refusals : ℕ) × Sends old waited came refusals new waiting
+
+abbrev pub unmarked : Mark
+unmarked = record { added = false; down = false; waiting = [] }
+
+abbrev pub mark_at : List Mark → ℕ → Mark
+mark_at ms link = slice_index_or ms link unmarked
+
+-- Each output came to its link's outbox, behind what waited; these outboxes refused a frame, in
+-- this order.
+pub record SendsAll (old : List PutterView) (before : List Mark) (outs : List Out) (tries : List ℕ)
+    (new : List PutterView) (after : List Mark) : Type 0 where
   pub count : length new ≡ length old
-  pub each : EachAt new (λ link p. (before : PutterView) × (get_elem? old link ≡ some before)
-      × Sends before (frames_to link outs) p)
+  pub marks : length after ≡ length before
+  pub kept : (link : ℕ) → mark_at after link
+      ≡ record (mark_at before link) { waiting = (mark_at after link).waiting }
+  pub each : EachAt new (λ link p. (was : PutterView) × (get_elem? old link ≡ some was)
+      × Sends was (mark_at before link).waiting (frames_to link outs) (times link tries)
+      p (mark_at after link).waiting)
 
 -- ---- the whole
 
@@ -68,29 +91,24 @@ pub record State : Type 0 where
   pub told : ℕ
   pub gathered : ℕ
 
-abbrev pub unmarked : Mark
-unmarked = record { added = false; down = false }
-
-abbrev pub mark_at : List Mark → ℕ → Mark
-mark_at ms link = slice_index_or ms link unmarked
-
 -- what is remembered once an item of this source was taken, a Down or another
 abbrev pub noted : Bool → ℕ → List Mark → List Mark
 noted false source ms = ms
-noted true source ms =
-    slice_set ms source (record { added = (mark_at ms source).added; down = true })
+noted true source ms = slice_set ms source (record (mark_at ms source) { down = true })
 
 -- and once a Down of this source was added
 abbrev pub with_added : ℕ → List Mark → List Mark
-with_added source ms =
-    slice_set ms source (record { added = true; down = (mark_at ms source).down })
+with_added source ms = slice_set ms source (record (mark_at ms source) { added = true })
 
--- one link over all moves so far
+-- One link over all moves so far: what was put, and what waits. None waits behind the mark of the
+-- end, and none for an outbox that was given up.
 pub record Fits (ended : Bool) (p : PutterView) (m : Mark) (link : ℕ)
     (parts : List Part) : Type 0 where
   pub sent : List Frame
   pub put : p.put ≡ lines sent ++ end_mark ended
-  pub which : IsSent (is_given_up p) m.added link parts sent
+  pub which : IsSent (is_given_up p) m.added link parts (sent ++ m.waiting)
+  pub none : (ended ≡ true → m.waiting ≡ []) × (is_given_up p ≡ true → m.waiting ≡ [])
+  pub counted : IsCounted (refusals_in link parts) p
   pub down : m.down ≡ true → HasDown (taken_in link parts)
 
 -- which outboxes have the mark behind their last frame
@@ -99,12 +117,19 @@ ended_of s link = nat_lt link s.ended
 
 -- ---- what calls do
 
--- a step was done, and what it puts was sent; that is nothing once an outbox has its mark
+-- A step was done, and what it puts was sent, or waits; that is nothing once an outbox has its
+-- mark.
 pub record DoesStep (s : Step) (old new : State) : Type 0 where
   pub controller : new.controller ≡ (words.step old.controller s).next
-  pub sent : SendsAll old.putters (words.step old.controller s).outs new.putters
+  pub tries : List ℕ
+  pub sent : SendsAll old.putters old.marks (words.step old.controller s).outs tries
+      new.putters new.marks
   pub quiet : 0 < old.ended → (words.step old.controller s).outs ≡ []
-  pub kept : new ≡ record old { controller = new.controller; putters = new.putters }
+  pub kept : new ≡ record old {
+    controller = new.controller;
+    putters = new.putters;
+    marks = new.marks;
+  }
 
 -- what fitted before fits with this behind it
 pub record Extends (old new : State) (link : ℕ) (parts : List Part)
@@ -131,6 +156,10 @@ pub record Advances (last : List Item) (old new : State) : Type 0 where
 -- the same up to a step that ran out of memory
 abbrev pub AdvancesPartly : State → State → Type 0
 AdvancesPartly old new = (last : List Item) × (length last ≤ 1) × Advances last old new
+
+-- the same, where no item is taken
+abbrev pub AdvancesAlone : State → State → Type 0
+AdvancesAlone old new = (goes : Advances [] old new) × (taken_of goes.moves ≡ [])
 
 -- from one state to a later one, or up to a step that ran out of memory
 abbrev pub GoesOrStops : {X E : Type 0} → Result X E → State → State → Type 0
@@ -181,5 +210,5 @@ pub record Ends (old new : State) : Type 0 where
 -- the mark was put behind all that was put, or refused
 abbrev pub PutsEnd : PutterView → Bool → PutterView → Type 0
 PutsEnd old true new = (new.queue ≡ old.queue) × (new.refusals ≡ old.refusals)
-    × (new.put ≡ old.put ++ marks.End ∷ [])
+    × (new.put ≡ old.put ++ marks.End ∷ []) × (new.refused ≡ 0)
 PutsEnd old false new = new ≡ old

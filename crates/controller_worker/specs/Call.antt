@@ -1,6 +1,6 @@
 -- SPDX-License-Identifier: MIT OR Apache-2.0
 -- A run of the call worker: one list of steps, and what of it each link gave and got.
-use Rattle.std.specs.Prelude.{◌≡◌, ℕ, ◌+◌, ◌<◌, ◌≤◌, Bool, true, List, []}
+use Rattle.std.specs.Prelude.{◌≡◌, ℕ, ◌+◌, ◌<◌, ◌≤◌, Bool, List, []}
 use Rattle.std.specs.Prelude.{◌∷◌, ◌++◌, length}
 use Rattle.std.specs.Prelude.{replicate, Option, Some, None}
 use mathlib.Core.Option.{some}
@@ -13,7 +13,6 @@ use Rattle.controller_worker.specs.Links.{HasDown, is_given_up, lines}
 use Rattle.controller_worker.specs.Moves.{IsSent, Move, parts_of, steps_of, taken_of}
 use Rattle.controller_worker.specs.Steps.{AreOfLinks, over, ticked, whats_of}
 use Rattle.controller_worker.specs.Taking.{HasTaken}
-use Rattle.controller_model.specs.declared.step.Step.{Step}
 use Rattle.controller_model.specs.Controller.{Controller}
 use Rattle.ipa_framing.specs.declared.frame.Frame.{Frame}
 use Rattle.link_workers.specs.declared.fault.IoFault.{IoFault}

@@ -33,6 +33,11 @@ pub struct HasRelayed<K> {
 /// when a `Down` of each link was taken, or with `Memory`, the only fault; then it puts `End` into
 /// each outbox.
 ///
+/// What a full outbox refuses waits in a list of its link, 1,024 frames at most, and what comes
+/// behind it too. The outbox is tried again once a millisecond, while the worker goes on with the
+/// other links; of a link whose list is full no item is taken. Only where the list of a link is
+/// full and another link gives a frame for it, the worker waits for it.
+///
 /// An outbox that refused a frame 1,000 times in a row is given up: nothing more but `End` is put
 /// there, and its link's `Down` is the next step, once for each link.
 pub fn call_worker<R: Wait, K: Clock + Drop>(
@@ -67,6 +72,10 @@ pub fn call_worker<R: Wait, K: Clock + Drop>(
         clock,
         gathered: 0,
         unrung: 0,
+        is_slow: false,
+        is_due: false,
+        has_napped: false,
+        turn: 0,
     };
     let fault = match worker.relay(rt) {
         Ok(()) => None,
@@ -91,6 +100,7 @@ impl<K: Clock> CallWorker<K> {
         requires start { (self.old.marks.items ≡ replicate (vec_len self.old.putters) unmarked)
             × (self.old.ended ≡ 0) × (self.old.gathered ≡ 0) }
         ensures goes { GoesOrStops result (seen K.told self.old) (seen K.told self.new) }
+        ensures marks { length self.new.marks.items ≡ length self.new.putters.items }
         ensures finishes { OnOk result (Finishes (seen K.told self.new)) }
         ensures ended { OnOk result (self.new.ended ≡ vec_len self.new.putters) }
     {
@@ -98,7 +108,7 @@ impl<K: Clock> CallWorker<K> {
         self.end_meanwhile(rt)
     }
 
-    // Until a `Down` of each link was taken.
+    // Until a `Down` of each link was taken, and no frame waits.
     fn take_all<R: Wait>(&mut self, rt: &R) -> Result<(), Memory>
         requires stands { IsValid (seen K.told self.old) }
         requires settled { IsSettled (seen K.told self.old) }
@@ -108,11 +118,11 @@ impl<K: Clock> CallWorker<K> {
         ensures finishes { OnOk result (Finishes (seen K.told self.new)) }
     {
         for _ in rt.forever() {
-            if self.are_all_down() {
+            if !self.is_slow && self.are_all_down() {
                 return Ok(());
             }
             if !self.turn(rt)? {
-                self.sleep(rt);
+                self.rest(rt)?;
             }
         }
         unreachable!()
@@ -128,6 +138,24 @@ impl<K: Clock> CallWorker<K> {
             }
         }
         true
+    }
+
+    // Until something is there to be taken, or a tick is due; but while frames wait for an outbox
+    // that is tried again.
+    fn rest<R: Wait>(&mut self, rt: &R) -> Result<(), Memory>
+        requires stands { IsValid (seen K.told self.old) }
+        requires settled { IsSettled (seen K.told self.old) }
+        requires gathered { self.old.gathered < TICK_MS }
+        ensures stands { IsValid (seen K.told self.new) }
+        ensures goes { GoesOrStops result (seen K.told self.old) (seen K.told self.new) }
+        ensures settled { OnOk result (IsSettled (seen K.told self.new)) }
+        ensures gathered { OnOk result (self.new.gathered < TICK_MS) }
+    {
+        if self.is_slow {
+            return self.wait_for_room(rt);
+        }
+        self.sleep(rt);
+        Ok(())
     }
 
     // Until something is there to be taken, or a tick is due.

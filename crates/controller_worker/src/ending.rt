@@ -1,7 +1,8 @@
 // SPDX-License-Identifier: MIT OR Apache-2.0
 //! The mark behind the last frame, put into each outbox.
 ghost use Rattle.std.specs.Prelude.{◌≡◌, length, OnOk, vec_len};
-ghost use Rattle.controller_worker.specs.Advancing.{Ends, Finishes, GoesOrStops, PutsEnd, IsValid};
+ghost use Rattle.controller_worker.specs.Advancing.{AdvancesAlone, Ends, Finishes, GoesOrStops};
+ghost use Rattle.controller_worker.specs.Advancing.{PutsEnd, IsValid};
 ghost use Rattle.controller_worker.specs.Seen.{seen};
 
 use crate::clock::Clock;
@@ -18,6 +19,7 @@ impl<K: Clock> CallWorker<K> {
         requires stands { IsValid (seen K.told self.old) }
         requires finishes { Finishes (seen K.told self.old) }
         ensures goes { GoesOrStops result (seen K.told self.old) (seen K.told self.new) }
+        ensures marks { length self.new.marks.items ≡ length self.new.putters.items }
         ensures finishes { OnOk result (Finishes (seen K.told self.new)) }
         ensures ended { OnOk result (self.new.ended ≡ vec_len self.new.putters) }
     {
@@ -52,13 +54,15 @@ impl<K: Clock> CallWorker<K> {
         }
     }
 
-    /// Puts the mark into each outbox, and does nothing else meanwhile.
+    /// Puts what waits, and then the mark, into each outbox, and does no step meanwhile.
     pub(crate) fn end_alone<R: Wait>(&mut self, rt: &R)
-        ensures ends { Ends (seen K.told self.old) (seen K.told self.new) }
+        requires { length self.old.marks.items ≡ length self.old.putters.items }
+        ensures goes { AdvancesAlone (seen K.told self.old) (seen K.told self.new) }
         ensures ended { self.new.ended ≡ vec_len self.new.putters }
     {
         let mut pauses = Pauses::new();
         for _ in rt.forever() {
+            self.put_waiting(rt);
             self.put_ends(rt);
             if self.ended == self.putters.len() {
                 return;
@@ -68,11 +72,16 @@ impl<K: Clock> CallWorker<K> {
         unreachable!()
     }
 
-    // From the first outbox on that has no mark yet, until one refuses it.
+    // From the first outbox on that has no mark yet, until one refuses it, or frames wait for it.
     fn put_ends<R: Wait>(&mut self, rt: &R)
+        requires { length self.old.marks.items ≡ length self.old.putters.items }
         ensures { Ends (seen K.told self.old) (seen K.told self.new) }
     {
         for link in self.ended..self.putters.len() {
+            let mark = &self.marks[link];
+            if !mark.waiting.is_empty() {
+                return;
+            }
             if !put_end(rt, &mut self.putters[link]) {
                 return;
             }

@@ -15,5 +15,8 @@ mod limits;
 mod mark;
 mod sending;
 mod showing;
+mod slow;
 mod stepping;
+mod taking;
+mod waiting;
 mod worker;

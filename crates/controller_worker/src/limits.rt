@@ -5,6 +5,13 @@ pub const MAX_REFUSALS: u32 = 1_000;
 /// The time that gathers before it is passed on to the controller, in milliseconds.
 pub const TICK_MS: u64 = 100;
 
+/// So many frames of a link wait at most while its outbox is full.
+pub(crate) const MAX_WAITING: usize = 1_024;
+
+/// While an outbox is full and no link gives anything, the clock is asked at the latest after so
+/// many tries, a millisecond each.
+pub(crate) const TRIES_A_TURN: u32 = 300;
+
 /// The bells of the outboxes are rung at the latest after so many outputs, and steps that put
 /// nothing.
 pub(crate) const STEPS_A_RING: usize = 32;

@@ -1,51 +1,148 @@
 // SPDX-License-Identifier: MIT OR Apache-2.0
-//! The outputs of a step, into the outboxes of their links.
-ghost use Rattle.std.specs.Prelude.{◌≡◌, [], ◌∷◌};
-ghost use Rattle.controller_worker.specs.Advancing.{Sends, SendsAll};
+//! The outputs of a step, into the outboxes of their links. What a full outbox refuses waits in a
+//! list of its link, and what comes behind it too.
+ghost use Rattle.std.specs.Prelude.{◌≡◌, ◌<◌, ℕ, List, [], ◌∷◌, length, true, false};
+ghost use Rattle.controller_worker.specs.Advancing.{SendsAll, SendsSome};
 ghost use Rattle.controller_worker.specs.Links.{is_given_up as given_up};
+ghost use Rattle.ipa_framing.specs.declared.frame.Frame.{Frame};
+ghost use Rattle.ruled_relay.specs.declared.outbox.Line.TheVariants as marks;
 
-use crate::limits::MAX_REFUSALS;
+use crate::limits::{MAX_REFUSALS, MAX_WAITING};
+use crate::mark::Mark;
+use crate::waiting::Waiting;
 use conn_messages::Out;
 use ipa_framing::Frame;
 use link_workers::Pauses;
 use ruled_relay::{Full, Line, Putter};
 use std::sync::Wait;
 
-/// Puts each output into its link's outbox, in order. What goes to no link is dropped.
-pub(crate) fn send_all<R: Wait>(rt: &R, putters: &mut Vec<Putter>, outs: Vec<Out>)
-    ensures { SendsAll putters.old.items outs.items putters.new.items }
+/// Puts each output into its link's outbox, in order, or lets it wait. What goes to no link is
+/// dropped. Says whether one waits.
+pub(crate) fn send_all<R: Wait>(
+    rt: &R,
+    putters: &mut Vec<Putter>,
+    marks: &mut Vec<Mark>,
+    outs: Vec<Out>,
+) -> bool
+    requires { length marks.old.items ≡ length putters.old.items }
+    ensures { (tries : List ℕ) × SendsAll putters.old.items marks.old.items outs.items tries
+        putters.new.items marks.new.items }
 {
+    let mut is_slow = false;
     for out in outs {
-        send_to(rt, putters, out);
+        if send_to(rt, putters, marks, out) {
+            is_slow = true;
+        }
     }
+    is_slow
 }
 
-fn send_to<R: Wait>(rt: &R, putters: &mut Vec<Putter>, out: Out)
-    ensures { SendsAll putters.old.items (out ∷ []) putters.new.items }
+fn send_to<R: Wait>(rt: &R, putters: &mut Vec<Putter>, marks: &mut Vec<Mark>, out: Out) -> bool
+    requires { length marks.old.items ≡ length putters.old.items }
+    ensures { (tries : List ℕ) × SendsAll putters.old.items marks.old.items (out ∷ []) tries
+        putters.new.items marks.new.items }
 {
-    if let Some(putter) = putters.get_mut(usize::from(out.to)) {
-        send(rt, putter, out.frame);
+    let link = usize::from(out.to);
+    if link >= putters.len() {
+        return false;
     }
+    let putter = &mut putters[link];
+    let mark = &mut marks[link];
+    send(rt, putter, &mut mark.waiting, out.frame)
 }
 
-// A full outbox is tried again until it takes the frame or is given up, which it stays.
-fn send<R: Wait>(rt: &R, putter: &mut Putter, frame: Frame)
-    ensures { Sends putter.old (frame ∷ []) putter.new }
+/// Puts what waits for each outbox, until that refuses. Says whether a frame still waits.
+pub(crate) fn try_all<R: Wait>(rt: &R, putters: &mut Vec<Putter>, marks: &mut Vec<Mark>) -> bool
+    requires { length marks.old.items ≡ length putters.old.items }
+    ensures { (tries : List ℕ) × SendsAll putters.old.items marks.old.items [] tries
+        putters.new.items marks.new.items }
 {
-    let mut line = Line::Frame(frame);
+    let mut is_slow = false;
+    for link in 0..putters.len() {
+        if put_waiting(rt, &mut putters[link], &mut marks[link].waiting) {
+            is_slow = true;
+        }
+    }
+    is_slow
+}
+
+// One frame more for a link. Where its list is full it waits for room. Says whether one waits.
+fn send<R: Wait>(rt: &R, putter: &mut Putter, waiting: &mut Waiting, frame: Frame) -> bool
+    ensures { SendsSome putter.old waiting.old (frame ∷ []) putter.new waiting.new }
+{
+    make_room(rt, putter, waiting);
+    if is_given_up(putter) {
+        return false;
+    }
+    let is_first = waiting.is_empty();
+    waiting.push(frame);
+    if is_first {
+        try_first(rt, putter, waiting);
+    }
+    !waiting.is_empty()
+}
+
+// Waits until the list has room, or its outbox is given up.
+fn make_room<R: Wait>(rt: &R, putter: &mut Putter, waiting: &mut Waiting)
+    ensures sends { SendsSome putter.old waiting.old [] putter.new waiting.new }
+    ensures room { given_up putter.new ≡ false → length waiting.new < MAX_WAITING }
+{
     let mut pauses = Pauses::new();
     for _ in rt.forever() {
-        if is_given_up(putter) {
+        if is_given_up(putter) || !waiting.is_full() {
             return;
         }
-        match putter.put(rt, line) {
-            Ok(()) => return,
-            Err(Full(back)) => line = back,
+        if !try_first(rt, putter, waiting) {
+            putter.ring();
+            pauses.pause(rt);
         }
-        putter.ring();
-        pauses.pause(rt);
     }
     unreachable!()
+}
+
+// Until none waits or the outbox refuses. Says whether one waits.
+fn put_waiting<R: Wait>(rt: &R, putter: &mut Putter, waiting: &mut Waiting) -> bool
+    ensures { SendsSome putter.old waiting.old [] putter.new waiting.new }
+{
+    for _ in 0..MAX_WAITING {
+        if is_given_up(putter) || !try_first(rt, putter, waiting) {
+            break;
+        }
+    }
+    putter.ring();
+    !waiting.is_empty()
+}
+
+// Tries to put the first that waits, and says whether it was put. It stays the first where the
+// outbox refuses it; where that is given up now, none waits any more.
+fn try_first<R: Wait>(rt: &R, putter: &mut Putter, waiting: &mut Waiting) -> bool
+    requires { given_up putter.old ≡ false }
+    ensures { SendsSome putter.old waiting.old [] putter.new waiting.new }
+{
+    let Some(frame) = waiting.pop() else {
+        return false;
+    };
+    match putter.put(rt, Line::Frame(frame)) {
+        Ok(()) => true,
+        Err(Full(line)) => {
+            keep(putter, waiting, line);
+            false
+        }
+    }
+}
+
+// A refused frame is the first again; but none waits for an outbox that is given up.
+fn keep(putter: &Putter, waiting: &mut Waiting, line: Line)
+    requires { length waiting.old < MAX_WAITING }
+    ensures dropped { given_up putter.now ≡ true → waiting.new ≡ [] }
+    ensures kept { given_up putter.now ≡ false → (frame : Frame) → line ≡ marks.Frame frame
+        → waiting.new ≡ frame ∷ waiting.old }
+{
+    if is_given_up(putter) {
+        waiting.clear();
+    } else if let Line::Frame(frame) = line {
+        waiting.push_first(frame);
+    }
 }
 
 /// Whether an outbox gets no more frames.

@@ -1,7 +1,7 @@
 // SPDX-License-Identifier: MIT OR Apache-2.0
 //! Steps of the controller: an item that was taken, time that has gathered, or the `Down` of a link
 //! that was given up.
-ghost use Rattle.std.specs.Prelude.{◌≡◌, ◌+◌, ◌<◌, ◌^◌, ◌↔◌, [], min};
+ghost use Rattle.std.specs.Prelude.{◌≡◌, ℕ, ◌+◌, ◌<◌, ◌^◌, ◌↔◌, List, [], length, min};
 ghost use Rattle.std.specs.Prelude.{IsTrue, MatchOption};
 ghost use Rattle.std.specs.Prelude.{OnOk, OnErr, vec_len};
 ghost use Rattle.controller_worker.specs.Advancing.{DoesStep, Advances, GoesOrStops, IsPending};
@@ -15,6 +15,7 @@ use crate::clock::Clock;
 use crate::limits::{STEPS_A_RING, TICK_MS};
 use crate::mark::Mark;
 use crate::sending::{is_given_up, ring_all, send_all, tell_given_up};
+use crate::taking::next_item;
 use crate::worker::CallWorker;
 use conn_messages::Outputs;
 use controller_model::Step;
@@ -23,8 +24,8 @@ use ruled_relay::{Item, Putter, What};
 use std::sync::Wait;
 
 impl<K: Clock> CallWorker<K> {
-    /// Asks the clock, passes on what has gathered once that is a tick, and takes an item, if there
-    /// is one. Says whether there was.
+    /// Asks the clock, passes on what has gathered once that is a tick, tries the full outboxes
+    /// once a millisecond has passed, and takes an item, if there is one. Says whether there was.
     pub(crate) fn turn<R: Wait>(&mut self, rt: &R) -> Result<bool, Memory>
         requires stands { IsValid (seen K.told self.old) }
         requires settled { IsSettled (seen K.told self.old) }
@@ -35,6 +36,7 @@ impl<K: Clock> CallWorker<K> {
         ensures gathered { OnOk result (self.new.gathered < TICK_MS) }
     {
         self.pass_time(rt)?;
+        self.try_if_due(rt)?;
         self.take(rt)
     }
 
@@ -68,7 +70,10 @@ impl<K: Clock> CallWorker<K> {
         } }
         ensures gathered { self.new.gathered < TICK_MS + 2 ^ 32 }
     {
-        self.gathered += u64::from(self.clock.elapsed());
+        let ms = self.clock.elapsed();
+        self.gathered += u64::from(ms);
+        self.is_due = ms > 0 && !self.has_napped;
+        self.has_napped = false;
     }
 
     // Passes on as much of what has gathered as a tick can.
@@ -87,7 +92,8 @@ impl<K: Clock> CallWorker<K> {
         self.add_downs(rt)
     }
 
-    fn take<R: Wait>(&mut self, rt: &R) -> Result<bool, Memory>
+    /// Takes an item, if there is one, and says whether there was.
+    pub(crate) fn take<R: Wait>(&mut self, rt: &R) -> Result<bool, Memory>
         requires stands { IsValid (seen K.told self.old) }
         requires settled { IsSettled (seen K.told self.old) }
         ensures stands { IsValid (seen K.told self.new) }
@@ -95,9 +101,11 @@ impl<K: Clock> CallWorker<K> {
         ensures settled { OnOk result (IsSettled (seen K.told self.new)) }
         ensures gathered { self.new.gathered ≡ self.old.gathered }
     {
-        let Some(item) = self.desk.take(rt) else {
+        let marks = self.marks.as_slice();
+        let Some(item) = next_item(rt, &mut self.desk, marks, self.is_slow, self.turn) else {
             return Ok(false);
         };
+        self.turn = item.source.saturating_add(1);
         let source = usize::from(item.source);
         let is_down = is_down(&item.what);
         self.do_step(rt, Step::Take(item))?;
@@ -106,9 +114,9 @@ impl<K: Clock> CallWorker<K> {
         Ok(true)
     }
 
-    // Of each link whose outbox was given up and whose `Down` wasn't added yet, the `Down` is the
-    // next step. Its writer is told, so that it shuts the link once it has written what waits.
-    fn add_downs<R: Wait>(&mut self, rt: &R) -> Result<(), Memory>
+    /// Of each link whose outbox was given up and whose `Down` wasn't added yet, the `Down` is the
+    /// next step. Its writer is told, so that it shuts the link once it has written what waits.
+    pub(crate) fn add_downs<R: Wait>(&mut self, rt: &R) -> Result<(), Memory>
         requires stands { IsValid (seen K.told self.old) }
         ensures stands { IsValid (seen K.told self.new) }
         ensures goes { GoesOrStops result (seen K.told self.old) (seen K.told self.new) }
@@ -135,7 +143,7 @@ impl<K: Clock> CallWorker<K> {
     {
         for link in 0..self.desk.sources() {
             let putter = &self.putters[usize::from(link)];
-            let mark = self.marks[usize::from(link)];
+            let mark = &self.marks[usize::from(link)];
             if is_pending(putter, mark) {
                 return Some(link);
             }
@@ -181,12 +189,20 @@ impl<K: Clock> CallWorker<K> {
     }
 
     fn send<R: Wait>(&mut self, rt: &R, outputs: Outputs)
-        ensures sent { SendsAll self.old.putters.items outputs.outs self.new.putters.items }
-        ensures same { seen K.told self.new
-            ≡ record (seen K.told self.old) { putters = self.new.putters.items } }
+        requires { length self.old.marks.items ≡ length self.old.putters.items }
+        ensures sent { (tries : List ℕ) × SendsAll
+            self.old.putters.items self.old.marks.items outputs.outs tries
+            self.new.putters.items self.new.marks.items }
+        ensures same { seen K.told self.new ≡ record (seen K.told self.old) {
+          putters = self.new.putters.items;
+          marks = self.new.marks.items;
+        } }
     {
         let more = outputs.len();
-        send_all(rt, &mut self.putters, outputs.into_vec());
+        let outs = outputs.into_vec();
+        if send_all(rt, &mut self.putters, &mut self.marks, outs) {
+            self.is_slow = true;
+        }
         self.count(more);
     }
 
@@ -207,8 +223,8 @@ fn largest_tick(gathered: u64) -> u32
     gathered.min(u64::from(u32::MAX)) as u32
 }
 
-fn is_pending(putter: &Putter, mark: Mark) -> bool
-    ensures { result ≡ pends putter.now mark }
+fn is_pending(putter: &Putter, mark: &Mark) -> bool
+    ensures { result ≡ pends putter.now mark.now }
 {
     is_given_up(putter) && !mark.added
 }

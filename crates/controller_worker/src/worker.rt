@@ -24,4 +24,12 @@ pub(crate) struct CallWorker<K> {
     /// How many outputs were put since the bells were rung, and how many steps since then put
     /// nothing.
     pub(crate) unrung: usize,
+    /// Whether frames wait for a full outbox.
+    pub(crate) is_slow: bool,
+    /// Whether a millisecond has passed since the full outboxes were tried.
+    pub(crate) is_due: bool,
+    /// Whether they were tried since the clock was asked.
+    pub(crate) has_napped: bool,
+    /// The link behind the one that an item was taken of last.
+    pub(crate) turn: u16,
 }

@@ -207,6 +207,21 @@ impl Desk {
         Some(item)
     }
 
+    /// Takes the first item of this source alone, if it has one. A source that there isn't has none.
+    /// The next `take` begins after it.
+    pub fn take_of<R: Wait>(&mut self, rt: &R, source: u16) -> Option<Item>
+        ensures takes { MatchOption result (self.new ≡ self.old)
+            (λ item. (item.source ≡ source) × TakesItem self.old item self.new) }
+        ensures same { queues_of self.new ≡ queues_of self.old }
+    {
+        if source >= self.sources {
+            return None;
+        }
+        let item = take_among(rt, &mut self.ends, source, source + 1)?;
+        self.turn = source + 1;
+        Some(item)
+    }
+
     /// Waits until a pass rings, at most so long. It may end sooner.
     pub fn wait<R: Wait>(&self, rt: &R, longest: Duration) {
         self.bell.wait(rt, longest);

@@ -1,24 +1,21 @@
 -- SPDX-License-Identifier: MIT OR Apache-2.0
 -- What the call worker's moves are to one link: what of it is in their steps, and what is put for it.
-use Rattle.std.proofs.Common.{◌≡◌, ◌≢◌, ℕ, ◌<◌, ◌≤◌, Bool, true, false, List, [], ◌∷◌, ◌++◌, map, refl, sym, ap, ◌∙◌, subst, append-nil, append_assoc, arith}
+use Rattle.std.proofs.Common.{◌≡◌, ◌≢◌, ℕ, ◌<◌, ◌≤◌, Bool, true, false, List, [], ◌∷◌, ◌++◌, refl, sym, ap, ◌∙◌, subst, append-nil, append_assoc, arith}
 use Rattle.std.proofs.lemmas.Bool.{eq-eqb, ne_eqb}
 use Rattle.std.proofs.lemmas.List.{map-append}
 use Rattle.std.specs.List.{AllByRecursion}
-use Rattle.controller_worker.specs.Moves.{AreOther, IsRefused, IsSent, Move, Part, adds, frames_in, parts_of, step_of, steps_of, taken_in, taken_of, takes, ticks}
+use Rattle.controller_worker.specs.Moves.{AreOther, IsRefused, IsSent, Move, Part, adds, frames_in, moves_in, parts_of, refuses, steps_of, taken_in, taken_of, takes, ticks, turn_at}
 use Rattle.controller_worker.specs.Steps.{frames_to, items_of, over, whats_of}
 use Rattle.controller_worker.proofs.Histories.{frames_in_both, items_both, moves_of_parts, steps_both, taken_in_both, whats_both}
 use Rattle.controller_worker.proofs.Outputs.{frames_both}
 use Rattle.controller_model.specs.declared.step.Step.{Step}
 use Rattle.controller_model.specs.Controller.{Controller}
-use Rattle.controller_model.specs.Life as words
+use Rattle.conn_messages.specs.declared.out.Out.{Out}
 use Rattle.ipa_framing.specs.declared.frame.Frame.{Frame}
 use Rattle.ruled_relay.specs.declared.item.Item.{Item}
 use Rattle.ruled_relay.specs.declared.item.What.{What}
 use Rattle.ruled_relay.specs.declared.item.What.TheVariants as whats
 use Rattle.station_io.specs.Octets.{AreWithDown, came_in}
-
-abbrev moves_in : List Part → List Move
-moves_in parts = map (λ (p : Part). p.move) parts
 
 -- ---- what of a link is in the steps
 
@@ -37,6 +34,7 @@ is_taken link (takes item) moves other same =
     whats_both link (item ∷ []) (items_of (steps_of moves)) ∙ ap (λ (ws : List What). whats_of link (item ∷ []) ++ ws) same
     ∙ sym (whats_both link (item ∷ []) (taken_of moves))
 is_taken link (ticks ms) moves other same = same
+is_taken link (refuses at) moves other same = same
 is_taken link (adds at) moves other same =
     whats_others link (record { source = at; what = whats.Down }) (items_of (steps_of moves)) (λ e. other (ap (λ (n : ℕ). adds n) e)) ∙ same
 
@@ -86,26 +84,32 @@ came_is added link start moves sent is =
 
 -- ---- what is put for a link
 
+outs_of_turn : (start : Controller) (move : Move) (moves : List Move)
+    → (turn_at start move).outs ++ (over (turn_at start move).next (steps_of moves)).outs ≡ (over start (steps_of (move ∷ moves))).outs
+outs_of_turn start (takes item) moves = refl
+outs_of_turn start (ticks ms) moves = refl
+outs_of_turn start (adds link) moves = refl
+outs_of_turn start (refuses link) moves = refl
+
 pub frames_are_put : (link : ℕ) (start : Controller) (moves : List Move) → frames_in (parts_of link start moves) ≡ frames_to link (over start (steps_of moves)).outs
 frames_are_put link start [] = refl
 frames_are_put link start (move ∷ moves) =
-    let turn = words.step start (step_of move) in
+    let turn = turn_at start move in
     ap (λ (fs : List Frame). frames_to link turn.outs ++ fs) (frames_are_put link turn.next moves)
-    ∙ sym (frames_both link turn.outs (over turn.next (steps_of moves)).outs)
+    ∙ sym (frames_both link turn.outs (over turn.next (steps_of moves)).outs) ∙ ap (λ (os : List Out). frames_to link os) (outs_of_turn start move moves)
 
-refused_begins : (parts : List Part) (sent : List Frame) → IsRefused parts sent → (more : List Frame) × (frames_in parts ≡ sent ++ more)
-refused_begins parts sent r =
-    let more : List Frame = r.refused ∷ r.rest ++ frames_in r.downs in (
-      more,
-      ap (λ (ps : List Part). frames_in ps) r.whole ∙ frames_in_both r.earlier (r.last ∷ r.downs)
-          ∙ ap (λ (fs : List Frame). frames_in r.earlier ++ fs) (ap (λ (fs : List Frame). fs ++ frames_in r.downs) r.frames ∙ append_assoc r.first (r.refused ∷ r.rest) (frames_in r.downs))
-          ∙ sym (append_assoc (frames_in r.earlier) r.first more) ∙ ap (λ (fs : List Frame). fs ++ more) (sym r.before),
+refused_begins : (link : ℕ) (parts : List Part) (sent : List Frame) → IsRefused link parts sent → (more : List Frame) × (frames_in parts ≡ sent ++ more)
+refused_begins link parts sent r =
+    let behind : List Frame = frames_in (r.last ∷ r.others) in (
+      r.refused ∷ r.rest ++ behind,
+      ap (λ (ps : List Part). frames_in ps) r.whole ∙ frames_in_both r.earlier (r.last ∷ r.others) ∙ ap (λ (fs : List Frame). fs ++ behind) r.frames
+          ∙ append_assoc sent (r.refused ∷ r.rest) behind,
     )
 
 sent_begins : (given_up : Bool) (link : ℕ) (parts : List Part) (sent : List Frame) → IsSent given_up given_up link parts sent → (more : List Frame) × (frames_in parts ≡ sent ++ more)
 sent_begins false link parts sent is = ([], sym is.0 ∙ sym (append-nil sent))
 sent_begins true link parts sent is =
-    let first = refused_begins is.0 sent is.4 in
+    let first = refused_begins link is.0 sent is.4 in
     let behind : List Frame = frames_in (is.1 ∷ is.2) in (
       first.0 ++ behind,
       ap (λ (ps : List Part). frames_in ps) is.3 ∙ frames_in_both is.0 (is.1 ∷ is.2) ∙ ap (λ (fs : List Frame). fs ++ behind) first.1 ∙ append_assoc sent first.0 behind,

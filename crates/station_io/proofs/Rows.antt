@@ -1,12 +1,12 @@
 -- SPDX-License-Identifier: MIT OR Apache-2.0
 -- The definitions at literal links. Devices and gates are their octets and their counts here.
-use Rattle.std.proofs.Common.{◌≡◌, ℕ, zero, suc, ◌+◌, Bool, true, false, List, [], ◌∷◌, ◌++◌, length, Option, Some, None, refl, sym, ap, ◌∙◌, subst, arith, length-append}
+use Rattle.std.proofs.Common.{◌≡◌, ℕ, zero, suc, ◌+◌, Bool, true, false, List, [], ◌∷◌, ◌++◌, length, replicate, ◌≤◌, Option, Some, None, refl, sym, ap, ◌∙◌, subst, append_assoc, arith, length-append}
 use Rattle.octets.proofs.Hex.{hex}
 use mathlib.Core.Option.{some, some-injective, some-ne-none}
 use lib.ListN.{get_elem?}
 use Rattle.std.specs.declared.alloc.Global.{Global}
 use Rattle.atomic_table.specs.Seated.{TableId}
-use Rattle.controller_worker.specs.Moves.{AreOther, IsSent, Move, Part, takes, ticks, adds, frames_in, parts_of, taken_of}
+use Rattle.controller_worker.specs.Moves.{AreOther, IsRefused, IsSent, Move, Part, takes, ticks, adds, refuses, frames_in, parts_of, refusals_in, taken_of, turn_at}
 use Rattle.controller_worker.specs.Steps.{AreOfLinks, whats_of}
 use Rattle.controller_model.specs.declared.step.Step.{Step}
 use Rattle.controller_model.specs.declared.step.Step.TheVariants.{Take, Tick}
@@ -195,33 +195,68 @@ switch_closes = record {
   writes = (tt, refl);
 }
 
--- its outbox refused the answer until it was given up, and the `Down` that was added is the next
--- move; its own waited behind
-refused_at_once : IsSent true true 1 (parts_of 1 start (takes ping_item ∷ adds 1 ∷ takes (down_item 1) ∷ [])) []
+-- its outbox refuses the answer, so often and once more
+abbrev refusal : Part
+refusal = record { move = refuses 1; frames = [] }
+
+abbrev refused_moves : ℕ → List Move
+refused_moves n = replicate n (refuses 1) ++ refuses 1 ∷ adds 1 ∷ takes (down_item 1) ∷ []
+
+abbrev refused_parts : ℕ → List Part
+refused_parts n = record { move = takes ping_item; frames = pong ∷ [] } ∷ (replicate n refusal ++ refusal ∷ [])
+
+parts_again : (n : ℕ) (c : Controller) (moves : List Move) → parts_of 1 c (replicate n (refuses 1) ++ moves) ≡ replicate n refusal ++ parts_of 1 c moves
+parts_again zero c moves = refl
+parts_again (suc n) c moves = ap (λ (ps : List Part). refusal ∷ ps) (parts_again n c moves)
+
+taken_again : (n : ℕ) (moves : List Move) → taken_of (replicate n (refuses 1) ++ moves) ≡ taken_of moves
+taken_again zero moves = refl
+taken_again (suc n) moves = taken_again n moves
+
+refused_again : (n : ℕ) (parts : List Part) → refusals_in 1 (replicate n refusal ++ parts) ≡ n + refusals_in 1 parts
+refused_again zero parts = omega arith
+refused_again (suc n) parts =
+    let one : refusals_in 1 (replicate (suc n) refusal ++ parts) ≡ suc (refusals_in 1 (replicate n refusal ++ parts)) = refl in
+    let h = refused_again n parts in omega arith
+
+refusal_not_added : (at number : ℕ) → refuses at ≡ adds number → ⊥
+refusal_not_added at number e = cc
+
+none_added_again : (n : ℕ) (parts : List Part) → AreOther 1 parts → AreOther 1 (replicate n refusal ++ parts)
+none_added_again zero parts other = other
+none_added_again (suc n) parts other = (refusal_not_added 1 1, none_added_again n parts other)
+
+is_refused : (n : ℕ) → 1000 ≤ n + 1 → IsRefused 1 (refused_parts n) []
+is_refused n often = record {
+  earlier = record { move = takes ping_item; frames = pong ∷ [] } ∷ replicate n refusal;
+  last = refusal;
+  others = [];
+  whole = refl;
+  refusal = refl;
+  elsewhere = tt;
+  often = let c = refused_again n (refusal ∷ []) in omega arith;
+  refused = pong;
+  rest = frames_in (replicate n refusal);
+  frames = refl;
+}
+
+-- the outbox was given up, and the `Down` that was added is the next move; its own waited behind
+is_sent : (n : ℕ) → 1000 ≤ n + 1 → IsSent true true 1 (parts_of 1 start (takes ping_item ∷ refused_moves n)) []
 unfolding on_literals
-refused_at_once = (
-  record { move = takes ping_item; frames = pong ∷ [] } ∷ [],
+is_sent n often = (
+  refused_parts n,
   record { move = adds 1; frames = [] },
   record { move = takes (down_item 1); frames = [] } ∷ [],
+  ap (λ (ps : List Part). record { move = takes ping_item; frames = pong ∷ [] } ∷ ps)
+      (parts_again n (turn_at start (takes ping_item)).next (refuses 1 ∷ adds 1 ∷ takes (down_item 1) ∷ [])
+      ∙ sym (append_assoc (replicate n refusal) (refusal ∷ []) (record { move = adds 1; frames = [] } ∷ record { move = takes (down_item 1); frames = [] } ∷ []))),
+  is_refused n often,
   refl,
-  record {
-    earlier = [];
-    last = record { move = takes ping_item; frames = pong ∷ [] };
-    downs = [];
-    whole = refl;
-    added = tt;
-    first = [];
-    refused = pong;
-    rest = [];
-    frames = refl;
-    before = refl;
-  },
-  refl,
-  (taken_not_added ping_item 1, tt),
+  (taken_not_added ping_item 1, none_added_again n (refusal ∷ []) (refusal_not_added 1 1, tt)),
   (taken_not_added (down_item 1) 1, tt),
 )
 
-given_up_at_once : HasCarried start (takes ping_item ∷ adds 1 ∷ takes (down_item 1) ∷ []) 1 1 (link ping_octets [] 0) (link [] [] 0) (Some GivenUp)
+given_up_at_once : HasCarried start (takes ping_item ∷ refused_moves 999) 1 1 (link ping_octets [] 0) (link [] [] 0) (Some GivenUp)
 given_up_at_once = record {
   reading = None;
   writing = None;
@@ -234,9 +269,9 @@ given_up_at_once = record {
   parts = record { whole = refl; each = (omega arith, tt) };
   ends = (tt, refl);
   asks = refl;
-  items = refl;
+  items = ap (λ (items : List Item). whats_of 1 (ping_item ∷ items)) (taken_again 999 (refuses 1 ∷ adds 1 ∷ takes (down_item 1) ∷ []));
   sent = [];
-  which = refused_at_once;
+  which = is_sent 999 (omega arith);
   writes = (tt, refl);
 }
 

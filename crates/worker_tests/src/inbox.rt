@@ -84,6 +84,24 @@ fn refuses_take_never_gives_and_put_is_always_full(rt: HostRuntime) -> Result<()
     Ok(())
 }
 
+/// Two items of source 0 and one of source 1; there is no source 2.
+#[test]
+fn a_source_alone_is_asked_and_then_the_next(rt: HostRuntime) -> Result<(), Fail> {
+    let alloc = rt.alloc();
+    let (mut desk, mut passes) = Inbox::new(alloc, 2, 2)?;
+    let (one, two, three) = items(alloc)?;
+    assert!(rt; put_at(&rt, &mut passes, 0, one).is_ok());
+    assert!(rt; put_at(&rt, &mut passes, 0, two).is_ok());
+    assert!(rt; put_at(&rt, &mut passes, 1, three).is_ok());
+    assert!(rt; desk.take_of(&rt, 2).is_none());
+    assert!(rt; is_item(desk.take_of(&rt, 1), 1, 3));
+    assert!(rt; desk.take_of(&rt, 1).is_none());
+    assert!(rt; is_item(desk.take_of(&rt, 0), 0, 1));
+    assert!(rt; desk.take_of(&rt, 1).is_none());
+    assert!(rt; is_item(desk.take(&rt), 0, 2));
+    Ok(())
+}
+
 #[test]
 fn two_sources_take_turns(rt: HostRuntime) -> Result<(), Fail> {
     let alloc = rt.alloc();

@@ -220,40 +220,35 @@ struct Full<'a> {
     ms: u32,
     /// What its outbox has room for.
     gets: &'a [Text<'a>],
-    /// How many of its items are ignored, since they wait behind the `Down` that is added.
-    ignored: u64,
 }
 
-/// Its own `Down` waits behind, and what was put before that. In the last row two frames are for it
-/// in one step, and the second isn't tried any more.
+/// What it gives is taken while its outbox is tried again, and so is its own `Down`: the one that
+/// is added behind it is ignored. In the last row two frames are for it in one step, and the second
+/// isn't tried any more.
 const FULL: [Full<'_>; 4] = [
     Full {
         is_switch: false,
         gives: &[CHANNEL_REQUIRED, ACTIVATION_ACK],
         ms: 0,
         gets: &[ACTIVATION],
-        ignored: 1,
     },
     Full {
         is_switch: false,
         gives: &[CHANNEL_REQUIRED, ACTIVATION_ACK, CHANNEL_REQUIRED],
         ms: 0,
         gets: &[ACTIVATION],
-        ignored: 2,
     },
     Full {
         is_switch: true,
         gives: &[PING, PING, PING],
         ms: 0,
         gets: &[PONG],
-        ignored: 2,
     },
     Full {
         is_switch: false,
         gives: &[CHANNEL_REQUIRED, CHANNEL_REQUIRED],
         ms: 3000,
         gets: &[ACTIVATION, SECOND_ACTIVATION],
-        ignored: 1,
     },
 ];
 
@@ -301,10 +296,7 @@ where
     } else {
         (0, 1_000)
     };
-    ended.fault.is_none()
-        && ended.ignored == row.ignored
-        && ended.refusals == refusals
-        && others.join(&rt)
+    ended.fault.is_none() && ended.ignored == 1 && ended.refusals == refusals && others.join(&rt)
 }
 
 #[test]

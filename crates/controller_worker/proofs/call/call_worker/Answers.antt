@@ -34,5 +34,5 @@ returns-clause-runs g c =
       | in-Err w ↦
           same_run g.K.Clock.told start c.match-relay.fault (Some faults.Memory) c.match-relay.worker w.end_alone.new.self w.fault-is w.worker-is
           (runs_part faults.Memory start (seen g.K.Clock.told c.relay.new.self) (seen g.K.Clock.told w.end_alone.new.self) (vec_len c.args.putters) c.requires.new c.requires.marks refl refl w.in-Err.ensures.goes
-          w.end_alone.ensures.ends (let e = w.end_alone.ensures.ended in omega (arith, w.end_alone.new.self.putters.ok.0)))
+          w.end_alone.ensures.goes (let e = w.end_alone.ensures.ended in omega (arith, w.end_alone.new.self.putters.ok.0)))
     ]

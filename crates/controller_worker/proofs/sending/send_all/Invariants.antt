@@ -1,11 +1,12 @@
 -- SPDX-License-Identifier: MIT OR Apache-2.0
-use Rattle.std.proofs.Common.{◌≡◌, List, ◌++◌}
+use Rattle.std.proofs.Common.{◌≡◌, length, List, ◌++◌}
 use Rattle.std.specs.Vec.Iter.{into_iter_items}
-use Rattle.controller_worker.specs.Advancing.{SendsAll}
+use Rattle.controller_worker.proofs.Outputs.{SomeAll}
 use Rattle.controller_worker.proofs.sending.send_all.Given as goal
 use Rattle.conn_messages.specs.declared.out.Out.{Out}
 
 abbrev pub invariant-loop-out : goal.invariant-loop-out
 invariant-loop-out g l =
     (goal.iterator-loop-out g).can_next l.out-iterator × (goal.iterator-loop-out g).is_finite l.out-iterator
-    × ((done : List Out) × (done ++ into_iter_items l.out-iterator ≡ l.fn.outs.items) × SendsAll l.fn.putters.items done l.putters.items)
+    × (length l.marks.items ≡ length l.putters.items)
+    × ((done : List Out) × (done ++ into_iter_items l.out-iterator ≡ l.fn.outs.items) × SomeAll l.fn.putters.items l.fn.marks.items done l.putters.items l.marks.items)

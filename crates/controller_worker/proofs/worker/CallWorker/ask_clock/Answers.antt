@@ -5,5 +5,5 @@ use Rattle.controller_worker.proofs.worker.CallWorker.ask_clock.Goals as goal
 
 pub returns-clause-goes : goal.returns-clause-goes
 returns-clause-goes g c =
-    let e = c.elapsed.ensures in
+    let e = c.elapsed-ms.ensures in
     goes_still [] _ _ refl refl refl (λ link. refl) (taken_none c.args.self.now.desk) (let f = c.from.ensures in omega arith)

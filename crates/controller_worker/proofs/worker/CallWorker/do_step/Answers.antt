@@ -1,5 +1,5 @@
 -- SPDX-License-Identifier: MIT OR Apache-2.0
-use Rattle.std.proofs.Common.{◌∙◌, refl, sym, ap, subst}
+use Rattle.std.proofs.Common.{◌∙◌, refl, sym, ap, subst, length}
 use Rattle.controller_worker.specs.Advancing.{DoesStep, SendsAll, State}
 use Rattle.controller_worker.specs.Seen.{seen}
 use Rattle.controller_worker.proofs.Turns.{does_nothing, does_sent, stands_on}
@@ -8,10 +8,15 @@ use Rattle.controller_worker.proofs.worker.CallWorker.do_step.Goals as goal
 pub returns-else-is_empty-clause-ok : goal.returns-else-is_empty-clause-ok
 returns-else-is_empty-clause-ok g c =
     let kept = c.in_ok-step_shown.ensures.kept in
-    does_sent c.args.step (seen g.K.Clock.told c.args.self.now) (seen g.K.Clock.told c.send.new.self) c.step_shown.new.self.controller c.new-outputs.result.outs c.step_shown.new.outputs.outs c.requires
-    (ap (λ o. o.outs) c.new-outputs.ensures) c.in_ok-step_shown.ensures.ok.0 c.in_ok-step_shown.ensures.ok.1
-    (subst (λ ps. SendsAll ps c.step_shown.new.outputs.outs c.send.new.self.putters.items) (ap (λ (s : State). s.putters) kept) c.send.ensures.sent)
-    (c.send.ensures.same ∙ ap (λ (s : State). record s { putters = c.send.new.self.putters.items }) kept)
+    does_sent c.args.step (seen g.K.Clock.told c.args.self.now) (seen g.K.Clock.told c.send.new.self) c.step_shown.new.self.controller c.new-outputs.result.outs c.step_shown.new.outputs.outs
+    c.send.ensures.sent.0 c.requires (ap (λ o. o.outs) c.new-outputs.ensures) c.in_ok-step_shown.ensures.ok.0 c.in_ok-step_shown.ensures.ok.1
+    (subst (λ (s : State). SendsAll s.putters s.marks c.step_shown.new.outputs.outs c.send.ensures.sent.0 c.send.new.self.putters.items c.send.new.self.marks.items) kept c.send.ensures.sent.1)
+    (c.send.ensures.same ∙ ap (λ (s : State). record s { putters = c.send.new.self.putters.items; marks = c.send.new.self.marks.items }) kept)
+
+pub send-requires : goal.send-requires
+send-requires g c =
+    let kept = c.in_ok-step_shown.ensures.kept in
+    ap (λ (s : State). length s.marks) kept ∙ c.requires.marks ∙ sym (ap (λ (s : State). length s.putters) kept)
 
 pub returns-else-is_empty-clause-stands : goal.returns-else-is_empty-clause-stands
 returns-else-is_empty-clause-stands g c =

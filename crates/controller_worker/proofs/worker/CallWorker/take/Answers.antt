@@ -16,22 +16,22 @@ pub returns-in_err-do_step-clause-goes : goal.returns-in_err-do_step-clause-goes
 returns-in_err-do_step-clause-goes g c =
     by_err c.from_residual.result (seen g.K.Clock.told c.args.self.now) (seen g.K.Clock.told c.do_step.new.self) c.from_residual.ensures.0
     (subst (λ y. AdvancesPartly (seen g.K.Clock.told c.args.self.now) y) (sym c.in_err-do_step.ensures.err)
-    (goes_lost (seen g.K.Clock.told c.args.self.now) c.take.new.self c.in-Some.item c.in-Some.ensures.same c.in-Some.ensures.takes))
+    (goes_lost (seen g.K.Clock.told c.args.self.now) c.next_item.new.desk c.in-Some.item c.in-Some.ensures.same c.in-Some.ensures.takes))
 
 pub note-requires : goal.note-requires
 note-requires g c =
-    let room = room_for (seen g.K.Clock.told c.args.self.now) c.take.new.self (seen g.K.Clock.told c.do_step.new.self) c.in-Some.item c.in-Some.ensures.takes c.in_ok-do_step.ensures.ok c.requires.stands in
+    let room = room_for (seen g.K.Clock.told c.args.self.now) c.next_item.new.desk (seen g.K.Clock.told c.do_step.new.self) c.in-Some.item c.in-Some.ensures.takes c.in_ok-do_step.ensures.ok c.requires.stands in
     let e = c.from-source.ensures in omega (arith, c.do_step.new.self.marks.ok.0)
 
 pub returns-in_err-add_downs-clause-goes : goal.returns-in_err-add_downs-clause-goes
 returns-in_err-add_downs-clause-goes g c =
     by_err c.from_residual-in_err-add_downs.result (seen g.K.Clock.told c.args.self.now) (seen g.K.Clock.told c.add_downs.new.self) c.from_residual-in_err-add_downs.ensures.0
     (goes_both_part (seen g.K.Clock.told c.args.self.now) _ (seen g.K.Clock.told c.add_downs.new.self)
-    (code_taken (seen g.K.Clock.told c.args.self.now) c.take.new.self (seen g.K.Clock.told c.do_step.new.self) c.in-Some.item c.is_down-is_down.result c.from-source.result c.note.new.marks.items c.requires.settled
+    (code_taken (seen g.K.Clock.told c.args.self.now) c.next_item.new.desk (seen g.K.Clock.told c.do_step.new.self) c.in-Some.item c.is_down-is_down.result c.from-source.result c.note.new.marks.items c.requires.settled
     c.in-Some.ensures.same c.in-Some.ensures.takes c.in_ok-do_step.ensures.ok c.is_down-is_down.ensures.0 c.requires.stands c.from-source.ensures c.note.ensures) c.in_err-add_downs.ensures.goes)
 
 pub returns-clause-goes : goal.returns-clause-goes
 returns-clause-goes g c =
     goes_both [] (seen g.K.Clock.told c.args.self.now) _ (seen g.K.Clock.told c.add_downs.new.self)
-    (code_taken (seen g.K.Clock.told c.args.self.now) c.take.new.self (seen g.K.Clock.told c.do_step.new.self) c.in-Some.item c.is_down-is_down.result c.from-source.result c.note.new.marks.items c.requires.settled
+    (code_taken (seen g.K.Clock.told c.args.self.now) c.next_item.new.desk (seen g.K.Clock.told c.do_step.new.self) c.in-Some.item c.is_down-is_down.result c.from-source.result c.note.new.marks.items c.requires.settled
     c.in-Some.ensures.same c.in-Some.ensures.takes c.in_ok-do_step.ensures.ok c.is_down-is_down.ensures.0 c.requires.stands c.from-source.ensures c.note.ensures) c.in_ok-add_downs.ensures.goes

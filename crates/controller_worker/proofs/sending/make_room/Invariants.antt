@@ -1,0 +1,8 @@
+-- SPDX-License-Identifier: MIT OR Apache-2.0
+use Rattle.std.proofs.Common.{[]}
+use Rattle.controller_worker.specs.Advancing.{SendsSome}
+use Rattle.controller_worker.proofs.sending.make_room.Given as goal
+
+abbrev pub invariant-loop : goal.invariant-loop
+invariant-loop g l =
+    (goal.iterator-loop g).can_next l.iterator' × (goal.iterator-loop g).is_finite l.iterator' × SendsSome l.fn.putter l.fn.waiting [] l.putter l.waiting
