@@ -1,6 +1,6 @@
 -- SPDX-License-Identifier: MIT OR Apache-2.0
 -- What is written of a trace so far, and how a frame and an event carry it on.
-use Rattle.std.proofs.Common.{◌≡◌, ◌≢◌, ℕ, zero, suc, ◌+◌, ◌<◌, ◌≤◌, ◌==◌, Bool, true, false, if◌then◌else◌, cond, List, [], ◌∷◌, ◌++◌}
+use Rattle.std.proofs.Common.{◌≡◌, ◌≢◌, ℕ, zero, suc, ◌+◌, ◌<◌, ◌≤◌, ◌==◌, Bool, true, false, if◌then◌else◌, List, [], ◌∷◌, ◌++◌}
 use Rattle.std.proofs.Common.{get_or, length, take, drop, Option, Some, None, refl, sym, ap, subst, ◌∙◌, append_assoc, append-nil, arith}
 use Rattle.std.proofs.Common.{eq-eqb}
 use Rattle.std.proofs.lemmas.Bool.{eqb-true}
@@ -24,8 +24,16 @@ use Rattle.world_trace.specs.Fates.{fate_at}
 use Rattle.world_trace.specs.Makings.{made_at}
 use Rattle.world_trace.specs.Notes.{notes_at}
 use Rattle.std.specs.Prelude.{codes, decimal}
-use Rattle.trace_program.specs.TraceLines.{crossing_line, ends_text, event_lines, frame_text, note_line}
+use Rattle.trace_program.specs.TraceLines.{connection_of, crossing_line, ends_text, event_line, event_lines, frame_text, note_line, note_text}
 use Rattle.trace_program.specs.Traced.{behind_line, counted, line_of, tally_of, trace_text}
+
+-- four pieces, one behind the other
+pub four_written : (one two three four : List ℕ) (before first second third behind : Option (List ℕ)) → Appends before first one
+    → Appends first second two → Appends second third three → Appends third behind four
+    → Appends before behind (one ++ two ++ three ++ four)
+four_written one two three four before first second third behind begins goes_on further ends =
+    Appends-trans before third behind (one ++ two ++ three) four
+    (Appends-trans before second third (one ++ two) three (Appends-trans before first second one two begins goes_on) further) ends
 
 -- ---- the frames of an event
 
@@ -44,12 +52,13 @@ pub crossings_all : (m number next : ℕ) (fate : Option Fate) (xs : List Crossi
 crossings_all m number next fate xs old new some all = subst (λ (ys : List Crossing). Appends old new (flat_map (crossing_line m number fate) ys))
     (take_all next xs all) some
 
-pub notes_more : (number next : ℕ) (xs : List Note) (x : Note) (old mid new : Option (List ℕ))
-    → Appends old mid (flat_map (note_line number) (take next xs)) → next < length xs → x ≡ get_or xs next x
-    → Appends mid new (note_line number x) → Appends old new (flat_map (note_line number) (take (next + 1) xs))
-notes_more number next xs x old mid new some less is line =
+pub notes_more : (number next : ℕ) (xs : List Note) (spare : Note) (old mid new : Option (List ℕ))
+    → Appends old mid (flat_map (note_line number) (take next xs)) → next < length xs
+    → Appends mid new (note_line number (get_or xs next spare)) → Appends old new (flat_map (note_line number) (take (next + 1) xs))
+notes_more number next xs spare old mid new some less line =
     let front : List Note = take next xs in
-    let longer : front ++ x ∷ [] ≡ take (next + 1) xs = ap (λ (y : Note). front ++ y ∷ []) is ∙ sym (take_more xs next x less) in
+    let x : Note = get_or xs next spare in
+    let longer : front ++ x ∷ [] ≡ take (next + 1) xs = sym (take_more xs next spare less) in
     subst (Appends old new) (flat_map_more (note_line number) [] front x ∙ ap (flat_map (note_line number)) longer)
     (Appends-trans old mid new (flat_map (note_line number) front) (note_line number x) some line)
 
@@ -65,6 +74,36 @@ pub line_written : (m number : ℕ) (fate : Option Fate) (crossing : Crossing) (
 line_written m number fate crossing old one two new first ends frame =
     Appends-trans old two new (decimal number ++ codes "\t" ++ ends_text crossing.from crossing.to) (frame_text m fate crossing)
     (Appends-trans old one two (decimal number ++ codes "\t") (ends_text crossing.from crossing.to) first ends) frame
+
+-- the line of what became of a connection, from its two parts
+pub note_written : (number connection : ℕ) (note : Note) (old mid new : Option (List ℕ))
+    → Appends old mid (decimal number ++ (codes "\tbsc\tbsc\tconn " ++ (decimal connection ++ codes "\t"))) → connection ≡ connection_of note
+    → Appends mid new (note_text note ++ codes "\t\n") → Appends old new (note_line number note)
+note_written number connection note old mid new head is text =
+    let front : List ℕ = decimal number ++ codes "\tbsc\tbsc\tconn " in
+    let named : List ℕ = front ++ decimal (connection_of note) ++ codes "\t" in
+    let same : decimal number ++ (codes "\tbsc\tbsc\tconn " ++ (decimal connection ++ codes "\t")) ≡ named =
+    sym (append_assoc (decimal number) (codes "\tbsc\tbsc\tconn ") (decimal connection ++ codes "\t"))
+    ∙ sym (append_assoc front (decimal connection) (codes "\t"))
+    ∙ ap (λ (n : ℕ). front ++ decimal n ++ codes "\t") is in
+    subst (Appends old new) (sym (append_assoc named (note_text note) (codes "\t\n")))
+    (Appends-trans old mid new named (note_text note ++ codes "\t\n") (subst (Appends old mid) same head) text)
+
+-- the lines of an event, from its four parts
+pub event_written : (m number : ℕ) (line : List ℕ) (why : Option Cause) (fate : Option Fate) (frames made : List Crossing) (notes : List Note)
+    (frames_read made_read : List Crossing) (notes_read : List Note) (before first second third behind : Option (List ℕ))
+    → frames_read ≡ frames → made_read ≡ made → notes_read ≡ notes → Appends before first (event_line number line why)
+    → Appends first second (flat_map (crossing_line m number fate) frames_read)
+    → Appends second third (flat_map (crossing_line m number None) made_read)
+    → Appends third behind (flat_map (note_line number) notes_read)
+    → Appends before behind (event_lines m number line why fate frames made notes)
+event_written m number line why fate frames made notes frames_read made_read notes_read before first second third behind crossed making noted
+    event some more rest =
+    four_written (event_line number line why) (flat_map (crossing_line m number fate) frames) (flat_map (crossing_line m number None) made)
+    (flat_map (note_line number) notes) before first second third behind event
+    (subst (λ (xs : List Crossing). Appends first second (flat_map (crossing_line m number fate) xs)) crossed some)
+    (subst (λ (xs : List Crossing). Appends second third (flat_map (crossing_line m number None) xs)) making more)
+    (subst (λ (xs : List Note). Appends third behind (flat_map (note_line number) xs)) noted rest)
 
 -- ---- a line
 

@@ -1,5 +1,7 @@
 -- SPDX-License-Identifier: MIT OR Apache-2.0
 use Rattle.std.proofs.KnownBytes.{Appends-nil}
+use Rattle.world_trace.specs.declared.note.Note.TheVariants.{Expired}
+use Rattle.world_trace.specs.declared.note.Timer.TheVariants.{T3101}
 use Rattle.trace_program.proofs.Tracing.{notes_all, notes_more}
 use Rattle.trace_program.proofs.notes.write_notes.Goals as goal
 
@@ -8,10 +10,9 @@ loop-note-init g c = Appends-nil (g.W.Write.contents c.args.output.now)
 
 pub loop-note-preserved : goal.loop-note-preserved
 loop-note-preserved g c =
-    notes_more c.args.number c.loop-note.note-index c.args.notes.now c.note-item.result
-    (g.W.Write.contents c.args.output.now) (g.W.Write.contents c.loop-note.output) (g.W.Write.contents c.write_note.new.output)
-    c.loop-note.invariant
-    c.loop-note-test.true c.note-item.is c.in_ok-write_note.ensures.text
+    notes_more c.args.number c.loop-note.note-index c.args.notes.now (Expired 0 T3101) (g.W.Write.contents c.args.output.now)
+    (g.W.Write.contents c.loop-note.output) (g.W.Write.contents c.write_note.new.output) c.loop-note.invariant c.loop-note-test.true
+    c.in_ok-write_note.ensures.text
 
 pub returns-clause-text : goal.returns-clause-text
 returns-clause-text g c =
