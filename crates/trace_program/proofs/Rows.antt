@@ -1,8 +1,8 @@
 -- SPDX-License-Identifier: MIT OR Apache-2.0
 -- Lines of a trace against literal frames and events.
-use Rattle.std.proofs.Common.{◌≡◌, ℕ, List, [], ◌∷◌, ◌++◌, Option, Some, None, refl}
+use Rattle.std.proofs.Common.{◌≡◌, ℕ, List, ◌++◌, Option, Some, None, refl}
 use Rattle.std.specs.Fmt.{digits}
-use Rattle.std.specs.Prelude.{codes, decimal}
+use Rattle.std.specs.Prelude.{codes}
 use Rattle.octets.proofs.Hex.{hex}
 use Rattle.hex.proofs.OnLiterals.{hex_on_literals}
 use Rattle.world_model.proofs.Worlds.{on_literals}
@@ -70,7 +70,8 @@ made : crossing_line 4 1 None (record {
 unfolding digits hex_on_literals on_literals
 made = refl
 
-fates : fate_text (Some Duplicate) ++ fate_text (Some Gap) ++ fate_text (Some Unnumbered) ++ fate_text None ≡ codes " duplicate gap unnumbered"
+fates : fate_text (Some Duplicate) ++ fate_text (Some Gap) ++ fate_text (Some Unnumbered) ++ fate_text None
+    ≡ codes " duplicate gap unnumbered"
 fates = refl
 
 -- ---- what became of a connection
@@ -79,7 +80,8 @@ changed : note_line 29 (Changed 1 phases.Active phases.Preparing) ≡ codes "29\
 unfolding digits
 changed = refl
 
-begun_and_over : note_text (Changed 1 phases.Absent phases.WaitActivation) ++ codes ", " ++ note_text (Changed 1 phases.Closed phases.Absent)
+begun_and_over : note_text (Changed 1 phases.Absent phases.WaitActivation) ++ codes ", "
+    ++ note_text (Changed 1 phases.Closed phases.Absent)
     ≡ codes "none to WaitActivation, Closed to none"
 begun_and_over = refl
 

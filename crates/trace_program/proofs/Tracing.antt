@@ -24,7 +24,8 @@ use Rattle.world_trace.specs.Fates.{fate_at}
 use Rattle.world_trace.specs.Makings.{made_at}
 use Rattle.world_trace.specs.Notes.{notes_at}
 use Rattle.std.specs.Prelude.{codes, decimal}
-use Rattle.trace_program.specs.TraceLines.{connection_of, crossing_line, ends_text, event_line, event_lines, frame_text, note_line, note_text}
+use Rattle.trace_program.specs.TraceLines.{connection_of, crossing_line, ends_text, event_line, event_lines, frame_text}
+use Rattle.trace_program.specs.TraceLines.{note_line, note_text}
 use Rattle.trace_program.specs.Traced.{behind_line, counted, line_of, tally_of, trace_text}
 
 -- four pieces, one behind the other
@@ -49,8 +50,8 @@ crossings_more m number next fate xs x old mid new some less is line =
 pub crossings_all : (m number next : ℕ) (fate : Option Fate) (xs : List Crossing) (old new : Option (List ℕ))
     → Appends old new (flat_map (crossing_line m number fate) (take next xs)) → length xs ≤ next
     → Appends old new (flat_map (crossing_line m number fate) xs)
-crossings_all m number next fate xs old new some all = subst (λ (ys : List Crossing). Appends old new (flat_map (crossing_line m number fate) ys))
-    (take_all next xs all) some
+crossings_all m number next fate xs old new some all =
+    subst (λ (ys : List Crossing). Appends old new (flat_map (crossing_line m number fate) ys)) (take_all next xs all) some
 
 pub notes_more : (number next : ℕ) (xs : List Note) (spare : Note) (old mid new : Option (List ℕ))
     → Appends old mid (flat_map (note_line number) (take next xs)) → next < length xs
@@ -62,14 +63,15 @@ notes_more number next xs spare old mid new some less line =
     subst (Appends old new) (flat_map_more (note_line number) [] front x ∙ ap (flat_map (note_line number)) longer)
     (Appends-trans old mid new (flat_map (note_line number) front) (note_line number x) some line)
 
-pub notes_all : (number next : ℕ) (xs : List Note) (old new : Option (List ℕ)) → Appends old new (flat_map (note_line number) (take next xs))
-    → length xs ≤ next → Appends old new (flat_map (note_line number) xs)
+pub notes_all : (number next : ℕ) (xs : List Note) (old new : Option (List ℕ))
+    → Appends old new (flat_map (note_line number) (take next xs)) → length xs ≤ next → Appends old new (flat_map (note_line number) xs)
 notes_all number next xs old new some all = subst (λ (ys : List Note). Appends old new (flat_map (note_line number) ys))
     (take_all next xs all) some
 
 -- the line of a frame, from its three parts
-pub line_written : (m number : ℕ) (fate : Option Fate) (crossing : Crossing) (old one two new : Option (List ℕ)) → Appends old one (decimal number ++ codes "\t")
-    → Appends one two (ends_text crossing.from crossing.to) → Appends two new (frame_text m fate crossing)
+pub line_written : (m number : ℕ) (fate : Option Fate) (crossing : Crossing) (old one two new : Option (List ℕ))
+    → Appends old one (decimal number ++ codes "\t") → Appends one two (ends_text crossing.from crossing.to)
+    → Appends two new (frame_text m fate crossing)
     → Appends old new (crossing_line m number fate crossing)
 line_written m number fate crossing old one two new first ends frame =
     Appends-trans old two new (decimal number ++ codes "\t" ++ ends_text crossing.from crossing.to) (frame_text m fate crossing)
@@ -77,8 +79,8 @@ line_written m number fate crossing old one two new first ends frame =
 
 -- the line of what became of a connection, from its two parts
 pub note_written : (number connection : ℕ) (note : Note) (old mid new : Option (List ℕ))
-    → Appends old mid (decimal number ++ (codes "\tbsc\tbsc\tconn " ++ (decimal connection ++ codes "\t"))) → connection ≡ connection_of note
-    → Appends mid new (note_text note ++ codes "\t\n") → Appends old new (note_line number note)
+    → Appends old mid (decimal number ++ (codes "\tbsc\tbsc\tconn " ++ (decimal connection ++ codes "\t")))
+    → connection ≡ connection_of note → Appends mid new (note_text note ++ codes "\t\n") → Appends old new (note_line number note)
 note_written number connection note old mid new head is text =
     let front : List ℕ = decimal number ++ codes "\tbsc\tbsc\tconn " in
     let named : List ℕ = front ++ decimal (connection_of note) ++ codes "\t" in
@@ -90,15 +92,16 @@ note_written number connection note old mid new head is text =
     (Appends-trans old mid new named (note_text note ++ codes "\t\n") (subst (Appends old mid) same head) text)
 
 -- the lines of an event, from its four parts
-pub event_written : (m number : ℕ) (line : List ℕ) (why : Option Cause) (fate : Option Fate) (frames made : List Crossing) (notes : List Note)
-    (frames_read made_read : List Crossing) (notes_read : List Note) (before first second third behind : Option (List ℕ))
+pub event_written : (m number : ℕ) (line : List ℕ) (why : Option Cause) (fate : Option Fate) (frames made : List Crossing)
+    (notes : List Note) (frames_read made_read : List Crossing) (notes_read : List Note)
+    (before first second third behind : Option (List ℕ))
     → frames_read ≡ frames → made_read ≡ made → notes_read ≡ notes → Appends before first (event_line number line why)
     → Appends first second (flat_map (crossing_line m number fate) frames_read)
     → Appends second third (flat_map (crossing_line m number None) made_read)
     → Appends third behind (flat_map (note_line number) notes_read)
     → Appends before behind (event_lines m number line why fate frames made notes)
-event_written m number line why fate frames made notes frames_read made_read notes_read before first second third behind crossed making noted
-    event some more rest =
+event_written m number line why fate frames made notes frames_read made_read notes_read before first second third behind crossed
+    making noted event some more rest =
     four_written (event_line number line why) (flat_map (crossing_line m number fate) frames) (flat_map (crossing_line m number None) made)
     (flat_map (note_line number) notes) before first second third behind event
     (subst (λ (xs : List Crossing). Appends first second (flat_map (crossing_line m number fate) xs)) crossed some)
@@ -173,9 +176,10 @@ lines_are m number w event rest line why fate frames made notes is refused becam
     ∙ ap (λ (o : Option Cause). event_lines m number (line_of rest) o fate frames made notes) refused
     ∙ ap (λ (f : Option Fate). event_lines m number (line_of rest) (refusal w event) f frames made notes) became
     ∙ ap (λ (cs : List Crossing). event_lines m number (line_of rest) (refusal w event) (fate_at w event) cs made notes) crossed
-    ∙ ap (λ (cs : List Crossing). event_lines m number (line_of rest) (refusal w event) (fate_at w event) (crossings w event) cs notes) making
-    ∙ ap (λ (ns : List Note). event_lines m number (line_of rest) (refusal w event) (fate_at w event) (crossings w event) (made_at w event) ns)
-    noted
+    ∙ ap (λ (cs : List Crossing). event_lines m number (line_of rest) (refusal w event) (fate_at w event) (crossings w event) cs notes)
+    making
+    ∙ ap (λ (ns : List Note). event_lines m number (line_of rest) (refusal w event) (fate_at w event) (crossings w event)
+    (made_at w event) ns) noted
 
 pub traces_more : (m : ℕ) (start : Actors) (script : List ℕ) (events : List Event) (w v : Actors) (number : ℕ) (rest behind text : List ℕ)
     (event : Event) (left others : List Event) (old mid new : Option (List ℕ))

@@ -9,8 +9,9 @@ loop-crossing-init g c = Appends-nil (g.W.Write.contents c.args.output.now)
 
 pub loop-crossing-preserved : goal.loop-crossing-preserved
 loop-crossing-preserved g c =
-    crossings_more (count_of c.args.modulus) c.args.number c.loop-crossing.crossing-index c.args.fate c.args.crossings.now c.crossing-item.result
-    (g.W.Write.contents c.args.output.now) (g.W.Write.contents c.loop-crossing.output) (g.W.Write.contents c.write_crossing.new.output)
+    crossings_more (count_of c.args.modulus) c.args.number c.loop-crossing.crossing-index c.args.fate c.args.crossings.now
+    c.crossing-item.result (g.W.Write.contents c.args.output.now) (g.W.Write.contents c.loop-crossing.output)
+    (g.W.Write.contents c.write_crossing.new.output)
     c.loop-crossing.invariant
     c.loop-crossing-test.true c.crossing-item.is c.in_ok-write_crossing.ensures.text
 

@@ -1,5 +1,4 @@
 -- SPDX-License-Identifier: MIT OR Apache-2.0
-use Rattle.std.proofs.Common.{None}
 use Rattle.std.proofs.lemmas.Result.{on_ok_weaker}
 use Rattle.dtap_codec.specs.Number.{count_of}
 use Rattle.trace_program.proofs.Tracing.{event_written}

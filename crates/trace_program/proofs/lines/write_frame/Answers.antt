@@ -14,7 +14,8 @@ returns-clause-text g c =
     (encode_lower c.args.crossing.now.frame.body) =
     subst (λ (octets : List ℕ). Appends (g.W.Write.contents c.write_said.new.output) (g.W.Write.contents c.write_digits.new.output)
     (encode_lower octets)) c.as_slice.ensures c.in_ok-write_digits.ensures.text in
-    let end : Appends (g.W.Write.contents c.write_digits.new.output) (g.W.Write.contents c.put.new.output) (codes "\n") = c.in_ok-put.ensures in
+    let end : Appends (g.W.Write.contents c.write_digits.new.output) (g.W.Write.contents c.put.new.output) (codes "\n") =
+    c.in_ok-put.ensures in
     four_written (message_name c.args.crossing.now.frame) (said_column (count_of c.args.modulus) c.args.fate c.args.crossing.now)
     (encode_lower c.args.crossing.now.frame.body) (codes "\n") (g.W.Write.contents c.args.output.now)
     (g.W.Write.contents c.write_message_name.new.output) (g.W.Write.contents c.write_said.new.output)

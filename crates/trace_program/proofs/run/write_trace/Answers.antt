@@ -1,7 +1,7 @@
 -- SPDX-License-Identifier: MIT OR Apache-2.0
-use Rattle.std.proofs.Common.{rules, ◌≡◌, ◌+◌, ◌∷◌, drop, refl, ap}
+use Rattle.std.proofs.Common.{◌+◌, drop, ap}
 use Rattle.dtap_codec.specs.Number.{count_of}
-use Rattle.trace_program.proofs.Tracing.{counted_below, left_more, left_none, lines_are, tally_more, traces_more}
+use Rattle.trace_program.proofs.Tracing.{counted_below, left_more, lines_are, tally_more, traces_more}
 use Rattle.trace_program.proofs.run.write_trace.Goals as goal
 
 pub loop-event-preserved : goal.loop-event-preserved

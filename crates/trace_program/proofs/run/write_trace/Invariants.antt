@@ -1,7 +1,6 @@
 -- SPDX-License-Identifier: MIT OR Apache-2.0
 use Rattle.std.proofs.Common.{◌≡◌, ◌+◌, ◌<◌, drop}
 use Rattle.dtap_codec.specs.Number.{count_of}
-use Rattle.trace_program.specs.declared.run.Tally.{Tally}
 use Rattle.trace_program.specs.Traced.{tally_of}
 use Rattle.trace_program.proofs.Tracing.{Traces}
 use Rattle.trace_program.proofs.run.write_trace.Given as goal
