@@ -17,7 +17,7 @@ use tracing::{pictures_of, traced};
 mod tracing;
 
 /// The toolchain that the program is made with, as README has it.
-const TOOLCHAIN: &str = "rattle-kit-13b logic dac8208d650f15bf";
+const TOOLCHAIN: &str = "rattle-kit-13f logic dac8208d650f15bf";
 
 fn main(rt: HostRuntime) -> ExitCode {
     let ended = match asked(&rt) {

@@ -80,7 +80,8 @@ impl AirLink {
     fn take(&mut self) -> bool
         ensures taken { result ≡ is_some (offered_message self.old) }
         ensures after { self.new ≡ after_reach self.old }
-        ensures message { offered_message self.old ≡ (if result then message_in self.new else None) }
+        ensures message { offered_message self.old
+            ≡ (if result then message_in self.new else None) }
     {
         match mem::replace(&mut self.air, Air::Empty) {
             Air::Given(message) => {

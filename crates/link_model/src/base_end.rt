@@ -32,7 +32,11 @@ impl Model for BaseEnd {
 
     ghost Value = { BaseState };
 
-    ghost view = { λ base. record { station = base.station; active = base.active.items; messages = base.messages.items } };
+    ghost view = { λ base. record {
+      station = base.station;
+      active = base.active.items;
+      messages = base.messages.items;
+    } };
 }
 
 impl BaseEnd {
@@ -94,7 +98,8 @@ impl BaseEnd {
     ) -> Result<(), LinkFault>
         ensures ok { OnOk result (self.new ≡ after_establish self.old channel sapi
             (option_map (λ octets. octets.now) message.entry)) }
-        ensures refused { RefusesBy LinkFault.Memory result (refusal_unless_active self.old channel) }
+        ensures refused { RefusesBy LinkFault.Memory result
+            (refusal_unless_active self.old channel) }
         ensures err { OnErr result (self.new ≡ self.old) }
     {
         if !self.is_active(channel) {
@@ -113,7 +118,8 @@ impl BaseEnd {
     /// the channel isn't active.
     pub fn up(&mut self, channel: ChanNo, sapi: Sapi, message: &[u8]) -> Result<(), LinkFault>
         ensures ok { OnOk result (self.new ≡ after_up self.old channel sapi message.now) }
-        ensures refused { RefusesBy LinkFault.Memory result (refusal_unless_active self.old channel) }
+        ensures refused { RefusesBy LinkFault.Memory result
+            (refusal_unless_active self.old channel) }
         ensures err { OnErr result (self.new ≡ self.old) }
     {
         if !self.is_active(channel) {

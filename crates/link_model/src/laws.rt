@@ -13,11 +13,15 @@ ghost use Rattle.link_model.specs.Tenures.{Tenures};
 /// a law on the definitions that the calls' contracts cite.
 pub fn keeps_tenures()
     ensures made { (base : BaseState) (channel : ℕ) (calls : List BaseCall) →
-        Tenures channel (is_active base.active channel) (messages_made base calls) (is_active (after_calls base calls).active channel) }
+        Tenures channel (is_active base.active channel) (messages_made base calls)
+        (is_active (after_calls base calls).active channel) }
 
     // So it is of what a new end gave out, with what waits to be given out.
     ensures given { (station channel : ℕ) (calls : List BaseCall) →
-        Tenures channel false (messages_given (new_base station) calls ++ (after_calls (new_base station) calls).messages) (is_active (after_calls (new_base station) calls).active channel) }
+        let base = new_base station in
+        let end = after_calls base calls in
+        Tenures channel false (messages_given base calls ++ end.messages)
+        (is_active end.active channel) }
 {}
 
 /// What is given out are the messages that were made, each once and in order.

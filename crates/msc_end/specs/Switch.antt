@@ -165,8 +165,8 @@ replies connections (DataForm1 destination user) =
     replies_by (connection_of connections (destination - REFERENCE_BASE)) (message_in user)
 replies connections _ = []
 
--- how many messages that is: a CLEAR REQUEST and a CLEAR COMPLETE are answered, on a connection that
--- hasn't ended, and each connection request
+-- how many messages that is: a CLEAR REQUEST and a CLEAR COMPLETE are answered, on a connection
+-- that hasn't ended, and each connection request
 abbrev pub live_reply_count : Bssap → ℕ
 live_reply_count (Management (ClearRequest cause)) = 1
 live_reply_count (Management ClearComplete) = 1

@@ -48,7 +48,8 @@ impl Network {
 
     // The station reads the request for a channel, which names the mobile.
     fn ask(&mut self, mobile: u8, station: u16) -> Result<(), Memory>
-        ensures { OnOk result (self.new ≡ with_message_made station (channel_required mobile) self.old) }
+        ensures { OnOk result
+            (self.new ≡ with_message_made station (channel_required mobile) self.old) }
     {
         let required = ChannelRequired {
             channel: ChanNo::random_access(),

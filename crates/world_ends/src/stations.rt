@@ -84,7 +84,8 @@ impl Stations {
     pub fn tell(&mut self, station: u16, message: Rsl) -> Result<(), Memory>
         requires told { is_told message ≡ true }
         requires written { IsWritten message }
-        ensures { OnOk result (self.new ≡ at_station station (station_after_message message) self.old) }
+        ensures { OnOk result
+            (self.new ≡ at_station station (station_after_message message) self.old) }
     {
         match self.stations.get_mut(place_of(station)) {
             Some(station) => station.tell(message),

@@ -93,7 +93,8 @@ pub record IsUnknownForGood (w : Actors) (number : ℕ) : Type 0 where
 
 -- it lives, or ended in order, or the switch never hears of it
 pub data IsAccountedFor (m : ℕ) (w : Actors) (mobile number : ℕ) : Type 0 where
-  lined_up : (s : Connection) → s.number ≡ number → IsOpenAndLinedUp m w mobile s → IsAccountedFor m w mobile number
+  lined_up : (s : Connection) → s.number ≡ number → IsOpenAndLinedUp m w mobile s
+      → IsAccountedFor m w mobile number
   ended : number < w.controller.next_number → (IsThere (connection_of w.controller number) → ⊥)
       → HasEnded m w mobile number → IsAccountedFor m w mobile number
   unknown_for_good : IsUnknownForGood w number → IsAccountedFor m w mobile number

@@ -29,7 +29,8 @@ over arriving up s sent link seat commands out taken =
 -- message more, the input's; and the row changes the roles of channels by a step that what is on
 -- its way allows. It isn't the row that puts CR, of which more is asked below.
 pub record DoesRow (s : Connection) (input : Input) (offer : Option Channel) (r : Row)
-    (before after : Place → List Item) (up : ℕ → Bool) (commands commands2 : ℕ) (seat seat2 : Seat) : Type 0 where
+    (before after : Place → List Item) (up : ℕ → Bool)
+    (commands commands2 : ℕ) (seat seat2 : Seat) : Type 0 where
   pub fits : row_of s input offer ≡ Some r
   pub remains_open : IsOpen r.next.state
   pub awaits : StillAwaits s.state r.next.state

@@ -59,7 +59,8 @@ pub fn breaks_keep_line_up()
 /// the mobile's upper layers sent, once and in order, and judged no gap. What may still come to it
 /// continues there, or one message before. It holds for each number of numbers from 2.
 pub fn line_up_is_accepted_in_order()
-    ensures alive { (m : ℕ) (l : LineUp) → 2 ≤ m → Alive m l → IsInOrder m l.sent l.taken (arriving l) }
+    ensures alive { (m : ℕ) (l : LineUp) → 2 ≤ m → Alive m l
+        → IsInOrder m l.sent l.taken (arriving l) }
     ensures run { (m : ℕ) (before after : LineUp) → 2 ≤ m → Alive m before → Steps m before after
         → IsInOrder m after.sent after.taken (arriving after) }
 {}

@@ -71,7 +71,11 @@ after_upper w number sapi message = by_mobile w number (sent_by w sapi message)
 -- the request names it
 abbrev pub channel_required : ℕ → Rsl
 channel_required number =
-    ChannelRequired (record { channel = RACH; reference = record { access = number; frame = 0 }; access_delay = record { 0 = 0 } })
+    ChannelRequired (record {
+      channel = RACH;
+      reference = record { access = number; frame = 0 };
+      access_delay = record { 0 = 0 };
+    })
 
 abbrev pub connected : ℕ → ℕ → List ℕ → Bool → Mobile
 connected m number initial accepts = record {

@@ -32,11 +32,17 @@ use Rattle.world_model.specs.World.{base_of, with_base, tenure_at}
 
 abbrev pub station_item : ℕ → Rsl → Item
 station_item station message =
-    record { source = station; what = whats.Frame (record { stream = RSL_STREAM; body = rsl_text message }) }
+    record {
+      source = station;
+      what = whats.Frame (record { stream = RSL_STREAM; body = rsl_text message });
+    }
 
 abbrev pub switch_item : Sccp → Item
 switch_item message =
-    record { source = SWITCH_LINK; what = whats.Frame (record { stream = SCCP_STREAM; body = sccp_text message }) }
+    record {
+      source = SWITCH_LINK;
+      what = whats.Frame (record { stream = SCCP_STREAM; body = sccp_text message });
+    }
 
 abbrev pub with_item : Item → Actors → Actors
 with_item item w = record w { inbox = w.inbox ++ item ∷ [] }

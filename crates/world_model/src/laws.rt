@@ -34,7 +34,8 @@ pub fn stations_are_honest()
 pub fn controller_lives_by_its_table()
     ensures lives { (settings : Parameters) (events : List WorldEvent)
         → FollowsTable settings events }
-    ensures runs { (settings : Parameters) (events : List WorldEvent) → RunsByTable settings events }
+    ensures runs { (settings : Parameters) (events : List WorldEvent)
+        → RunsByTable settings events }
 {}
 
 /// Law: whatever events happen, the acknowledgements of a station on a channel follow what the
