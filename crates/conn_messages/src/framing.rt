@@ -1,5 +1,6 @@
 // SPDX-License-Identifier: MIT OR Apache-2.0
 ghost use Rattle.std.specs.Prelude.{◌≡◌, ◌<◌, ◌^◌, None, IfOk};
+ghost use Rattle.bssmap_codec.specs.declared.sccp.Sccp.TheVariants.{DataForm1};
 ghost use Rattle.bssmap_codec.specs.BssapText.{bssap_text};
 ghost use Rattle.bssmap_codec.specs.SccpText.{sccp_write_fault};
 ghost use Rattle.conn_messages.specs.Out.{IsCarried, IsWritable, out_of};
@@ -8,7 +9,7 @@ ghost use Rattle.rsl_codec.specs.RslText.{rsl_write_fault};
 
 use crate::parameters::SWITCH_LINK;
 use crate::{Message, Out};
-use bssmap_codec::{Bssap, Reference, Sccp, write_bssap, write_sccp};
+use bssmap_codec::{Bssap, Reference, Sccp, transfer_text, write_bssap, write_sccp};
 use ipa_framing::{Frame, RSL_STREAM, SCCP_STREAM};
 use octets::{Memory, Octets};
 use rsl_codec::Rsl;
@@ -31,11 +32,7 @@ pub(crate) fn frame_of(alloc: Global, number: u32, message: &Message) -> Result<
         Message::Data {
             destination,
             message,
-        } => {
-            let data = user_data(alloc, message)?;
-            let destination = *destination;
-            switch_out(alloc, number, &Sccp::DataForm1 { destination, data })
-        }
+        } => data_out(alloc, number, *destination, message),
         Message::ReleaseComplete { destination } => {
             let destination = *destination;
             switch_out(
@@ -67,6 +64,29 @@ fn station_out(alloc: Global, number: u32, station: u16, message: &Rsl) -> Resul
     })
 }
 
+// DT1 on the link of the switch; DTAP is written into it at once.
+fn data_out(
+    alloc: Global,
+    number: u32,
+    destination: Reference,
+    message: &Bssap,
+) -> Result<Out, Memory>
+    requires { IsCarried message.now }
+    ensures { IfOk result (λ out. out
+        ≡ switch_frame number (DataForm1 destination (bssap_text message.now))) }
+{
+    match message {
+        Bssap::Transfer { dlci, message } => {
+            let body = transfer_text(alloc, destination, *dlci, message.as_slice())?;
+            Ok(on_switch_link(number, body))
+        }
+        Bssap::Management(_) => {
+            let data = user_data(alloc, message)?;
+            switch_out(alloc, number, &Sccp::DataForm1 { destination, data })
+        }
+    }
+}
+
 // SCCP on the link of the switch.
 fn switch_out(alloc: Global, number: u32, message: &Sccp) -> Result<Out, Memory>
     requires { sccp_write_fault message.now ≡ None }
@@ -74,14 +94,24 @@ fn switch_out(alloc: Global, number: u32, message: &Sccp) -> Result<Out, Memory>
 {
     let mut body = Vec::new(alloc);
     write_sccp(alloc, message, &mut body).map_err(|_| Memory)?;
-    Ok(Out {
+    Ok(on_switch_link(number, body))
+}
+
+fn on_switch_link(number: u32, body: Vec<u8>) -> Out
+    ensures { result ≡ record {
+      to = SWITCH_LINK;
+      conn = number;
+      frame = record { stream = SCCP_STREAM; body = body.items };
+    } }
+{
+    Out {
         to: SWITCH_LINK,
         conn: number,
         frame: Frame {
             stream: SCCP_STREAM,
             body: Octets::new(body),
         },
-    })
+    }
 }
 
 // The user data that carry a message of BSSAP.
