@@ -6,7 +6,7 @@
 pub use bssap::{Bssap, bssap_text_is_read, read_bssap, write_bssap};
 pub use bssmap::Bssmap;
 pub use bssmap_type::BssmapType;
-pub use data_form::transfer_text;
+pub use data_form::{read_data_form, transfer_text};
 pub use fault::InterfaceFault;
 pub use reference::Reference;
 pub use sccp::{Sccp, read_sccp, sccp_text_is_read, write_sccp};
