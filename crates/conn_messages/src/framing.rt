@@ -5,7 +5,7 @@ ghost use Rattle.bssmap_codec.specs.BssapText.{bssap_text};
 ghost use Rattle.bssmap_codec.specs.SccpText.{sccp_write_fault};
 ghost use Rattle.conn_messages.specs.Out.{IsCarried, IsWritable, out_of};
 ghost use Rattle.conn_messages.specs.Out.{station_out as station_frame, switch_out as switch_frame};
-ghost use Rattle.rsl_codec.specs.RslText.{rsl_write_fault};
+ghost use Rattle.rsl_codec.specs.RslText.{rsl_text, rsl_write_fault};
 
 use crate::parameters::SWITCH_LINK;
 use crate::{Message, Out};
@@ -52,8 +52,7 @@ fn station_out(alloc: Global, number: u32, station: u16, message: &Rsl) -> Resul
     requires { rsl_write_fault message.now ≡ None }
     ensures { IfOk result (λ out. out ≡ station_frame number station message.now) }
 {
-    let mut body = Vec::new(alloc);
-    message.write(alloc, &mut body).map_err(|_| Memory)?;
+    let body = station_text(alloc, message)?;
     Ok(Out {
         to: station,
         conn: number,
@@ -62,6 +61,19 @@ fn station_out(alloc: Global, number: u32, station: u16, message: &Rsl) -> Resul
             body: Octets::new(body),
         },
     })
+}
+
+// The text of RSL; that of DATA REQUEST is written at once.
+fn station_text(alloc: Global, message: &Rsl) -> Result<Vec<u8>, Memory>
+    requires { rsl_write_fault message.now ≡ None }
+    ensures { IfOk result (λ text. text.items ≡ rsl_text message.now) }
+{
+    if let Rsl::DataRequest(data) = message {
+        return data.request_text(alloc);
+    }
+    let mut text = Vec::new(alloc);
+    message.write(alloc, &mut text).map_err(|_| Memory)?;
+    Ok(text)
 }
 
 // DT1 on the link of the switch; DTAP is written into it at once.
