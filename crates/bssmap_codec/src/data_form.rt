@@ -17,17 +17,17 @@ use octets::Memory;
 use octets::front::octet;
 use std::alloc::Global;
 
-/// How many octets of user data DTAP has before its layer 3 message: the discriminator, the DLCI and
-/// the length.
+/// How many octets of user data DTAP has before its layer 3 message: the discriminator, the DLCI
+/// and the length.
 const TRANSFER_HEADER: usize = 3;
 
-/// How many octets DT1 has before its user data: the type, the reference, the segmenting, the pointer
-/// and the length.
+/// How many octets DT1 has before its user data: the type, the reference, the segmenting, the
+/// pointer and the length.
 const DATA_HEADER: usize = 7;
 
-/// The text of DT1 that carries DTAP, a layer 3 message of 1 to 251 octets: what `write_sccp` writes
-/// with the text of `write_bssap` as its data, in one piece. It takes memory once, as much as the
-/// text has octets, and is refused only where there is none.
+/// The text of DT1 that carries DTAP, a layer 3 message of 1 to 251 octets: what `write_sccp`
+/// writes with the text of `write_bssap` as its data, in one piece. It takes memory once, as much
+/// as the text has octets, and is refused only where there is none.
 pub fn transfer_text(
     alloc: Global,
     destination: Reference,

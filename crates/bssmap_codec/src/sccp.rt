@@ -235,7 +235,8 @@ fn read_data(alloc: Global, octets: &[u8]) -> Result<Sccp, InterfaceFault>
 /// The number of the reference of DT1, and its data, behind the type.
 #[tactic(auto, unfolding(crate::specs::SccpReading::data_form_at))]
 pub(crate) fn data_parts(octets: &[u8]) -> Result<(u32, &[u8]), InterfaceFault>
-    ensures read { result_map (λ p. DataForm1 p.0 p.1.now) result ≡ reading.data_form_at octets.now }
+    ensures read { result_map (λ p. DataForm1 p.0 p.1.now) result ≡
+        reading.data_form_at octets.now }
     ensures three_octets { IfOk result (λ p. p.0 < 2 ^ 24) }
 {
     let (destination, rest) = reference::number(octets)?;

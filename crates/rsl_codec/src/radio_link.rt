@@ -117,10 +117,7 @@ impl Data {
 
     /// The text of DATA REQUEST with these data: what `Rsl::write` writes of it, in one piece. It
     /// takes memory once, as much as the text has octets, and is refused only where there is none.
-    #[tactic(auto, unfolding(
-        crate::specs::RslText::rsl_element_text,
-        crate::specs::RslText::rsl_write_fault
-    ))]
+    #[tactic(auto, unfolding(crate::specs::RslText::rsl_element_text, crate::specs::RslText::rsl_write_fault))]
     pub fn request_text(&self, alloc: Global) -> Result<Vec<u8>, Memory>
         requires { rsl_write_fault (DataRequest self.now) ≡ None }
         ensures { IfOk result (λ text. text.items ≡ rsl_text (DataRequest self.now)) }
