@@ -6,6 +6,7 @@
 pub use bssap::{Bssap, bssap_text_is_read, read_bssap, write_bssap};
 pub use bssmap::Bssmap;
 pub use bssmap_type::BssmapType;
+pub use data_form::{read_data_form, transfer_text};
 pub use fault::InterfaceFault;
 pub use reference::Reference;
 pub use sccp::{Sccp, read_sccp, sccp_text_is_read, write_sccp};
@@ -15,6 +16,7 @@ pub use values::{Cause, CellIdentifier, ChannelType, Dlci, RejectedDlci, RrCause
 mod bssap;
 mod bssmap;
 mod bssmap_type;
+mod data_form;
 mod fault;
 mod identifiers;
 mod layer3;

@@ -9,6 +9,7 @@ ghost use Rattle.octets.specs.Refusal.{RefusesBy};
 ghost use Rattle.octets.specs.declared.limits.TheConstants.{LENGTH_LIMIT};
 ghost use Rattle.bssmap_codec.specs.declared.fault.InterfaceFault.TheVariants.{Memory as OutOfMemory};
 ghost use Rattle.bssmap_codec.specs.declared.sccp.Sccp.{Sccp as SccpValue};
+ghost use Rattle.bssmap_codec.specs.declared.sccp.Sccp.TheVariants.{DataForm1};
 ghost use Rattle.bssmap_codec.specs.Reference.{references_at, references_text};
 ghost use Rattle.bssmap_codec.specs.Sccp.{IsSccp};
 ghost use Rattle.bssmap_codec.specs.SccpFaults.{RefusesSccp};
@@ -221,18 +222,28 @@ fn read_refused(octets: &[u8]) -> Result<Sccp, InterfaceFault>
     })
 }
 
-#[tactic(auto, unfolding(crate::specs::SccpReading::data_form_at))]
 fn read_data(alloc: Global, octets: &[u8]) -> Result<Sccp, InterfaceFault>
     ensures { Gives OutOfMemory (λ v. v) result (reading.data_form_at octets.now) }
+{
+    let (destination, data) = data_parts(octets)?;
+    Ok(Sccp::DataForm1 {
+        destination: Reference::new(destination),
+        data: Octets::copy(alloc, data)?,
+    })
+}
+
+/// The number of the reference of DT1, and its data, behind the type.
+#[tactic(auto, unfolding(crate::specs::SccpReading::data_form_at))]
+pub(crate) fn data_parts(octets: &[u8]) -> Result<(u32, &[u8]), InterfaceFault>
+    ensures read { result_map (λ p. DataForm1 p.0 p.1.now) result ≡
+        reading.data_form_at octets.now }
+    ensures three_octets { IfOk result (λ p. p.0 < 2 ^ 24) }
 {
     let (destination, rest) = reference::number(octets)?;
     let (segmenting, pointers) = octet(rest, InterfaceFault::Short)?;
     let (pointer, _parts) = octet(pointers, InterfaceFault::Short)?;
     let (data, _rest) = data_behind(segmenting, pointers, pointer)?;
-    Ok(Sccp::DataForm1 {
-        destination: Reference::new(destination),
-        data: Octets::copy(alloc, data)?,
-    })
+    Ok((destination, data))
 }
 
 // The data of a message that isn't segmented.

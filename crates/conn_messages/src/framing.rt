@@ -1,14 +1,15 @@
 // SPDX-License-Identifier: MIT OR Apache-2.0
 ghost use Rattle.std.specs.Prelude.{◌≡◌, ◌<◌, ◌^◌, None, IfOk};
+ghost use Rattle.bssmap_codec.specs.declared.sccp.Sccp.TheVariants.{DataForm1};
 ghost use Rattle.bssmap_codec.specs.BssapText.{bssap_text};
 ghost use Rattle.bssmap_codec.specs.SccpText.{sccp_write_fault};
 ghost use Rattle.conn_messages.specs.Out.{IsCarried, IsWritable, out_of};
 ghost use Rattle.conn_messages.specs.Out.{station_out as station_frame, switch_out as switch_frame};
-ghost use Rattle.rsl_codec.specs.RslText.{rsl_write_fault};
+ghost use Rattle.rsl_codec.specs.RslText.{rsl_text, rsl_write_fault};
 
 use crate::parameters::SWITCH_LINK;
 use crate::{Message, Out};
-use bssmap_codec::{Bssap, Reference, Sccp, write_bssap, write_sccp};
+use bssmap_codec::{Bssap, Reference, Sccp, transfer_text, write_bssap, write_sccp};
 use ipa_framing::{Frame, RSL_STREAM, SCCP_STREAM};
 use octets::{Memory, Octets};
 use rsl_codec::Rsl;
@@ -31,11 +32,7 @@ pub(crate) fn frame_of(alloc: Global, number: u32, message: &Message) -> Result<
         Message::Data {
             destination,
             message,
-        } => {
-            let data = user_data(alloc, message)?;
-            let destination = *destination;
-            switch_out(alloc, number, &Sccp::DataForm1 { destination, data })
-        }
+        } => data_out(alloc, number, *destination, message),
         Message::ReleaseComplete { destination } => {
             let destination = *destination;
             switch_out(
@@ -55,8 +52,7 @@ fn station_out(alloc: Global, number: u32, station: u16, message: &Rsl) -> Resul
     requires { rsl_write_fault message.now ≡ None }
     ensures { IfOk result (λ out. out ≡ station_frame number station message.now) }
 {
-    let mut body = Vec::new(alloc);
-    message.write(alloc, &mut body).map_err(|_| Memory)?;
+    let body = station_text(alloc, message)?;
     Ok(Out {
         to: station,
         conn: number,
@@ -67,6 +63,42 @@ fn station_out(alloc: Global, number: u32, station: u16, message: &Rsl) -> Resul
     })
 }
 
+// The text of RSL; that of DATA REQUEST is written at once.
+fn station_text(alloc: Global, message: &Rsl) -> Result<Vec<u8>, Memory>
+    requires { rsl_write_fault message.now ≡ None }
+    ensures { IfOk result (λ text. text.items ≡ rsl_text message.now) }
+{
+    if let Rsl::DataRequest(data) = message {
+        return data.request_text(alloc);
+    }
+    let mut text = Vec::new(alloc);
+    message.write(alloc, &mut text).map_err(|_| Memory)?;
+    Ok(text)
+}
+
+// DT1 on the link of the switch; DTAP is written into it at once.
+fn data_out(
+    alloc: Global,
+    number: u32,
+    destination: Reference,
+    message: &Bssap,
+) -> Result<Out, Memory>
+    requires { IsCarried message.now }
+    ensures { IfOk result (λ out. out
+        ≡ switch_frame number (DataForm1 destination (bssap_text message.now))) }
+{
+    match message {
+        Bssap::Transfer { dlci, message } => {
+            let body = transfer_text(alloc, destination, *dlci, message.as_slice())?;
+            Ok(on_switch_link(number, body))
+        }
+        Bssap::Management(_) => {
+            let data = user_data(alloc, message)?;
+            switch_out(alloc, number, &Sccp::DataForm1 { destination, data })
+        }
+    }
+}
+
 // SCCP on the link of the switch.
 fn switch_out(alloc: Global, number: u32, message: &Sccp) -> Result<Out, Memory>
     requires { sccp_write_fault message.now ≡ None }
@@ -74,14 +106,24 @@ fn switch_out(alloc: Global, number: u32, message: &Sccp) -> Result<Out, Memory>
 {
     let mut body = Vec::new(alloc);
     write_sccp(alloc, message, &mut body).map_err(|_| Memory)?;
-    Ok(Out {
+    Ok(on_switch_link(number, body))
+}
+
+fn on_switch_link(number: u32, body: Vec<u8>) -> Out
+    ensures { result ≡ record {
+      to = SWITCH_LINK;
+      conn = number;
+      frame = record { stream = SCCP_STREAM; body = body.items };
+    } }
+{
+    Out {
         to: SWITCH_LINK,
         conn: number,
         frame: Frame {
             stream: SCCP_STREAM,
             body: Octets::new(body),
         },
-    })
+    }
 }
 
 // The user data that carry a message of BSSAP.

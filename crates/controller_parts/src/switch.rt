@@ -6,17 +6,20 @@ ghost use Rattle.controller_model.specs.Reading as reading;
 ghost use Rattle.controller_parts.specs.Words.{IsCarriedWord};
 
 use crate::dtap::dlci_sapi;
-use bssmap_codec::{Bssap, Bssmap, InterfaceFault, Sccp, read_bssap, read_sccp};
+use bssmap_codec::{Bssap, Bssmap, InterfaceFault, Sccp, read_bssap, read_data_form, read_sccp};
 use conn_rules::Input;
 use controller_model::Word;
 use octets::Memory;
 use std::alloc::Global;
 
-/// What the switch says in this body of a frame.
+/// What the switch says in this body of a frame. The data of DT1 aren't copied apart.
 pub(crate) fn switch_word(alloc: Global, body: &[u8]) -> Result<Word, Memory>
     ensures word { IfOk result (λ word. word ≡ reading.switch_word (sccp_reading body.now)) }
     ensures carried { IfOk result IsCarriedWord }
 {
+    if let Some((number, user)) = read_data_form(body) {
+        return bssap_word(alloc, number, user);
+    }
     match read_sccp(alloc, body) {
         Ok(message) => sccp_word(alloc, message),
         Err(InterfaceFault::Memory) => Err(Memory),

@@ -1,13 +1,14 @@
 // SPDX-License-Identifier: MIT OR Apache-2.0
-ghost use Rattle.std.specs.Prelude.{◌≡◌, ◌++◌, ◌≤◌, length, OnOk};
+ghost use Rattle.std.specs.Prelude.{◌≡◌, ◌++◌, ◌≤◌, length, IfOk, None, OnOk};
 ghost use Rattle.std.specs.Option.{ForSome};
 ghost use Rattle.octets.specs.Answer.{Gives};
 ghost use Rattle.octets.specs.declared.limits.TheConstants.{LENGTH_LIMIT};
+ghost use Rattle.rsl_codec.specs.declared.rsl.Rsl.TheVariants.{DataRequest};
 ghost use Rattle.rsl_codec.specs.Fields.{data_fields, link_fields, error_fields};
 ghost use Rattle.rsl_codec.specs.Fields.{establishment_fields, release_fields};
 ghost use Rattle.rsl_codec.specs.RslReading.{elements_of, data_at, data_elements, link_at};
 ghost use Rattle.rsl_codec.specs.RslReading.{error_at, establishment_at, release_at};
-ghost use Rattle.rsl_codec.specs.RslText.{rsl_fields_text};
+ghost use Rattle.rsl_codec.specs.RslText.{rsl_fields_text, rsl_text, rsl_write_fault};
 
 use crate::fields::{
     channel_number, data_values, l3, needed_value, octet, optional_l3, put, put_octets, value,
@@ -15,9 +16,14 @@ use crate::fields::{
 use crate::identifiers::{
     CHANNEL_NUMBER, L3_INFORMATION, LINK_IDENTIFIER, RELEASE_MODE, RLM_CAUSE,
 };
-use crate::{ChanNo, LinkId, ReleaseMode, RlmCause, RslFault};
+use crate::rsl_type::RADIO_LINK_TRANSPARENT;
+use crate::{ChanNo, LinkId, ReleaseMode, RlmCause, RslFault, RslType};
 use octets::{Memory, Octets};
 use std::alloc::Global;
+
+/// How many octets DATA REQUEST has before its L3 information: the discriminator, the type, the
+/// channel number, the link identifier, and the identifier and length of the L3 information.
+const REQUEST_HEADER: usize = 9;
 
 /// DATA REQUEST and DATA INDICATION (TS 48.058 clauses 8.3.1 and 8.3.2): L3 information on a link.
 ///
@@ -107,6 +113,31 @@ impl Data {
         let l3 = l3(alloc, text)?;
         let link = LinkId::read(octet(link));
         Ok(Data { channel, link, l3 })
+    }
+
+    /// The text of DATA REQUEST with these data: what `Rsl::write` writes of it, in one piece. It
+    /// takes memory once, as much as the text has octets, and is refused only where there is none.
+    #[tactic(auto, unfolding(crate::specs::RslText::rsl_element_text, crate::specs::RslText::rsl_write_fault))]
+    pub fn request_text(&self, alloc: Global) -> Result<Vec<u8>, Memory>
+        requires { rsl_write_fault (DataRequest self.now) ≡ None }
+        ensures { IfOk result (λ text. text.items ≡ rsl_text (DataRequest self.now)) }
+    {
+        let l3 = self.l3.as_slice();
+        let [high, low] = (l3.len() as u16).to_be_bytes();
+        let mut text = Vec::with_capacity(alloc, REQUEST_HEADER + l3.len())?;
+        text.extend_from_slice(&[
+            RADIO_LINK_TRANSPARENT,
+            RslType::DataRequest.octet(),
+            CHANNEL_NUMBER,
+            self.channel.octet(),
+            LINK_IDENTIFIER,
+            self.link.octet(),
+            L3_INFORMATION,
+            high,
+            low,
+        ])?;
+        text.extend_from_slice(l3)?;
+        Ok(text)
     }
 
     pub(crate) fn put(&self, text: &mut Vec<u8>) -> Result<(), Memory>
