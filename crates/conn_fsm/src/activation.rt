@@ -52,9 +52,9 @@ impl Machine {
             self.old self.new outputs.old.outs outputs.new.outs) }
         ensures err { UnchangedOnErr result self.old self.new outputs.old.outs outputs.new.outs }
     {
-        let mut put = Messages::new(self.alloc);
-        put.push(immediate_assign_command(self.alloc, &self.serving, self.request, self.delay)?)?;
-        self.put(&put, outputs)?;
+        let (request, delay) = (self.request, self.delay);
+        let message = immediate_assign_command(self.alloc, &self.serving, request, delay)?;
+        self.put_one(&message, outputs)?;
         self.enter(State::WaitEstablish);
         Ok(())
     }
@@ -91,9 +91,9 @@ impl Machine {
             self.old self.new outputs.old.outs outputs.new.outs) }
         ensures err { UnchangedOnErr result self.old self.new outputs.old.outs outputs.new.outs }
     {
-        let mut put = Messages::new(self.alloc);
-        put.push(change_command(self.alloc, &self.serving, target.change, &target.channel)?)?;
-        self.put(&put, outputs)?;
+        let (serving, change) = (&self.serving, target.change);
+        let message = change_command(self.alloc, serving, change, &target.channel)?;
+        self.put_one(&message, outputs)?;
         self.link = ShortMessageLink::Down;
         self.enter(State::Live(reference, Stage::Changing(target)));
         Ok(())

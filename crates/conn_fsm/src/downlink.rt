@@ -50,9 +50,7 @@ impl Machine {
             (AllByRecursion IsSound (words.handing self.now.serving sapi message ∷ [])) }
         ensures err { OnErr result (outputs.new.outs ≡ outputs.old.outs) }
     {
-        let mut put = Messages::new(self.alloc);
-        put.push(handing(&self.serving, sapi, message))?;
-        self.put(&put, outputs)
+        self.put_one(&handing(&self.serving, sapi, message), outputs)
     }
 
     // The message is held; one too many fails.

@@ -94,9 +94,7 @@ impl Machine {
             self.old self.new outputs.old.outs outputs.new.outs) }
         ensures err { UnchangedOnErr result self.old self.new outputs.old.outs outputs.new.outs }
     {
-        let mut put = Messages::new(self.alloc);
-        put.push(rf_channel_release(&self.serving))?;
-        self.put(&put, outputs)?;
+        self.put_one(&rf_channel_release(&self.serving), outputs)?;
         self.empty(State::Removed);
         Ok(())
     }

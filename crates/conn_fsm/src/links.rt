@@ -63,9 +63,8 @@ impl Machine {
     {
         match message {
             Some(initial) if initial.len() <= INITIAL_LIMIT => {
-                let mut put = Messages::new(self.alloc);
-                put.push(complete_layer3(self.alloc, &self.serving, initial.as_slice())?)?;
-                self.put(&put, outputs)?;
+                let message = complete_layer3(self.alloc, &self.serving, initial.as_slice())?;
+                self.put_one(&message, outputs)?;
                 self.enter(State::WaitConfirm);
                 Ok(())
             }

@@ -1,11 +1,11 @@
 // SPDX-License-Identifier: MIT OR Apache-2.0
-ghost use Rattle.std.specs.Prelude.{◌≡◌, ◌<◌, ◌^◌, ◌++◌, IfOk, OnOk, OnErr};
-ghost use Rattle.conn_messages.specs.Out.{IsSound, outs_of};
+ghost use Rattle.std.specs.Prelude.{◌≡◌, ◌<◌, ◌^◌, [], ◌∷◌, ◌++◌, IfOk, OnOk, OnErr};
+ghost use Rattle.conn_messages.specs.Out.{IsLawfulMessage, IsSound, IsWritable, outs_of};
 ghost use Rattle.std.specs.List.{AllByRecursion};
 ghost use Rattle.conn_rules.specs.Connection.{new_connection, enter, emptied};
 
 use crate::drains::Drains;
-use conn_messages::{Channel, Messages, Outputs};
+use conn_messages::{Channel, Message, Messages, Outputs};
 use conn_rules::{DOWN_LIMIT, ShortMessageLink, State, UP_LIMIT};
 use dtap_codec::Sapi;
 use hold_queue::{Chain, Hold};
@@ -94,6 +94,18 @@ impl Machine {
         ensures err { OnErr result (outputs.new.outs ≡ outputs.old.outs) }
     {
         outputs.put_all(self.alloc, self.number, messages)
+    }
+
+    /// Appends the frame of a message.
+    pub(crate) fn put_one(&self, message: &Message, outputs: &mut Outputs) -> Result<(), Memory>
+        requires writable { IsWritable message.now }
+        requires lawful { IsLawfulMessage message.now }
+        ensures ok { OnOk result (outputs.new.outs ≡ outputs.old.outs
+            ++ outs_of self.now.number (message.now ∷ [])) }
+        ensures sound { AllByRecursion IsSound (message.now ∷ []) }
+        ensures err { OnErr result (outputs.new.outs ≡ outputs.old.outs) }
+    {
+        outputs.put(self.alloc, self.number, message)
     }
 
     /// Enters a state, whose timer begins.

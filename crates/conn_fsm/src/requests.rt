@@ -79,9 +79,8 @@ impl Machine {
             (AllByRecursion IsSound (words.assignment_failure reference cause None ∷ [])) }
         ensures err { OnErr result (outputs.new.outs ≡ outputs.old.outs) }
     {
-        let mut put = Messages::new(self.alloc);
-        put.push(assignment_failure(self.alloc, reference, cause, None)?)?;
-        self.put(&put, outputs)
+        let message = assignment_failure(self.alloc, reference, cause, None)?;
+        self.put_one(&message, outputs)
     }
 
     /// Whether a change may begin: in Active, and in Draining while there is room for one more old

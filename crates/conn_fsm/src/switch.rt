@@ -30,17 +30,17 @@ impl Machine {
         ensures err { UnchangedOnErr result self.old self.new outputs.old.outs outputs.new.outs }
     {
         let state = self.state;
-        let mut put = Messages::new(self.alloc);
         match state {
             State::WaitConfirm => {
+                let mut put = Messages::new(self.alloc);
                 self.put_tenure(source, 0, &mut put)?;
                 self.put(&put, outputs)?;
                 self.enter(State::Live(source, Stage::Active));
                 self.up.clear_first();
             }
             State::Closed(Clearing::Due(cause)) => {
-                put.push(clear_request(self.alloc, source, cause)?)?;
-                self.put(&put, outputs)?;
+                let message = clear_request(self.alloc, source, cause)?;
+                self.put_one(&message, outputs)?;
                 self.enter(State::Closed(Clearing::Asked(source)));
             }
             _ => return Ok(false),
@@ -97,9 +97,8 @@ impl Machine {
         let State::Live(reference, _) = state else {
             return Ok(false);
         };
-        let mut put = Messages::new(self.alloc);
-        put.push(cipher_mode_reject(self.alloc, reference)?)?;
-        self.put(&put, outputs)?;
+        let message = cipher_mode_reject(self.alloc, reference)?;
+        self.put_one(&message, outputs)?;
         Ok(true)
     }
 
@@ -133,9 +132,7 @@ impl Machine {
         let Clearing::Asked(reference) = clearing else {
             return Ok(false);
         };
-        let mut put = Messages::new(self.alloc);
-        put.push(clear_complete(reference))?;
-        self.put(&put, outputs)?;
+        self.put_one(&clear_complete(reference), outputs)?;
         self.enter(State::Closed(Clearing::Complete));
         Ok(true)
     }

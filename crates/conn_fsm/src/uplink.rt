@@ -122,9 +122,7 @@ impl Machine {
         ensures err { OnErr result (outputs.new.outs ≡ outputs.old.outs) }
     {
         let channel = self.channel_of(0);
-        let mut put = Messages::new(self.alloc);
-        put.push(relaying(reference, &channel, sapi, message))?;
-        self.put(&put, outputs)
+        self.put_one(&relaying(reference, &channel, sapi, message), outputs)
     }
 
     // The message is held in its tenure; one too many fails.

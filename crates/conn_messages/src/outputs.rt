@@ -1,13 +1,13 @@
 // SPDX-License-Identifier: MIT OR Apache-2.0
 ghost use Rattle.std.specs.Prelude.{◌≡◌, ◌+◌, ◌≤◌, ◌<◌, ◌^◌, ◌↔◌, []};
-ghost use Rattle.std.specs.Prelude.{◌∷◌, ◌++◌, length, IsTrue, IfOk, OnOk, OnErr};
-ghost use Rattle.std.specs.Prelude.{option_map, slice_get};
+ghost use Rattle.std.specs.Prelude.{◌∷◌, ◌++◌, length, reverse as reversed, IsTrue, IfOk, OnOk};
+ghost use Rattle.std.specs.Prelude.{OnErr, MatchOption, option_map, slice_get};
 ghost use Rattle.std.specs.List.{AllByRecursion};
-ghost use Rattle.conn_messages.specs.Out.{IsSound, outs_of};
+ghost use Rattle.conn_messages.specs.Out.{IsSound, IsWritable, out_of, outs_of};
 ghost use Rattle.conn_messages.specs.OutputsState.{IsSendable};
 
 use crate::framing::frame_of;
-use crate::{Messages, Out};
+use crate::{Message, Messages, Out};
 use octets::Memory;
 use std::alloc::Global;
 use std::marker::Model;
@@ -69,12 +69,37 @@ impl Outputs {
         Ok(())
     }
 
+    /// Puts the frame of a message of the connection with this number behind the others. An `Err`
+    /// changes nothing.
+    pub fn put(&mut self, alloc: Global, number: u32, message: &Message) -> Result<(), Memory>
+        requires number { number < 2 ^ 24 }
+        requires writable { IsWritable message.now }
+        ensures ok { OnOk result
+            (self.new.outs ≡ self.old.outs ++ out_of number message.now ∷ []) }
+        ensures err { OnErr result (self.new ≡ self.old) }
+    {
+        let out = frame_of(alloc, number, message)?;
+        self.push(out)
+    }
+
     /// Puts the frames of all messages of the connection with this number behind the others, in
     /// order. Where there is no room yet their list becomes this one. An `Err` changes nothing.
     pub fn put_all(&mut self, alloc: Global, number: u32, messages: &Messages) -> Result<(), Memory>
         requires { number < 2 ^ 24 }
         ensures ok { OnOk result (self.new.outs ≡ self.old.outs ++ outs_of number messages.now) }
         ensures sound { AllByRecursion IsSound messages.now }
+        ensures err { OnErr result (self.new ≡ self.old) }
+    {
+        match messages.as_slice() {
+            [message] => self.put(alloc, number, message),
+            _ => self.put_list(alloc, number, messages),
+        }
+    }
+
+    // The same by a list of their frames, which is made first.
+    fn put_list(&mut self, alloc: Global, number: u32, messages: &Messages) -> Result<(), Memory>
+        requires { number < 2 ^ 24 }
+        ensures ok { OnOk result (self.new.outs ≡ self.old.outs ++ outs_of number messages.now) }
         ensures err { OnErr result (self.new ≡ self.old) }
     {
         let made = Outputs::made(alloc, number, messages)?;
@@ -109,6 +134,28 @@ impl Outputs {
             Ok(()) => {}
             Err(_) => unreachable!(),
         }
+    }
+
+    /// Turns their order round, so that `pop` takes the first of them first.
+    pub fn reverse(&mut self)
+        ensures { self.new ≡ record self.old { outs = reversed self.old.outs } }
+    {
+        self.outs.reverse();
+    }
+
+    /// Takes the last frame, if there is one. The room for it stays.
+    pub fn pop(&mut self) -> Option<Out>
+        ensures { MatchOption result ((self.old.outs ≡ []) × (self.new.outs ≡ []))
+            (λ out. self.old.outs ≡ self.new.outs ++ out ∷ []) }
+    {
+        self.outs.pop()
+    }
+
+    /// Drops all frames. The room for them stays.
+    pub fn clear(&mut self)
+        ensures { self.new.outs ≡ [] }
+    {
+        self.outs.clear();
     }
 
     /// How many frames there are.
