@@ -1,6 +1,7 @@
 // SPDX-License-Identifier: MIT OR Apache-2.0
 /* Plays the switch and the stations of a `bsc run` over loopback, and measures it. Usage: run PROGRAM SETTINGS, where SETTINGS
-   names a file that is written; with CELLS MOBILES ROUNDS behind them it measures that many rounds of so many calls alone, with COUNT the latency of so many messages alone. Counts and time are bounded: a measurement ends after 60 seconds at the latest. */
+   names a file that is written; with CELLS MOBILES ROUNDS behind them it measures that many rounds of so many calls alone, and
+   with COUNT the latency of so many messages alone. Counts and time are bounded: a measurement ends after 60 seconds at the latest. */
 #define _GNU_SOURCE
 #include <arpa/inet.h>
 #include <dirent.h>
