@@ -1,18 +1,23 @@
 // SPDX-License-Identifier: MIT OR Apache-2.0
 /* Plays the switch and the stations of a `bsc run` over loopback, and measures it. Usage: run PROGRAM SETTINGS, where SETTINGS
-   names a file that is written; with CELLS MOBILES ROUNDS behind them it measures that many rounds of so many calls alone. Counts and time are bounded: a measurement ends after 60 seconds at the latest. */
+   names a file that is written; with CELLS MOBILES ROUNDS behind them it measures that many rounds of so many calls alone, and
+   with COUNT the latency of so many messages alone. Counts and time are bounded: a measurement ends after 60 seconds at the latest. */
 #define _GNU_SOURCE
 #include <arpa/inet.h>
 #include <dirent.h>
 #include <errno.h>
 #include <fcntl.h>
+#include <linux/futex.h>
 #include <netinet/tcp.h>
 #include <poll.h>
+#include <pthread.h>
 #include <signal.h>
+#include <stdatomic.h>
 #include <stdio.h>
 #include <stdlib.h>
 #include <string.h>
 #include <sys/resource.h>
+#include <sys/syscall.h>
 #include <sys/wait.h>
 #include <time.h>
 #include <unistd.h>
@@ -105,8 +110,116 @@ static int connected(int port) {
   return -1;
 }
 
-/* Starts the relay with so many cells, and opens its links. */
-static void start(const char *program, const char *settings, int count) {
+/* What is measured beside the relay: frames that are sent on as they came, those of the switch to the station that they name. */
+static int ends[MOST_CELLS + 1]; /* the forwarder's ends of the links */
+
+static void send_on(int from, const unsigned char *octets, size_t size) {
+  int to = from ? 0 : octets[6];
+  if (send(ends[to], octets, size, MSG_NOSIGNAL) != (ssize_t)size) _exit(0);
+}
+/* One thread, which waits for all links, reads and writes. */
+static void forward_alone(void) {
+  unsigned char octets[4096];
+  for (;;) {
+    struct pollfd polled[MOST_CELLS + 1];
+    for (int link = 0; link <= cells; link++) polled[link] = (struct pollfd){ends[link], POLLIN, 0};
+    poll(polled, cells + 1, -1);
+    for (int link = 0; link <= cells; link++) {
+      if (!polled[link].revents) continue;
+      ssize_t got = recv(ends[link], octets, sizeof octets, 0);
+      if (got <= 0) _exit(0);
+      send_on(link, octets, got);
+    }
+  }
+}
+
+/* Threads as the relay has them: of each link one that reads and one that writes, and one between them all. What one puts waits
+   in a queue of its link, and the one that takes sleeps on a bell. */
+enum { QUIET, RUNG, ASLEEP };
+struct queue {
+  _Atomic size_t put, taken; /* how often; one message waits at most */
+  int from;
+  size_t size;
+  unsigned char octets[4096];
+};
+static struct queue inboxes[MOST_CELLS + 1], outboxes[MOST_CELLS + 1];
+static _Atomic int desk, bells[MOST_CELLS + 1];
+
+static void ring(_Atomic int *bell) {
+  if (atomic_exchange(bell, RUNG) == ASLEEP) syscall(SYS_futex, bell, FUTEX_WAKE_PRIVATE, 1, NULL, NULL, 0);
+}
+static void await(_Atomic int *bell) {
+  int quiet = QUIET;
+  if (atomic_compare_exchange_strong(bell, &quiet, ASLEEP)) syscall(SYS_futex, bell, FUTEX_WAIT_PRIVATE, ASLEEP, NULL, NULL, 0);
+  atomic_store(bell, QUIET);
+}
+static int waits(struct queue *q) { return atomic_load(&q->put) != atomic_load(&q->taken); }
+
+static void *read_link(void *of) {
+  struct queue *q = of;
+  unsigned char octets[sizeof q->octets];
+  for (ssize_t got; (got = recv(ends[q->from], octets, sizeof octets, 0)) > 0;) {
+    while (waits(q)) sched_yield();
+    memcpy(q->octets, octets, q->size = got);
+    atomic_fetch_add(&q->put, 1);
+    ring(&desk);
+  }
+  _exit(0);
+}
+static void *write_link(void *of) {
+  struct queue *q = of;
+  for (;;) {
+    while (!waits(q)) await(&bells[q - outboxes]);
+    send_on(q->from, q->octets, q->size);
+    atomic_fetch_add(&q->taken, 1);
+  }
+  return NULL;
+}
+static void forward_threaded(void) {
+  pthread_t thread;
+  for (int link = 0; link <= cells; link++) {
+    inboxes[link].from = link;
+    if (pthread_create(&thread, NULL, read_link, &inboxes[link])) _exit(1);
+    if (pthread_create(&thread, NULL, write_link, &outboxes[link])) _exit(1);
+  }
+  for (;;) {
+    int found = 0;
+    for (int link = 0; link <= cells; link++) {
+      struct queue *in = &inboxes[link];
+      if (!waits(in)) continue;
+      int to = link ? 0 : in->octets[6];
+      struct queue *out = &outboxes[to];
+      while (waits(out)) sched_yield();
+      out->from = link;
+      out->size = in->size;
+      memcpy(out->octets, in->octets, in->size);
+      atomic_fetch_add(&out->put, 1);
+      ring(&bells[to]);
+      atomic_fetch_add(&in->taken, 1);
+      found = 1;
+    }
+    if (!found) await(&desk);
+  }
+}
+static const char *const forms[] = {"bsc", "forwarder of one thread", "forwarder of threads"};
+
+/* A forwarder at these ports. */
+static void forward(int form, int port, const int *ports) {
+  int servers[MOST_CELLS + 1];
+  ends[0] = connected(port);
+  for (int cell = 1; cell <= cells; cell++) {
+    struct sockaddr_in at = {.sin_family = AF_INET, .sin_port = htons(ports[cell]), .sin_addr.s_addr = htonl(INADDR_LOOPBACK)};
+    servers[cell] = socket(AF_INET, SOCK_STREAM, 0);
+    setsockopt(servers[cell], SOL_SOCKET, SO_REUSEADDR, &(int){1}, sizeof(int));
+    if (bind(servers[cell], (void *)&at, sizeof at) || listen(servers[cell], 1)) fail("listen");
+  }
+  for (int cell = 1; cell <= cells; cell++) ends[cell] = accept(servers[cell], NULL, NULL);
+  for (int link = 0; link <= cells; link++) setsockopt(ends[link], IPPROTO_TCP, TCP_NODELAY, &(int){1}, sizeof(int));
+  if (form == 1) forward_alone(); else forward_threaded();
+}
+
+/* Starts the relay, or a forwarder, with so many cells, and opens its links. */
+static void start_form(int form, const char *program, const char *settings, int count) {
   int port, ports[MOST_CELLS + 1], closed[MOST_CELLS + 1];
   cells = count;
   int server = listening(&port);
@@ -123,6 +236,7 @@ static void start(const char *program, const char *settings, int count) {
   fclose(file);
   relay = fork();
   if (!relay) {
+    if (form) forward(form, port, ports);
     setenv("BSC_LOG", "warn", 1);
     /* VALGRIND: the words before the program */
     char command[2000];
@@ -139,6 +253,7 @@ static void start(const char *program, const char *settings, int count) {
   }
   usleep(300000);
 }
+static void start(const char *program, const char *settings, int count) { start_form(0, program, settings, count); }
 static void stop(void) {
   int status;
   /* what the relay still sends is taken, so that no link is reset */
@@ -289,17 +404,21 @@ static int by_size(const void *a, const void *b) {
   double x = *(const double *)a, y = *(const double *)b;
   return (x > y) - (x < y);
 }
-/* How long a message takes from a station to the switch, or back, through a relay that sleeps. */
-static void latency(int count) {
+/* How long a message takes from a station to the switch, or back, through a relay that sleeps; the stations in turn. */
+static void latency(int form, int count) {
   static double took[100000];
   static unsigned char room[ROOM];
-  begin_calls();
+  if (form)
+    for (int cell = 1; cell <= cells; cell++) numbers[cell] = cell;
+  else
+    begin_calls();
   for (int way = 0; way < 2; way++) {
-    int from = way ? 0 : 1, to = !from;
-    size_t size = way ? DOWNED : UPPED;
+    size_t size = way ? (form ? DOWN : DOWNED) : (form ? UP : UPPED);
+    double cpu = used();
     for (int place = 0; place < count; place++) {
+      int cell = place % cells + 1, to = way ? cell : 0;
       usleep(1000);
-      if (way) put_down(1); else put_up(1, place);
+      if (way) put_down(cell); else put_up(cell, place / cells);
       double begin = now();
       flush();
       for (size_t got = 0; got < size;) {
@@ -309,9 +428,10 @@ static void latency(int count) {
       }
       took[place] = now() - begin;
     }
+    cpu = used() - cpu;
     qsort(took, count, sizeof *took, by_size);
-    printf("latency %s: p50 %.1f us, p99 %.1f us, least %.1f us; load %.1f\n", way ? "down" : "up", took[count / 2] * 1e6,
-           took[count / 100 * 99] * 1e6, took[0] * 1e6, load());
+    printf("latency %s, %d stations, %s: p50 %.1f us, p99 %.1f us, least %.1f us; %.1f us of processor time each; load %.1f\n", way ? "down" : "up",
+           cells, forms[form], took[count / 2] * 1e6, took[count / 100 * 99] * 1e6, took[0] * 1e6, cpu / count * 1e6, load());
   }
 }
 static void idle(int seconds) {
@@ -378,6 +498,15 @@ static void rounds(int mobiles, int count) {
 int main(int count, char **words) {
   if (count < 3) return 2;
   setvbuf(stdout, NULL, _IOLBF, 0);
+  if (count == 4) { /* PROGRAM SETTINGS COUNT */
+    for (int which = 0; which < 2; which++)
+      for (int form = 0; form < 3; form++) {
+        start_form(form, words[1], words[2], which ? CELLS : 1);
+        latency(form, atoi(words[3]));
+        stop();
+      }
+    return 0;
+  }
   if (count == 6) { /* PROGRAM SETTINGS CELLS MOBILES ROUNDS */
     start(words[1], words[2], atoi(words[3]));
     rounds(atoi(words[4]), atoi(words[5]));
@@ -390,9 +519,12 @@ int main(int count, char **words) {
     throughput(2000000 / times[which]);
     stop();
   }
-  start(words[1], words[2], 1);
-  latency(4000);
-  stop();
+  for (int which = 0; which < 2; which++)
+    for (int form = 0; form < 3; form++) {
+      start_form(form, words[1], words[2], times[which]);
+      latency(form, 4000);
+      stop();
+    }
   start(words[1], words[2], CELLS);
   setups(40);
   stop();

@@ -72,6 +72,7 @@ pub fn call_worker<R: Wait, K: Clock + Drop>(
         clock,
         gathered: 0,
         unrung: 0,
+        has_slept: true,
         is_slow: false,
         is_due: false,
         has_napped: false,
@@ -166,5 +167,6 @@ impl<K: Clock> CallWorker<K> {
         self.ring();
         self.desk
             .wait(rt, Duration::from_millis(TICK_MS - self.gathered));
+        self.has_slept = true;
     }
 }

@@ -178,12 +178,14 @@ impl<K: Clock> CallWorker<K> {
         }
     }
 
-    // Counts what came since the bells were rung, and rings them where it is much.
+    // Counts what came since the bells were rung, and rings them where it is much, or the first since
+    // the worker slept.
     fn count(&mut self, more: usize)
         ensures { seen K.told self.new ≡ seen K.told self.old }
     {
         self.unrung = self.unrung.saturating_add(more);
-        if self.unrung >= STEPS_A_RING {
+        if self.has_slept || self.unrung >= STEPS_A_RING {
+            self.has_slept = false;
             self.ring();
         }
     }

@@ -24,6 +24,8 @@ pub(crate) struct CallWorker<K> {
     /// How many outputs were put since the bells were rung, and how many steps since then put
     /// nothing.
     pub(crate) unrung: usize,
+    /// Whether nothing was put since the worker slept.
+    pub(crate) has_slept: bool,
     /// Whether frames wait for a full outbox.
     pub(crate) is_slow: bool,
     /// Whether a millisecond has passed since the full outboxes were tried.

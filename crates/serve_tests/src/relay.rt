@@ -95,6 +95,11 @@ fn links_of<R: Copy + Drop>(
     Ok(links)
 }
 
+/// The settings of two cells.
+pub(crate) fn settings(alloc: Global) -> Result<Settings, Fail> {
+    Ok(Settings::read(alloc, TWO_CELLS)?)
+}
+
 /// Serves the links of the switch and of two stations, which do this.
 pub(crate) fn serve<R>(
     rt: R,
@@ -106,7 +111,7 @@ where
     R: Clock + Threads + Wait + Copy + Drop + Send + 'static,
 {
     let links = links_of(rt, alloc, plays)?;
-    let controller = Controller::new(alloc, Settings::read(alloc, TWO_CELLS)?)?;
+    let controller = Controller::new(alloc, settings(alloc)?)?;
     match serve_links(rt, alloc, controller, links, Still, limit) {
         Ok(ended) => Ok(ended),
         Err(IoFault::Memory) => Err(Fail::new("the relay wanted memory")),

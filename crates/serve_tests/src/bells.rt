@@ -1,0 +1,137 @@
+// SPDX-License-Identifier: MIT OR Apache-2.0
+use crate::devices::{Got, Held, Sink, Still};
+use crate::relay::settings;
+use controller::Controller;
+use link_workers::{IoFault, LinkReader};
+use station_io::{Link, serve_links};
+use std::alloc::{AllocError, Global};
+use std::io::{self, Read};
+use std::sync::Arc;
+use std::sync::atomic::{AtomicU64, Ordering};
+use std::test::Fail;
+use std::thread;
+use std::time::{Clock, Duration, Instant};
+
+/// PING, which is answered by as many octets.
+const PING: [u8; 4] = [0x00, 0x01, 0xfe, 0x00];
+
+/// So many messages go through the relay, each once the one before was answered.
+const MESSAGES: u64 = 200;
+
+/// So many seconds they may take. A call worker for which nobody rings takes up to a tenth of a
+/// second for each, and a writer up to a second.
+const PATIENCE: u64 = 5;
+
+/// How often a device looks whether it was answered, at most.
+const LOOKS: u32 = 100_000;
+
+/// How many octets the link of the first station has got.
+fn octets_of_first(got: &Got) -> u64 {
+    match got.get(1) {
+        Some(octets) => octets.load(Ordering::SeqCst),
+        None => 0,
+    }
+}
+
+/// A device that gives so many messages, each once the one before was answered.
+#[derive(Drop)]
+struct Asking<R> {
+    rt: R,
+    got: Got,
+    left: u64,
+    asked: u64,
+    told: Option<IoFault>,
+}
+
+impl<R: Clock> Asking<R> {
+    /// Whether the link of the first station has got an answer to each message.
+    fn is_answered(&self) -> bool {
+        octets_of_first(&self.got) >= self.asked
+    }
+}
+
+impl<R: Clock> Read for Asking<R> {
+    fn read(&mut self, buf: &mut [u8]) -> io::Result<usize> {
+        for _ in 0..LOOKS {
+            if self.is_answered() {
+                break;
+            }
+            thread::sleep(&self.rt, Duration::from_micros(50));
+        }
+        if self.left == 0 {
+            return Ok(0);
+        }
+        self.left -= 1;
+        self.asked = self.asked.saturating_add(4);
+        PING.as_slice().read(buf)
+    }
+}
+
+impl<R: Clock> LinkReader for Asking<R> {
+    ghost told = { λ asking. asking.told };
+
+    fn break_off(&mut self, fault: IoFault) {
+        self.told = Some(fault);
+    }
+}
+
+/// A link whose device gives so many messages. What its writer gets is counted as that of the link
+/// with this number.
+fn link_of<R: Copy + Drop>(
+    rt: R,
+    alloc: Global,
+    got: &Got,
+    link: usize,
+    messages: u64,
+) -> Result<Link<Asking<R>, Sink, Held<R>>, AllocError> {
+    let kept = Vec::new(alloc);
+    let reader = Asking {
+        rt,
+        got: Arc::try_clone(got)?,
+        left: messages,
+        asked: 0,
+        told: None,
+    };
+    let writer = Sink {
+        kept,
+        room: usize::MAX,
+        link,
+        got: Arc::try_clone(got)?,
+    };
+    let gate = Held {
+        rt,
+        got: Arc::try_clone(got)?,
+        frames: 0,
+        frames_after: [0; 3],
+        down_after: [0; 3],
+        refused: 0,
+    };
+    Ok(Link {
+        reader,
+        writer,
+        gate,
+    })
+}
+
+/// Each bell is rung: one message at a time goes through the relay without waiting for a time.
+#[test]
+fn one_message_at_a_time_waits_for_no_time(rt: HostRuntime) -> Result<(), Fail> {
+    let alloc = rt.alloc();
+    let counters = [AtomicU64::new(0), AtomicU64::new(0), AtomicU64::new(0)];
+    let got = Arc::new(alloc, counters)?;
+    let mut links = Vec::with_capacity(alloc, 3)?;
+    for (link, messages) in [0, MESSAGES, 0].iter().enumerate() {
+        links.push(link_of(rt, alloc, &got, link, *messages)?)?;
+    }
+    let controller = Controller::new(alloc, settings(alloc)?)?;
+    let begin = Instant::now(&rt)?;
+    let served = serve_links(rt, alloc, controller, links, Still, 1).is_ok();
+    let took = begin.elapsed(&rt)?.as_secs();
+    if !served || octets_of_first(&got) != 4 * MESSAGES {
+        return Err(Fail::new("not each message was answered"));
+    }
+    if took >= PATIENCE {
+        return Err(Fail::new("the messages waited for a time"));
+    }
+    Ok(())
+}
