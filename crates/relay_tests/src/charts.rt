@@ -1,5 +1,5 @@
 // SPDX-License-Identifier: MIT OR Apache-2.0
-use frame_pictures::{Arrow, Chart, ChartEvent, Fate, svg_of, text_of};
+use frame_pictures::{Arrow, Chart, ChartEvent, Fate, Mark, svg_of, text_of};
 use std::alloc::Global;
 use std::test::Fail;
 
@@ -23,11 +23,21 @@ fn event(alloc: Global, number: u64, words: &str, actor: usize) -> Result<ChartE
         actor,
         is_taken: true,
         arrows: Vec::new(alloc),
+        marks: Vec::new(alloc),
+    })
+}
+
+fn mark(alloc: Global, place: usize, words: &str, fate: Fate) -> Result<Mark, Fail> {
+    Ok(Mark {
+        place,
+        words: text(alloc, words)?,
+        fate,
     })
 }
 
 /// One cell and no mobile: a message of the station, two of the controller, one of them dropped, an
-/// event that isn't taken, and one with too many words.
+/// event that isn't taken, and one with too many words; and messages that waited, beside an arrow,
+/// at an event without one, and at the last lifeline.
 fn one_cell(alloc: Global) -> Result<Chart, Fail> {
     let mut labels = Vec::new(alloc);
     labels.push(text(alloc, "station 1")?)?;
@@ -42,9 +52,18 @@ fn one_cell(alloc: Global) -> Result<Chart, Fail> {
     let mut dropped = arrow(alloc, 1, 0, "ACK")?;
     dropped.fate = Fate::Dropped;
     second.arrows.push(dropped)?;
+    second
+        .marks
+        .push(mark(alloc, 1, "relayed 1", Fate::Passed)?)?;
     let mut third = event(alloc, 3, "switchtakes", 2)?;
     third.is_taken = false;
-    let fourth = event(alloc, 104, "upper 1 0 052471030405060708", 0)?;
+    let mut fourth = event(alloc, 104, "upper 1 0 052471030405060708", 0)?;
+    fourth
+        .marks
+        .push(mark(alloc, 1, "held 12 of the station", Fate::Held)?)?;
+    fourth
+        .marks
+        .push(mark(alloc, 2, "dropped 1 of the switch", Fate::Dropped)?)?;
     let mut events = Vec::new(alloc);
     events.push(first)?;
     events.push(second)?;
