@@ -1,7 +1,9 @@
 // SPDX-License-Identifier: MIT OR Apache-2.0
 //! `bsc trace`: its lines, its pictures, and what is told beside a fault.
 use bsc_program::{Failure, ProgramFault};
-use program_base::{KeptScript, WatchedInput, WatchedOutput, put, read_settings, settings_text};
+use program_base::{
+    KeptScript, WatchedInput, WatchedOutput, put, read_settings, told_settings_text,
+};
 use settings_hint::hint_of;
 use std::fs;
 use std::io::{self, BufWriter, Read, Write};
@@ -27,14 +29,18 @@ pub(crate) fn pictures_of(chart: Option<String>, capture: Option<String>) -> Opt
 
 /// Traces the script on standard input in the world of the settings in this file, and gives the
 /// status that the program ends with. What it prints is buffered. A second line of standard error
-/// says where the settings have their fault, why a line is bad, or which device failed.
+/// says why the settings can't be read or where they have their fault, why a line is bad, or which
+/// device failed.
 pub(crate) fn traced(
     rt: &HostRuntime,
     file: &str,
     strict: bool,
     pictures: &Pictures,
 ) -> Result<u8, ProgramFault> {
-    let settings = settings_text(rt, file)?;
+    let settings = match told_settings_text(rt, file) {
+        Ok(settings) => settings,
+        Err(status) => return Ok(status),
+    };
     let Ok(mut buffered) = BufWriter::new(rt.alloc(), rt.stdout()) else {
         return Err(ProgramFault::Failed(Failure::Memory));
     };

@@ -10,7 +10,7 @@ pub struct Chart {
     pub events: Vec<ChartEvent>,
 }
 
-/// An event, with the messages that were sent at it.
+/// An event, with the messages that were sent at it, and what became of those that wait.
 #[derive(Drop)]
 pub struct ChartEvent {
     pub number: u64,
@@ -20,6 +20,7 @@ pub struct ChartEvent {
     pub actor: usize,
     pub is_taken: bool,
     pub arrows: Vec<Arrow>,
+    pub marks: Vec<Mark>,
 }
 
 /// A message from one lifeline to another, by their places from 0.
@@ -28,6 +29,15 @@ pub struct Arrow {
     pub from: usize,
     pub to: usize,
     pub name: Vec<u8>,
+    pub fate: Fate,
+}
+
+/// What becomes of messages that wait at a lifeline, or that waited there, by its place from 0.
+#[derive(Drop)]
+pub struct Mark {
+    pub place: usize,
+    pub words: Vec<u8>,
+    /// That of the messages; those that waited and were sent have passed.
     pub fate: Fate,
 }
 
@@ -53,6 +63,15 @@ impl Arrow {
     }
 }
 
+impl Mark {
+    /// What is beside the mark.
+    pub(crate) fn text(&self, alloc: Global) -> Result<Vec<u8>, Memory> {
+        let mut text = Vec::new(alloc);
+        put_printable(self.words.as_slice(), self.words.len(), &mut text)?;
+        Ok(text)
+    }
+}
+
 /// The most columns of what happened, in words.
 pub(crate) const TEXT_WIDTH: usize = 24;
 
@@ -68,6 +87,27 @@ impl ChartEvent {
             words.extend_from_slice(b"..")?;
         }
         Ok(words)
+    }
+
+    /// How many rows an event has: one for each message, one for each mark, and one at least.
+    pub(crate) fn rows(&self) -> usize {
+        self.marks_begin().saturating_add(self.marks.len()).max(1)
+    }
+
+    /// The row of its first mark: the first behind the arrows, and behind the words that it isn't
+    /// taken.
+    pub(crate) fn marks_begin(&self) -> usize {
+        if self.is_taken {
+            self.arrows.len()
+        } else {
+            self.arrows.len().max(1)
+        }
+    }
+
+    /// The mark in a row, if it has one.
+    pub(crate) fn mark_in(&self, row: usize) -> Option<&Mark> {
+        let place = row.checked_sub(self.marks_begin())?;
+        self.marks.get(place)
     }
 }
 

@@ -1,5 +1,5 @@
 // SPDX-License-Identifier: MIT OR Apache-2.0
-use crate::chart::{Arrow, Chart, ChartEvent, TEXT_WIDTH};
+use crate::chart::{Arrow, Chart, ChartEvent, Mark, TEXT_WIDTH};
 use octets::Memory;
 use std::alloc::Global;
 
@@ -13,30 +13,60 @@ const LEFT: usize = NUMBER_WIDTH + 1 + TEXT_WIDTH + 2;
 /// behind it; and the step to the next lifeline.
 const AROUND_NAME: usize = 5;
 
+/// The columns of a mark beside its words: a blank before them, a blank behind them, and the step to
+/// the next lifeline.
+const AROUND_MARK: usize = 3;
+
 /// The columns on the right of the last lifeline: enough for `x not taken` and a label's half.
 const RIGHT: usize = 12;
 
-/// The columns of the lifelines.
+/// The columns of the lifelines, and those on the right of the last one.
 #[derive(Drop)]
 pub(crate) struct Layout {
     pub columns: Vec<usize>,
+    right: usize,
 }
 
 impl Layout {
-    /// Lifelines so far from each other that each label and each name fits between them.
+    /// Lifelines so far from each other that each label, each name and the words of each mark fit
+    /// between them.
     pub(crate) fn of(alloc: Global, chart: &Chart) -> Result<Layout, Memory> {
         let mut columns = Vec::new(alloc);
         place_labels(chart.labels.as_slice(), &mut columns)?;
+        let mut layout = Layout {
+            columns,
+            right: RIGHT,
+        };
         for event in chart.events.as_slice() {
-            place_event(alloc, event, &mut columns)?;
+            place_event(alloc, event, &mut layout.columns)?;
+            layout.place_marks(alloc, event.marks.as_slice())?;
         }
-        Ok(Layout { columns })
+        Ok(layout)
+    }
+
+    /// Makes room for the words of an event's marks.
+    fn place_marks(&mut self, alloc: Global, marks: &[Mark]) -> Result<(), Memory> {
+        for mark in marks {
+            let words = mark.text(alloc)?;
+            self.place_mark(mark.place, words.len().saturating_add(AROUND_MARK));
+        }
+        Ok(())
+    }
+
+    /// Makes so much room on the right of a lifeline.
+    fn place_mark(&mut self, place: usize, room: usize) {
+        let next = place.saturating_add(1);
+        if next == self.columns.len() {
+            self.right = self.right.max(room);
+        } else {
+            place_arrow(place, next, room, &mut self.columns);
+        }
     }
 
     /// How many columns there are in all.
     pub(crate) fn width(&self) -> usize {
         match self.columns.last() {
-            Some(column) => column.saturating_add(RIGHT),
+            Some(column) => column.saturating_add(self.right),
             None => LEFT,
         }
     }

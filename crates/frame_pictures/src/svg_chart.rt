@@ -1,8 +1,9 @@
 // SPDX-License-Identifier: MIT OR Apache-2.0
-use crate::chart::{Arrow, Chart, ChartEvent, Fate};
+use crate::chart::{Arrow, Chart, ChartEvent, Fate, Mark};
 use crate::layout::{Layout, NUMBER_WIDTH};
 use crate::svg_shapes::{
-    across, down, put, put_cross, put_dot, put_middle_text, put_point, put_stroke, put_text,
+    across, down, put, put_cross, put_dot, put_middle_text, put_point, put_ring, put_stroke,
+    put_text,
 };
 use octets::Memory;
 use std::alloc::Global;
@@ -19,13 +20,14 @@ const STYLE: &str = "<style>\n\
     .label,.name{text-anchor:middle}\n\
     .label{font-weight:bold}\n\
     .words,.number{fill:#4b535d}\n\
-    .refused{fill:#b3261e}\n\
+    .refused,.lost{fill:#b3261e}\n\
     .life{stroke:#8c959f}\n\
     .rule{stroke:#e3e7eb}\n\
     .passed,.held,.dropped{stroke:#0b4f9e;stroke-width:1.5}\n\
     .held{stroke-dasharray:6 4}\n\
     .dropped{stroke-dasharray:2 4}\n\
     .point{fill:#0b4f9e}\n\
+    .ring{fill:none}\n\
     .cross{stroke:#b3261e;stroke-width:2;fill:none}\n\
     </style>\n";
 
@@ -42,16 +44,11 @@ pub fn svg_of(alloc: Global, chart: &Chart) -> Result<Vec<u8>, Memory> {
     Ok(out)
 }
 
-/// How many rows an event has: one for each message, and one at least.
-fn height_of(event: &ChartEvent) -> usize {
-    event.arrows.len().max(1)
-}
-
 /// How many rows there are, that of the labels with them.
 fn rows_of(events: &[ChartEvent]) -> usize {
     let mut rows = 1_usize;
     for event in events {
-        rows = rows.saturating_add(height_of(event));
+        rows = rows.saturating_add(event.rows());
     }
     rows
 }
@@ -120,7 +117,9 @@ fn put_events(
     for event in events {
         put_event(alloc, layout, event, row, out)?;
         put_arrows(alloc, layout, event.arrows.as_slice(), row, out)?;
-        row = row.saturating_add(height_of(event));
+        let first = row.saturating_add(event.marks_begin());
+        put_marks(alloc, layout, event.marks.as_slice(), first, out)?;
+        row = row.saturating_add(event.rows());
     }
     Ok(())
 }
@@ -212,6 +211,47 @@ fn put_arrow(
     let name = arrow.words(alloc)?;
     let middle = left.saturating_add(right.saturating_sub(left) / 2);
     put_middle_text(alloc, "name", middle, y, name.as_slice(), out)
+}
+
+fn put_marks(
+    alloc: Global,
+    layout: &Layout,
+    marks: &[Mark],
+    row: usize,
+    out: &mut Vec<u8>,
+) -> Result<(), Memory> {
+    for (place, mark) in marks.iter().enumerate() {
+        put_mark(alloc, layout, mark, down(row.saturating_add(place)), out)?;
+    }
+    Ok(())
+}
+
+/// Appends a mark on a lifeline, with its words: a ring, or a cross where messages are lost.
+fn put_mark(
+    alloc: Global,
+    layout: &Layout,
+    mark: &Mark,
+    y: usize,
+    out: &mut Vec<u8>,
+) -> Result<(), Memory> {
+    let Some(column) = layout.columns.get(mark.place) else {
+        return Ok(());
+    };
+    let x = across(*column);
+    let words = mark.text(alloc)?;
+    match mark.fate {
+        Fate::Dropped => put_cross(alloc, x, y, out)?,
+        Fate::Passed | Fate::Held => put_ring(alloc, class_of(mark.fate), x, y, out)?,
+    }
+    let class = words_class_of(mark.fate);
+    put_text(alloc, class, x.saturating_add(12), y, words.as_slice(), out)
+}
+
+fn words_class_of(fate: Fate) -> &'static str {
+    match fate {
+        Fate::Passed | Fate::Held => "mark",
+        Fate::Dropped => "mark lost",
+    }
 }
 
 fn class_of(fate: Fate) -> &'static str {

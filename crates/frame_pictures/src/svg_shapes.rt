@@ -141,6 +141,20 @@ pub(crate) fn put_dot(alloc: Global, x: usize, y: usize, out: &mut Vec<u8>) -> R
     put(out, dot.as_str())
 }
 
+/// Appends a ring of a class round a point.
+pub(crate) fn put_ring(
+    alloc: Global,
+    class: &str,
+    x: usize,
+    y: usize,
+    out: &mut Vec<u8>,
+) -> Result<(), Memory> {
+    let ring = format!(in alloc;
+        "<circle class=\"ring {class}\" cx=\"{x}\" cy=\"{y}\" r=\"7\"/>\n"
+    )?;
+    put(out, ring.as_str())
+}
+
 /// Appends a cross.
 pub(crate) fn put_cross(
     alloc: Global,

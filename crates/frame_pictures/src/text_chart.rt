@@ -1,5 +1,5 @@
 // SPDX-License-Identifier: MIT OR Apache-2.0
-use crate::chart::{Arrow, Chart, ChartEvent};
+use crate::chart::{Arrow, Chart, ChartEvent, Mark};
 use crate::layout::{Layout, NUMBER_WIDTH};
 use octets::Memory;
 use std::alloc::Global;
@@ -58,26 +58,41 @@ fn lifelines(alloc: Global, layout: &Layout) -> Result<Vec<u8>, Memory> {
     Ok(line)
 }
 
-/// Appends the lines of an event: its number and words beside its first message, and a line for
-/// each further one.
+/// Appends the lines of an event: its number and words beside its first message or mark, and a line
+/// for each further one.
 fn put_event(
     alloc: Global,
     layout: &Layout,
     event: &ChartEvent,
     out: &mut Vec<u8>,
 ) -> Result<(), Memory> {
-    let mut line = lifelines(alloc, layout)?;
-    write_words(alloc, event, &mut line)?;
-    write_actor(layout, event, &mut line);
-    for arrow in event.arrows.as_slice() {
-        write_arrow(alloc, layout, arrow, &mut line)?;
-        put_line(line.as_slice(), out)?;
-        line = lifelines(alloc, layout)?;
-    }
-    if event.arrows.is_empty() {
+    for row in 0..event.rows() {
+        let mut line = lifelines(alloc, layout)?;
+        if row == 0 {
+            write_words(alloc, event, &mut line)?;
+            write_actor(layout, event, &mut line);
+        }
+        write_row(alloc, layout, event, row, &mut line)?;
         put_line(line.as_slice(), out)?;
     }
     Ok(())
+}
+
+/// Writes the arrow or the mark in a row of an event.
+fn write_row(
+    alloc: Global,
+    layout: &Layout,
+    event: &ChartEvent,
+    row: usize,
+    line: &mut Vec<u8>,
+) -> Result<(), Memory> {
+    if let Some(arrow) = event.arrows.get(row) {
+        write_arrow(alloc, layout, arrow, line)
+    } else if let Some(mark) = event.mark_in(row) {
+        write_mark(alloc, layout, mark, line)
+    } else {
+        Ok(())
+    }
 }
 
 /// Writes the number of an event, which ends in its column, and its words.
@@ -133,6 +148,21 @@ fn write_name(left: usize, right: usize, name: &[u8], line: &mut Vec<u8>) {
     set(line, first.saturating_sub(1), b' ');
     write_at(line, first, name);
     set(line, first.saturating_add(name.len()), b' ');
+}
+
+/// Writes the words of a mark behind its lifeline.
+fn write_mark(
+    alloc: Global,
+    layout: &Layout,
+    mark: &Mark,
+    line: &mut Vec<u8>,
+) -> Result<(), Memory> {
+    let Some(column) = layout.columns.get(mark.place) else {
+        return Ok(());
+    };
+    let words = mark.text(alloc)?;
+    write_at(line, column.saturating_add(2), words.as_slice());
+    Ok(())
 }
 
 /// Appends a line, without the blanks at its end.

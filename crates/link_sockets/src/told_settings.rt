@@ -3,40 +3,24 @@
 
 use crate::line::log_line;
 use log::{Level, Log};
-use program_base::{ProgramFault, read_settings, unread_fault};
+use program_base::{ProgramFault, read_settings, told_settings_text};
 use settings::{Cell, Settings};
 use settings_hint::{earlier_twin, has_port_zero, hint_of};
-use std::fs;
 use std::rt::Runtime;
 
 /// The settings in this file. A fault of them is told in two lines, the second of which has the
 /// reason or the place; that memory ran out, in one. Then the status comes that the program ends
 /// with.
 pub(crate) fn told_settings<R: Runtime + AllocGlobal>(rt: &R, file: &str) -> Result<Settings, u8> {
-    let text = match fs::read_to_string(rt, file) {
-        Ok(text) => text,
-        Err(error) => {
-            let fault = unread_fault(&error);
-            tell(rt, &fault);
-            if let ProgramFault::UnreadSettings = fault {
-                let _ = eprintln!(rt; "bsc: settings: {file}: {error}");
-            }
-            return Err(fault.status());
-        }
-    };
+    let text = told_settings_text(rt, file)?;
     match read_settings(rt.alloc(), text.as_str()) {
         Ok(settings) => Ok(settings),
         Err(fault) => {
-            tell(rt, &fault);
+            let _ = eprintln!(rt; "bsc: {fault}");
             tell_hint(rt, file, text.as_str(), &fault);
             Err(fault.status())
         }
     }
-}
-
-/// Tells a fault of the program.
-fn tell<R: Runtime>(rt: &R, fault: &ProgramFault) {
-    let _ = eprintln!(rt; "bsc: {fault}");
 }
 
 /// Tells where in this text the settings have their fault.

@@ -19,7 +19,7 @@ pub use output::put;
 pub use parsing::task;
 pub use read_count::ReadCount;
 pub use script::read_line;
-pub use settings_file::{read_settings, settings_text, unread_fault};
+pub use settings_file::{read_settings, settings_text, told_settings_text, unread_fault};
 pub use tools::tool;
 pub use value::read_source;
 pub use watched::{WatchedInput, WatchedOutput};

@@ -21,6 +21,22 @@ pub fn settings_text<R: Runtime + AllocGlobal>(rt: &R, file: &str) -> Result<Str
     }
 }
 
+/// The text of the settings' file. That it can't be read is told in two lines, the second of which
+/// has the reason; that memory ran out, in one. Then the status comes that the program ends with.
+pub fn told_settings_text<R: Runtime + AllocGlobal>(rt: &R, file: &str) -> Result<String, u8> {
+    match fs::read_to_string(rt, file) {
+        Ok(text) => Ok(text),
+        Err(error) => {
+            let fault = unread_fault(&error);
+            let _ = eprintln!(rt; "bsc: {fault}");
+            if let ProgramFault::UnreadSettings = fault {
+                let _ = eprintln!(rt; "bsc: settings: {file}: {error}");
+            }
+            Err(fault.status())
+        }
+    }
+}
+
 /// The fault of the program where its settings' file isn't read.
 pub fn unread_fault(error: &io::Error) -> ProgramFault
     ensures { result ≡ unread_fault (error_kind error.now) }

@@ -1,5 +1,5 @@
 // SPDX-License-Identifier: MIT OR Apache-2.0
-use frame_pictures::{Arrow, Chart, ChartEvent, Fate, svg_of, text_of};
+use frame_pictures::{Arrow, Chart, ChartEvent, Fate, Mark, svg_of, text_of};
 use std::alloc::Global;
 use std::test::Fail;
 
@@ -23,11 +23,21 @@ fn event(alloc: Global, number: u64, words: &str, actor: usize) -> Result<ChartE
         actor,
         is_taken: true,
         arrows: Vec::new(alloc),
+        marks: Vec::new(alloc),
+    })
+}
+
+fn mark(alloc: Global, place: usize, words: &str, fate: Fate) -> Result<Mark, Fail> {
+    Ok(Mark {
+        place,
+        words: text(alloc, words)?,
+        fate,
     })
 }
 
 /// One cell and no mobile: a message of the station, two of the controller, one of them dropped, an
-/// event that isn't taken, and one with too many words.
+/// event that isn't taken, and one with too many words; and messages that waited, beside an arrow,
+/// at an event without one, and at the last lifeline.
 fn one_cell(alloc: Global) -> Result<Chart, Fail> {
     let mut labels = Vec::new(alloc);
     labels.push(text(alloc, "station 1")?)?;
@@ -38,13 +48,20 @@ fn one_cell(alloc: Global) -> Result<Chart, Fail> {
         .arrows
         .push(arrow(alloc, 0, 1, "DATA INDICATION CC")?)?;
     let mut second = event(alloc, 2, "handle", 1)?;
-    second.arrows.push(arrow(alloc, 1, 2, "DT1 DTAP SAPI 0")?)?;
+    second.arrows.push(arrow(alloc, 1, 2, "DT1 DTAP")?)?;
     let mut dropped = arrow(alloc, 1, 0, "ACK")?;
     dropped.fate = Fate::Dropped;
     second.arrows.push(dropped)?;
+    second
+        .marks
+        .push(mark(alloc, 1, "relayed 1", Fate::Passed)?)?;
     let mut third = event(alloc, 3, "switchtakes", 2)?;
     third.is_taken = false;
-    let fourth = event(alloc, 104, "upper 1 0 052471030405060708", 0)?;
+    let mut fourth = event(alloc, 104, "upper 1 0 052471030405060708", 0)?;
+    fourth.marks.push(mark(alloc, 1, "held 12", Fate::Held)?)?;
+    fourth
+        .marks
+        .push(mark(alloc, 2, "dropped 10 of it", Fate::Dropped)?)?;
     let mut events = Vec::new(alloc);
     events.push(first)?;
     events.push(second)?;
@@ -54,12 +71,14 @@ fn one_cell(alloc: Global) -> Result<Chart, Fail> {
 }
 
 const LINES: &[&str] = &[
-    "                                 station 1                 bsc               switch\n",
-    "     1 basepush 1                    *- DATA INDICATION CC >|                   |\n",
-    "     2 handle                        |                      *- DT1 DTAP SAPI 0 >|\n",
-    "                                     |<-- ACK (dropped) ----|                   |\n",
-    "     3 switchtakes                   |                      |                   x not taken\n",
-    "   104 upper 1 0 052471030405..      *                      |                   |\n",
+    "                                 station 1                 bsc        switch\n",
+    "     1 basepush 1                    *- DATA INDICATION CC >|            |\n",
+    "     2 handle                        |                      *- DT1 DTAP >|\n",
+    "                                     |<-- ACK (dropped) ----|            |\n",
+    "                                     |                      | relayed 1  |\n",
+    "     3 switchtakes                   |                      |            x not taken\n",
+    "   104 upper 1 0 052471030405..      *                      | held 12    |\n",
+    "                                     |                      |            | dropped 10 of it\n",
 ];
 
 fn joined(alloc: Global, lines: &[&str]) -> Result<Vec<u8>, Fail> {
@@ -90,12 +109,15 @@ fn contains(octets: &[u8], text: &str) -> bool {
 fn a_chart_is_a_picture(rt: HostRuntime) -> Result<(), Fail> {
     let chart = one_cell(rt.alloc())?;
     let picture = svg_of(rt.alloc(), &chart)?;
-    let parts: [&str; 6] = [
+    let parts: [&str; 9] = [
         "<svg xmlns=",
         ">DATA INDICATION CC</text>",
         ">ACK (dropped)</text>",
         "<line class=\"dropped\" x1=\"",
         ">not taken</text>",
+        "<circle class=\"ring passed\" cx=\"",
+        ">held 12</text>",
+        "<text class=\"mark lost\" x=\"",
         "</svg>\n",
     ];
     for part in parts {

@@ -3,15 +3,17 @@ ghost use Rattle.std.specs.Prelude.{◌≡◌, IfErr};
 ghost use Rattle.program_base.specs.Status.{status_of};
 
 use crate::lifelines::Lifelines;
-use frame_pictures::{Arrow, Chart, ChartEvent, Fate};
+use frame_pictures::{Arrow, Chart, ChartEvent, Fate, Mark};
 use frame_words::write_message_name;
 use memchr::memchr;
 use octets::Memory;
 use program_base::Failure;
 use std::alloc::Global;
+use std::io::Write;
+use trace_program::write_note_text;
 use world_actors::Network;
 use world_model::Event;
-use world_trace::{Crossing, Passage, step};
+use world_trace::{Crossing, End, Holding, Note, Passage, step};
 
 /// Lets these events happen in a world with so many cells, and gives the chart of them. `script`
 /// has their lines.
@@ -64,12 +66,14 @@ fn chart_event(
     let trace = step(alloc, network, event)?;
     let text = Vec::from_slice(alloc, line).map_err(Memory::from)?;
     let arrows = arrows_of(alloc, lifelines, trace.crossings.as_slice())?;
+    let marks = marks_of(alloc, lifelines, trace.notes.as_slice())?;
     Ok(ChartEvent {
         number,
         text,
         actor: lifelines.actor(event),
         is_taken: trace.refusal.is_none(),
         arrows,
+        marks,
     })
 }
 
@@ -109,4 +113,47 @@ fn arrow_of(alloc: Global, lifelines: &Lifelines, crossing: &Crossing) -> Result
         name,
         fate: Fate::Passed,
     })
+}
+
+/// A mark for each note of messages that were held, relayed from the hold, or dropped.
+fn marks_of(alloc: Global, lifelines: &Lifelines, notes: &[Note]) -> Result<Vec<Mark>, Failure>
+    ensures err { IfErr result (λ failure. status_of failure ≡ 3) }
+{
+    let mut marks = Vec::new(alloc);
+    for note in notes {
+        if let Some(drawn) = mark_of(alloc, lifelines, *note)? {
+            marks.push(drawn).map_err(Memory::from)?;
+        }
+    }
+    Ok(marks)
+}
+
+/// The mark of a note, with the words of its line.
+fn mark_of(alloc: Global, lifelines: &Lifelines, note: Note) -> Result<Option<Mark>, Failure>
+    ensures err { IfErr result (λ failure. status_of failure ≡ 3) }
+{
+    let Note::Hold {
+        number,
+        holding,
+        ..
+    } = note
+    else {
+        return Ok(None);
+    };
+    let mut words = Vec::new(alloc);
+    write!(words, "conn {number}: ")?;
+    write_note_text(note, &mut words)?;
+    Ok(Some(Mark {
+        place: lifelines.end(End::Controller),
+        words,
+        fate: fate_of(holding),
+    }))
+}
+
+fn fate_of(holding: Holding) -> Fate {
+    match holding {
+        Holding::Held => Fate::Held,
+        Holding::Relayed => Fate::Passed,
+        Holding::Dropped => Fate::Dropped,
+    }
 }

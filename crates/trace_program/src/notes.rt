@@ -1,12 +1,12 @@
 // SPDX-License-Identifier: MIT OR Apache-2.0
-ghost use Rattle.std.specs.Prelude.{◌≡◌, ◌++◌, IfErr, OnOk, codes};
+ghost use Rattle.std.specs.Prelude.{◌≡◌, IfErr, OnOk};
 ghost use Rattle.std.specs.List.{flat_map};
 ghost use Rattle.std.specs.Io.KnownBytes.{Appends};
 ghost use Rattle.program_base.specs.Status.{status_of};
 ghost use Rattle.trace_program.specs.TraceLines.{connection_of, note_line, note_text};
 
 use crate::words::{holding_text, phase_text, sapi_text, timer_text, way_text};
-use program_base::Failure;
+use program_base::{Failure, put};
 use std::io::Write;
 use world_trace::Note;
 
@@ -33,7 +33,9 @@ fn write_note<W: Write>(number: u64, note: Note, output: &mut W) -> Result<(), F
 {
     let connection = connection_of(note);
     write!(output, "{number}\tbsc\tbsc\tconn {connection}\t")?;
-    write_text(note, output)
+    write_note_text(note, output)?;
+    put(output, b"\t\n")?;
+    Ok(())
 }
 
 /// The number of the connection.
@@ -47,16 +49,16 @@ fn connection_of(note: Note) -> u32
     }
 }
 
-/// Writes what became of it, and the end of the line.
-fn write_text<W: Write>(note: Note, output: &mut W) -> Result<(), Failure>
+/// Writes what became of a connection, in words.
+pub fn write_note_text<W: Write>(note: Note, output: &mut W) -> Result<(), Failure>
     ensures text { OnOk result (Appends (W.contents output.old) (W.contents output.new)
-        (note_text note ++ codes "\t\n")) }
+        (note_text note)) }
     ensures err { IfErr result (λ failure. status_of failure ≡ 3) }
 {
     match note {
-        Note::Expired { timer, .. } => writeln!(output, "{} expired\t", timer_text(timer))?,
+        Note::Expired { timer, .. } => write!(output, "{} expired", timer_text(timer))?,
         Note::Changed { from, to, .. } => {
-            writeln!(output, "{} to {}\t", phase_text(from), phase_text(to))?;
+            write!(output, "{} to {}", phase_text(from), phase_text(to))?;
         }
         Note::Hold {
             holding,
@@ -64,9 +66,9 @@ fn write_text<W: Write>(note: Note, output: &mut W) -> Result<(), Failure>
             way,
             sapi,
             ..
-        } => writeln!(
+        } => write!(
             output,
-            "{} {count} {} {}\t",
+            "{} {count} {} {}",
             holding_text(holding),
             way_text(way),
             sapi_text(sapi)
