@@ -2,14 +2,15 @@
 -- Outputs of a step, added to what the outboxes carry and to what waits.
 use Rattle.std.proofs.Common.{◌≡◌, ◌≢◌, ℕ, ◌+◌, ◌<◌, ◌≤◌, ◌==◌, true, false, List, [], ◌∷◌, ◌++◌, length, map, replicate, refl, sym, ap, ◌∙◌, subst, append_assoc, arith, set, ⊎_elim, get_or-set_same, get_or-set_other, zero, suc}
 use Rattle.std.specs.List.{filter}
-use Rattle.std.proofs.lemmas.Bool.{eq-eqb, ne_eqb}
+use Rattle.std.proofs.lemmas.Bool.{eq-eqb, ne_eqb, false≢true}
 use Rattle.std.proofs.lemmas.List.{map-append}
 use Rattle.std.proofs.lemmas.List.Elements.{filter-append}
 use mathlib.Core.Option.{some, some-injective}
 use lib.ListN.{get_elem?}
 use Rattle.atomic_table.proofs.Lists.{at_set}
 use Rattle.controller_worker.specs.declared.mark.Mark.{Mark}
-use Rattle.controller_worker.specs.Advancing.{Sends, SendsAll, SendsSome, mark_at, unmarked}
+use Rattle.controller_worker.specs.Advancing.{Sends, SendsAll, SendsSome, StayOpen, mark_at, unmarked}
+use Rattle.controller_worker.specs.Links.{is_given_up}
 use Rattle.controller_worker.specs.Moves.{times}
 use Rattle.controller_worker.specs.Steps.{frames_to}
 use Rattle.controller_worker.proofs.Histories.{same_or, times_both, times_none, times_same}
@@ -156,6 +157,21 @@ tried_at putters ms at p q m m' count here mark kept sends =
           (sends_at putters ms at [] p q m'.waiting sends.0 (omega arith) here (λ link e. refl)
           (subst (λ (y : Mark). Sends p y.waiting [] sends.0 q m'.waiting) (sym w) sends.1)),
     )
+
+-- ---- outboxes that were given up
+
+pub open_none : (ps : List PutterView) → StayOpen ps ps
+open_none ps link p here up = (p, here, up)
+
+pub open_both : (a b c : List PutterView) → StayOpen a b → StayOpen b c → StayOpen a c
+open_both a b c f g link r here up = let mid = g link r here up in f link mid.0 mid.1 mid.2
+
+pub open_at : (ps : List PutterView) (at : ℕ) (q : PutterView) → is_given_up q ≡ false → StayOpen ps (set ps at q)
+open_at ps at q up link r here now =
+    ⊎_elim (λ (h : (link ≡ at) × (q ≡ r)). absurd (false≢true (sym up ∙ ap (λ y. is_given_up y) h.1 ∙ now)))
+    (λ (h : (link ≢ at) × (get_elem? ps link ≡ some r)). let same : (was : PutterView) × (get_elem? ps link ≡ some was) × (is_given_up was ≡ true) = (r, h.1, now) in same) (at_set ps at link q r here)
+
+-- ---- one behind the other
 
 -- one more of a list is done
 pub next_done : (done : List Out) (out : Out) (left next all : List Out) → done ++ left ≡ all → left ≡ out ∷ next → (done ++ out ∷ []) ++ next ≡ all

@@ -60,6 +60,11 @@ pub record Sends (old : PutterView) (waited came : List Frame) (refusals : ℕ)
 abbrev pub SendsSome : PutterView → List Frame → List Frame → PutterView → List Frame → Type 0
 SendsSome old waited came new waiting = (refusals : ℕ) × Sends old waited came refusals new waiting
 
+-- each outbox that is given up was so before
+abbrev pub StayOpen : List PutterView → List PutterView → Type 0
+StayOpen old new = EachAt new (λ link p. is_given_up p ≡ true →
+    (was : PutterView) × (get_elem? old link ≡ some was) × (is_given_up was ≡ true))
+
 abbrev pub unmarked : Mark
 unmarked = record { added = false; down = false; waiting = [] }
 

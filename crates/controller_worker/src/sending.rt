@@ -2,7 +2,7 @@
 //! The outputs of a step, into the outboxes of their links. What a full outbox refuses waits in a
 //! list of its link, and what comes behind it too.
 ghost use Rattle.std.specs.Prelude.{◌≡◌, ◌<◌, ℕ, List, [], ◌∷◌, length, true, false};
-ghost use Rattle.controller_worker.specs.Advancing.{SendsAll, SendsSome};
+ghost use Rattle.controller_worker.specs.Advancing.{SendsAll, SendsSome, StayOpen};
 ghost use Rattle.controller_worker.specs.Links.{is_given_up as given_up};
 ghost use Rattle.ipa_framing.specs.declared.frame.Frame.{Frame};
 ghost use Rattle.ruled_relay.specs.declared.outbox.Line.TheVariants as marks;
@@ -16,39 +16,67 @@ use link_workers::Pauses;
 use ruled_relay::{Full, Line, Putter};
 use std::sync::Wait;
 
+/// What came of outputs that were sent.
+#[derive(Clone, Copy)]
+pub(crate) struct Sent {
+    /// Whether a frame waits for one of their outboxes.
+    pub(crate) waits: bool,
+    /// Whether one of their outboxes is given up, since just now or since long.
+    pub(crate) gives_up: bool,
+}
+
+impl Sent {
+    fn and(self, other: Sent) -> Sent
+        ensures { result.gives_up ≡ false → (self.gives_up ≡ false) × (other.gives_up ≡ false) }
+    {
+        Sent {
+            waits: self.waits || other.waits,
+            gives_up: self.gives_up || other.gives_up,
+        }
+    }
+}
+
 /// Puts each output into its link's outbox, in order, or lets it wait. What goes to no link is
-/// dropped. Says whether one waits.
+/// dropped.
 pub(crate) fn send_all<R: Wait>(
     rt: &R,
     putters: &mut Vec<Putter>,
     marks: &mut Vec<Mark>,
     outs: Vec<Out>,
-) -> bool
+) -> Sent
     requires { length marks.old.items ≡ length putters.old.items }
-    ensures { (tries : List ℕ) × SendsAll putters.old.items marks.old.items outs.items tries
-        putters.new.items marks.new.items }
+    ensures sent { (tries : List ℕ) × SendsAll putters.old.items marks.old.items
+        outs.items tries putters.new.items marks.new.items }
+    ensures stay { result.gives_up ≡ false → StayOpen putters.old.items putters.new.items }
 {
-    let mut is_slow = false;
+    let mut sent = Sent {
+        waits: false,
+        gives_up: false,
+    };
     for out in outs {
-        if send_to(rt, putters, marks, out) {
-            is_slow = true;
-        }
+        sent = sent.and(send_to(rt, putters, marks, out));
     }
-    is_slow
+    sent
 }
 
-fn send_to<R: Wait>(rt: &R, putters: &mut Vec<Putter>, marks: &mut Vec<Mark>, out: Out) -> bool
+fn send_to<R: Wait>(rt: &R, putters: &mut Vec<Putter>, marks: &mut Vec<Mark>, out: Out) -> Sent
     requires { length marks.old.items ≡ length putters.old.items }
-    ensures { (tries : List ℕ) × SendsAll putters.old.items marks.old.items (out ∷ []) tries
+    ensures sent { (tries : List ℕ) × SendsAll putters.old.items marks.old.items (out ∷ []) tries
         putters.new.items marks.new.items }
+    ensures stay { result.gives_up ≡ false → StayOpen putters.old.items putters.new.items }
 {
     let link = usize::from(out.to);
     if link >= putters.len() {
-        return false;
+        return Sent {
+            waits: false,
+            gives_up: false,
+        };
     }
     let putter = &mut putters[link];
     let mark = &mut marks[link];
-    send(rt, putter, &mut mark.waiting, out.frame)
+    let waits = send(rt, putter, &mut mark.waiting, out.frame);
+    let gives_up = is_given_up(putter);
+    Sent { waits, gives_up }
 }
 
 /// Puts what waits for each outbox, until that refuses. Says whether a frame still waits.

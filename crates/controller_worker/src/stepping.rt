@@ -2,11 +2,11 @@
 //! Steps of the controller: an item that was taken, time that has gathered, or the `Down` of a link
 //! that was given up.
 ghost use Rattle.std.specs.Prelude.{◌≡◌, ℕ, ◌+◌, ◌<◌, ◌^◌, ◌↔◌, List, [], length, min};
-ghost use Rattle.std.specs.Prelude.{IsTrue, MatchOption};
-ghost use Rattle.std.specs.Prelude.{OnOk, OnErr, vec_len};
+ghost use Rattle.std.specs.Prelude.{IsTrue, MatchOption, false};
+ghost use Rattle.std.specs.Prelude.{IfOk, OnOk, OnErr, vec_len};
 ghost use Rattle.controller_worker.specs.Advancing.{DoesStep, Advances, GoesOrStops, IsPending};
 ghost use Rattle.controller_worker.specs.Advancing.{IsSettled};
-ghost use Rattle.controller_worker.specs.Advancing.{SendsAll, IsValid, noted, pends};
+ghost use Rattle.controller_worker.specs.Advancing.{SendsAll, StayOpen, IsValid, noted, pends};
 ghost use Rattle.controller_worker.specs.Advancing.{with_added};
 ghost use Rattle.controller_worker.specs.Seen.{seen};
 ghost use Rattle.ruled_relay.specs.declared.item.What.TheVariants as whats;
@@ -108,10 +108,25 @@ impl<K: Clock> CallWorker<K> {
         self.turn = item.source.saturating_add(1);
         let source = usize::from(item.source);
         let is_down = is_down(&item.what);
-        self.do_step(rt, Step::Take(item))?;
+        let gives_up = self.do_step(rt, Step::Take(item))?;
         note(&mut self.marks, source, is_down);
-        self.add_downs(rt)?;
+        self.settle(rt, gives_up)?;
         Ok(true)
+    }
+
+    // Adds the `Down`s that are to be added, where an outbox may have been given up.
+    fn settle<R: Wait>(&mut self, rt: &R, gives_up: bool) -> Result<(), Memory>
+        requires stands { IsValid (seen K.told self.old) }
+        requires settled { gives_up ≡ false → IsSettled (seen K.told self.old) }
+        ensures stands { IsValid (seen K.told self.new) }
+        ensures goes { GoesOrStops result (seen K.told self.old) (seen K.told self.new) }
+        ensures settled { OnOk result (IsSettled (seen K.told self.new)) }
+        ensures gathered { self.new.gathered ≡ self.old.gathered }
+    {
+        if gives_up {
+            return self.add_downs(rt);
+        }
+        Ok(())
     }
 
     /// Of each link whose outbox was given up and whose `Down` wasn't added yet, the `Down` is the
@@ -151,10 +166,13 @@ impl<K: Clock> CallWorker<K> {
         None
     }
 
-    // Does a step, and puts its outputs into the outboxes. A refusal changes nothing.
-    fn do_step<R: Wait>(&mut self, rt: &R, step: Step) -> Result<(), Memory>
+    // Does a step, and puts its outputs into the outboxes. Says whether one of these is given up. A
+    // refusal changes nothing.
+    fn do_step<R: Wait>(&mut self, rt: &R, step: Step) -> Result<bool, Memory>
         requires { IsValid (seen K.told self.old) }
         ensures ok { OnOk result (DoesStep step (seen K.told self.old) (seen K.told self.new)) }
+        ensures stay { IfOk result (λ gives_up. gives_up ≡ false
+            → StayOpen self.old.putters.items self.new.putters.items) }
         ensures err { OnErr result (seen K.told self.new ≡ seen K.told self.old) }
         ensures stands { IsValid (seen K.told self.new) }
     {
@@ -162,10 +180,9 @@ impl<K: Clock> CallWorker<K> {
         self.step_shown(step, &mut outputs)?;
         if outputs.is_empty() {
             self.put_none();
-        } else {
-            self.send(rt, outputs);
+            return Ok(false);
         }
-        Ok(())
+        Ok(self.send(rt, outputs))
     }
 
     // A step that puts nothing counts too while something that was put waits for a bell: so it
@@ -190,11 +207,13 @@ impl<K: Clock> CallWorker<K> {
         }
     }
 
-    fn send<R: Wait>(&mut self, rt: &R, outputs: Outputs)
+    // Puts what the step puts into the outboxes, and says whether one of these is given up.
+    fn send<R: Wait>(&mut self, rt: &R, outputs: Outputs) -> bool
         requires { length self.old.marks.items ≡ length self.old.putters.items }
         ensures sent { (tries : List ℕ) × SendsAll
             self.old.putters.items self.old.marks.items outputs.outs tries
             self.new.putters.items self.new.marks.items }
+        ensures stay { result ≡ false → StayOpen self.old.putters.items self.new.putters.items }
         ensures same { seen K.told self.new ≡ record (seen K.told self.old) {
           putters = self.new.putters.items;
           marks = self.new.marks.items;
@@ -202,10 +221,12 @@ impl<K: Clock> CallWorker<K> {
     {
         let more = outputs.len();
         let outs = outputs.into_vec();
-        if send_all(rt, &mut self.putters, &mut self.marks, outs) {
+        let sent = send_all(rt, &mut self.putters, &mut self.marks, outs);
+        if sent.waits {
             self.is_slow = true;
         }
         self.count(more);
+        sent.gives_up
     }
 
     /// Wakes the writers, if there may be something for them.

@@ -1,12 +1,13 @@
 -- SPDX-License-Identifier: MIT OR Apache-2.0
 use Rattle.std.proofs.Common.{◌∙◌, refl, sym, ap, subst, length}
-use Rattle.controller_worker.specs.Advancing.{DoesStep, SendsAll, State}
+use Rattle.controller_worker.specs.Advancing.{DoesStep, SendsAll, State, StayOpen}
 use Rattle.controller_worker.specs.Seen.{seen}
+use Rattle.controller_worker.proofs.Outputs.{open_none}
 use Rattle.controller_worker.proofs.Turns.{does_nothing, does_sent, stands_on}
 use Rattle.controller_worker.proofs.worker.CallWorker.do_step.Goals as goal
 
-pub returns-else-is_empty-clause-ok : goal.returns-else-is_empty-clause-ok
-returns-else-is_empty-clause-ok g c =
+pub returns-clause-ok : goal.returns-clause-ok
+returns-clause-ok g c =
     let kept = c.in_ok-step_shown.ensures.kept in
     does_sent c.args.step (seen g.K.Clock.told c.args.self.now) (seen g.K.Clock.told c.send.new.self) c.step_shown.new.self.controller c.new-outputs.result.outs c.step_shown.new.outputs.outs
     c.send.ensures.sent.0 c.requires (ap (λ o. o.outs) c.new-outputs.ensures) c.in_ok-step_shown.ensures.ok.0 c.in_ok-step_shown.ensures.ok.1
@@ -18,15 +19,22 @@ send-requires g c =
     let kept = c.in_ok-step_shown.ensures.kept in
     ap (λ (s : State). length s.marks) kept ∙ c.requires.marks ∙ sym (ap (λ (s : State). length s.putters) kept)
 
-pub returns-else-is_empty-clause-stands : goal.returns-else-is_empty-clause-stands
-returns-else-is_empty-clause-stands g c =
-    stands_on c.args.step (seen g.K.Clock.told c.args.self.now) (seen g.K.Clock.told c.send.new.self) c.requires (returns-else-is_empty-clause-ok g c)
+pub returns-clause-stay : goal.returns-clause-stay
+returns-clause-stay g c = λ h. subst (λ (s : State). StayOpen s.putters c.send.new.self.putters.items) c.in_ok-step_shown.ensures.kept (c.send.ensures.stay h)
+
+pub returns-clause-stands : goal.returns-clause-stands
+returns-clause-stands g c = stands_on c.args.step (seen g.K.Clock.told c.args.self.now) (seen g.K.Clock.told c.send.new.self) c.requires (returns-clause-ok g c)
 
 pub returns-then-is_empty-clause-ok : goal.returns-then-is_empty-clause-ok
 returns-then-is_empty-clause-ok g c =
     subst (λ after. DoesStep c.args.step (seen g.K.Clock.told c.args.self.now) after) (sym (c.put_none.ensures ∙ c.in_ok-step_shown.ensures.kept))
     (does_nothing c.args.step (seen g.K.Clock.told c.args.self.now) c.step_shown.new.self.controller c.new-outputs.result.outs c.step_shown.new.outputs.outs c.requires (ap (λ o. o.outs) c.new-outputs.ensures)
     c.in_ok-step_shown.ensures.ok.0 c.in_ok-step_shown.ensures.ok.1 (c.if-is_empty.ensures.0 refl))
+
+pub returns-then-is_empty-clause-stay : goal.returns-then-is_empty-clause-stay
+returns-then-is_empty-clause-stay g c =
+    λ h.
+    subst (λ (s : State). StayOpen c.args.self.now.putters.items s.putters) (sym (c.put_none.ensures ∙ c.in_ok-step_shown.ensures.kept)) (open_none c.args.self.now.putters.items)
 
 pub returns-then-is_empty-clause-stands : goal.returns-then-is_empty-clause-stands
 returns-then-is_empty-clause-stands g c =
