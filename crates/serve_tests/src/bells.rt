@@ -120,7 +120,8 @@ fn one_message_at_a_time_waits_for_no_time(rt: HostRuntime) -> Result<(), Fail> 
     let counters = [AtomicU64::new(0), AtomicU64::new(0), AtomicU64::new(0)];
     let got = Arc::new(alloc, counters)?;
     let mut links = Vec::with_capacity(alloc, 3)?;
-    for (link, messages) in [0, MESSAGES, 0].iter().enumerate() {
+    let asked = [0, MESSAGES, 0];
+    for (link, messages) in asked.iter().enumerate() {
         links.push(link_of(rt, alloc, &got, link, *messages)?)?;
     }
     let controller = Controller::new(alloc, settings(alloc)?)?;
