@@ -23,7 +23,7 @@ acknowledgements mobile so_far (call ∷ calls) =
     if begins mobile call
     then so_far ∷ acknowledgements (after_call mobile call) [] calls
     else acknowledgements (after_call mobile call)
-        (so_far ++ acknowledged_by_call mobile call) calls
+    (so_far ++ acknowledged_by_call mobile call) calls
 
 -- In each of these establishments this was taken, and this of it acknowledged: slices of the sent
 -- list with one beginning, and all of the flow that was taken, but for the last message at most.

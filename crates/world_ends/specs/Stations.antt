@@ -101,7 +101,7 @@ released_on channel s =
 abbrev pub reported_on : ℕ → List ℕ → Station → Station
 reported_on channel report s =
     station_after_message (measurement_result channel (spot_of s channel).reports report)
-        (counted_on channel s)
+    (counted_on channel s)
 
 -- the first message that it made is given out
 abbrev pub given_on : Station → Station
