@@ -1,5 +1,5 @@
 -- SPDX-License-Identifier: MIT OR Apache-2.0
-use Rattle.std.proofs.Common.{◌≡◌, [], ◌∷◌, ◌++◌, reverse, sym, ap, ◌∙◌, subst, append-nil, arith}
+use Rattle.std.proofs.Common.{[], ◌∷◌, ◌++◌, reverse, sym, ap, ◌∙◌, subst, append-nil}
 use Rattle.std.proofs.lemmas.List.{reverse-reverse}
 use Rattle.controller_worker.proofs.Outputs.{SomeAll, all_none, first_of_reversed, next_done, open_both, open_none, some_all_both}
 use Rattle.controller_worker.proofs.sending.send_all.Goals as goal
