@@ -1,9 +1,9 @@
 -- SPDX-License-Identifier: MIT OR Apache-2.0
 -- Outputs of a step, added to what the outboxes carry and to what waits.
-use Rattle.std.proofs.Common.{◌≡◌, ◌≢◌, ℕ, ◌+◌, ◌<◌, ◌≤◌, ◌==◌, true, false, List, [], ◌∷◌, ◌++◌, length, map, replicate, refl, sym, ap, ◌∙◌, subst, append_assoc, arith, set, ⊎_elim, get_or-set_same, get_or-set_other, zero, suc}
+use Rattle.std.proofs.Common.{◌≡◌, ◌≢◌, ℕ, ◌+◌, ◌<◌, ◌≤◌, ◌==◌, true, false, List, [], ◌∷◌, ◌++◌, length, map, replicate, reverse, refl, sym, ap, ◌∙◌, subst, append_assoc, arith, set, ⊎_elim, get_or-set_same, get_or-set_other, zero, suc}
 use Rattle.std.specs.List.{filter}
 use Rattle.std.proofs.lemmas.Bool.{eq-eqb, ne_eqb, false≢true}
-use Rattle.std.proofs.lemmas.List.{map-append}
+use Rattle.std.proofs.lemmas.List.{map-append, reverse-append}
 use Rattle.std.proofs.lemmas.List.Elements.{filter-append}
 use mathlib.Core.Option.{some, some-injective}
 use lib.ListN.{get_elem?}
@@ -177,6 +177,6 @@ open_at ps at q up link r here now =
 pub next_done : (done : List Out) (out : Out) (left next all : List Out) → done ++ left ≡ all → left ≡ out ∷ next → (done ++ out ∷ []) ++ next ≡ all
 next_done done out left next all so_far step = append_assoc done (out ∷ []) next ∙ ap (λ os. done ++ os) (sym step) ∙ so_far
 
-pub no_outs : (outs : List Out) → length outs ≡ 0 → outs ≡ []
-no_outs [] none = refl
-no_outs (out ∷ outs) none = absurd (omega arith)
+-- the last of a list turned round is the first
+pub first_of_reversed : (outs rest : List Out) (out : Out) → outs ≡ rest ++ out ∷ [] → reverse outs ≡ out ∷ reverse rest
+first_of_reversed outs rest out is = ap (λ os. reverse os) is ∙ reverse-append rest (out ∷ [])

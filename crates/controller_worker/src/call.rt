@@ -10,6 +10,7 @@ use crate::clock::Clock;
 use crate::limits::TICK_MS;
 use crate::mark::Marks;
 use crate::worker::CallWorker;
+use conn_messages::Outputs;
 use controller::Controller;
 use link_workers::IoFault;
 use octets::Memory;
@@ -63,8 +64,8 @@ pub fn call_worker<R: Wait, K: Clock + Drop>(
     ensures fault { IsMemory result.fault }
 {
     let mut worker = CallWorker {
-        alloc,
         controller,
+        outputs: Outputs::new(alloc),
         desk,
         putters,
         marks: marks.of_links,

@@ -10,7 +10,7 @@ ghost use Rattle.ruled_relay.specs.declared.outbox.Line.TheVariants as marks;
 use crate::limits::{MAX_REFUSALS, MAX_WAITING};
 use crate::mark::Mark;
 use crate::waiting::Waiting;
-use conn_messages::Out;
+use conn_messages::{Out, Outputs};
 use ipa_framing::Frame;
 use link_workers::Pauses;
 use ruled_relay::{Full, Line, Putter};
@@ -36,24 +36,26 @@ impl Sent {
     }
 }
 
-/// Puts each output into its link's outbox, in order, or lets it wait. What goes to no link is
-/// dropped.
+/// Puts each output into its link's outbox, in order, or lets it wait, and leaves none of them.
+/// What goes to no link is dropped.
 pub(crate) fn send_all<R: Wait>(
     rt: &R,
     putters: &mut Vec<Putter>,
     marks: &mut Vec<Mark>,
-    outs: Vec<Out>,
+    outputs: &mut Outputs,
 ) -> Sent
     requires { length marks.old.items ≡ length putters.old.items }
     ensures sent { (tries : List ℕ) × SendsAll putters.old.items marks.old.items
-        outs.items tries putters.new.items marks.new.items }
+        outputs.old.outs tries putters.new.items marks.new.items }
     ensures stay { result.gives_up ≡ false → StayOpen putters.old.items putters.new.items }
+    ensures none { outputs.new.outs ≡ [] }
 {
     let mut sent = Sent {
         waits: false,
         gives_up: false,
     };
-    for out in outs {
+    outputs.reverse();
+    while let Some(out) = outputs.pop() {
         sent = sent.and(send_to(rt, putters, marks, out));
     }
     sent

@@ -1,28 +1,28 @@
 // SPDX-License-Identifier: MIT OR Apache-2.0
 //! A step of the controller that the clock is shown.
-ghost use Rattle.std.specs.Prelude.{◌≡◌, OnOk, OnErr};
+ghost use Rattle.std.specs.Prelude.{◌≡◌, [], OnOk, OnErr};
 ghost use Rattle.controller.specs.Doing.{Turns};
 ghost use Rattle.controller_model.specs.Life as words;
 ghost use Rattle.controller_worker.specs.Seen.{seen};
 
 use crate::clock::Clock;
 use crate::worker::CallWorker;
-use conn_messages::Outputs;
 use controller_model::Step;
 use octets::Memory;
 
 impl<K: Clock> CallWorker<K> {
-    /// The controller does a step, and the clock is shown it, with what it puts. A refusal changes
-    /// nothing.
-    pub(crate) fn step_shown(&mut self, step: Step, outputs: &mut Outputs) -> Result<(), Memory>
+    /// The controller does a step, and the clock is shown it, with what it puts: that is then in
+    /// `outputs`. A refusal changes nothing.
+    pub(crate) fn step_shown(&mut self, step: Step) -> Result<(), Memory>
         ensures ok { OnOk result (Turns (words.step self.old.controller step)
-            self.old.controller self.new.controller outputs.old.outs outputs.new.outs) }
+            self.old.controller self.new.controller [] self.new.outputs.outs) }
         ensures kept { OnOk result (seen K.told self.new
             ≡ record (seen K.told self.old) { controller = self.new.controller }) }
         ensures err { OnErr result (seen K.told self.new ≡ seen K.told self.old) }
     {
-        self.controller.run_shown(&step, outputs)?;
-        self.clock.see_step(&step, &self.controller, outputs);
+        self.outputs.clear();
+        self.controller.run_shown(&step, &mut self.outputs)?;
+        self.clock.see_step(&step, &self.controller, &self.outputs);
         Ok(())
     }
 }

@@ -17,7 +17,6 @@ use crate::mark::Mark;
 use crate::sending::{is_given_up, ring_all, send_all, tell_given_up};
 use crate::taking::next_item;
 use crate::worker::CallWorker;
-use conn_messages::Outputs;
 use controller_model::Step;
 use octets::Memory;
 use ruled_relay::{Item, Putter, What};
@@ -176,13 +175,12 @@ impl<K: Clock> CallWorker<K> {
         ensures err { OnErr result (seen K.told self.new ≡ seen K.told self.old) }
         ensures stands { IsValid (seen K.told self.new) }
     {
-        let mut outputs = Outputs::new(self.alloc);
-        self.step_shown(step, &mut outputs)?;
-        if outputs.is_empty() {
+        self.step_shown(step)?;
+        if self.outputs.is_empty() {
             self.put_none();
             return Ok(false);
         }
-        Ok(self.send(rt, outputs))
+        Ok(self.send(rt))
     }
 
     // A step that puts nothing counts too while something that was put waits for a bell: so it
@@ -208,10 +206,10 @@ impl<K: Clock> CallWorker<K> {
     }
 
     // Puts what the step puts into the outboxes, and says whether one of these is given up.
-    fn send<R: Wait>(&mut self, rt: &R, outputs: Outputs) -> bool
+    fn send<R: Wait>(&mut self, rt: &R) -> bool
         requires { length self.old.marks.items ≡ length self.old.putters.items }
         ensures sent { (tries : List ℕ) × SendsAll
-            self.old.putters.items self.old.marks.items outputs.outs tries
+            self.old.putters.items self.old.marks.items self.old.outputs.outs tries
             self.new.putters.items self.new.marks.items }
         ensures stay { result ≡ false → StayOpen self.old.putters.items self.new.putters.items }
         ensures same { seen K.told self.new ≡ record (seen K.told self.old) {
@@ -219,9 +217,8 @@ impl<K: Clock> CallWorker<K> {
           marks = self.new.marks.items;
         } }
     {
-        let more = outputs.len();
-        let outs = outputs.into_vec();
-        let sent = send_all(rt, &mut self.putters, &mut self.marks, outs);
+        let more = self.outputs.len();
+        let sent = send_all(rt, &mut self.putters, &mut self.marks, &mut self.outputs);
         if sent.waits {
             self.is_slow = true;
         }

@@ -1,16 +1,16 @@
 // SPDX-License-Identifier: MIT OR Apache-2.0
-ghost use Rattle.std.specs.Prelude.{◌≡◌};
-
 use crate::mark::Mark;
+use conn_messages::Outputs;
 use controller::Controller;
 use ruled_relay::{Desk, Putter};
-use std::alloc::Global;
 
 /// The call worker at work.
 #[derive(Drop)]
 pub(crate) struct CallWorker<K> {
-    pub(crate) alloc: Global,
     pub(crate) controller: Controller,
+    /// What the last step put that isn't sent yet. Kept, so that a step finds the room of those
+    /// before it.
+    pub(crate) outputs: Outputs,
     pub(crate) desk: Desk,
     /// The outboxes, by link.
     pub(crate) putters: Vec<Putter>,

@@ -1,5 +1,5 @@
 -- SPDX-License-Identifier: MIT OR Apache-2.0
-use Rattle.std.proofs.Common.{◌∙◌, refl, sym, ap, subst, length}
+use Rattle.std.proofs.Common.{[], ◌∙◌, refl, sym, ap, subst, length}
 use Rattle.controller_worker.specs.Advancing.{DoesStep, SendsAll, State, StayOpen}
 use Rattle.controller_worker.specs.Seen.{seen}
 use Rattle.controller_worker.proofs.Outputs.{open_none}
@@ -9,9 +9,9 @@ use Rattle.controller_worker.proofs.worker.CallWorker.do_step.Goals as goal
 pub returns-clause-ok : goal.returns-clause-ok
 returns-clause-ok g c =
     let kept = c.in_ok-step_shown.ensures.kept in
-    does_sent c.args.step (seen g.K.Clock.told c.args.self.now) (seen g.K.Clock.told c.send.new.self) c.step_shown.new.self.controller c.new-outputs.result.outs c.step_shown.new.outputs.outs
-    c.send.ensures.sent.0 c.requires (ap (λ o. o.outs) c.new-outputs.ensures) c.in_ok-step_shown.ensures.ok.0 c.in_ok-step_shown.ensures.ok.1
-    (subst (λ (s : State). SendsAll s.putters s.marks c.step_shown.new.outputs.outs c.send.ensures.sent.0 c.send.new.self.putters.items c.send.new.self.marks.items) kept c.send.ensures.sent.1)
+    does_sent c.args.step (seen g.K.Clock.told c.args.self.now) (seen g.K.Clock.told c.send.new.self) c.step_shown.new.self.controller [] c.step_shown.new.self.outputs.outs
+    c.send.ensures.sent.0 c.requires refl c.in_ok-step_shown.ensures.ok.0 c.in_ok-step_shown.ensures.ok.1
+    (subst (λ (s : State). SendsAll s.putters s.marks c.step_shown.new.self.outputs.outs c.send.ensures.sent.0 c.send.new.self.putters.items c.send.new.self.marks.items) kept c.send.ensures.sent.1)
     (c.send.ensures.same ∙ ap (λ (s : State). record s { putters = c.send.new.self.putters.items; marks = c.send.new.self.marks.items }) kept)
 
 pub send-requires : goal.send-requires
@@ -28,7 +28,7 @@ returns-clause-stands g c = stands_on c.args.step (seen g.K.Clock.told c.args.se
 pub returns-then-is_empty-clause-ok : goal.returns-then-is_empty-clause-ok
 returns-then-is_empty-clause-ok g c =
     subst (λ after. DoesStep c.args.step (seen g.K.Clock.told c.args.self.now) after) (sym (c.put_none.ensures ∙ c.in_ok-step_shown.ensures.kept))
-    (does_nothing c.args.step (seen g.K.Clock.told c.args.self.now) c.step_shown.new.self.controller c.new-outputs.result.outs c.step_shown.new.outputs.outs c.requires (ap (λ o. o.outs) c.new-outputs.ensures)
+    (does_nothing c.args.step (seen g.K.Clock.told c.args.self.now) c.step_shown.new.self.controller [] c.step_shown.new.self.outputs.outs c.requires refl
     c.in_ok-step_shown.ensures.ok.0 c.in_ok-step_shown.ensures.ok.1 (c.if-is_empty.ensures.0 refl))
 
 pub returns-then-is_empty-clause-stay : goal.returns-then-is_empty-clause-stay
