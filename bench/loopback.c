@@ -38,7 +38,7 @@ static unsigned numbers[MOST_CELLS + 1]; /* of a cell's one call */
 static int channels[MOST_CELLS + 1];
 
 static void fail(const char *what) {
-  fprintf(stderr, "bench/run: %s: %s\n", what, strerror(errno));
+  fprintf(stderr, "bench/loopback: %s: %s\n", what, strerror(errno));
   if (relay) kill(relay, SIGKILL);
   exit(1);
 }
@@ -264,7 +264,7 @@ static void stop(void) {
     close(links[link].fd);
   }
   waitpid(relay, &status, 0);
-  if (status) fprintf(stderr, "bench/run: the relay ended with status %d\n", WEXITSTATUS(status));
+  if (status) fprintf(stderr, "bench/loopback: the relay ended with status %d\n", WEXITSTATUS(status));
   relay = 0;
 }
 

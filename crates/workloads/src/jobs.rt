@@ -1,0 +1,322 @@
+// SPDX-License-Identifier: MIT OR Apache-2.0
+//! The jobs, over inputs that each seed makes anew.
+use crate::digest::Digest;
+use crate::draw::Draw;
+use crate::frames::capture;
+use crate::network::Plan;
+use crate::reading::Pieces;
+use crate::relaying::play;
+use crate::script::{Shape, fixed_script, script};
+use crate::settings_text::settings_text;
+use crate::stop::Stop;
+use bsc_program::replay;
+use frame_words::decode_long;
+use program_base::decode;
+use std::alloc::Global;
+use std::io::{self, BufWriter};
+use std::sync::Wait;
+use trace_pictures::{Form, captured, drawn, whole_script};
+use trace_program::trace;
+
+/// What a user waits for.
+#[derive(Clone, Copy)]
+pub(crate) enum Job {
+    /// Calls that go on: measurement results, and messages both ways.
+    Relay,
+    /// Calls from their beginning over a handover to their end, and the end of many at once.
+    Calls,
+    /// Long scripts.
+    Replay,
+    /// Scripts in which a link breaks at each place.
+    Breaks,
+    /// Scripts as lines, as a capture and as a chart.
+    Trace,
+    /// Captured links.
+    Decode,
+}
+
+/// How much of it there is.
+#[derive(Clone, Copy)]
+pub(crate) enum Size {
+    /// So little that it takes no time.
+    Small,
+    Whole,
+}
+
+impl Size {
+    /// So much of a job, or about a hundredth of it.
+    fn of(self, whole: u32) -> u32 {
+        match self {
+            Size::Small => whole / 100 + 2,
+            Size::Whole => whole,
+        }
+    }
+
+    /// So often, or once.
+    fn times(self, whole: u32) -> u32 {
+        match self {
+            Size::Small => 1,
+            Size::Whole => whole,
+        }
+    }
+}
+
+/// The job with this name.
+pub(crate) fn job_of(word: &str) -> Option<Job> {
+    match word {
+        "relay" => Some(Job::Relay),
+        "calls" => Some(Job::Calls),
+        "replay" => Some(Job::Replay),
+        "breaks" => Some(Job::Breaks),
+        "trace" => Some(Job::Trace),
+        "decode" => Some(Job::Decode),
+        _ => None,
+    }
+}
+
+/// Does a job, and gives the digest of all its results.
+pub(crate) fn done<R: Wait>(
+    rt: &R,
+    alloc: Global,
+    job: Job,
+    seed: u32,
+    size: Size,
+) -> Result<u64, Stop> {
+    let mut draw = Draw::new(u64::from(seed));
+    let mut digest = Digest::new();
+    match job {
+        Job::Relay => relays(rt, alloc, size, &mut draw, &mut digest)?,
+        Job::Calls => calls(rt, alloc, size, &mut draw, &mut digest)?,
+        Job::Replay => replays(alloc, size, &mut draw, &mut digest)?,
+        Job::Breaks => breaks(alloc, size, &mut draw, &mut digest)?,
+        Job::Trace => traces(alloc, size, &mut draw, &mut digest)?,
+        Job::Decode => decodes(alloc, size, &mut draw, &mut digest)?,
+    }
+    Ok(digest.sum())
+}
+
+/// A network whose 32 links of stations all have something, and one in which a single link has.
+fn relays<R: Wait>(
+    rt: &R,
+    alloc: Global,
+    size: Size,
+    draw: &mut Draw,
+    digest: &mut Digest,
+) -> Result<(), Stop> {
+    let all = Plan {
+        cells: 32,
+        busy: 32,
+        mobiles: 63,
+        lives: 1,
+        talks: size.of(300),
+        interval: 6,
+        ms: 9,
+        reports: true,
+        moves: false,
+        breaks: false,
+    };
+    let one = Plan {
+        busy: 1,
+        talks: size.of(3_000),
+        ms: 290,
+        ..all
+    };
+    digest.add_number(play(rt, alloc, all, Draw::new(draw.next()))?);
+    digest.add_number(play(rt, alloc, one, Draw::new(draw.next()))?);
+    Ok(())
+}
+
+/// Lives with a handover, and connections that end all at once.
+fn calls<R: Wait>(
+    rt: &R,
+    alloc: Global,
+    size: Size,
+    draw: &mut Draw,
+    digest: &mut Digest,
+) -> Result<(), Stop> {
+    let lives = Plan {
+        cells: 8,
+        busy: 8,
+        mobiles: 30,
+        lives: size.of(120),
+        talks: 6,
+        interval: 1,
+        ms: 5,
+        reports: false,
+        moves: true,
+        breaks: false,
+    };
+    let ends = Plan {
+        cells: 32,
+        busy: 32,
+        mobiles: 63,
+        lives: 2,
+        talks: 2,
+        moves: false,
+        breaks: true,
+        ..lives
+    };
+    digest.add_number(play(rt, alloc, lives, Draw::new(draw.next()))?);
+    for _ in 0..size.times(8) {
+        digest.add_number(play(rt, alloc, ends, Draw::new(draw.next()))?);
+    }
+    Ok(())
+}
+
+/// A shape of a script.
+fn shape(cells: u16, mobiles: u8, lines: u32) -> Shape {
+    Shape {
+        cells,
+        mobiles,
+        lines,
+    }
+}
+
+/// Scripts of the fixed world, and of worlds with a controller.
+fn replays(alloc: Global, size: Size, draw: &mut Draw, digest: &mut Digest) -> Result<(), Stop> {
+    let shapes = [
+        shape(2, 1, size.of(150_000)),
+        shape(2, 20, size.of(150_000)),
+        shape(32, 200, size.of(300_000)),
+    ];
+    for _ in 0..size.times(3) {
+        let text = fixed_script(alloc, size.of(200_000), draw)?;
+        replayed(alloc, None, None, text.as_slice(), digest)?;
+        for shape in shapes {
+            let settings = settings_text(alloc, shape.cells, 1)?;
+            let text = script(alloc, shape, draw)?;
+            replayed(
+                alloc,
+                Some(settings.as_str()),
+                None,
+                text.as_slice(),
+                digest,
+            )?;
+        }
+    }
+    Ok(())
+}
+
+fn breaks(alloc: Global, size: Size, draw: &mut Draw, digest: &mut Digest) -> Result<(), Stop> {
+    let shapes = [shape(2, 6, size.of(1_500)), shape(32, 12, size.of(400))];
+    for shape in shapes {
+        let settings = settings_text(alloc, shape.cells, 1)?;
+        let text = script(alloc, shape, draw)?;
+        for source in ["0", "1"] {
+            let settings = Some(settings.as_str());
+            replayed(alloc, settings, Some(source), text.as_slice(), digest)?;
+        }
+    }
+    Ok(())
+}
+
+/// Replays a script; its report goes into the digest.
+fn replayed(
+    alloc: Global,
+    settings: Option<&str>,
+    source: Option<&str>,
+    text: &[u8],
+    digest: &mut Digest,
+) -> Result<(), Stop> {
+    let mut input = Pieces::new(text, 1 << 16);
+    let mut errors = io::sink();
+    let mut output = BufWriter::new(alloc, Digest::new()).map_err(|_| Stop::Memory)?;
+    let status = replay(
+        alloc,
+        settings,
+        source,
+        &mut input,
+        &mut output,
+        &mut errors,
+    );
+    add(digest, status, &output)
+}
+
+/// Adds what a command printed that ended with status 0. A trace ends so only where each event of
+/// its script was taken.
+fn add(digest: &mut Digest, status: u8, output: &BufWriter<Digest, Global>) -> Result<(), Stop> {
+    if status != 0 {
+        return Err(Stop::Refused);
+    }
+    digest.add_number(output.get_ref().sum());
+    Ok(())
+}
+
+fn traces(alloc: Global, size: Size, draw: &mut Draw, digest: &mut Digest) -> Result<(), Stop> {
+    let shapes = [
+        shape(2, 1, size.of(120_000)),
+        shape(2, 20, size.of(80_000)),
+        shape(32, 200, size.of(50_000)),
+    ];
+    for shape in shapes {
+        let settings = settings_text(alloc, shape.cells, 1)?;
+        let text = script(alloc, shape, draw)?;
+        traced(alloc, settings.as_str(), text.as_slice(), digest)?;
+    }
+    pictured(alloc, shape(2, 10, size.of(20_000)), draw, digest)
+}
+
+/// Traces a script.
+fn traced(alloc: Global, settings: &str, text: &[u8], digest: &mut Digest) -> Result<(), Stop> {
+    let mut input = Pieces::new(text, 1 << 16);
+    let mut errors = io::sink();
+    let mut output = BufWriter::new(alloc, Digest::new()).map_err(|_| Stop::Memory)?;
+    let status = trace(alloc, settings, true, &mut input, &mut output, &mut errors);
+    add(digest, status, &output)
+}
+
+/// Captures a script, and draws it.
+fn pictured(alloc: Global, shape: Shape, draw: &mut Draw, digest: &mut Digest) -> Result<(), Stop> {
+    let settings = settings_text(alloc, shape.cells, 1)?;
+    let text = script(alloc, shape, draw)?;
+    let mut input = Pieces::new(text.as_slice(), 1 << 16);
+    let Ok(script) = whole_script(alloc, settings.as_str(), &mut input) else {
+        return Err(Stop::Refused);
+    };
+    let Ok(file) = captured(alloc, settings.as_str(), script.events.as_slice()) else {
+        return Err(Stop::Refused);
+    };
+    digest.add(file.as_slice());
+    let Ok(chart) = drawn(alloc, settings.as_str(), &script, Form::Text) else {
+        return Err(Stop::Refused);
+    };
+    digest.add(chart.as_slice());
+    Ok(())
+}
+
+/// Names the frames of captured links, which come in blocks, and of one which comes in pieces of an
+/// octet.
+fn decodes(alloc: Global, size: Size, draw: &mut Draw, digest: &mut Digest) -> Result<(), Stop> {
+    let inputs = [
+        (size.of(12_000_000), 1 << 20, false),
+        (size.of(200_000), 1, false),
+        (size.of(6_000_000), 1 << 16, true),
+    ];
+    for _ in 0..size.times(4) {
+        for (count, piece, is_long) in inputs {
+            decoded(alloc, count as usize, piece, is_long, draw, digest)?;
+        }
+    }
+    Ok(())
+}
+
+/// Names the frames of a captured link of so many octets, which come in pieces of this size.
+fn decoded(
+    alloc: Global,
+    count: usize,
+    piece: usize,
+    is_long: bool,
+    draw: &mut Draw,
+    digest: &mut Digest,
+) -> Result<(), Stop> {
+    let octets = capture(alloc, count, draw)?;
+    let mut input = Pieces::new(octets.as_slice(), piece);
+    let mut errors = io::sink();
+    let mut output = BufWriter::new(alloc, Digest::new()).map_err(|_| Stop::Memory)?;
+    let status = if is_long {
+        decode_long(alloc, &mut input, &mut output, &mut errors)
+    } else {
+        decode(alloc, &mut input, &mut output, &mut errors)
+    };
+    add(digest, status, &output)
+}

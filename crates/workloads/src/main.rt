@@ -1,0 +1,90 @@
+// SPDX-License-Identifier: MIT OR Apache-2.0
+//! The jobs that users of `bsc` wait for, each over inputs that it makes, the same ones for the same
+//! seed. `workloads JOB SEED` does one and prints the digest of all its results; with no words a
+//! little of each is done. bench/workloads.txt has the jobs.
+#![tactic(auto)]
+
+use jobs::{Job, Size, done, job_of};
+use std::env;
+use std::process::ExitCode;
+use std::rt::Runtime;
+use std::sync::Wait;
+use stop::Stop;
+
+mod calls;
+mod digest;
+mod draw;
+mod frames;
+mod jobs;
+mod lines;
+mod network;
+mod reading;
+mod relaying;
+mod report;
+mod script;
+mod settings_text;
+mod stop;
+
+/// The jobs by their names.
+const NAMES: [&str; 6] = ["relay", "calls", "replay", "breaks", "trace", "decode"];
+
+fn main(rt: HostRuntime) -> ExitCode {
+    let status = match asked(&rt) {
+        Ok(Some((job, seed))) => printed(&rt, job, seed),
+        Ok(None) => sampled(&rt),
+        Err(stop) => told(&rt, stop, 2),
+    };
+    ExitCode::from(status)
+}
+
+/// The job and the seed that the words name; none where there are no words.
+fn asked<R: Runtime>(rt: &R) -> Result<Option<(Job, u32)>, Stop> {
+    let Ok(mut words) = env::args(rt) else {
+        return Err(Stop::Words);
+    };
+    let _ = words.next();
+    let Some(name) = words.next() else {
+        return Ok(None);
+    };
+    let (Some(job), Some(seed)) = (job_of(name.as_str()), words.next()) else {
+        return Err(Stop::Words);
+    };
+    match seed.parse::<u32>() {
+        Ok(seed) => Ok(Some((job, seed))),
+        Err(_) => Err(Stop::Words),
+    }
+}
+
+/// Does a little of each job, and says so where each event of its scripts was taken, no message was
+/// lost, and no input was refused.
+fn sampled<R: Runtime + AllocGlobal + Wait>(rt: &R) -> u8 {
+    for name in NAMES {
+        let Some(job) = job_of(name) else {
+            return 2;
+        };
+        if let Err(stop) = done(rt, rt.alloc(), job, 1, Size::Small) {
+            return told(rt, stop, 3);
+        }
+        if println!(rt; "{name} done").is_err() {
+            return 3;
+        }
+    }
+    0
+}
+
+/// Does a job, prints the digest of its results, and gives the status that the program ends with.
+fn printed<R: Runtime + AllocGlobal + Wait>(rt: &R, job: Job, seed: u32) -> u8 {
+    match done(rt, rt.alloc(), job, seed, Size::Whole) {
+        Ok(digest) => match println!(rt; "{digest:016x}") {
+            Ok(()) => 0,
+            Err(_) => 3,
+        },
+        Err(stop) => told(rt, stop, 3),
+    }
+}
+
+/// Tells why a job isn't done, and gives the status that the program ends with.
+fn told<R: Runtime>(rt: &R, stop: Stop, status: u8) -> u8 {
+    let _ = eprintln!(rt; "workloads: {stop}");
+    status
+}

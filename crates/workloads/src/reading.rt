@@ -1,0 +1,26 @@
+// SPDX-License-Identifier: MIT OR Apache-2.0
+use crate::draw::Draw;
+use std::io::{self, Read};
+
+/// Octets that are read in pieces of 64 KiB at most, or of one octet where they come slowly.
+#[derive(Drop)]
+pub(crate) struct Pieces<'a> {
+    octets: &'a [u8],
+    size: usize,
+}
+
+impl<'a> Pieces<'a> {
+    pub(crate) fn new(octets: &'a [u8], size: usize) -> Pieces<'a> {
+        Pieces { octets, size }
+    }
+}
+
+impl Read for Pieces<'_> {
+    fn read(&mut self, buf: &mut [u8]) -> io::Result<usize> {
+        let count = self.octets.len().min(self.size).min(buf.len());
+        let (front, back) = self.octets.split_at(count);
+        buf[..count].copy_from_slice(front);
+        self.octets = back;
+        Ok(count)
+    }
+}
