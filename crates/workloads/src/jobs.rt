@@ -108,7 +108,7 @@ fn relays<R: Wait>(
         busy: 32,
         mobiles: 63,
         lives: 1,
-        talks: size.of(300),
+        talks: size.of(500),
         interval: 6,
         ms: 9,
         reports: true,
@@ -117,7 +117,7 @@ fn relays<R: Wait>(
     };
     let one = Plan {
         busy: 1,
-        talks: size.of(3_000),
+        talks: size.of(5_000),
         ms: 290,
         ..all
     };
@@ -138,7 +138,7 @@ fn calls<R: Wait>(
         cells: 8,
         busy: 8,
         mobiles: 30,
-        lives: size.of(120),
+        lives: size.of(240),
         talks: 6,
         interval: 1,
         ms: 5,
@@ -157,7 +157,7 @@ fn calls<R: Wait>(
         ..lives
     };
     digest.add_number(play(rt, alloc, lives, Draw::new(draw.next()))?);
-    for _ in 0..size.times(8) {
+    for _ in 0..size.times(16) {
         digest.add_number(play(rt, alloc, ends, Draw::new(draw.next()))?);
     }
     Ok(())
@@ -179,7 +179,7 @@ fn replays(alloc: Global, size: Size, draw: &mut Draw, digest: &mut Digest) -> R
         shape(2, 20, size.of(150_000)),
         shape(32, 200, size.of(300_000)),
     ];
-    for _ in 0..size.times(3) {
+    for _ in 0..size.times(5) {
         let text = fixed_script(alloc, size.of(200_000), draw)?;
         replayed(alloc, None, None, text.as_slice(), digest)?;
         for shape in shapes {
@@ -244,16 +244,16 @@ fn add(digest: &mut Digest, status: u8, output: &BufWriter<Digest, Global>) -> R
 
 fn traces(alloc: Global, size: Size, draw: &mut Draw, digest: &mut Digest) -> Result<(), Stop> {
     let shapes = [
-        shape(2, 1, size.of(120_000)),
-        shape(2, 20, size.of(80_000)),
-        shape(32, 200, size.of(50_000)),
+        shape(2, 1, size.of(240_000)),
+        shape(2, 20, size.of(160_000)),
+        shape(32, 200, size.of(100_000)),
     ];
     for shape in shapes {
         let settings = settings_text(alloc, shape.cells, 1)?;
         let text = script(alloc, shape, draw)?;
         traced(alloc, settings.as_str(), text.as_slice(), digest)?;
     }
-    pictured(alloc, shape(2, 10, size.of(20_000)), draw, digest)
+    pictured(alloc, shape(2, 10, size.of(40_000)), draw, digest)
 }
 
 /// Traces a script.
@@ -292,7 +292,7 @@ fn decodes(alloc: Global, size: Size, draw: &mut Draw, digest: &mut Digest) -> R
         (size.of(200_000), 1, false),
         (size.of(6_000_000), 1 << 16, true),
     ];
-    for _ in 0..size.times(4) {
+    for _ in 0..size.times(5) {
         for (count, piece, is_long) in inputs {
             decoded(alloc, count as usize, piece, is_long, draw, digest)?;
         }
