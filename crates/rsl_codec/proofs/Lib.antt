@@ -3,6 +3,7 @@ mod Causes
 pub mod Steps
 pub mod InOrder
 pub mod Lines
+pub mod WrittenOrder
 pub mod Messages
 mod Rows
 mod FalseOctetRows

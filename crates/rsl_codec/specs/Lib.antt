@@ -7,3 +7,4 @@ pub mod RslFaults
 pub mod RslReading
 pub mod RslText
 pub mod RslType
+pub mod WrittenOrder

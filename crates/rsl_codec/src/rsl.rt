@@ -1,5 +1,5 @@
 // SPDX-License-Identifier: MIT OR Apache-2.0
-ghost use Rattle.std.specs.Prelude.{◌≡◌, ◌++◌, ◌⊎◌, ℕ, List, None, IfOk, OnErr};
+ghost use Rattle.std.specs.Prelude.{◌≡◌, ◌++◌, ◌⊎◌, ℕ, List, None, Some, IfOk, OnErr};
 ghost use Rattle.std.specs.Prelude.{OnOk, option_map};
 ghost use Rattle.std.specs.Result.{result_err};
 ghost use Rattle.octets.specs.Answer.{Gives};
@@ -9,12 +9,13 @@ ghost use Rattle.rsl_codec.specs.declared.rsl.Rsl.{Rsl as RslValue};
 ghost use Rattle.rsl_codec.specs.declared.identifiers.TheConstants.{ELEMENTS};
 ghost use Rattle.rsl_codec.specs.Rsl.{IsLawful, IsRsl, fields, l3_of};
 ghost use Rattle.rsl_codec.specs.RslFaults.{RefusesRsl};
-ghost use Rattle.rsl_codec.specs.RslReading.{elements_of, message_at, rsl_reading};
+ghost use Rattle.rsl_codec.specs.RslReading.{elements_of, message_at, rsl_reading, rsl_reading_by};
 ghost use Rattle.rsl_codec.specs.RslText.{rsl_fields_text, rsl_text, rsl_write_fault, value_of};
 ghost use Rattle.rsl_codec.specs.RslType.{type_of};
 
 use crate::dedicated_channel::{put_channel, read_channel};
 use crate::fields::is_cut;
+use crate::measured::measured_values;
 use crate::{
     Activation, ActivationAck, ChanNo, ChannelRequired, Data, Detection, ErrorReport,
     Establishment, Failure, ImmediateAssignment, Link, MeasurementResult, Release, RslFault,
@@ -96,6 +97,20 @@ fn read_all(alloc: Global, octets: &[u8]) -> Result<Rsl, RslFault>
     let Some(kind) = RslType::of_octets(*discriminator, *octet) else {
         return Err(RslFault::UnknownType);
     };
+    read_body(alloc, kind, body)
+}
+
+/// The message of this type with this body. A MEASUREMENT RESULT mostly has its elements in written
+/// order.
+#[tactic(auto, unfolding(crate::specs::RslReading::breaks_off, crate::specs::RslReading::elements_of, crate::specs::RslReading::message_at))]
+fn read_body(alloc: Global, kind: RslType, body: &[u8]) -> Result<Rsl, RslFault>
+    ensures { Gives RslFault.Memory (λ v. v) result (rsl_reading_by (Some kind) body.now) }
+{
+    if let RslType::MeasurementResult = kind {
+        if let Some(values) = measured_values(body) {
+            return Ok(Rsl::MeasurementResult(MeasurementResult::of(alloc, values)?));
+        }
+    }
     if is_cut(body) {
         return Err(RslFault::Short);
     }

@@ -1,0 +1,36 @@
+-- SPDX-License-Identifier: MIT OR Apache-2.0
+-- A MEASUREMENT RESULT whose elements stand in written order.
+use Rattle.std.specs.Prelude.{◌≡◌, ℕ, List, [], ◌∷◌, Option, Some, None}
+use Rattle.std.specs.Prelude.{Result, Ok}
+use Rattle.octets.specs.Element.{Element, element}
+use Rattle.rsl_codec.specs.declared.dedicated_channel.MeasurementResult.{MeasurementResult}
+use Rattle.rsl_codec.specs.declared.identifiers.TheConstants.{BS_POWER, CHANNEL_NUMBER}
+use Rattle.rsl_codec.specs.declared.identifiers.TheConstants.{L1_INFORMATION, L3_INFORMATION}
+use Rattle.rsl_codec.specs.declared.identifiers.TheConstants.{MEASUREMENT_NUMBER}
+use Rattle.rsl_codec.specs.declared.identifiers.TheConstants.{UPLINK_MEASUREMENTS}
+use Rattle.rsl_codec.specs.declared.fault.RslFault.{RslFault}
+use Rattle.rsl_codec.specs.declared.rsl.Rsl.{Rsl}
+use Rattle.rsl_codec.specs.declared.rsl.Rsl.TheVariants as messages
+use Rattle.rsl_codec.specs.Fields.{number_value}
+
+-- the L3 information, where it is there
+abbrev pub l3_elements : Option (List ℕ) → List Element
+l3_elements None = []
+l3_elements (Some l3) = element L3_INFORMATION l3 ∷ []
+
+-- its elements: all of them, but perhaps no L3 information
+abbrev pub measured_elements :
+    ℕ → ℕ → List ℕ → ℕ → ℕ → Option (List ℕ) → List Element
+measured_elements channel number uplink bs_power l1 l3 =
+    element CHANNEL_NUMBER (channel ∷ []) ∷ element MEASUREMENT_NUMBER (number ∷ []) ∷
+    element UPLINK_MEASUREMENTS uplink ∷ element BS_POWER (bs_power ∷ []) ∷
+    element L1_INFORMATION (number_value l1) ∷ l3_elements l3
+
+-- What is read is a MEASUREMENT RESULT of this channel, with this number and L3 information.
+pub record IsMeasurement
+    (reading : Result Rsl RslFault) (channel number : ℕ) (l3 : Option (List ℕ)) : Type 0 where
+  pub message : MeasurementResult
+  pub reads : reading ≡ Ok (messages.MeasurementResult message)
+  pub channel_is : message.channel ≡ channel
+  pub number_is : message.number.0 ≡ number
+  pub l3_is : message.l3 ≡ l3

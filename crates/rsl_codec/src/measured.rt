@@ -1,0 +1,204 @@
+// SPDX-License-Identifier: MIT OR Apache-2.0
+ghost use Rattle.std.specs.Prelude.{◌≡◌, ◌/◌, ◌≤◌, ◌∷◌, ◌++◌, false, length, option_map};
+ghost use Rattle.std.specs.Prelude.{Some, IfSome, IsTrue};
+ghost use Rattle.octets.specs.Answer.{Gives};
+ghost use Rattle.octets.specs.Element.{AreElements, Stops};
+ghost use Rattle.octets.specs.Walk.{finding, walk};
+ghost use Rattle.octets.specs.declared.limits.TheConstants.{LENGTH_LIMIT};
+ghost use Rattle.rsl_codec.specs.declared.identifiers.TheConstants.{ELEMENTS};
+ghost use Rattle.rsl_codec.specs.Fields.{number_value};
+ghost use Rattle.rsl_codec.specs.WrittenOrder.{IsMeasurement, l3_elements, measured_elements};
+ghost use Rattle.rsl_codec.specs.RslReading.{measurement_result_at, optional_l3_at};
+ghost use Rattle.rsl_codec.specs.RslReading.{rsl_reading, rsl_reading_by};
+ghost use Rattle.rsl_codec.specs.RslType.{rsl_type};
+ghost use Rattle.rsl_codec.specs.declared.rsl_type.RslType.TheVariants as types;
+
+use crate::fields::optional_l3;
+use crate::identifiers::{
+    BS_POWER, CHANNEL_NUMBER, ELEMENTS, L1_INFORMATION, L3_INFORMATION, MEASUREMENT_NUMBER,
+    UPLINK_MEASUREMENTS,
+};
+use crate::{
+    BsPower, ChanNo, DEDICATED_CHANNEL, L1Information, MeasurementNumber, MeasurementResult,
+    RslFault, RslType, UplinkMeasurements,
+};
+use octets::{MESSAGE_LIMIT, Octets, element};
+use std::alloc::Global;
+
+/// The values of a MEASUREMENT RESULT whose elements stand in written order: all of them, but
+/// perhaps no L3 information.
+#[derive(Clone, Copy)]
+pub(crate) struct Measured<'a> {
+    pub channel: u8,
+    pub number: u8,
+    pub uplink: &'a [u8],
+    pub bs_power: u8,
+    pub l1: u16,
+    pub l3: Option<&'a [u8]>,
+}
+
+/// The values of a body of these elements in written order, behind which nothing is looked at. This
+/// is how stations write it, and it needs no walk.
+pub(crate) fn measured_values(body: &[u8]) -> Option<Measured<'_>>
+    ensures { IfSome result (λ m. walk ELEMENTS body.now ≡ finding
+        (measured_elements m.channel m.number m.uplink.now m.bs_power m.l1
+        (option_map (λ v. v.now) m.l3)) false) }
+{
+    let (channel, rest) = one_octet(body, CHANNEL_NUMBER)?;
+    let (number, rest) = one_octet(rest, MEASUREMENT_NUMBER)?;
+    let (uplink, rest) = counted(rest, UPLINK_MEASUREMENTS)?;
+    let (bs_power, rest) = one_octet(rest, BS_POWER)?;
+    let (l1, rest) = two_octets(rest, L1_INFORMATION)?;
+    let l3 = last_l3(rest)?;
+    Some(Measured {
+        channel,
+        number,
+        uplink,
+        bs_power,
+        l1,
+        l3,
+    })
+}
+
+// The value of the element at the front, which has this identifier and one octet, and the octets
+// behind it.
+fn one_octet(octets: &[u8], id: u8) -> Option<(u8, &[u8])>
+    ensures { IfSome result (λ p. octets.now ≡ id ∷ (p.0 ∷ p.1.now)) }
+{
+    match octets {
+        [first, value, rest @ ..] if *first == id => Some((*value, rest)),
+        _ => None,
+    }
+}
+
+// The same of two octets, the high one first.
+fn two_octets(octets: &[u8], id: u8) -> Option<(u16, &[u8])>
+    ensures { IfSome result (λ p. octets.now ≡ id ∷ (number_value p.0 ++ p.1.now)) }
+{
+    match octets {
+        [first, high, low, rest @ ..] if *first == id => {
+            Some((u16::from_be_bytes([*high, *low]), rest))
+        }
+        _ => None,
+    }
+}
+
+// The same of as many octets as the octet before them says.
+fn counted(octets: &[u8], id: u8) -> Option<(&[u8], &[u8])>
+    ensures is { IfSome result (λ p.
+        octets.now ≡ id ∷ (length p.0.now ∷ (p.0.now ++ p.1.now))) }
+    ensures size { IfSome result (λ p. length p.0.now ≤ LENGTH_LIMIT) }
+{
+    match octets {
+        [first, size, rest @ ..] if *first == id => rest.split_at_checked(usize::from(*size)),
+        _ => None,
+    }
+}
+
+// The same of as many octets as the two octets before them say, the high one first.
+fn long_counted(octets: &[u8], id: u8) -> Option<(&[u8], &[u8])>
+    ensures is { IfSome result (λ p.
+        octets.now ≡ id ∷ (number_value (length p.0.now) ++ (p.0.now ++ p.1.now))) }
+    ensures size { IfSome result (λ p. length p.0.now ≤ 65535) }
+{
+    match octets {
+        [first, high, low, rest @ ..] if *first == id => {
+            rest.split_at_checked(usize::from(u16::from_be_bytes([*high, *low])))
+        }
+        _ => None,
+    }
+}
+
+// The L3 information, where octets are it alone, or nothing, but for what isn't looked at.
+fn last_l3(octets: &[u8]) -> Option<Option<&[u8]>>
+    ensures { IfSome result (λ l3. AreElements ELEMENTS octets.now
+        (l3_elements (option_map (λ v. v.now) l3)) false) }
+{
+    match long_counted(octets, L3_INFORMATION) {
+        Some((l3, rest)) if stops(rest) => Some(Some(l3)),
+        None if stops(octets) => Some(None),
+        _ => None,
+    }
+}
+
+// Whether no element begins here.
+fn stops(octets: &[u8]) -> bool
+    ensures { IsTrue result → Stops ELEMENTS octets.now }
+{
+    match octets {
+        [id, ..] => element::format_of(&ELEMENTS, *id).is_none(),
+        [] => true,
+    }
+}
+
+impl MeasurementResult {
+    /// From these values.
+    #[tactic(auto, unfolding(crate::specs::RslReading::measurement_result_at))]
+    pub(crate) fn of(alloc: Global, values: Measured<'_>) -> Result<MeasurementResult, RslFault>
+        ensures { Gives RslFault.Memory (λ m. m) result (measurement_result_at
+            (measured_elements values.entry.channel values.entry.number values.entry.uplink.now
+            values.entry.bs_power values.entry.l1
+            (option_map (λ v. v.now) values.entry.l3))) }
+    {
+        let channel = ChanNo::read(values.channel)?;
+        let l3 = optional_l3(alloc, values.l3)?;
+        let uplink = UplinkMeasurements(Octets::copy(alloc, values.uplink)?);
+        Ok(MeasurementResult {
+            channel,
+            number: MeasurementNumber(values.number),
+            uplink: Some(uplink),
+            bs_power: Some(BsPower(values.bs_power)),
+            l1: Some(L1Information(values.l1)),
+            l3,
+        })
+    }
+}
+
+/// The channel, the number and the L3 information of octets that `Rsl::read` reads as a MEASUREMENT
+/// RESULT; it copies nothing. There is none where `Rsl::read` refuses them or reads another message,
+/// nor where their elements stand in another order than they are written.
+#[tactic(auto, unfolding(crate::specs::RslReading::rsl_reading))]
+pub fn read_measurement(octets: &[u8]) -> Option<(ChanNo, MeasurementNumber, Option<&[u8]>)>
+    ensures { IfSome result (λ m. IsMeasurement (rsl_reading octets.now) m.0 m.1.0
+        (option_map (λ v. v.now) m.2)) }
+{
+    match octets {
+        [discriminator, octet, body @ ..] if is_result(*discriminator, *octet) => {
+            measurement_in(body)
+        }
+        _ => None,
+    }
+}
+
+// Whether it is the type of a MEASUREMENT RESULT.
+fn is_result(discriminator: u8, octet: u8) -> bool
+    ensures { IsTrue result → rsl_type discriminator octet ≡ Some types.MeasurementResult }
+{
+    discriminator / 2 == DEDICATED_CHANNEL / 2 && octet == RslType::MeasurementResult.octet()
+}
+
+// The same of the octets behind the type.
+fn measurement_in(body: &[u8]) -> Option<(ChanNo, MeasurementNumber, Option<&[u8]>)>
+    ensures { IfSome result (λ m. IsMeasurement
+        (rsl_reading_by (Some types.MeasurementResult) body.now) m.0 m.1.0
+        (option_map (λ v. v.now) m.2)) }
+{
+    let values = measured_values(body)?;
+    match ChanNo::read(values.channel) {
+        Ok(channel) if has_room(values.l3) => {
+            Some((channel, MeasurementNumber(values.number), values.l3))
+        }
+        _ => None,
+    }
+}
+
+// Whether an L3 information, where it is there, has 1 to 251 octets.
+fn has_room(l3: Option<&[u8]>) -> bool
+    ensures { IsTrue result → optional_l3_at (option_map (λ v. v.now) l3.entry)
+        ≡ Ok (option_map (λ v. v.now) l3.entry) }
+{
+    match l3 {
+        Some(l3) => !l3.is_empty() && l3.len() <= MESSAGE_LIMIT,
+        None => true,
+    }
+}
