@@ -1,6 +1,6 @@
 -- SPDX-License-Identifier: MIT OR Apache-2.0
 -- What holds of each word that a frame is read as.
-use Rattle.std.proofs.Common.{◌≡◌, ◌≢◌, ℕ, Bool, true, false, if◌then◌else◌, List, Option, Some, None, Result, Ok, Err, IfOk, refl, subst, sym, arith}
+use Rattle.std.proofs.Common.{◌≡◌, ◌≢◌, ℕ, Bool, true, false, if◌then◌else◌, List, Option, Some, None, Result, Ok, Err, IfOk, refl, ap, ◌∙◌, subst, sym, arith}
 use Rattle.bssmap_codec.specs.Layer3.{IsLayer3}
 use Rattle.conn_messages.specs.declared.parameters.TheConstants.{SWITCH_LINK}
 use Rattle.conn_rules.specs.declared.input.Input.{Input}
@@ -10,7 +10,7 @@ use Rattle.conn_rules.specs.Streams.{is_dtap}
 use Rattle.controller_model.specs.declared.word.Word.{Word}
 use Rattle.controller_model.specs.declared.word.Word.TheVariants.{Nothing, Reports}
 use Rattle.controller_model.specs.Controller.{place_at}
-use Rattle.controller_model.specs.Reading.{sapi_of, of_sapi, change_word, data_word, report_word, result_word, rsl_word}
+use Rattle.controller_model.specs.Reading.{sapi_of, of_sapi, change_word, data_word, report_word, result_word, rsl_word, station_word}
 use Rattle.controller_model.specs.Reports.{report_reading}
 use Rattle.dtap_codec.specs.declared.report.Report.{Report}
 use Rattle.dtap_codec.specs.declared.rr.RrMessage.{RrMessage}
@@ -20,6 +20,9 @@ use Rattle.dtap_codec.specs.declared.sapi.Sapi.{Sapi}
 use Rattle.dtap_codec.specs.declared.sapi.Sapi.TheVariants.{Zero}
 use Rattle.dtap_codec.specs.RrReading.{rr_reading}
 use Rattle.controller_parts.specs.Words.{IsFromSource, IsCarriedWord}
+use Rattle.rsl_codec.specs.declared.dedicated_channel.MeasurementResult.{MeasurementResult}
+use Rattle.rsl_codec.specs.declared.fault.RslFault.{RslFault}
+use Rattle.rsl_codec.specs.WrittenOrder.{IsMeasurement}
 use Rattle.rsl_codec.specs.declared.rsl.Rsl.{Rsl}
 use Rattle.rsl_codec.specs.declared.rsl.Rsl.TheVariants as rsl
 use Rattle.rsl_codec.specs.Rsl.{IsL3, IsRsl, l3_of}
@@ -88,3 +91,25 @@ station_carried station octets v r ne is e = if_known IsCarriedWord r (rsl_word 
 
 pub station_comes : {F : Type 0} (station : ℕ) (octets : List ℕ) (v : Rsl) (r : Result Word F) → station ≢ SWITCH_LINK → IsRsl octets v → IfOk r (λ w. w ≡ rsl_word station v) → IfOk r (IsFromSource station)
 station_comes station octets v r ne is e = if_known (IsFromSource station) r (rsl_word station v) e (told_suits station v ne is.lawful.1).1
+
+-- ---- a MEASUREMENT RESULT that is read without a copy
+
+same_result : (station : ℕ) (m : MeasurementResult) (channel number : ℕ) (l3 : Option (List ℕ)) → m.channel ≡ channel → m.number.0 ≡ number → m.l3 ≡ l3 →
+    result_word (place_at station channel) number l3 ≡ rsl_word station (rsl.MeasurementResult m)
+same_result station m channel number l3 a b c = rw (← a, ← b, ← c) refl
+
+pub measured_is : {F : Type 0} (station channel number : ℕ) (l3 : Option (List ℕ)) (read : Result Rsl RslFault) (r : Result Word F) →
+    IsMeasurement read channel number l3 → IfOk r (λ w. w ≡ result_word (place_at station channel) number l3) → IfOk r (λ w. w ≡ station_word station read)
+measured_is station channel number l3 read r is e =
+    let same : result_word (place_at station channel) number l3 ≡ rsl_word station (rsl.MeasurementResult is.message) =
+    same_result station is.message channel number l3 is.channel_is is.number_is is.l3_is in
+    let back : station_word station read ≡ rsl_word station (rsl.MeasurementResult is.message) = ap (station_word station) is.reads in
+    if_known (λ (w : Word). w ≡ station_word station read) r (result_word (place_at station channel) number l3) e (same ∙ sym back)
+
+pub measured_carried : {F : Type 0} (station channel number : ℕ) (l3 : Option (List ℕ)) (r : Result Word F) → station ≢ SWITCH_LINK →
+    IfOk r (λ w. w ≡ result_word (place_at station channel) number l3) → IfOk r IsCarriedWord
+measured_carried station channel number l3 r ne e = if_known IsCarriedWord r (result_word (place_at station channel) number l3) e (result_suits station channel number l3 ne).0
+
+pub measured_comes : {F : Type 0} (station channel number : ℕ) (l3 : Option (List ℕ)) (r : Result Word F) → station ≢ SWITCH_LINK →
+    IfOk r (λ w. w ≡ result_word (place_at station channel) number l3) → IfOk r (IsFromSource station)
+measured_comes station channel number l3 r ne e = if_known (IsFromSource station) r (result_word (place_at station channel) number l3) e (result_suits station channel number l3 ne).1

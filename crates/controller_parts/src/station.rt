@@ -1,5 +1,5 @@
 // SPDX-License-Identifier: MIT OR Apache-2.0
-ghost use Rattle.std.specs.Prelude.{◌≡◌, ◌≢◌, IfOk};
+ghost use Rattle.std.specs.Prelude.{◌≡◌, ◌≢◌, option_map, IfOk};
 ghost use Rattle.conn_messages.specs.declared.parameters.TheConstants.{SWITCH_LINK};
 ghost use Rattle.controller_model.specs.Controller.{place_at as channel_at};
 ghost use Rattle.controller_parts.specs.Words.{IsFromSource, IsCarriedWord, CarriesNoLayer3};
@@ -15,7 +15,8 @@ use controller_model::Word;
 use dtap_codec::Sapi;
 use octets::Memory;
 use rsl_codec::{
-    ChanNo, Data, ErrorReport, Establishment, Link, LinkId, MeasurementResult, Rsl, RslFault,
+    ChanNo, Data, ErrorReport, Establishment, Link, LinkId, MeasurementNumber, MeasurementResult,
+    Rsl, RslFault, read_measurement,
 };
 use std::alloc::Global;
 
@@ -27,8 +28,22 @@ const MAIN_CHANNEL: u8 = 0;
 
 const SACCH: u8 = 1;
 
-/// What a station says in this body of a frame.
+/// What a station says in this body of a frame. Of a MEASUREMENT RESULT nothing is copied apart.
 pub(crate) fn station_word(alloc: Global, station: u16, body: &[u8]) -> Result<Word, Memory>
+    requires { station ≢ SWITCH_LINK }
+    ensures word { IfOk result
+        (λ word. word ≡ reading.station_word station (rsl_reading body.now)) }
+    ensures carried { IfOk result IsCarriedWord }
+    ensures comes { IfOk result (IsFromSource station) }
+{
+    match read_measurement(body) {
+        Some(measured) => measured_word(alloc, station, measured),
+        None => any_word(alloc, station, body),
+    }
+}
+
+// What any message says.
+fn any_word(alloc: Global, station: u16, body: &[u8]) -> Result<Word, Memory>
     requires { station ≢ SWITCH_LINK }
     ensures word { IfOk result
         (λ word. word ≡ reading.station_word station (rsl_reading body.now)) }
@@ -77,7 +92,7 @@ fn told_word(alloc: Global, station: u16, message: &Rsl) -> Result<Word, Memory>
             let at = &place_at(station, failure.channel);
             Word::OnChannel(*at, Input::ConnectionFailure { at: *at })
         }
-        Rsl::MeasurementResult(measured) => return measured_word(alloc, station, measured),
+        Rsl::MeasurementResult(measured) => return result_word(alloc, station, measured),
         Rsl::RfChannelReleaseAck(channel) => {
             let at = &place_at(station, *channel);
             Word::OnChannel(*at, Input::ReleaseAck { at: *at })
@@ -140,19 +155,29 @@ fn data_word(alloc: Global, station: u16, data: Data) -> Result<Word, Memory>
 }
 
 // MEASUREMENT RESULT, perhaps with a report of the mobile.
-fn measured_word(alloc: Global, station: u16, measured: &MeasurementResult) -> Result<Word, Memory>
+fn result_word(alloc: Global, station: u16, measured: &MeasurementResult) -> Result<Word, Memory>
     ensures { IfOk result
         (λ word. word ≡ reading.rsl_word station (rsl.MeasurementResult measured.now)) }
 {
-    let Some(l3) = &measured.l3 else {
-        return Ok(Word::Nothing);
-    };
-    report_word(
-        alloc,
-        &place_at(station, measured.channel),
-        measured.number.0,
-        l3.as_slice(),
-    )
+    let l3 = measured.l3.as_ref().map(|l3| l3.as_slice());
+    measured_word(alloc, station, (measured.channel, measured.number, l3))
+}
+
+// What a MEASUREMENT RESULT of this channel, with this number and L3 information, says.
+fn measured_word(
+    alloc: Global,
+    station: u16,
+    measured: (ChanNo, MeasurementNumber, Option<&[u8]>),
+) -> Result<Word, Memory>
+    ensures { IfOk result (λ word. word ≡ reading.result_word
+        (channel_at station measured.entry.0) measured.entry.1.0
+        (option_map (λ l. l.now) measured.entry.2)) }
+{
+    let (channel, number, l3) = measured;
+    match l3 {
+        Some(l3) => report_word(alloc, &place_at(station, channel), number.0, l3),
+        None => Ok(Word::Nothing),
+    }
 }
 
 fn establishment_word(station: u16, establishment: Establishment) -> Word
