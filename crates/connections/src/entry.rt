@@ -162,8 +162,6 @@ impl Entry {
             (λ d. d ≡ decision_over_all (with_report number report.now self.now)) }
     {
         let settings = cells.handover(self.conn.serving().station);
-        let mut averages = self.averages.copied(alloc, settings)?;
-        averages.add(report, number);
-        Ok(averages.decide(settings))
+        self.averages.decide_with(alloc, settings, report, number)
     }
 }

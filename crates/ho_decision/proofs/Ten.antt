@@ -1,6 +1,6 @@
 -- SPDX-License-Identifier: MIT OR Apache-2.0
 -- The last ten reports have what the averages and the decision want of all.
-use Rattle.std.proofs.Common.{◌≡◌, ℕ, ◌-◌, ◌/◌, ◌%◌, ◌<◌, ◌≤◌, ◌==◌, ◌||◌, nat_le, List, [], ◌∷◌, ◌++◌, length, drop, sum_by, count_by, refl, sym, ap, ◌∙◌, arith, Some, length-append}
+use Rattle.std.proofs.Common.{◌≡◌, ℕ, ◌-◌, ◌/◌, ◌%◌, ◌<◌, ◌≤◌, ◌==◌, ◌||◌, Bool, true, false, nat_le, List, [], ◌∷◌, ◌++◌, length, drop, sum_by, count_by, refl, sym, ap, ◌∙◌, arith, Some, length-append, subst, if◌then◌else◌}
 use Rattle.std.proofs.lemmas.List.{drop-drop, drop-append-le, length-drop}
 use Rattle.dtap_codec.specs.declared.report.Report.{Report}
 use Rattle.ho_decision.specs.declared.settings.Cell.{Cell}
@@ -10,6 +10,7 @@ use Rattle.ho_decision.specs.declared.decision.TheConstants.{BAD_REPORTS, QUALIT
 use Rattle.ho_decision.specs.declared.settings.TheConstants.{MAX_WINDOW}
 use Rattle.ho_decision.specs.Settings.{Settings, IsAllowed}
 use Rattle.ho_decision.specs.Average.{last, average, quality, serving_average, neighbour_average}
+use Rattle.ho_decision.specs.State.{State, DecidesFor, after_report}
 use Rattle.ho_decision.specs.Decision.{is_bad, is_due, average_at, Chooses, Decides}
 
 -- the last n of the last m, where n is no more
@@ -115,3 +116,22 @@ decides_last s reports number d allowed =
       serving = serving_average-last s reports allowed;
       level = λ place. neighbour_average-last s reports _ allowed;
     }
+
+-- where the levels aren't compared over all, it stays over the last ten
+pub stays_last : (s : Settings) (reports : List Report) (number : ℕ) → IsAllowed s → is_due s reports number ≡ false → Decides s (last MAX_WINDOW reports) number Stay
+stays_last s reports number allowed not_due = record {
+  none = λ e. refl;
+  not_due = λ e. refl;
+  due = λ some due. let never : (let x : Bool = true in x) ≡ false = sym due ∙ sym (is_due-last s reports number allowed) ∙ not_due in absurd cc;
+}
+
+-- the same after a valid report
+pub stays_after : (state : State) (report : Report) (number : ℕ) → IsAllowed state.settings → report.valid ≡ true →
+    is_due state.settings (state.reports ++ report ∷ []) number ≡ false → DecidesFor (after_report state report number) Stay
+stays_after state report number allowed valid not_due =
+    let after : State = record state {
+      reports = last MAX_WINDOW (state.reports ++ report ∷ []);
+      number = number;
+    } in
+    let P : Bool → Type 0 = λ b. DecidesFor (if b then after else state) Stay in
+    subst P (sym valid) (stays_last state.settings (state.reports ++ report ∷ []) number allowed not_due)

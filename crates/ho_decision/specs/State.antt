@@ -4,7 +4,9 @@ use Rattle.std.specs.Prelude.{ℕ, List, [], ◌∷◌, ◌++◌, if◌then◌el
 use Rattle.dtap_codec.specs.declared.report.Report.{Report}
 use Rattle.ho_decision.specs.declared.settings.TheConstants.{MAX_WINDOW}
 use Rattle.ho_decision.specs.Settings.{Settings}
+use Rattle.ho_decision.specs.declared.decision.Decision.{Decision}
 use Rattle.ho_decision.specs.Average.{last}
+use Rattle.ho_decision.specs.Decision.{Decides}
 
 -- the settings, the last valid reports, as many as the widest window has, the oldest first, and the
 -- number of the last one, 0 before the first
@@ -25,3 +27,7 @@ after_report state report number =
       number = number;
     })
     else state
+
+-- what is decided over the reports that are kept
+abbrev pub DecidesFor : State → Decision → Type 0
+DecidesFor state decision = Decides state.settings state.reports state.number decision

@@ -1,14 +1,15 @@
 // SPDX-License-Identifier: MIT OR Apache-2.0
-ghost use Rattle.std.specs.Prelude.{◌≡◌, ◌==◌, ◌<◌, length, count_by, IfOk, List};
+ghost use Rattle.std.specs.Prelude.{◌≡◌, ◌==◌, ◌<◌, ◌∷◌, ◌++◌, [], length, count_by, IfOk, List};
 ghost use Rattle.dtap_codec.specs.declared.report.Report.{Report as ReportValue};
 ghost use Rattle.ho_decision.specs.Average.{quality, last, serving_average};
-ghost use Rattle.ho_decision.specs.Decision.{Decides, average_at, is_bad};
+ghost use Rattle.ho_decision.specs.Decision.{Decides, average_at, is_bad, is_due};
+ghost use Rattle.ho_decision.specs.State.{DecidesFor};
 ghost use Rattle.ho_decision.specs.Heard.{AreHeard};
 ghost use Rattle.ho_decision.specs.Settings.{IsAllowed};
 ghost use Rattle.ho_decision.specs.declared.decision.TheConstants.{QUALITY_WINDOW};
 ghost use Rattle.ho_decision.specs.declared.settings.TheConstants.{MAX_WINDOW};
 
-use crate::decision::decide;
+use crate::decision::{compares, decide};
 use crate::heard::Heard;
 use crate::running::{Averaged, average_over};
 use crate::sums::Sums;
@@ -135,6 +136,55 @@ impl Averages {
         ensures allowed { IsAllowed self.now.settings }
     {
         decide(settings, self, self.number)
+    }
+
+    /// The handover decision over these and this report, with its number. Nothing changes. It takes
+    /// memory only where the levels are compared, and is refused only where there is none.
+    pub fn decide_with(
+        &self,
+        alloc: Global,
+        settings: &HoSettings,
+        report: &Report,
+        number: u8,
+    ) -> Result<Decision, Memory>
+        requires { settings.now ≡ self.now.settings }
+        ensures { IfOk result (λ decision. DecidesFor
+            (after_report self.now report.now number) decision) }
+    {
+        if report.valid && !self.is_due_with(settings, report, number) {
+            return Ok(Decision::Stay);
+        }
+        let mut after = self.copied(alloc, settings)?;
+        after.add(report, number);
+        Ok(after.decide(settings))
+    }
+
+    // Whether the levels are compared once this report is added with its number.
+    fn is_due_with(&self, settings: &HoSettings, report: &Report, number: u8) -> bool
+        requires { settings.now ≡ self.now.settings }
+        ensures due { result
+            ≡ is_due self.now.settings (self.now.reports ++ report.now ∷ []) number }
+        ensures allowed { IsAllowed settings.now }
+    {
+        let bad = self.bad_reports_with(report);
+        let level = self.serving_level_with(report);
+        compares(settings, bad, level, number)
+    }
+
+    // How many of the last `QUALITY_WINDOW` reports have bad quality, this one added.
+    fn bad_reports_with(&self, report: &Report) -> u16
+        ensures { result
+            ≡ count_by is_bad (last QUALITY_WINDOW (self.now.reports ++ report.now ∷ [])) }
+    {
+        self.sums.bad_quality.total_after(&self.reports, report)
+    }
+
+    // The average level of the serving cell, this report added.
+    fn serving_level_with(&self, report: &Report) -> u8
+        ensures { result
+            ≡ serving_average self.now.settings (self.now.reports ++ report.now ∷ []) }
+    {
+        self.sums.serving_level.average_after(&self.reports, report)
     }
 
     /// Whether there is no report.

@@ -1,6 +1,7 @@
 // SPDX-License-Identifier: MIT OR Apache-2.0
-ghost use Rattle.std.specs.Prelude.{◌≡◌, ◌<◌, ◌≤◌, length};
+ghost use Rattle.std.specs.Prelude.{◌≡◌, ◌<◌, ◌≤◌, ◌-◌, ◌%◌, ◌==◌, ◌||◌, length, nat_le};
 ghost use Rattle.ho_decision.specs.Decision.{Decides, Chooses, bound, is_due};
+ghost use Rattle.ho_decision.specs.Settings.{IsAllowed};
 
 use crate::{Averages, HoSettings};
 
@@ -36,9 +37,23 @@ fn is_due(settings: &HoSettings, averages: &Averages, number: u8) -> bool
     requires same { settings.now ≡ averages.now.settings }
     ensures { result ≡ is_due averages.now.settings averages.now.reports number }
 {
+    compares(
+        settings,
+        averages.bad_reports(),
+        averages.serving_level(),
+        number,
+    )
+}
+
+/// Whether the levels are compared where so many reports are bad and the serving cell has this
+/// average level.
+pub(crate) fn compares(settings: &HoSettings, bad: u16, level: u8, number: u8) -> bool
+    ensures compares { result ≡ (nat_le BAD_REPORTS bad || (level == 0)
+        || (number % settings.now.parameters.interval
+        == settings.now.parameters.interval - 1)) }
+    ensures allowed { IsAllowed settings.now }
+{
     let interval = settings.parameters.interval;
-    let bad = averages.bad_reports();
-    let level = averages.serving_level();
     bad >= BAD_REPORTS || level == 0 || number % interval == interval - 1
 }
 

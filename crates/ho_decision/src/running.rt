@@ -61,6 +61,29 @@ impl RunningSum {
         let count = reports.len().min(usize::from(self.of.window)) as u16;
         (self.total / count) as u8
     }
+
+    /// The total once a report more is taken, which comes after these. Nothing changes.
+    pub fn total_after(&self, reports: &HeapCircularBuffer<Report>, report: &Report) -> u16
+        requires { IsSum reports.now.items self.now }
+        ensures { result ≡ total_over self.now.of.measure self.now.of.window
+            (reports.now.items ++ report.now ∷ []) }
+    {
+        let mut sum = *self;
+        sum.add(reports, report);
+        sum.total
+    }
+
+    /// The average once a report more is taken, which comes after these. Nothing changes.
+    pub fn average_after(&self, reports: &HeapCircularBuffer<Report>, report: &Report) -> u8
+        requires { IsSum reports.now.items self.now }
+        ensures { result ≡ average (value_of self.now.of.measure) self.now.of.window
+            (reports.now.items ++ report.now ∷ []) }
+    {
+        let mut sum = *self;
+        sum.add(reports, report);
+        let count = (reports.len() + 1).min(usize::from(sum.of.window)) as u16;
+        (sum.total / count) as u8
+    }
 }
 
 /// The average of a measure over the last of these reports, of which there is one at least.

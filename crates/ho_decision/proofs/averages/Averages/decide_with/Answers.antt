@@ -1,0 +1,12 @@
+-- SPDX-License-Identifier: MIT OR Apache-2.0
+-- Where the levels aren't compared it stays.
+use Rattle.std.proofs.Common.{sym, subst, ◌∙◌}
+use Rattle.ho_decision.specs.Settings.{IsAllowed}
+use Rattle.ho_decision.proofs.Ten.{stays_after}
+use Rattle.ho_decision.proofs.averages.Averages.decide_with.Goals as goal
+
+pub returns-then-not-is_due_with : goal.returns-then-not-is_due_with
+returns-then-not-is_due_with c =
+    stays_after c.args.self.now c.args.report.now c.args.number
+    (subst IsAllowed c.requires c.is_due_with.ensures.allowed) c.if-report.true
+    (sym c.is_due_with.ensures.due ∙ c.if-not-is_due_with.true)
