@@ -54,6 +54,11 @@ length_first : (number : ℕ) (o : Option Entry) (rest : List Entry) → HasNumb
 length_first number (Some e) rest is = refl
 length_first number None rest is = absurd is
 
+-- what has the key that a place has
+pub behind_key : (slots : List (Option Entry)) (o : Option (ℕ × ℕ)) → option_and_then (at slots) (option_map (λ (p : ℕ × ℕ). p.1) o) ≡ option_and_then (λ (p : ℕ × ℕ). at slots p.1) o
+behind_key slots (Some p) = refl
+behind_key slots None = refl
+
 pub length-listed : (slots : List (Option Entry)) (ps : List (ℕ × ℕ)) → IsIndex slots ps → length (listed slots ps) ≡ length ps
 length-listed slots [] index = refl
 length-listed slots (p ∷ ps) index = length_first p.0 (at slots p.1) (listed slots ps) index.0 ∙ ap (λ (n : ℕ). suc n) (length-listed slots ps index.2)

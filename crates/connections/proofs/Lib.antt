@@ -2,6 +2,7 @@
 pub mod Handovers
 pub mod Indexed
 pub mod Kept
+mod Numbers
 pub mod Rising
 mod Rows
 pub mod Settled

@@ -16,7 +16,6 @@ use Rattle.conn_rules.specs.Table.{row_of}
 use Rattle.controller_model.specs.Controller.{Entry, has_number, put_back, remaining}
 use Rattle.controller_model.specs.Life.{aged, with_report}
 use Rattle.dtap_codec.specs.declared.report.Report.{Report}
-use Rattle.indexmap.specs.IndexMap.{insert_entry}
 use Rattle.settings.specs.Parameters.{Parameters}
 use Rattle.connections.specs.Entries.{IsKept, IsOffer, is_removed}
 use Rattle.connections.specs.Index.{at, listed, HasNumber, IsIndex, SameBut, Settles, is_gone}
@@ -191,26 +190,6 @@ aged_has ms n e has = has
 
 -- ---- one more
 
-not_found_at : (slots : List (Option Entry)) (ps : List (ℕ × ℕ)) (n : ℕ) (o : Option ℕ) → IsIndex slots ps → find (has_number n) (listed slots ps) ≡ None → lookup (λ k. n == k) ps ≡ o → o ≡ None
-not_found_at slots ps n None index none is = refl
-not_found_at slots ps n (Some key) index none is =
-    absurd (subst (HasNumber n) (sym (find_found slots ps n key index is) ∙ none) (found_has slots ps n key index is))
-
-not_found : (slots : List (Option Entry)) (ps : List (ℕ × ℕ)) (n : ℕ) → IsIndex slots ps → find (has_number n) (listed slots ps) ≡ None → lookup (λ k. n == k) ps ≡ None
-not_found slots ps n index none = not_found_at slots ps n (lookup (λ k. n == k) ps) index none refl
-
-inserted_behind : (ps : List (ℕ × ℕ)) (n key : ℕ) → lookup (λ k. n == k) ps ≡ None → insert_entry nat_eq ps n key ≡ ps ++ (n, key) ∷ []
-inserted_behind [] n key none = refl
-inserted_behind (p ∷ ps) n key none =
-    elim (cases_Bool (n == p.0)) [
-      | inl hit ↦
-          let some : Some p.1 ≡ None = sym (ap (λ b. if b then Some p.1 else lookup (λ k. n == k) ps) hit) ∙ none in
-          absurd cc
-      | inr miss ↦
-          ap (λ b. if b then (p.0, key) ∷ ps else p ∷ insert_entry nat_eq ps n key) miss
-          ∙ ap (λ qs. p ∷ qs) (inserted_behind ps n key (sym (ap (λ b. if b then Some p.1 else lookup (λ k. n == k) ps) miss) ∙ none))
-    ]
-
 pushed_at : (old new : List (Option Entry)) (ps ps_after : List (ℕ × ℕ)) (key : ℕ) (e : Entry) → IsIndex old ps → ps_after ≡ ps ++ (e.connection.number, key) ∷ [] →
     at old key ≡ None → SameBut key old new → at new key ≡ Some e → is_removed e.connection.state ≡ false → (listed new ps_after ≡ listed old ps ++ e ∷ []) × IsIndex new ps_after
 pushed_at old new ps ps_after key e index is vacant same put stays = (
@@ -219,11 +198,10 @@ pushed_at old new ps ps_after key e index is vacant same put stays = (
 )
 
 -- the slots and the index have room first, and keep what they have
-pub pushed : (old roomy new : List (Option Entry)) (ps roomy_ps ps_after : List (ℕ × ℕ)) (number key : ℕ) (e : Entry) → IsIndex old ps → find (has_number e.connection.number) (listed old ps) ≡ None →
-    roomy ≡ old → roomy_ps ≡ ps → number ≡ e.connection.number → ps_after ≡ insert_entry nat_eq roomy_ps number key →
+pub pushed : (old roomy new : List (Option Entry)) (ps roomy_ps ps_after : List (ℕ × ℕ)) (number key : ℕ) (e : Entry) → IsIndex old ps →
+    roomy ≡ old → roomy_ps ≡ ps → number ≡ e.connection.number → ps_after ≡ roomy_ps ++ (number, key) ∷ [] →
     at roomy key ≡ None → SameBut key roomy new → at new key ≡ Some e → is_removed e.connection.state ≡ false → (listed new ps_after ≡ listed old ps ++ e ∷ []) × IsIndex new ps_after
-pushed old roomy new ps roomy_ps ps_after number key e index none same_slots same_ps numbered inserted vacant same put stays =
+pushed old roomy new ps roomy_ps ps_after number key e index same_slots same_ps numbered inserted vacant same put stays =
     pushed_at old new ps ps_after key e index
-    (inserted ∙ ap (λ qs. insert_entry nat_eq qs number key) same_ps ∙ ap (λ (n : ℕ). insert_entry nat_eq ps n key) numbered
-    ∙ inserted_behind ps e.connection.number key (not_found old ps e.connection.number index none))
+    (inserted ∙ ap (λ qs. qs ++ (number, key) ∷ []) same_ps ∙ ap (λ (n : ℕ). ps ++ (n, key) ∷ []) numbered)
     (sym (ap (λ slots. at slots key) same_slots) ∙ vacant) (λ k other. same k other ∙ ap (λ slots. at slots k) same_slots) put stays

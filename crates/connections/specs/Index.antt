@@ -1,12 +1,38 @@
 -- SPDX-License-Identifier: MIT OR Apache-2.0
--- Entries in slots, and an index of them: their numbers, each with the key of its slot, in order.
+-- Entries in slots, and an index of them: their numbers, which rise, each with the key of its slot.
 -- No public clause cites it.
-use Rattle.std.specs.Prelude.{◌≡◌, ◌≢◌, ℕ, ◌==◌, ◌||◌, Bool, true, false}
-use Rattle.std.specs.Prelude.{List, [], ◌∷◌, ◌++◌, slice_index_or, Option, Some, None}
+use Rattle.std.specs.Prelude.{◌≡◌, ◌≢◌, ℕ, ◌==◌, ◌<◌, ◌||◌, Bool, true, false}
+use Rattle.std.specs.Prelude.{List, [], ◌∷◌, ◌++◌, length, slice_index_or, Option, Some, None}
 use Rattle.std.specs.Option.{option_to_list}
 use Rattle.std.specs.Map.{remove_entry}
 use Rattle.controller_model.specs.Controller.{Entry}
 use Rattle.connections.specs.Entries.{is_removed}
+
+-- the numbers with their keys, and how many there is room for
+pub record IndexState : Type 0 where
+  pub entries : List (ℕ × ℕ)
+  pub room : ℕ
+
+-- the number at a place
+abbrev pub number_in : List (ℕ × ℕ) → ℕ → ℕ
+number_in ps place = (slice_index_or ps place (0, 0)).0
+
+-- the numbers rise
+abbrev pub NumbersRise : List (ℕ × ℕ) → Type 0
+NumbersRise ps = (i j : ℕ) → i < j → j < length ps → number_in ps i < number_in ps j
+
+-- each number is below this one
+abbrev pub AreNumbersBelow : ℕ → List (ℕ × ℕ) → Type 0
+AreNumbersBelow number ps = (i : ℕ) → i < length ps → number_in ps i < number
+
+-- the number is at this place
+pub record IsPlaceOf (ps : List (ℕ × ℕ)) (number place : ℕ) : Type 0 where
+  pub within : place < length ps
+  pub is : number_in ps place ≡ number
+
+-- no place has the number
+abbrev pub HasNoPlace : List (ℕ × ℕ) → ℕ → Type 0
+HasNoPlace ps number = (i : ℕ) → i < length ps → number_in ps i ≢ number
 
 -- what has a key
 abbrev pub at : List (Option Entry) → ℕ → Option Entry

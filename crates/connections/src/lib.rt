@@ -11,5 +11,6 @@ pub use ho_decision::{Averages, Decision};
 mod cells;
 mod connections;
 mod entry;
+mod index;
 mod slots;
 mod table;

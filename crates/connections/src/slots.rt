@@ -1,7 +1,6 @@
 // SPDX-License-Identifier: MIT OR Apache-2.0
-ghost use Rattle.std.specs.Prelude.{◌≡◌, ◌==◌, ◌++◌, None, IfOk, OnOk, OnErr};
+ghost use Rattle.std.specs.Prelude.{◌≡◌, ◌++◌, None, IfOk, OnOk, OnErr};
 ghost use Rattle.std.specs.Prelude.{option_map};
-ghost use Rattle.std.specs.Map.{lookup};
 ghost use Rattle.std.specs.Option.{ForSome, is_some};
 ghost use Rattle.conn_fsm.specs.Doing.{AreSound, outs_in};
 ghost use Rattle.conn_rules.specs.Validity.{IsCarried};
@@ -13,18 +12,11 @@ ghost use Rattle.slab.specs.Slab.{get, Updates};
 
 use crate::Entry;
 use crate::cells::Cells;
+use crate::index::Index;
 use conn_fsm::{Channel, Input, Outputs, Plan};
 use dtap_codec::Report;
-use indexmap::IndexMap;
 use octets::Memory;
 use slab::Slab;
-
-/// The key of a number.
-pub(crate) fn key_of(index: &IndexMap<u32, usize>, number: u32) -> Option<usize>
-    ensures { result ≡ lookup (λ k. number == k) index.now.entries }
-{
-    index.get(&number).copied()
-}
 
 /// The entry with this key does the row that fits.
 pub(crate) fn step_at(
@@ -71,12 +63,7 @@ pub(crate) fn commit_at(slots: &mut Slab<Entry>, key: usize, plan: Plan, cells: 
 }
 
 /// An entry that was removed leaves its slot, and its number the index.
-pub(crate) fn settle(
-    slots: &mut Slab<Entry>,
-    index: &mut IndexMap<u32, usize>,
-    number: u32,
-    key: usize,
-)
+pub(crate) fn settle(slots: &mut Slab<Entry>, index: &mut Index, number: u32, key: usize)
     ensures { Settles (is_gone (get slots.old key)) number key
         slots.old.slots slots.new.slots index.old.entries index.new.entries }
 {
@@ -86,7 +73,7 @@ pub(crate) fn settle(
     };
     if is_removed {
         slots.try_remove(key);
-        index.shift_remove(&number);
+        index.remove(number);
     }
 }
 

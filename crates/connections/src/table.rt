@@ -1,29 +1,29 @@
 // SPDX-License-Identifier: MIT OR Apache-2.0
 ghost use Rattle.std.specs.Prelude.{◌≡◌, ◌∷◌, [], ◌++◌, IfOk, OnOk, OnErr, None};
 ghost use Rattle.std.specs.Prelude.{false, length, map, slice_get};
+ghost use Rattle.std.specs.List.{AllByRecursion};
 ghost use Rattle.std.specs.Option.{ForSome, option_copied};
 ghost use Rattle.conn_rules.specs.Validity.{IsCarried};
 ghost use Rattle.controller_model.specs.Life.{aged};
-ghost use Rattle.connections.specs.Entries.{IsKept, IsOffer, entry_in, is_removed};
+ghost use Rattle.connections.specs.Entries.{IsBelow, IsKept, IsOffer, entry_in, is_removed};
 ghost use Rattle.connections.specs.Steps.{CommitsFor, IsLeft, IsPlanFor, StepsFor, all_with_report};
 
 use crate::Entry;
 use crate::cells::Cells;
-use crate::slots::{add_at, commit_at, key_of, pass_at, settle, step_at};
+use crate::index::Index;
+use crate::slots::{add_at, commit_at, pass_at, settle, step_at};
 use conn_fsm::{Channel, Input, Outputs, Plan};
 use dtap_codec::Report;
-use indexmap::IndexMap;
 use octets::Memory;
 use slab::Slab;
 use std::alloc::Global;
 use std::marker::Model;
 
-/// Entries in a slab, in the order in which they came, each found by its number. The index has
-/// their numbers in that order, each with the key of its slot.
+/// Entries in a slab, by rising number. The index has their numbers, each with the key of its slot.
 #[derive(Drop)]
 pub(crate) struct Table {
     slots: Slab<Entry>,
-    index: IndexMap<u32, usize>,
+    index: Index,
 }
 
 impl Model for Table {
@@ -44,24 +44,22 @@ impl Table {
     {
         Table {
             slots: Slab::new(alloc),
-            index: IndexMap::new(alloc),
+            index: Index::new(alloc),
         }
     }
 
     pub(crate) fn push(&mut self, entry: Entry) -> Result<(), Memory>
-        requires fresh { entry_in entry.connection.number self.old ≡ None }
+        requires last { AllByRecursion (IsBelow entry.connection.number) self.old }
         requires stays { is_removed entry.connection.state ≡ false }
         ensures ok { OnOk result (self.new ≡ self.old ++ entry ∷ []) }
         ensures err { OnErr result (self.new ≡ self.old) }
     {
         self.slots.reserve(1)?;
-        self.index.reserve(1)?;
+        self.index.reserve()?;
         let number = entry.connection().number();
         let key = self.slots.insert_reserved(entry);
-        match self.index.insert(number, key) {
-            Ok(_) => Ok(()),
-            Err(_) => unreachable!(),
-        }
+        self.index.push_reserved(number, key);
+        Ok(())
     }
 
     pub(crate) fn len(&self) -> usize
@@ -73,7 +71,7 @@ impl Table {
     pub(crate) fn get(&self, number: u32) -> Option<&Entry>
         ensures { option_copied result ≡ entry_in number self.now }
     {
-        match key_of(&self.index, number) {
+        match self.index.key_of(number) {
             Some(key) => self.slots.get(key),
             None => None,
         }
@@ -82,8 +80,8 @@ impl Table {
     pub(crate) fn at(&self, place: usize) -> Option<&Entry>
         ensures { option_copied result ≡ slice_get self.now place }
     {
-        match self.index.get_index(place) {
-            Some((_, key)) => self.slots.get(*key),
+        match self.index.at(place) {
+            Some(key) => self.slots.get(key),
             None => None,
         }
     }
@@ -104,7 +102,7 @@ impl Table {
             self.old self.new outputs.old.outs outputs.new.outs) }
         ensures err { OnErr result (IsLeft self.old self.new outputs.old.outs outputs.new.outs) }
     {
-        let Some(key) = key_of(&self.index, number) else {
+        let Some(key) = self.index.key_of(number) else {
             return Ok(false);
         };
         let fits = step_at(&mut self.slots, key, input, offer, cells, outputs)?;
@@ -118,7 +116,7 @@ impl Table {
         ensures { CommitsFor cells.now (entry_in number self.old) plan.input
             self.old self.new result.outs }
     {
-        let Some(key) = key_of(&self.index, number) else {
+        let Some(key) = self.index.key_of(number) else {
             unreachable!()
         };
         let outputs = commit_at(&mut self.slots, key, plan, cells);
@@ -138,7 +136,7 @@ impl Table {
         ensures { self.new ≡ all_with_report report_number report.now
             (entry_in number self.old) self.old }
     {
-        if let Some(key) = key_of(&self.index, number) {
+        if let Some(key) = self.index.key_of(number) {
             add_at(&mut self.slots, key, report, report_number);
         }
     }

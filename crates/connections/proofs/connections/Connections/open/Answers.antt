@@ -1,15 +1,15 @@
 -- SPDX-License-Identifier: MIT OR Apache-2.0
-use Rattle.std.proofs.Common.{◌≡◌, None, find, sym, subst}
+use Rattle.std.proofs.Common.{sym, subst}
 use Rattle.std.specs.List.{AllByRecursion}
-use Rattle.controller_model.specs.Controller.{Entry, has_number}
+use Rattle.controller_model.specs.Controller.{Entry}
 use Rattle.connections.specs.Entries.{ConnectionsState, IsBelow, IsOfCell}
-use Rattle.connections.proofs.Rising.{fresh, push_kept}
+use Rattle.connections.proofs.Rising.{push_kept}
 use Rattle.connections.proofs.connections.Connections.open.Goals as goal
 
-pub push-requires-clause-fresh : goal.push-requires-clause-fresh
-push-requires-clause-fresh c =
-    subst (λ (e : Entry). find (has_number e.connection.number) c.self.inside.table ≡ None) (sym c.in_ok-entry.ensures)
-    (fresh c.args.number c.self.inside.table (subst (λ (s : ConnectionsState). AllByRecursion (IsBelow c.args.number) s.entries) (sym c.self.view_is) c.requires.last))
+pub push-requires-clause-last : goal.push-requires-clause-last
+push-requires-clause-last c =
+    subst (λ (e : Entry). AllByRecursion (IsBelow e.connection.number) c.self.inside.table) (sym c.in_ok-entry.ensures)
+    (subst (λ (s : ConnectionsState). AllByRecursion (IsBelow c.args.number) s.entries) (sym c.self.view_is) c.requires.last)
 
 pub invariant_of-self : goal.invariant_of-self
 invariant_of-self c =

@@ -1,0 +1,95 @@
+// SPDX-License-Identifier: MIT OR Apache-2.0
+ghost use Rattle.std.specs.Prelude.{◌≡◌, ◌<◌, ◌==◌, ◌++◌, [], ◌∷◌, length, slice_get, option_map};
+ghost use Rattle.std.specs.Prelude.{IfErr, IfOk, OnOk};
+ghost use Rattle.std.specs.Map.{lookup, remove_entry};
+ghost use Rattle.connections.specs.Index.{AreNumbersBelow, HasNoPlace, IsPlaceOf};
+
+use octets::Memory;
+use std::alloc::Global;
+use std::marker::Model;
+
+/// The numbers of connections, each with the key of its slot. They rise: so a number is looked up by
+/// halving, and one that leaves lets those behind it move up by a place.
+#[derive(Drop)]
+pub(crate) struct Index {
+    pairs: Vec<(u32, usize)>,
+}
+
+impl Model for Index {
+    ghost use Rattle.std.specs.Prelude.{vec_capacity};
+    ghost use Rattle.connections.specs.Index.{IndexState, NumbersRise};
+
+    ghost Value = { IndexState };
+
+    ghost view = { λ i. record { entries = i.pairs.items; room = vec_capacity i.pairs } };
+
+    ghost invariant = { λ i. NumbersRise i.pairs.items };
+}
+
+impl Index {
+    pub(crate) fn new(alloc: Global) -> Index
+        ensures { result.entries ≡ [] }
+    {
+        Index {
+            pairs: Vec::new(alloc),
+        }
+    }
+
+    pub(crate) fn len(&self) -> usize
+        ensures { result ≡ length self.now.entries }
+    {
+        self.pairs.len()
+    }
+
+    /// The key of a number.
+    pub(crate) fn key_of(&self, number: u32) -> Option<usize>
+        ensures { result ≡ lookup (λ k. number == k) self.now.entries }
+    {
+        match self.place_of(number) {
+            Ok(place) => Some(self.pairs[place].1),
+            Err(_) => None,
+        }
+    }
+
+    /// The key at a place, from 0.
+    pub(crate) fn at(&self, place: usize) -> Option<usize>
+        ensures { result ≡ option_map (λ p. p.1) (slice_get self.now.entries place) }
+    {
+        self.pairs.get(place).map(|pair| pair.1)
+    }
+
+    /// Makes room for one more.
+    pub(crate) fn reserve(&mut self) -> Result<(), Memory>
+        ensures room { OnOk result (length self.new.entries < self.new.room) }
+        ensures same { self.new.entries ≡ self.old.entries }
+    {
+        self.pairs.reserve(1)?;
+        Ok(())
+    }
+
+    /// One more, whose number is above all others.
+    pub(crate) fn push_reserved(&mut self, number: u32, key: usize)
+        requires room { length self.old.entries < self.old.room }
+        requires last { AreNumbersBelow number self.old.entries }
+        ensures { self.new.entries ≡ self.old.entries ++ (number, key) ∷ [] }
+    {
+        self.pairs.push_reserved((number, key));
+    }
+
+    /// Without this number.
+    pub(crate) fn remove(&mut self, number: u32)
+        ensures { self.new.entries ≡ remove_entry (λ k. number == k) self.old.entries }
+    {
+        if let Ok(place) = self.place_of(number) {
+            self.pairs.remove(place);
+        }
+    }
+
+    // The place of a number.
+    fn place_of(&self, number: u32) -> Result<usize, usize>
+        ensures found { IfOk result (IsPlaceOf self.now.entries number) }
+        ensures absent { IfErr result (λ _. HasNoPlace self.now.entries number) }
+    {
+        self.pairs.binary_search_by_key(&number, |pair| pair.0)
+    }
+}
