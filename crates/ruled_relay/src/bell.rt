@@ -19,13 +19,27 @@ struct Shared {
     parker: Parker,
     /// Whether nothing more is to be put.
     last: AtomicBool,
+    /// Of each source whether its queue may hold an item. Who puts one raises the sign behind it.
+    /// Who finds the queue empty lowers the sign and looks once more: so a sign that isn't raised
+    /// stands for an empty queue, or for an item whose put hasn't returned yet.
+    signs: Vec<AtomicBool>,
 }
 
 impl Bell {
     pub(crate) fn new(alloc: Global) -> Result<Bell, Memory> {
+        Bell::with_signs(alloc, 0)
+    }
+
+    /// A bell with a sign for each of so many sources. None is raised.
+    pub(crate) fn with_signs(alloc: Global, sources: u16) -> Result<Bell, Memory> {
+        let mut signs = Vec::with_capacity(alloc, usize::from(sources))?;
+        for _ in 0..sources {
+            signs.push(AtomicBool::new(false))?;
+        }
         let shared = Shared {
             parker: Parker::new(),
             last: AtomicBool::new(false),
+            signs,
         };
         let shared = Arc::new(alloc, shared)?;
         Ok(Bell { shared })
@@ -51,6 +65,28 @@ impl Bell {
     /// Whether it was told that nothing more is to be put. It is told once.
     pub(crate) fn was_last(&self) -> bool {
         self.shared.last.swap(false, Ordering::SeqCst)
+    }
+
+    /// Raises the sign of a source, where it isn't.
+    pub(crate) fn raise(&self, source: u16) {
+        if let Some(sign) = self.shared.signs.get(usize::from(source)) {
+            if !sign.load(Ordering::SeqCst) {
+                sign.store(true, Ordering::SeqCst);
+            }
+        }
+    }
+
+    pub(crate) fn lower(&self, source: u16) {
+        if let Some(sign) = self.shared.signs.get(usize::from(source)) {
+            sign.store(false, Ordering::SeqCst);
+        }
+    }
+
+    pub(crate) fn is_raised(&self, source: u16) -> bool {
+        match self.shared.signs.get(usize::from(source)) {
+            Some(sign) => sign.load(Ordering::SeqCst),
+            None => false,
+        }
     }
 
     /// Waits for a ring, at most so long.

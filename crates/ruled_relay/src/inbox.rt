@@ -110,7 +110,7 @@ impl Inbox {
         ensures each { IfOk result (λ r. AreNewInbox capacity r.0 r.1.items) }
         ensures queues { IfOk result (λ r. queues_of r.0 ≡ map (λ p. p.queue) r.1.items) }
     {
-        let bell = Bell::new(alloc)?;
+        let bell = Bell::with_signs(alloc, sources)?;
         let mut desk = Vec::with_capacity(alloc, usize::from(sources))?;
         let mut passes = Vec::with_capacity(alloc, usize::from(sources))?;
         for source in 0..sources {
@@ -162,7 +162,10 @@ impl SourcePass {
         }
         let Item { source, what } = item;
         match self.end.put(rt, what) {
-            Ok(()) => Ok(()),
+            Ok(()) => {
+                self.bell.raise(source);
+                Ok(())
+            }
             Err(what) => Err(PutFault::Full(Item { source, what })),
         }
     }
@@ -202,7 +205,7 @@ impl Desk {
             (λ item. TakesItem self.old item self.new) }
         ensures same { queues_of self.new ≡ queues_of self.old }
     {
-        let item = take_in_turn(rt, &mut self.ends, self.turn, self.sources)?;
+        let item = take_in_turn(rt, &self.bell, &mut self.ends, self.turn, self.sources)?;
         self.turn = item.source + 1;
         Some(item)
     }

@@ -4,6 +4,7 @@ ghost use Rattle.std.specs.Prelude.{◌≡◌, ◌<◌, ◌≤◌, true, vec_len
 ghost use Rattle.ruled_relay.specs.Row.{EachMayTake, HasAt, JoinsAt, TakesAmong, TakesAt, TakesOne};
 ghost use Rattle.ruled_relay.specs.Rule.{putting};
 
+use crate::bell::Bell;
 use crate::end::End;
 use crate::item::{Item, What};
 use std::sync::Wait;
@@ -38,9 +39,50 @@ pub(crate) fn take_among<R: Wait>(
     None
 }
 
-/// Asks all sources in turn, beginning with one of them, until one has an item.
+/// Takes the first item of a source whose sign is raised, or lowers the sign.
+fn take_raised<R: Wait>(rt: &R, bell: &Bell, ends: &mut Vec<End<What>>, source: u16) -> Option<Item>
+    requires within { source < vec_len ends.old }
+    requires takes { EachMayTake ends.old.items }
+    ensures { TakesAt source ends.old.items result ends.new.items }
+{
+    if let Some(item) = take_at(rt, ends, source) {
+        return Some(item);
+    }
+    bell.lower(source);
+    // what was put meanwhile may have found the sign still raised
+    let item = take_at(rt, ends, source)?;
+    bell.raise(source);
+    Some(item)
+}
+
+/// Asks those of the sources from one on, up to another, whose signs are raised, in turn, until one
+/// of them has an item.
+fn take_among_raised<R: Wait>(
+    rt: &R,
+    bell: &Bell,
+    ends: &mut Vec<End<What>>,
+    from: u16,
+    to: u16,
+) -> Option<Item>
+    requires within { to ≤ vec_len ends.old }
+    requires takes { EachMayTake ends.old.items }
+    ensures { TakesOne to ends.old.items result ends.new.items }
+{
+    for source in from..to {
+        if bell.is_raised(source) {
+            if let Some(item) = take_raised(rt, bell, ends, source) {
+                return Some(item);
+            }
+        }
+    }
+    None
+}
+
+/// Asks all sources in turn, beginning with one of them, until one has an item. Those whose sign
+/// isn't raised have none.
 pub(crate) fn take_in_turn<R: Wait>(
     rt: &R,
+    bell: &Bell,
     ends: &mut Vec<End<What>>,
     turn: u16,
     sources: u16,
@@ -49,9 +91,9 @@ pub(crate) fn take_in_turn<R: Wait>(
     requires takes { EachMayTake ends.old.items }
     ensures { TakesOne sources ends.old.items result ends.new.items }
 {
-    match take_among(rt, ends, turn, sources) {
+    match take_among_raised(rt, bell, ends, turn, sources) {
         Some(item) => Some(item),
-        None => take_among(rt, ends, 0, turn),
+        None => take_among_raised(rt, bell, ends, 0, turn),
     }
 }
 

@@ -81,6 +81,57 @@ fn everything_comes_in_order_from_each_of_many_threads(rt: HostRuntime) {
     assert!(rt; desk.take(&rt).is_none());
 }
 
+/// How often each of three sources puts an item, each time once the one before was taken.
+const PUTS: u32 = 20_000;
+
+/// How many looks in a row may find nothing: some seconds.
+const LOOKS: u32 = 10_000_000;
+
+/// Puts items, one after the other.
+fn put_often<R: Wait>(rt: &R, mut pass: SourcePass) {
+    let source = pass.source();
+    for _ in 0..PUTS {
+        let what = What::Down;
+        put_when_room(rt, &mut pass, Item { source, what });
+    }
+}
+
+/// Whether a desk gives so many items, and none of its looks is in vain for long.
+fn gives<R: Wait>(rt: &R, desk: &mut Desk, count: u32) -> bool {
+    for _ in 0..count {
+        let mut is_taken = false;
+        for _ in 0..LOOKS {
+            if desk.take(rt).is_some() {
+                is_taken = true;
+                break;
+            }
+            thread::yield_now();
+        }
+        if !is_taken {
+            return false;
+        }
+    }
+    true
+}
+
+/// The desk passes over queues that it has found empty. An item that comes just then isn't passed
+/// over.
+#[test]
+fn an_item_that_is_put_while_its_queue_is_found_empty_is_taken(rt: HostRuntime) {
+    let alloc = rt.alloc();
+    let (mut desk, passes) = Inbox::new(alloc, 3, 1).expect(&rt, "an inbox");
+    let mut threads = Vec::with_capacity(alloc, 3).expect(&rt, "room");
+    for pass in passes {
+        let thread = thread::spawn(&rt, move || put_often(&rt, pass)).expect(&rt, "a thread");
+        threads.push(thread).expect(&rt, "room");
+    }
+    assert!(rt; gives(&rt, &mut desk, 3 * PUTS));
+    for thread in threads {
+        thread.join(&rt);
+    }
+    assert!(rt; desk.take(&rt).is_none());
+}
+
 /// Puts a line once there is room for it.
 fn put_line_when_room<R: Wait>(rt: &R, putter: &mut Putter, mut line: Line) {
     for _ in rt.forever() {
