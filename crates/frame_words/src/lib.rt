@@ -4,7 +4,7 @@
 #![tactic(auto)]
 
 pub use carried::carried_name;
-pub use digits::write_digits;
+pub use digits::{write_decimal, write_digits};
 pub use fields::write_fields;
 pub use long_line::decode_long;
 pub use message_name::write_message_name;

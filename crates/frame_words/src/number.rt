@@ -9,11 +9,12 @@ ghost use Rattle.rsl_codec.specs.RslReading.{rsl_reading};
 ghost use Rattle.frame_words.specs.Numbered.{bssap_number, number_field, number_in_frame};
 ghost use Rattle.frame_words.specs.Numbered.{rsl_number, sccp_number, transfer_number};
 
+use crate::digits::write_decimal;
 use bssmap_codec::{Bssap, InterfaceFault, Sccp, read_bssap, read_sccp};
 use dtap_codec::{Modulus, number_of};
 use ipa_framing::{Frame, RSL_STREAM, SCCP_STREAM};
 use octets::Memory;
-use program_base::Failure;
+use program_base::{Failure, put};
 use rsl_codec::{Rsl, RslFault};
 use std::alloc::Global;
 use std::io::Write;
@@ -34,8 +35,8 @@ pub fn write_number<W: Write>(
     match number_in_frame(alloc, modulus, frame)? {
         None => Ok(()),
         Some(number) => {
-            write!(output, " N(SD) {number}")?;
-            Ok(())
+            put(output, b" N(SD) ")?;
+            write_decimal(u64::from(number), output)
         }
     }
 }
