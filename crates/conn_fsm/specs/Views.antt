@@ -1,6 +1,8 @@
 -- SPDX-License-Identifier: MIT OR Apache-2.0
 -- What is seen of a connection.
-use Rattle.std.specs.Prelude.{ℕ, List, [], ◌∷◌, ◌++◌}
+use Rattle.std.specs.Prelude.{ℕ, Bool, true, false, List, [], ◌∷◌, ◌++◌}
+use Rattle.conn_rules.specs.declared.state.State.{State}
+use Rattle.conn_rules.specs.declared.state.State.TheVariants.{WaitConfirm}
 use Rattle.dtap_codec.specs.declared.sapi.Sapi.{Sapi}
 use Rattle.hold_queue.specs.ChainState.{Tenure, tenure_messages}
 
@@ -8,3 +10,8 @@ use Rattle.hold_queue.specs.ChainState.{Tenure, tenure_messages}
 abbrev pub joined : Sapi → List Tenure → List (List ℕ)
 joined sapi [] = []
 joined sapi (t ∷ ts) = tenure_messages t sapi ++ joined sapi ts
+
+-- the switch was asked for a connection, and hasn't answered
+abbrev pub awaits_switch : State → Bool
+awaits_switch WaitConfirm = true
+awaits_switch _ = false

@@ -1,5 +1,5 @@
 // SPDX-License-Identifier: MIT OR Apache-2.0
-ghost use Rattle.std.specs.Prelude.{◌≡◌, ◌<◌, ◌^◌, None, IfOk};
+ghost use Rattle.std.specs.Prelude.{◌≡◌, ◌<◌, ◌^◌, None, IfOk, length};
 ghost use Rattle.conn_rules.specs.Connection.{new_connection};
 ghost use Rattle.conn_rules.specs.Validity.{IsCarried, IsValid};
 ghost use Rattle.conn_rules.specs.Table.{row_of, serving_after};
@@ -177,5 +177,19 @@ impl Conn {
         ensures { IfOk result (λ list. list.items ≡ joined sapi self.now.up.tenures) }
     {
         self.machine.held_up(sapi)
+    }
+
+    /// How many messages `held` has, without a copy of them.
+    pub fn held_count(&self, sapi: Sapi) -> usize
+        ensures { result ≡ length (messages self.now.down sapi) }
+    {
+        self.machine.held_count(sapi)
+    }
+
+    /// How many messages `held_up` has, without a copy of them.
+    pub fn held_up_count(&self, sapi: Sapi) -> usize
+        ensures { result ≡ length (joined sapi self.now.up.tenures) }
+    {
+        self.machine.held_up_count(sapi)
     }
 }

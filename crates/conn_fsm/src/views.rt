@@ -3,10 +3,10 @@ ghost use Rattle.std.specs.Prelude.{◌≡◌, ◌≤◌, ◌++◌, length, IfOk
 ghost use Rattle.conn_rules.specs.Validity.{IsValid};
 ghost use Rattle.hold_queue.specs.ChainState.{messages_in};
 ghost use Rattle.hold_queue.specs.HoldState.{messages};
-ghost use Rattle.conn_fsm.specs.Views.{joined};
+ghost use Rattle.conn_fsm.specs.Views.{awaits_switch, joined};
 
 use crate::machine::Machine;
-use conn_rules::{DOWN_LIMIT, UP_LIMIT};
+use conn_rules::{DOWN_LIMIT, State, UP_LIMIT};
 use dtap_codec::Sapi;
 use hold_queue::TENURE_LIMIT;
 use octets::{Memory, Octets};
@@ -64,5 +64,78 @@ impl Machine {
             list.push(Octets::copy(self.alloc, message)?)?;
         }
         Ok(())
+    }
+
+    /// How many of the switch's messages of a SAPI are held.
+    #[tactic(auto, using(crate::proofs::Counting::none_held))]
+    pub(crate) fn held_count(&self, sapi: Sapi) -> usize
+        requires { IsValid self.now }
+        ensures { result ≡ length (messages self.now.down sapi) }
+    {
+        if self.down.is_empty() {
+            return 0;
+        }
+        self.count_held(sapi)
+    }
+
+    // Counts them one by one.
+    #[tactic(auto, using(crate::proofs::Counting::all_counted, crate::proofs::Counting::one_counted))]
+    fn count_held(&self, sapi: Sapi) -> usize
+        requires { length (messages self.now.down sapi) ≤ DOWN_LIMIT }
+        ensures { result ≡ length (messages self.now.down sapi) }
+    {
+        for place in 0..DOWN_LIMIT {
+            let Some(_) = self.down.get(sapi, place) else {
+                return place;
+            };
+        }
+        DOWN_LIMIT
+    }
+
+    /// How many of the mobile's messages of a SAPI are held, over all tenures. While no old channel
+    /// is there, none is, but where the switch is waited for.
+    #[tactic(auto, using(crate::proofs::Counting::none_up))]
+    pub(crate) fn held_up_count(&self, sapi: Sapi) -> usize
+        requires { IsValid self.now }
+        ensures { result ≡ length (joined sapi self.now.up.tenures) }
+    {
+        if self.draining.is_empty() && !self.awaits_switch() {
+            return 0;
+        }
+        self.count_tenures(sapi)
+    }
+
+    // Whether the switch was asked for a connection, and hasn't answered.
+    fn awaits_switch(&self) -> bool
+        ensures { result ≡ awaits_switch self.now.state }
+    {
+        matches!(self.state, State::WaitConfirm)
+    }
+
+    // Counts those of one tenure after the other.
+    #[tactic(auto, using(crate::proofs::Pushing::few_in, crate::proofs::Counting::few_counted, crate::proofs::Counting::tenure_counted))]
+    fn count_tenures(&self, sapi: Sapi) -> usize
+        requires { IsValid self.now }
+        ensures { result ≡ length (joined sapi self.now.up.tenures) }
+    {
+        let mut count = 0;
+        for tenure in 0..TENURE_LIMIT {
+            count += self.count_tenure(tenure, sapi);
+        }
+        count
+    }
+
+    // Counts the messages of a SAPI that are held in a tenure.
+    #[tactic(auto, using(crate::proofs::Counting::all_counted, crate::proofs::Counting::one_counted))]
+    fn count_tenure(&self, tenure: usize, sapi: Sapi) -> usize
+        requires { length (messages_in tenure sapi self.now.up.tenures) ≤ UP_LIMIT }
+        ensures { result ≡ length (messages_in tenure sapi self.now.up.tenures) }
+    {
+        for place in 0..UP_LIMIT {
+            let Some(_) = self.up.get(tenure, sapi, place) else {
+                return place;
+            };
+        }
+        UP_LIMIT
     }
 }
