@@ -16,7 +16,7 @@ use Rattle.world_model.specs.declared.event.Event.TheVariants.{BaseTakes, Handle
 use Rattle.world_model.specs.declared.line.OutboxEntry.{OutboxEntry}
 use Rattle.world_model.specs.Life.{actors_after, event_after}
 use Rattle.world_model.specs.Lists.{behind_first, first_in}
-use Rattle.world_model.specs.Queues.{first_of, popped, pushed, put, taken, to_link}
+use Rattle.world_model.specs.Queues.{first_of, outputs, popped, pushed, put, taken, to_link}
 use Rattle.world_model.specs.Relay.{handled}
 use Rattle.world_model.specs.Takes.{Takes}
 use Rattle.world_model.specs.World.{Actors, Link, is_up, outbox_of}
@@ -28,6 +28,7 @@ use Rattle.world_trace.specs.declared.crossing.Passage.TheVariants.{Got, Sent}
 use Rattle.world_trace.specs.declared.sent.Marks.{Marks}
 use Rattle.world_trace.specs.Crossings.{down, got, put_below, sent, up}
 use Rattle.world_trace.specs.Marks.{AreMarks, behind, behind_below, waiting}
+use Rattle.world_trace.specs.Turns.{is_turn}
 
 -- ---- lists
 
@@ -78,7 +79,7 @@ outbox_behind link w event = outbox_behind_by link w event (actors_after w event
 
 -- ---- all queues
 
-below_is : (marks : Marks) (w : Actors) (event : Event) → AreMarks w marks → (n : ℕ) → n ≤ length marks.outboxes.items → behind_below n marks.outboxes.items (actors_after w event) ≡ put_below n w event
+below_is : (marks : Marks) (w : Actors) (event : Event) → AreMarks w event marks → (n : ℕ) → n ≤ length marks.outboxes.items → behind_below n marks.outboxes.items (actors_after w event) ≡ put_below n w event
 below_is marks w event are zero le = refl
 below_is marks w event are (suc link) le =
     let v : Actors = actors_after w event in
@@ -86,13 +87,31 @@ below_is marks w event are (suc link) le =
     ∙ ap (λ (mark : ℕ). put_below link w event ++ map (down Sent) (drop mark (outbox_of v link))) (are.outboxes link (omega arith))
     ∙ ap (λ (entries : List OutboxEntry). put_below link w event ++ map (down Sent) entries) (outbox_behind link w event)
 
-sent_is : (marks : Marks) (w : Actors) (event : Event) → AreMarks w marks → behind marks (actors_after w event) ≡ sent w event
+-- nothing is put where it isn't the controller's turn
+none_out : (w : Actors) (event : Event) → is_turn event ≡ false → outputs w event ≡ []
+none_out w Handle other = absurd (cc other)
+none_out w (Tick ms) other = absurd (cc other)
+none_out w _ other = refl
+
+rests_below : (n : ℕ) (w : Actors) (event : Event) → outputs w event ≡ [] → put_below n w event ≡ []
+rests_below zero w event none = refl
+rests_below (suc link) w event none =
+    ap (λ (xs : List Crossing). xs ++ map (down Sent) (put link w event)) (rests_below link w event none)
+    ∙ ap (λ (entries : List OutboxEntry). map (down Sent) (if is_up w link then to_link link entries else [])) none
+    ∙ ap (map (down Sent)) (none_put (is_up w link) link)
+
+put_where : (b : Bool) (n : ℕ) (w : Actors) (event : Event) → (b ≡ false → outputs w event ≡ []) → put_below (if b then n else 0) w event ≡ put_below n w event
+put_where true n w event rests = refl
+put_where false n w event rests = sym (rests_below n w event (rests refl))
+
+sent_is : (marks : Marks) (w : Actors) (event : Event) → AreMarks w event marks → behind marks (actors_after w event) ≡ sent w event
 sent_is marks w event are =
     let v : Actors = actors_after w event in
     ap (λ (mark : ℕ). flat_map (up Sent) (drop mark v.inbox) ++ behind_below (length marks.outboxes.items) marks.outboxes.items v) are.inbox
     ∙ ap (λ (items : List Item). flat_map (up Sent) items ++ behind_below (length marks.outboxes.items) marks.outboxes.items v) (inbox_behind w event)
     ∙ ap (λ (xs : List Crossing). flat_map (up Sent) (pushed w event) ++ xs) (below_is marks w event are (length marks.outboxes.items) (omega arith))
     ∙ ap (λ (n : ℕ). flat_map (up Sent) (pushed w event) ++ put_below n w event) are.links
+    ∙ ap (λ (xs : List Crossing). flat_map (up Sent) (pushed w event) ++ xs) (put_where (is_turn event) (length w.links) w event (none_out w event))
 
 -- ---- what was taken
 
@@ -133,7 +152,7 @@ after_is w event taken v takes = (took w (event_after w event) taken v takes).0
 taken_is : (w : Actors) (event : Event) (taken : Bool) (v : Actors) → Takes w (event_after w event) taken v → taken ≡ is_some (event_after w event)
 taken_is w event taken v takes = (took w (event_after w event) taken v takes).1
 
-pub crossings_are : (w : Actors) (event : Event) (taken : Bool) (v : Actors) (marks : Marks) (first before all : List Crossing) → Takes w (event_after w event) taken v → AreMarks w marks → first ≡ waiting w event → before ≡ (if taken then first else []) → all ≡ before ++ behind marks v → all ≡ got w event ++ sent w event
+pub crossings_are : (w : Actors) (event : Event) (taken : Bool) (v : Actors) (marks : Marks) (first before all : List Crossing) → Takes w (event_after w event) taken v → AreMarks w event marks → first ≡ waiting w event → before ≡ (if taken then first else []) → all ≡ before ++ behind marks v → all ≡ got w event ++ sent w event
 crossings_are w event taken v marks first before all takes are is was whole =
     whole ∙ ap (λ (xs : List Crossing). xs ++ behind marks v) (was ∙ ap (λ (xs : List Crossing). if taken then xs else []) is ∙ ap (λ (b : Bool). if b then waiting w event else []) (taken_is w event taken v takes) ∙ got_is w event)
     ∙ ap (λ (u : Actors). got w event ++ behind marks u) (after_is w event taken v takes)

@@ -27,7 +27,7 @@ fate_found w v event n before behind r is was after now found =
     ∙ ap (λ (u : Actors). fate_by (counts_of w n) (counts_of u n)) after
     ∙ ap (λ (k : ℕ). fate_by (counts_of w k) (counts_of (actors_after w event) k)) is
 
-pub made_found : (w v : Actors) (event : Event) (makings : Makings) (made : List Crossing) → AreMakings w makings → v ≡ actors_after w event
+pub made_found : (w v : Actors) (event : Event) (makings : Makings) (made : List Crossing) → AreMakings w event makings → v ≡ actors_after w event
     → made ≡ made_behind makings v → made ≡ made_at w event
 made_found w v event makings made are after is = is ∙ ap (made_behind makings) after ∙ made_is makings w event are
 

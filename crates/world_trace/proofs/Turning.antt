@@ -3,7 +3,7 @@
 use Rattle.std.proofs.Common.{◌≡◌, ℕ, zero, suc, ◌+◌, ◌-◌, ◌<◌, ◌≤◌, ◌==◌, ◌&&◌, Bool, true, false, if◌then◌else◌, List, [], ◌∷◌, ◌++◌}
 use Rattle.std.proofs.Common.{length, drop, get_or, slice_get, unwrap_or, Option, Some, None, refl, sym, ap, subst, ◌∙◌, eq-eqb, append_assoc, arith}
 use Rattle.std.proofs.Math.ListN.{drop_of_length-le}
-use Rattle.std.proofs.lemmas.Bool.{le-ltb}
+use Rattle.std.proofs.lemmas.Bool.{and_parts, eqb-true, le-ltb}
 use Rattle.std.proofs.lemmas.List.{drop_more}
 use Rattle.dtap_codec.specs.declared.sapi.Sapi.{Sapi}
 use Rattle.dtap_codec.specs.declared.sapi.Sapi.TheVariants.{Zero, Three}
@@ -30,7 +30,7 @@ use Rattle.world_trace.specs.declared.sight.Phase.{Phase}
 use Rattle.world_trace.specs.declared.sight.Sight.{Sight}
 use Rattle.world_trace.specs.Notes.{change_of, ended, hold_notes, is_live, notes_between, order, phase_notes, same, step_notes}
 use Rattle.world_trace.specs.Sights.{sights_of}
-use Rattle.world_trace.specs.Turns.{is_turn, turn_sights}
+use Rattle.world_trace.specs.Turns.{is_turn, is_unchanged, turn_sights}
 
 -- ---- what stays as it is has no note
 
@@ -56,6 +56,24 @@ pub step_same : (puts : Puts) (s : Sight) → step_notes puts s s ≡ []
 step_same puts s = all_none _ _ _ _ _ (phase_stays s.number s.phase)
     (hold_stays s.number Down Zero (puts.down && is_live s.phase) s.down_zero) (hold_stays s.number Down Three (puts.down && is_live s.phase) s.down_three)
     (hold_stays s.number Up Zero (puts.up && is_live s.phase) s.up_zero) (hold_stays s.number Up Three (puts.up && is_live s.phase) s.up_three)
+
+-- nor has one that is as far, and of which as much is held
+phase_even : (number : ℕ) (from to : Phase) → (order from == order to) ≡ true → phase_notes number from to ≡ []
+phase_even number from to is = ap (λ (b : Bool). if b then [] else Changed number from to ∷ []) is
+
+hold_even : (number : ℕ) (way : Way) (sapi : Sapi) (are_put : Bool) (n m : ℕ) → (n == m) ≡ true → hold_notes number way sapi (change_of are_put n m) ≡ []
+hold_even number way sapi are_put n m is =
+    subst (λ (k : ℕ). hold_notes number way sapi (change_of are_put n k) ≡ []) (eqb-true n m is) (hold_stays number way sapi are_put n)
+
+pub unchanged_none : (puts : Puts) (b s : Sight) → is_unchanged b s ≡ true → step_notes puts b s ≡ []
+unchanged_none puts b s is =
+    let four = and_parts _ (b.up_three == s.up_three) is in
+    let three = and_parts _ (b.up_zero == s.up_zero) four.0 in
+    let two = and_parts _ (b.down_three == s.down_three) three.0 in
+    let one = and_parts (order b.phase == order s.phase) (b.down_zero == s.down_zero) two.0 in
+    all_none _ _ _ _ _ (phase_even b.number b.phase s.phase one.0)
+    (hold_even b.number Down Zero (puts.down && is_live s.phase) b.down_zero s.down_zero one.1) (hold_even b.number Down Three (puts.down && is_live s.phase) b.down_three s.down_three two.1)
+    (hold_even b.number Up Zero (puts.up && is_live s.phase) b.up_zero s.up_zero three.1) (hold_even b.number Up Three (puts.up && is_live s.phase) b.up_three s.up_three four.1)
 
 pub same_all : (puts : Puts) (ss : List Sight) → notes_between puts ss ss ≡ []
 same_all puts [] = refl

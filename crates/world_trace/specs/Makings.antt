@@ -2,7 +2,7 @@
 -- What stations and the switch make for the controller at an event: it waits with them until it is
 -- pushed.
 use Rattle.std.specs.Prelude.{◌≡◌, ℕ, zero, suc, ◌<◌, min, List, [], ◌++◌, length, drop}
-use Rattle.std.specs.Prelude.{slice_index}
+use Rattle.std.specs.Prelude.{slice_index, if◌then◌else◌}
 use Rattle.std.specs.List.{flat_map}
 use Rattle.world_model.specs.declared.event.Event.{Event}
 use Rattle.world_model.specs.Life.{actors_after}
@@ -13,6 +13,7 @@ use Rattle.world_trace.specs.declared.crossing.Passage.TheVariants.{Made}
 use Rattle.world_trace.specs.declared.made.Makings.{Makings}
 use Rattle.world_trace.specs.declared.made.TheConstants.{SOURCE_LIMIT}
 use Rattle.world_trace.specs.Crossings.{up}
+use Rattle.world_trace.specs.Turns.{is_turn}
 
 -- how many sources there are, the switch among them
 abbrev pub sources : Actors → ℕ
@@ -36,8 +37,12 @@ made_at w event = made_below (sources w) w event
 
 -- ---- by how many items there were before
 
-pub record AreMakings (w : Actors) (makings : Makings) : Type 0 where
-  pub count : length makings.counts.items ≡ sources w
+-- how many sources may make something at an event: none where it is the controller's turn
+abbrev pub sources_at : Actors → Event → ℕ
+sources_at w event = if is_turn event then 0 else sources w
+
+pub record AreMakings (w : Actors) (event : Event) (makings : Makings) : Type 0 where
+  pub count : length makings.counts.items ≡ sources_at w event
   pub each : (source : ℕ) → source < length makings.counts.items
       → slice_index makings.counts.items source ≡ length (made_items w source)
 

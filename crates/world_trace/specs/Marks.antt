@@ -1,6 +1,7 @@
 -- SPDX-License-Identifier: MIT OR Apache-2.0
 -- How long the controller's queues are, and what came behind that.
 use Rattle.std.specs.Prelude.{◌≡◌, ℕ, zero, suc, ◌<◌, List, [], ◌++◌, length, map}
+use Rattle.std.specs.Prelude.{if◌then◌else◌}
 use Rattle.std.specs.Prelude.{drop}
 use Rattle.std.specs.Prelude.{slice_index}
 use Rattle.std.specs.List.{flat_map}
@@ -13,6 +14,7 @@ use Rattle.world_trace.specs.declared.crossing.Crossing.{Crossing}
 use Rattle.world_trace.specs.declared.crossing.Passage.TheVariants.{Sent, Got}
 use Rattle.world_trace.specs.declared.sent.Marks.{Marks}
 use Rattle.world_trace.specs.Crossings.{up, down}
+use Rattle.world_trace.specs.Turns.{is_turn}
 
 -- what an event would take
 abbrev pub waiting : Actors → Event → List Crossing
@@ -21,10 +23,14 @@ waiting w (BaseTakes station) = map (down Got) (first_of (outbox_of w station))
 waiting w SwitchTakes = map (down Got) (first_of (outbox_of w SWITCH_LINK))
 waiting w _ = []
 
--- the marks are the lengths of the queues
-pub record AreMarks (w : Actors) (marks : Marks) : Type 0 where
+-- how many links' outboxes an event may put something into
+abbrev pub links_at : Actors → Event → ℕ
+links_at w event = if is_turn event then length w.links else 0
+
+-- the marks are the lengths of the queues, without those of the outboxes where nothing joins them
+pub record AreMarks (w : Actors) (event : Event) (marks : Marks) : Type 0 where
   pub inbox : marks.inbox ≡ length w.inbox
-  pub links : length marks.outboxes.items ≡ length w.links
+  pub links : length marks.outboxes.items ≡ links_at w event
   pub outboxes : (link : ℕ) → link < length marks.outboxes.items
       → slice_index marks.outboxes.items link ≡ length (outbox_of w link)
 

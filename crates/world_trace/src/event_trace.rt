@@ -57,7 +57,7 @@ pub fn step(alloc: Global, network: &mut Network, event: &Event) -> Result<Event
 {
     let connection = connection_at(alloc, network, event)?;
     let counts = counts_of(network, connection);
-    let makings = Makings::of(alloc, network)?;
+    let makings = Makings::of(alloc, network, event)?;
     let mut notes = Vec::new(alloc);
     note_expired(network, event, &mut notes)?;
     let sights = turn_sights(alloc, network, event)?;
@@ -84,7 +84,7 @@ fn pass(alloc: Global, network: &mut Network, event: &Event) -> Result<Passed, M
         passed.crossings.items ≡ crossings network.old event.now) }
 {
     let first = waiting(alloc, network, event)?;
-    let marks = Marks::of(alloc, network)?;
+    let marks = Marks::of(alloc, network, event)?;
     let taken = network.step(event)?;
     let mut crossings = got(alloc, taken, first)?;
     marks.note_behind(alloc, network, &mut crossings)?;

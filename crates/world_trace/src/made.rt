@@ -5,12 +5,14 @@ ghost use Rattle.std.specs.List.{flat_map};
 ghost use Rattle.world_model.specs.Queues.{made_items};
 ghost use Rattle.world_trace.specs.declared.crossing.Passage.TheVariants.{Made};
 ghost use Rattle.world_trace.specs.Crossings.{up};
-ghost use Rattle.world_trace.specs.Makings.{AreMakings, made_behind, sources};
+ghost use Rattle.world_trace.specs.Makings.{AreMakings, made_behind, sources, sources_at};
 
 use crate::crossing::{Crossing, Passage};
+use crate::turn::is_turn;
 use octets::Memory;
 use std::alloc::Global;
 use world_actors::Network;
+use world_model::Event;
 
 /// The most sources that a controller has: the switch, and a station for each of 255 cells.
 pub const SOURCE_LIMIT: u16 = 256;
@@ -22,11 +24,13 @@ pub(crate) struct Makings {
 }
 
 impl Makings {
-    pub(crate) fn of(alloc: Global, network: &Network) -> Result<Makings, Memory>
-        ensures { IfOk result (λ makings. AreMakings network.now makings) }
+    /// Only of the sources that may make something at the event.
+    pub(crate) fn of(alloc: Global, network: &Network, event: &Event) -> Result<Makings, Memory>
+        ensures { IfOk result (λ makings. AreMakings network.now event.now makings) }
     {
-        let mut counts = Vec::new(alloc);
-        for source in 0..sources(network) {
+        let sources = sources_at(network, event);
+        let mut counts = Vec::with_capacity(alloc, usize::from(sources))?;
+        for source in 0..sources {
             counts.push(network.made_count(source))?;
         }
         Ok(Makings { counts })
@@ -88,6 +92,13 @@ fn note_made(
         }
         None => Ok(()),
     }
+}
+
+/// How many sources may make something at an event: none where it is the controller's turn.
+fn sources_at(network: &Network, event: &Event) -> u16
+    ensures { result ≡ sources_at network.now event.now }
+{
+    if is_turn(event) { 0 } else { sources(network) }
 }
 
 /// How many sources there are.

@@ -3,6 +3,7 @@ ghost use Rattle.std.specs.Prelude.{◌≡◌, ◌∷◌, ◌++◌, [], IfOk, Li
 ghost use Rattle.world_trace.specs.declared.sight.Sight.{Sight as SightState};
 ghost use Rattle.world_trace.specs.Notes.{absent, change_of, down_notes, goes, hold_notes};
 ghost use Rattle.world_trace.specs.Notes.{is_live, is_put, puts_of};
+ghost use Rattle.world_trace.specs.Turns.{is_unchanged};
 ghost use Rattle.world_trace.specs.Notes.{notes_between, order, phase_notes, same, step_notes};
 ghost use Rattle.world_trace.specs.Notes.{up_notes};
 
@@ -212,13 +213,28 @@ fn note_begun(
     Ok(())
 }
 
-/// Notes what became of one connection.
+/// Notes what became of one connection, mostly nothing.
+#[tactic(auto, using(crate::proofs::Turning::unchanged_none))]
 fn note_step(puts: Puts, before: Sight, behind: Sight, notes: &mut Vec<Note>) -> Result<(), Memory>
     ensures { OnOk result (notes.new.items ≡ notes.old.items ++ step_notes puts before behind) }
 {
+    if is_unchanged(before, behind) {
+        return Ok(());
+    }
     note_phase(before.number, before.phase, behind.phase, notes)?;
     note_down(puts, before, behind, notes)?;
     note_up(puts, before, behind, notes)
+}
+
+/// Whether a connection is as far as before, and as many of its messages are held.
+fn is_unchanged(before: Sight, behind: Sight) -> bool
+    ensures { result ≡ is_unchanged before behind }
+{
+    order(before.phase) == order(behind.phase)
+        && before.down_zero == behind.down_zero
+        && before.down_three == behind.down_three
+        && before.up_zero == behind.up_zero
+        && before.up_three == behind.up_three
 }
 
 fn note_phase(number: u32, from: Phase, to: Phase, notes: &mut Vec<Note>) -> Result<(), Memory>

@@ -5,12 +5,14 @@ ghost use Rattle.world_model.specs.Lists.{first_in};
 ghost use Rattle.world_model.specs.World.{outbox_of};
 ghost use Rattle.world_trace.specs.declared.crossing.Passage.TheVariants.{Sent};
 ghost use Rattle.world_trace.specs.Crossings.{down, up};
-ghost use Rattle.world_trace.specs.Marks.{AreMarks, behind};
+ghost use Rattle.world_trace.specs.Marks.{AreMarks, behind, links_at};
 
 use crate::crossing::{Crossing, Passage};
+use crate::turn::is_turn;
 use octets::Memory;
 use std::alloc::Global;
 use world_actors::Network;
+use world_model::Event;
 
 /// How long the controller's queues are, before an event.
 #[derive(Drop)]
@@ -21,11 +23,13 @@ pub(crate) struct Marks {
 }
 
 impl Marks {
-    pub(crate) fn of(alloc: Global, network: &Network) -> Result<Marks, Memory>
-        ensures { IfOk result (λ marks. AreMarks network.now marks) }
+    /// The outboxes are looked at only where the event may put something there.
+    pub(crate) fn of(alloc: Global, network: &Network, event: &Event) -> Result<Marks, Memory>
+        ensures { IfOk result (λ marks. AreMarks network.now event.now marks) }
     {
-        let mut outboxes = Vec::new(alloc);
-        for link in 0..network.link_count() {
+        let links = links_at(network, event);
+        let mut outboxes = Vec::with_capacity(alloc, links)?;
+        for link in 0..links {
             outboxes.push(network.outbox_len(link))?;
         }
         Ok(Marks {
@@ -49,6 +53,18 @@ impl Marks {
             note_entries(alloc, network, link, self.outboxes[link], crossings)?;
         }
         Ok(())
+    }
+}
+
+/// How many links' outboxes an event may put something into: those of all links, where it is the
+/// controller's turn.
+fn links_at(network: &Network, event: &Event) -> usize
+    ensures { result ≡ links_at network.now event.now }
+{
+    if is_turn(event) {
+        network.link_count()
+    } else {
+        0
     }
 }
 

@@ -43,7 +43,7 @@ pub(crate) fn note_turn(
 }
 
 /// Whether it is one at which the controller does something.
-fn is_turn(event: &Event) -> bool
+pub(crate) fn is_turn(event: &Event) -> bool
     ensures { result ≡ is_turn event.now }
 {
     match event {
