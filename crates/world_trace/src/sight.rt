@@ -48,7 +48,7 @@ pub(crate) struct Sight {
 pub(crate) fn sights(alloc: Global, network: &Network) -> Result<Vec<Sight>, Memory>
     ensures { IfOk result (λ sights. sights.items ≡ sights_of network.now.controller.entries) }
 {
-    let mut sights = Vec::new(alloc);
+    let mut sights = Vec::with_capacity(alloc, network.connection_count())?;
     for place in 0..network.connection_count() {
         note_sight(network, place, &mut sights)?;
     }
@@ -62,24 +62,24 @@ fn note_sight(network: &Network, place: usize, sights: &mut Vec<Sight>) -> Resul
 {
     match network.connection_at(place) {
         Some(conn) => {
-            sights.push(sight_of(conn)?)?;
+            sights.push(sight_of(conn))?;
             Ok(())
         }
         None => Ok(()),
     }
 }
 
-fn sight_of(conn: &Conn) -> Result<Sight, Memory>
-    ensures { IfOk result (λ sight. sight ≡ sight_of conn.now) }
+fn sight_of(conn: &Conn) -> Sight
+    ensures { result ≡ sight_of conn.now }
 {
-    Ok(Sight {
+    Sight {
         number: conn.number(),
         phase: phase_of(conn.state()),
-        down_zero: conn.held(Sapi::Zero)?.len(),
-        down_three: conn.held(Sapi::Three)?.len(),
-        up_zero: conn.held_up(Sapi::Zero)?.len(),
-        up_three: conn.held_up(Sapi::Three)?.len(),
-    })
+        down_zero: conn.held_count(Sapi::Zero),
+        down_three: conn.held_count(Sapi::Three),
+        up_zero: conn.held_up_count(Sapi::Zero),
+        up_three: conn.held_up_count(Sapi::Three),
+    }
 }
 
 fn phase_of(state: State) -> Phase
