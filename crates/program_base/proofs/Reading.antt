@@ -1,6 +1,6 @@
 -- SPDX-License-Identifier: MIT OR Apache-2.0
 -- What is read from a line's words is the event whose text they are.
-use Rattle.std.proofs.Common.{◌≡◌, ℕ, Bool, true, Option, Some, None, List, [], ◌∷◌, refl, sym, ap, ◌∙◌, subst, find, inl, inr}
+use Rattle.std.proofs.Common.{◌≡◌, ◌≢◌, ℕ, ◌-◌, ◌<◌, ◌≤◌, Bool, true, Option, Some, None, List, [], ◌∷◌, length, slice_index, refl, sym, ap, ◌∙◌, subst, find, inl, inr, lit≤, arith}
 use Rattle.std.proofs.lemmas.Bool.{cases_Bool, cond-true, cond-false}
 use Rattle.std.proofs.lemmas.Slice.Eq.{bytes_eq-Decides}
 use Rattle.std.specs.Str.{bytes_eq}
@@ -10,7 +10,7 @@ use Rattle.program_base.specs.declared.script.Action.{Action}
 use Rattle.program_base.specs.declared.script.Action.TheVariants as action
 use Rattle.program_base.specs.Words.{value_at, and_rest, end_of}
 use Rattle.program_base.specs.Script.{name_of, name_of_action}
-use Rattle.program_base.specs.ScriptReading.{◌>>=◌, last_at, kind_in, action_in, all_kinds}
+use Rattle.program_base.specs.ScriptReading.{◌>>=◌, last_at, kind_in, kind_of_shape, action_in, all_kinds}
 
 -- ---- steps, in both directions
 
@@ -95,3 +95,70 @@ unfolding action_in
 action_in-name action.Assign = refl
 action_in-name action.Clear = refl
 action_in-name action.Dtap = refl
+
+-- ---- the one kind whose name has a shape
+
+-- each name has the shape of no other
+pub kind_of_shape-name : (k : Kind) → kind_of_shape (length (name_of k)) (slice_index (name_of k) (length (name_of k) - 3)) ≡ Some k
+unfolding kind_of_shape
+kind_of_shape-name kind.Upper = refl
+kind_of_shape-name kind.Connect = refl
+kind_of_shape-name kind.AirUp = refl
+kind_of_shape-name kind.AirAck = refl
+kind_of_shape-name kind.AirDown = refl
+kind_of_shape-name kind.AirDownLost = refl
+kind_of_shape-name kind.Move = refl
+kind_of_shape-name kind.Touch = refl
+kind_of_shape-name kind.Arrive = refl
+kind_of_shape-name kind.Return = refl
+kind_of_shape-name kind.BaseTakes = refl
+kind_of_shape-name kind.BasePush = refl
+kind_of_shape-name kind.Handle = refl
+kind_of_shape-name kind.SwitchTakes = refl
+kind_of_shape-name kind.SwitchDoes = refl
+kind_of_shape-name kind.Tick = refl
+kind_of_shape-name kind.BaseDown = refl
+kind_of_shape-name kind.Report = refl
+
+pub three_in_name : (k : Kind) → 3 ≤ length (name_of k)
+three_in_name kind.Upper = lit≤ tt
+three_in_name kind.Connect = lit≤ tt
+three_in_name kind.AirUp = lit≤ tt
+three_in_name kind.AirAck = lit≤ tt
+three_in_name kind.AirDown = lit≤ tt
+three_in_name kind.AirDownLost = lit≤ tt
+three_in_name kind.Move = lit≤ tt
+three_in_name kind.Touch = lit≤ tt
+three_in_name kind.Arrive = lit≤ tt
+three_in_name kind.Return = lit≤ tt
+three_in_name kind.BaseTakes = lit≤ tt
+three_in_name kind.BasePush = lit≤ tt
+three_in_name kind.Handle = lit≤ tt
+three_in_name kind.SwitchTakes = lit≤ tt
+three_in_name kind.SwitchDoes = lit≤ tt
+three_in_name kind.Tick = lit≤ tt
+three_in_name kind.BaseDown = lit≤ tt
+three_in_name kind.Report = lit≤ tt
+
+-- a word that is the name of no kind
+no_name : (word : List ℕ) (said : Option Kind) → kind_in word ≡ said → ((k : Kind) → word ≢ name_of k) → said ≡ None
+no_name word None is none = refl
+no_name word (Some k) is none = absurd (none k (kind_in_some word k is))
+
+pub kind_in-short : (word : List ℕ) → length word < 3 → kind_in word ≡ None
+kind_in-short word short =
+    no_name word (kind_in word) refl (λ k is. let size : length word ≡ length (name_of k) = ap length is in let least = three_in_name k in absurd (omega arith))
+
+abbrev pub shape_of : List ℕ → Option Kind
+shape_of word = kind_of_shape (length word) (slice_index word (length word - 3))
+
+pub kind_in-shapeless : (word : List ℕ) → shape_of word ≡ None → kind_in word ≡ None
+kind_in-shapeless word none =
+    no_name word (kind_in word) refl (λ k is. let shape : shape_of word ≡ Some k = ap shape_of is ∙ kind_of_shape-name k in absurd cc)
+
+pub kind_in-other : (word : List ℕ) (k : Kind) → shape_of word ≡ Some k → word ≢ name_of k → kind_in word ≡ None
+kind_in-other word k some other =
+    no_name word (kind_in word) refl (λ l is. let shape : shape_of word ≡ Some l = ap shape_of is ∙ kind_of_shape-name l in let same : k ≡ l = cc in other (is ∙ ap name_of (sym same)))
+
+pub kind_in-same : (word : List ℕ) (k : Kind) → word ≡ name_of k → kind_in word ≡ Some k
+kind_in-same word k is = ap kind_in is ∙ kind_in-name k

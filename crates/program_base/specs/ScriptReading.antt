@@ -1,7 +1,8 @@
 -- SPDX-License-Identifier: MIT OR Apache-2.0
 -- Reading a script line word by word, as a function of its words. The grammar of lines stands in
 -- Script.
-use Rattle.std.specs.Prelude.{◌≡◌, ℕ, find, Option, Some, None, IsSome, Result, Ok, Err}
+use Rattle.std.specs.Prelude.{◌≡◌, ℕ, ◌-◌, ◌&&◌, ◌==◌, Bool, find, length, slice_index}
+use Rattle.std.specs.Prelude.{Option, Some, None, IsSome, Result, Ok, Err}
 use Rattle.std.specs.Prelude.{List, []}
 use Rattle.std.specs.Prelude.{◌∷◌}
 use Rattle.dtap_codec.specs.declared.sapi.Sapi.{Sapi}
@@ -38,6 +39,14 @@ all_kinds =
 
 unfoldable pub kind_in : List ℕ → Option Kind
 kind_in word = find (λ kind. bytes_eq word (name_of kind)) all_kinds
+
+-- whether the name of a kind has so many octets, of which this is the last but two
+abbrev pub has_shape : ℕ → ℕ → List ℕ → Bool
+has_shape size octet name = (size == length name) && (octet == slice_index name (length name - 3))
+
+-- the kind whose name has this shape
+unfoldable pub kind_of_shape : ℕ → ℕ → Option Kind
+kind_of_shape size octet = find (λ kind. has_shape size octet (name_of kind)) all_kinds
 
 -- what the last word says
 abbrev pub last_at : {X : Type 0} → (List ℕ → Option X) → List (List ℕ) → Option X

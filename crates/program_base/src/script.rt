@@ -1,11 +1,12 @@
 // SPDX-License-Identifier: MIT OR Apache-2.0
 ghost use Rattle.std.specs.Prelude.{◌≡◌, ◌⊎◌, IfOk};
 ghost use Rattle.program_base.specs.Words.{Reads, mobile_in, station_in, source_in, any_number_in};
-ghost use Rattle.program_base.specs.ScriptReading.{GivesEvent, kind_in, action_in, last_at};
+ghost use Rattle.program_base.specs.ScriptReading.{GivesEvent, kind_in, kind_of_shape, action_in};
+ghost use Rattle.program_base.specs.ScriptReading.{last_at};
 ghost use Rattle.program_base.specs.ScriptReading.{mobile_and_sapi_in, upper_at, connect_at};
 ghost use Rattle.program_base.specs.ScriptReading.{report_at, dtap_at, switch_does_at, event_at};
 ghost use Rattle.program_base.specs.ScriptReading.{line_at};
-ghost use Rattle.program_base.specs.Script.{IsLine};
+ghost use Rattle.program_base.specs.Script.{IsLine, name_of};
 ghost use Rattle.world_model.specs.declared.event.Event.{Event as WorldEvent};
 
 use crate::line_fault::{BadEvent, LineFault};
@@ -58,30 +59,73 @@ pub(crate) fn action_in(word: &str) -> Result<Action, BadEvent>
     }
 }
 
-/// The kind of line that begins with this word.
-#[tactic(auto, unfolding(crate::specs::ScriptReading::kind_in))]
+impl Kind {
+    /// The first word of a line of this kind.
+    fn name(self) -> &'static str
+        ensures { result.now ≡ name_of self }
+    {
+        match self {
+            Kind::Upper => "upper",
+            Kind::Connect => "connect",
+            Kind::AirUp => "airup",
+            Kind::AirAck => "airack",
+            Kind::AirDown => "airdown",
+            Kind::AirDownLost => "airdownlost",
+            Kind::Move => "move",
+            Kind::Touch => "touch",
+            Kind::Arrive => "arrive",
+            Kind::Return => "return",
+            Kind::BaseTakes => "basetakes",
+            Kind::BasePush => "basepush",
+            Kind::Handle => "handle",
+            Kind::SwitchTakes => "switchtakes",
+            Kind::SwitchDoes => "switchdoes",
+            Kind::Tick => "tick",
+            Kind::BaseDown => "basedown",
+            Kind::Report => "report",
+        }
+    }
+
+    /// The kind whose name has so many octets, of which this is the last but two. No two names are
+    /// alike in both.
+    #[tactic(auto, unfolding(crate::specs::ScriptReading::kind_of_shape))]
+    fn of_shape(length: usize, last_but_two: u8) -> Option<Kind>
+        ensures { result ≡ kind_of_shape length last_but_two }
+    {
+        match (length, last_but_two) {
+            (5, b'p') => Some(Kind::Upper),
+            (7, b'e') => Some(Kind::Connect),
+            (5, b'r') => Some(Kind::AirUp),
+            (6, b'a') => Some(Kind::AirAck),
+            (7, b'o') => Some(Kind::AirDown),
+            (11, b'o') => Some(Kind::AirDownLost),
+            (4, b'o') => Some(Kind::Move),
+            (5, b'u') => Some(Kind::Touch),
+            (6, b'i') => Some(Kind::Arrive),
+            (6, b'u') => Some(Kind::Return),
+            (9, b'k') => Some(Kind::BaseTakes),
+            (8, b'u') => Some(Kind::BasePush),
+            (6, b'd') => Some(Kind::Handle),
+            (11, b'k') => Some(Kind::SwitchTakes),
+            (10, b'o') => Some(Kind::SwitchDoes),
+            (4, b'i') => Some(Kind::Tick),
+            (8, b'o') => Some(Kind::BaseDown),
+            (6, b'o') => Some(Kind::Report),
+            _ => None,
+        }
+    }
+}
+
+/// The kind of line that begins with this word. It is compared with one name alone.
 pub(crate) fn kind_in(word: &str) -> Result<Kind, BadEvent>
     ensures { Reads (λ kind. kind) result (kind_in word.now) }
 {
-    match word {
-        "upper" => Ok(Kind::Upper),
-        "connect" => Ok(Kind::Connect),
-        "airup" => Ok(Kind::AirUp),
-        "airack" => Ok(Kind::AirAck),
-        "airdown" => Ok(Kind::AirDown),
-        "airdownlost" => Ok(Kind::AirDownLost),
-        "move" => Ok(Kind::Move),
-        "touch" => Ok(Kind::Touch),
-        "arrive" => Ok(Kind::Arrive),
-        "return" => Ok(Kind::Return),
-        "basetakes" => Ok(Kind::BaseTakes),
-        "basepush" => Ok(Kind::BasePush),
-        "handle" => Ok(Kind::Handle),
-        "switchtakes" => Ok(Kind::SwitchTakes),
-        "switchdoes" => Ok(Kind::SwitchDoes),
-        "tick" => Ok(Kind::Tick),
-        "basedown" => Ok(Kind::BaseDown),
-        "report" => Ok(Kind::Report),
+    let octets = word.as_bytes();
+    if octets.len() < 3 {
+        return Err(BadEvent);
+    }
+    match Kind::of_shape(octets.len(), octets[octets.len() - 3]) {
+        Some(kind) if word == kind.name() => Ok(kind),
         _ => Err(BadEvent),
     }
 }
