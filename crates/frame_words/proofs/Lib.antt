@@ -1,4 +1,5 @@
 -- SPDX-License-Identifier: MIT OR Apache-2.0
 pub mod Channels
+pub mod Columns
 mod Rows
 mod LongRows

@@ -5,3 +5,4 @@ pub mod Fields
 pub mod MessageName
 pub mod Numbered
 pub mod LongLine
+pub mod Said

@@ -1,8 +1,8 @@
 // SPDX-License-Identifier: MIT OR Apache-2.0
-ghost use Rattle.std.specs.Prelude.{◌≡◌, IfOk, option_map};
+ghost use Rattle.std.specs.Prelude.{◌≡◌, IfOk, Ok, option_map};
 ghost use Rattle.frame_words.specs.Carried.{bssap_name, carried_by, layer_3_name, rr_message_name};
 ghost use Rattle.frame_words.specs.Carried.{bssap_message_name as bssap_message_name_of};
-ghost use Rattle.frame_words.specs.Carried.{rsl_carries, sccp_carries};
+ghost use Rattle.frame_words.specs.Carried.{rsl_carries, rsl_carries_by, sccp_carries};
 
 use crate::names::{bssmap_name, dtap_name, interface_fault_name, rr_name};
 use bssmap_codec::{Bssap, InterfaceFault, Sccp, read_bssap, read_sccp};
@@ -33,11 +33,23 @@ fn rsl_carries(alloc: Global, body: &[u8]) -> Result<Option<&'static str>, Memor
     ensures { IfOk result (λ name. option_map (λ text. text.now) name ≡ rsl_carries body.now) }
 {
     match Rsl::read(alloc, body) {
-        Ok(Rsl::DataRequest(data)) => Ok(Some(layer_3_name(alloc, data.l3.as_slice())?)),
-        Ok(Rsl::DataIndication(data)) => Ok(Some(layer_3_name(alloc, data.l3.as_slice())?)),
-        Ok(_) => Ok(None),
+        Ok(message) => rsl_message_carries(alloc, &message),
         Err(RslFault::Memory) => Err(Memory),
         Err(_) => Ok(None),
+    }
+}
+
+pub(crate) fn rsl_message_carries(
+    alloc: Global,
+    message: &Rsl,
+) -> Result<Option<&'static str>, Memory>
+    ensures { IfOk result (λ name.
+        option_map (λ text. text.now) name ≡ rsl_carries_by (Ok message.now)) }
+{
+    match message {
+        Rsl::DataRequest(data) => Ok(Some(layer_3_name(alloc, data.l3.as_slice())?)),
+        Rsl::DataIndication(data) => Ok(Some(layer_3_name(alloc, data.l3.as_slice())?)),
+        _ => Ok(None),
     }
 }
 
@@ -64,7 +76,7 @@ fn bssap_name(alloc: Global, octets: &[u8]) -> Result<&'static str, Memory>
     }
 }
 
-fn bssap_message_name(message: &Bssap) -> &'static str
+pub(crate) fn bssap_message_name(message: &Bssap) -> &'static str
     ensures { result.now ≡ bssap_message_name_of message.now }
 {
     match message {

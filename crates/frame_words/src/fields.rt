@@ -47,7 +47,7 @@ fn channel_in(alloc: Global, body: &[u8]) -> Result<Option<u8>, Memory>
     }
 }
 
-fn channel_of(message: &Rsl) -> u8
+pub(crate) fn channel_of(message: &Rsl) -> u8
     ensures { result ≡ channel_of message.now }
 {
     match message {
@@ -112,7 +112,7 @@ fn write_both<W: Write>(alloc: Global, message: &Sccp, output: &mut W) -> Result
 }
 
 /// What the receiver of a message calls the connection.
-fn destination_of(message: &Sccp) -> Option<[u8; 3]>
+pub(crate) fn destination_of(message: &Sccp) -> Option<[u8; 3]>
     ensures { result ≡ destination_of message.now }
 {
     match message {
@@ -126,7 +126,7 @@ fn destination_of(message: &Sccp) -> Option<[u8; 3]>
 }
 
 /// What its sender calls it.
-fn source_of(message: &Sccp) -> Option<[u8; 3]>
+pub(crate) fn source_of(message: &Sccp) -> Option<[u8; 3]>
     ensures { result ≡ source_of message.now }
 {
     match message {

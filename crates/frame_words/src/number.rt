@@ -1,5 +1,5 @@
 // SPDX-License-Identifier: MIT OR Apache-2.0
-ghost use Rattle.std.specs.Prelude.{◌≡◌, IfErr, IfOk, OnOk};
+ghost use Rattle.std.specs.Prelude.{◌≡◌, IfErr, IfOk, Ok, OnOk};
 ghost use Rattle.std.specs.Io.KnownBytes.{Appends};
 ghost use Rattle.bssmap_codec.specs.BssapReading.{bssap_reading};
 ghost use Rattle.bssmap_codec.specs.SccpReading.{sccp_reading};
@@ -32,7 +32,16 @@ pub fn write_number<W: Write>(
         (number_field (number_in_frame (count_of modulus) frame.now))) }
     ensures err { IfErr result (λ failure. status_of failure ≡ 3) }
 {
-    match number_in_frame(alloc, modulus, frame)? {
+    write_found(number_in_frame(alloc, modulus, frame)?, output)
+}
+
+/// Writes a number, where there is one.
+pub(crate) fn write_found<W: Write>(number: Option<u8>, output: &mut W) -> Result<(), Failure>
+    ensures text { OnOk result (Appends (W.contents output.old) (W.contents output.new)
+        (number_field number)) }
+    ensures err { IfErr result (λ failure. status_of failure ≡ 3) }
+{
+    match number {
         None => Ok(()),
         Some(number) => {
             put(output, b" N(SD) ")?;
@@ -56,10 +65,18 @@ fn rsl_number(alloc: Global, modulus: Modulus, body: &[u8]) -> Result<Option<u8>
         number ≡ rsl_number (count_of modulus) (rsl_reading body.now)) }
 {
     match Rsl::read(alloc, body) {
-        Ok(Rsl::DataIndication(message)) => Ok(number_of(message.l3.as_slice(), modulus)),
-        Ok(_) => Ok(None),
+        Ok(message) => Ok(rsl_message_number(modulus, &message)),
         Err(RslFault::Memory) => Err(Memory),
         Err(_) => Ok(None),
+    }
+}
+
+pub(crate) fn rsl_message_number(modulus: Modulus, message: &Rsl) -> Option<u8>
+    ensures { result ≡ rsl_number (count_of modulus) (Ok message.now) }
+{
+    match message {
+        Rsl::DataIndication(message) => number_of(message.l3.as_slice(), modulus),
+        _ => None,
     }
 }
 
@@ -86,7 +103,7 @@ fn bssap_number(alloc: Global, modulus: Modulus, octets: &[u8]) -> Result<Option
     }
 }
 
-fn transfer_number(modulus: Modulus, message: &Bssap) -> Option<u8>
+pub(crate) fn transfer_number(modulus: Modulus, message: &Bssap) -> Option<u8>
     ensures { result ≡ transfer_number (count_of modulus) message.now }
 {
     match message {

@@ -14,7 +14,7 @@ pub use frame_line::FrameLine;
 pub use input::{MOST_READS, Sink, Unread, read_all, room_for};
 pub use kept_script::{KeptScript, read_kept_script};
 pub use line_fault::LineFault;
-pub use names::frame_name;
+pub use names::{frame_name, rsl_fault_name, rsl_message_name, sccp_message_name};
 pub use output::put;
 pub use parsing::task;
 pub use read_count::ReadCount;

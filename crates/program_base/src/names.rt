@@ -2,6 +2,7 @@
 //! The names of what frames carry, as `bsc decode` prints them.
 ghost use Rattle.std.specs.Prelude.{◌≡◌, IfOk};
 ghost use Rattle.program_base.specs.Names.{ccm_name as ccm_name_of, name_of};
+ghost use Rattle.program_base.specs.Names.{rsl_fault_name as rsl_fault_name_of};
 ghost use Rattle.program_base.specs.Names.{rsl_message_name as rsl_message_name_of};
 ghost use Rattle.program_base.specs.Names.{rsl_name as rsl_name_of};
 ghost use Rattle.program_base.specs.Names.{sccp_message_name as sccp_message_name_of};
@@ -14,7 +15,7 @@ use rsl_codec::{Rsl, RslFault};
 use std::alloc::Global;
 
 /// The name of an RSL message (TS 48.058 clause 8).
-fn rsl_message_name(message: &Rsl) -> &'static str
+pub fn rsl_message_name(message: &Rsl) -> &'static str
     ensures { result.now ≡ rsl_message_name_of message.now }
 {
     match message {
@@ -40,18 +41,28 @@ fn rsl_message_name(message: &Rsl) -> &'static str
     }
 }
 
+/// The name of why octets aren't an RSL message. That memory ran out is none, and is never printed.
+pub fn rsl_fault_name(fault: RslFault) -> &'static str
+    ensures { result.now ≡ rsl_fault_name_of fault }
+{
+    match fault {
+        RslFault::Short => "fault S1",
+        RslFault::UnknownType => "fault S2",
+        RslFault::MissingElement(_) => "fault S3",
+        RslFault::BadChannel => "fault S4",
+        RslFault::Memory => "fault S5",
+        RslFault::TooLong => "fault S6",
+    }
+}
+
 /// The name of an RSL message, or of why it isn't one.
 fn rsl_name(alloc: Global, body: &[u8]) -> Result<&'static str, Memory>
     ensures { IfOk result (λ name. name.now ≡ rsl_name_of body.now) }
 {
     match Rsl::read(alloc, body) {
         Ok(message) => Ok(rsl_message_name(&message)),
-        Err(RslFault::Short) => Ok("fault S1"),
-        Err(RslFault::UnknownType) => Ok("fault S2"),
-        Err(RslFault::MissingElement(_)) => Ok("fault S3"),
-        Err(RslFault::BadChannel) => Ok("fault S4"),
         Err(RslFault::Memory) => Err(Memory),
-        Err(RslFault::TooLong) => Ok("fault S6"),
+        Err(fault) => Ok(rsl_fault_name(fault)),
     }
 }
 
@@ -67,7 +78,7 @@ fn ccm_name(body: &[u8]) -> &'static str
 }
 
 /// The name of an SCCP message (Q.713 clause 4).
-fn sccp_message_name(message: &Sccp) -> &'static str
+pub fn sccp_message_name(message: &Sccp) -> &'static str
     ensures { result.now ≡ sccp_message_name_of message.now }
 {
     match message {

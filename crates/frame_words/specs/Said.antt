@@ -1,0 +1,56 @@
+-- SPDX-License-Identifier: MIT OR Apache-2.0
+-- What is found of a frame in one reading of it, beside what its line says of it.
+use Rattle.std.specs.Prelude.{◌≡◌, ℕ, List, [], ◌++◌, codes, Option, Some, Result, Ok}
+use Rattle.std.specs.Prelude.{option_map}
+use Rattle.bssmap_codec.specs.declared.bssap.Bssap.{Bssap}
+use Rattle.bssmap_codec.specs.declared.fault.InterfaceFault.{InterfaceFault}
+use Rattle.bssmap_codec.specs.declared.sccp.Sccp.{Sccp}
+use Rattle.ipa_framing.specs.declared.frame.Frame.{Frame}
+use Rattle.program_base.specs.Names.{name_of, rsl_name_by, sccp_name_by}
+use Rattle.rsl_codec.specs.declared.fault.RslFault.{RslFault}
+use Rattle.rsl_codec.specs.declared.rsl.Rsl.{Rsl}
+use Rattle.frame_words.specs.Carried.{bssap_name_by, carried_by, rsl_carries_by, sccp_carries_by}
+use Rattle.frame_words.specs.Fields.{channel_by, channel_field, fields_text, reference_field}
+use Rattle.frame_words.specs.Fields.{references_by}
+use Rattle.frame_words.specs.Numbered.{bssap_number, number_in_frame, rsl_number, sccp_number}
+use Rattle.frame_words.specs.declared.said.Fields.{Fields}
+use Rattle.frame_words.specs.declared.said.Fields.TheVariants.{Nothing, Channel, References}
+use Rattle.frame_words.specs.declared.said.Inside.{Inside}
+use Rattle.frame_words.specs.declared.said.Said.{Said}
+
+abbrev pub found_fields : Fields → List ℕ
+found_fields Nothing = []
+found_fields (Channel channel) = channel_field (Some channel)
+found_fields (References destination source) =
+    reference_field (codes " to ") destination ++ reference_field (codes " from ") source
+
+-- it has this name, that of the message inside it, fields, and number
+abbrev pub Says : Said → List ℕ → Option (List ℕ) → List ℕ → Option ℕ → Type 0
+Says said name carried fields number =
+    (said.name.now ≡ name) × (option_map (λ text. text.now) said.carried ≡ carried)
+    × (found_fields said.fields ≡ fields) × (said.number ≡ number)
+
+abbrev pub SaysRsl : Said → Result Rsl RslFault → Type 0
+SaysRsl said reading =
+    Says said (rsl_name_by reading) (rsl_carries_by reading) (channel_field (channel_by reading))
+    (rsl_number 4 reading)
+
+abbrev pub SaysSccp : Said → Result Sccp InterfaceFault → Type 0
+SaysSccp said reading =
+    Says said (sccp_name_by reading) (sccp_carries_by reading) (references_by reading)
+    (sccp_number 4 reading)
+
+abbrev pub SaysFrame : Said → Frame → Type 0
+SaysFrame said frame =
+    Says said (name_of frame) (carried_by frame) (fields_text frame) (number_in_frame 4 frame)
+
+-- the same of the octets in a DT1
+abbrev pub SaysBssap : Inside → Result Bssap InterfaceFault → Type 0
+SaysBssap inside reading =
+    (option_map (λ text. text.now) inside.name ≡ Some (bssap_name_by reading))
+    × (inside.number ≡ bssap_number 4 reading)
+
+abbrev pub SaysInside : Inside → Sccp → Type 0
+SaysInside inside message =
+    (option_map (λ text. text.now) inside.name ≡ sccp_carries_by (Ok message))
+    × (inside.number ≡ sccp_number 4 (Ok message))

@@ -1,0 +1,130 @@
+// SPDX-License-Identifier: MIT OR Apache-2.0
+//! The line of a frame, which is put together in one piece.
+ghost use Rattle.std.specs.Prelude.{◌≡◌, ◌++◌, ◌∷◌, [], IfOk, OnOk, codes, drop, option_map};
+ghost use Rattle.hex.specs.Hex.{encode_lower};
+ghost use Rattle.frame_words.specs.Fields.{reference_field};
+ghost use Rattle.frame_words.specs.LongLine.{long_line};
+ghost use Rattle.frame_words.specs.MessageName.{behind_space};
+ghost use Rattle.frame_words.specs.Numbered.{number_field};
+ghost use Rattle.frame_words.specs.Said.{found_fields};
+
+use crate::number::write_found;
+use crate::said::{Fields, Said, said_in};
+use ipa_framing::Frame;
+use octets::Memory;
+use program_base::Failure;
+use std::alloc::Global;
+
+/// Room for the octets of a line that aren't digits of the body. A longer line takes more.
+const LINE_ROOM: usize = 128;
+
+/// The line of a frame.
+pub(crate) fn line_of(alloc: Global, frame: &Frame) -> Result<Vec<u8>, Failure>
+    ensures { IfOk result (λ line. line.items ≡ long_line frame.now) }
+{
+    let said = said_in(alloc, frame)?;
+    let digits = frame.body.len().saturating_mul(2);
+    let room = LINE_ROOM.saturating_add(digits);
+    let mut line = Vec::with_capacity(alloc, room).map_err(Memory::from)?;
+    put_names(frame.stream, &said, &mut line)?;
+    put_said(&said, &mut line)?;
+    put_body(alloc, frame, &mut line)?;
+    Ok(line)
+}
+
+/// Appends the stream of a frame, its name, and that of the message inside it.
+fn put_names(stream: u8, said: &Said, line: &mut Vec<u8>) -> Result<(), Memory>
+    ensures { OnOk result (line.new.items ≡ line.old.items
+        ++ (encode_lower (stream ∷ []) ++ codes " " ++ said.now.name.now
+        ++ behind_space (option_map (λ text. text.now) said.now.carried))) }
+{
+    line.extend_from_slice(&digits_of(stream))?;
+    line.extend_from_slice(b" ")?;
+    line.extend_from_slice(said.name.as_bytes())?;
+    if let Some(carried) = said.carried {
+        line.extend_from_slice(b" ")?;
+        line.extend_from_slice(carried.as_bytes())?;
+    }
+    Ok(())
+}
+
+/// Appends the column of what a frame says beside its name: the tab stands in place of the first
+/// space.
+fn put_said(said: &Said, line: &mut Vec<u8>) -> Result<(), Failure>
+    ensures { OnOk result (line.new.items ≡ line.old.items
+        ++ (codes "\t" ++ drop 1 (found_fields said.now.fields ++ number_field said.now.number))) }
+{
+    let start = line.len();
+    put_fields(&said.fields, line)?;
+    write_found(said.number, line)?;
+    if start < line.len() {
+        line[start] = b'\t';
+    } else {
+        line.push(b'\t').map_err(Memory::from)?;
+    }
+    Ok(())
+}
+
+/// Appends what a message says of where it belongs, with a space before each word.
+fn put_fields(fields: &Fields, line: &mut Vec<u8>) -> Result<(), Memory>
+    ensures { OnOk result (line.new.items ≡ line.old.items ++ found_fields fields.now) }
+{
+    match fields {
+        Fields::Nothing => Ok(()),
+        Fields::Channel(channel) => {
+            line.extend_from_slice(b" channel ")?;
+            line.extend_from_slice(&digits_of(*channel))?;
+            Ok(())
+        }
+        Fields::References {
+            destination,
+            source,
+        } => {
+            put_reference(" to ", destination, line)?;
+            put_reference(" from ", source, line)
+        }
+    }
+}
+
+/// Appends a reference behind a word, where there is one.
+fn put_reference(word: &str, reference: &Option<[u8; 3]>, line: &mut Vec<u8>) -> Result<(), Memory>
+    ensures { OnOk result
+        (line.new.items ≡ line.old.items ++ reference_field word.now reference.now) }
+{
+    let Some(octets) = reference else {
+        return Ok(());
+    };
+    line.extend_from_slice(word.as_bytes())?;
+    line.extend_from_slice(&reference_digits(*octets))?;
+    Ok(())
+}
+
+/// The hexadecimal digits of a reference.
+fn reference_digits(octets: [u8; 3]) -> [u8; 6]
+    ensures { result ≡ encode_lower octets }
+{
+    let mut digits = [0; 6];
+    hex::encode_to_slice(octets, &mut digits).unwrap();
+    digits
+}
+
+/// Appends the column of the octets of a frame's body, and the end of the line.
+fn put_body(alloc: Global, frame: &Frame, line: &mut Vec<u8>) -> Result<(), Memory>
+    ensures { OnOk result (line.new.items ≡ line.old.items
+        ++ (codes "\t" ++ encode_lower frame.now.body ++ codes "\n")) }
+{
+    let digits = hex::encode(alloc, frame.body.as_slice())?;
+    line.extend_from_slice(b"\t")?;
+    line.extend_from_slice(digits.as_bytes())?;
+    line.extend_from_slice(b"\n")?;
+    Ok(())
+}
+
+/// The hexadecimal digits of an octet.
+fn digits_of(octet: u8) -> [u8; 2]
+    ensures { result ≡ encode_lower (octet ∷ []) }
+{
+    let mut digits = [0; 2];
+    hex::encode_to_slice([octet], &mut digits).unwrap();
+    digits
+}

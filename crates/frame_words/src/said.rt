@@ -1,0 +1,149 @@
+// SPDX-License-Identifier: MIT OR Apache-2.0
+//! What a frame says, of one reading of it.
+ghost use Rattle.std.specs.Prelude.{◌≡◌, [], IfOk, Ok, None};
+ghost use Rattle.bssmap_codec.specs.BssapReading.{bssap_reading};
+ghost use Rattle.bssmap_codec.specs.SccpReading.{sccp_reading};
+ghost use Rattle.rsl_codec.specs.RslReading.{rsl_reading};
+ghost use Rattle.frame_words.specs.Said.{Says, SaysBssap, SaysFrame, SaysInside, SaysRsl, SaysSccp};
+
+use crate::carried::{bssap_message_name, rsl_message_carries};
+use crate::fields::{channel_of, destination_of, source_of};
+use crate::names::interface_fault_name;
+use crate::number::{rsl_message_number, transfer_number};
+use bssmap_codec::{InterfaceFault, Sccp, read_bssap, read_sccp};
+use dtap_codec::Modulus;
+use ipa_framing::{Frame, RSL_STREAM, SCCP_STREAM};
+use octets::Memory;
+use program_base::{frame_name, rsl_fault_name, rsl_message_name, sccp_message_name};
+use rsl_codec::{Rsl, RslFault};
+use std::alloc::Global;
+
+/// What the line of a frame says, beside the octets of its body. The number N(SD) is that of four.
+#[derive(Clone, Copy)]
+pub(crate) struct Said {
+    pub(crate) name: &'static str,
+    pub(crate) carried: Option<&'static str>,
+    pub(crate) fields: Fields,
+    pub(crate) number: Option<u8>,
+}
+
+/// What a message says of where it belongs.
+#[derive(Clone, Copy)]
+pub(crate) enum Fields {
+    Nothing,
+    Channel(u8),
+    References {
+        destination: Option<[u8; 3]>,
+        source: Option<[u8; 3]>,
+    },
+}
+
+/// What the octets in a DT1 say.
+#[derive(Clone, Copy)]
+pub(crate) struct Inside {
+    name: Option<&'static str>,
+    number: Option<u8>,
+}
+
+impl Said {
+    fn of_name(name: &'static str) -> Said
+        ensures { Says result name.now None [] None }
+    {
+        Said {
+            name,
+            carried: None,
+            fields: Fields::Nothing,
+            number: None,
+        }
+    }
+}
+
+/// What a frame says.
+pub(crate) fn said_in(alloc: Global, frame: &Frame) -> Result<Said, Memory>
+    ensures { IfOk result (λ said. SaysFrame said frame.now) }
+{
+    match frame.stream {
+        RSL_STREAM => rsl_said(alloc, frame.body.as_slice()),
+        SCCP_STREAM => sccp_said(alloc, frame.body.as_slice()),
+        _ => Ok(Said::of_name(frame_name(alloc, frame)?)),
+    }
+}
+
+/// What a message of a station's link says, or why it isn't one.
+fn rsl_said(alloc: Global, body: &[u8]) -> Result<Said, Memory>
+    ensures { IfOk result (λ said. SaysRsl said (rsl_reading body.now)) }
+{
+    match Rsl::read(alloc, body) {
+        Ok(message) => rsl_message_said(alloc, &message),
+        Err(RslFault::Memory) => Err(Memory),
+        Err(fault) => Ok(Said::of_name(rsl_fault_name(fault))),
+    }
+}
+
+fn rsl_message_said(alloc: Global, message: &Rsl) -> Result<Said, Memory>
+    ensures { IfOk result (λ said. SaysRsl said (Ok message.now)) }
+{
+    let carried = rsl_message_carries(alloc, message)?;
+    Ok(Said {
+        name: rsl_message_name(message),
+        carried,
+        fields: Fields::Channel(channel_of(message)),
+        number: rsl_message_number(Modulus::Four, message),
+    })
+}
+
+/// What a message of the switch's link says, or why it isn't one.
+fn sccp_said(alloc: Global, body: &[u8]) -> Result<Said, Memory>
+    ensures { IfOk result (λ said. SaysSccp said (sccp_reading body.now)) }
+{
+    match read_sccp(alloc, body) {
+        Ok(message) => sccp_message_said(alloc, &message),
+        Err(InterfaceFault::Memory) => Err(Memory),
+        Err(fault) => Ok(Said::of_name(interface_fault_name(fault))),
+    }
+}
+
+fn sccp_message_said(alloc: Global, message: &Sccp) -> Result<Said, Memory>
+    ensures { IfOk result (λ said. SaysSccp said (Ok message.now)) }
+{
+    let inside = inside_of(alloc, message)?;
+    Ok(Said {
+        name: sccp_message_name(message),
+        carried: inside.name,
+        fields: Fields::References {
+            destination: destination_of(message),
+            source: source_of(message),
+        },
+        number: inside.number,
+    })
+}
+
+/// What the octets say that a message of the switch's link carries.
+fn inside_of(alloc: Global, message: &Sccp) -> Result<Inside, Memory>
+    ensures { IfOk result (λ inside. SaysInside inside message.now) }
+{
+    match message {
+        Sccp::DataForm1 { data, .. } => bssap_said(alloc, data.as_slice()),
+        _ => Ok(Inside {
+            name: None,
+            number: None,
+        }),
+    }
+}
+
+/// What a message of BSSAP says, or why it isn't one.
+fn bssap_said(alloc: Global, octets: &[u8]) -> Result<Inside, Memory>
+    ensures { IfOk result (λ inside. SaysBssap inside (bssap_reading octets.now)) }
+{
+    match read_bssap(alloc, octets) {
+        Ok(message) => Ok(Inside {
+            name: Some(bssap_message_name(&message)),
+            number: transfer_number(Modulus::Four, &message),
+        }),
+        Err(InterfaceFault::Memory) => Err(Memory),
+        Err(fault) => Ok(Inside {
+            name: Some(interface_fault_name(fault)),
+            number: None,
+        }),
+    }
+}
