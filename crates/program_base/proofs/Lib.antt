@@ -4,9 +4,9 @@ pub mod Lists
 pub mod Putting
 pub mod Feeding
 mod Rows
-pub mod LineBegins
 pub mod Decoding
 mod NameRows
+pub mod NameSizes
 mod CommandRows
 pub mod Taking
 pub mod Entering

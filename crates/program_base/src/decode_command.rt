@@ -1,13 +1,13 @@
 // SPDX-License-Identifier: MIT OR Apache-2.0
 //! `bsc decode`: names the frames of a link; and the same with another line for each of them.
 ghost use Rattle.std.specs.Prelude.{◌≡◌, ◌⊎◌, ℕ, List, [], Err, IfErr, IfSome, OnOk};
-ghost use Rattle.std.specs.Prelude.{codes};
+ghost use Rattle.std.specs.Prelude.{◌≤◌, codes, length};
 ghost use Rattle.std.specs.Io.KnownBytes.{IsAtEnd};
 ghost use Rattle.std.specs.IoError.{error_kind};
 ghost use Rattle.ipa_framing.specs.Frame.{IsPartial};
 ghost use Rattle.ipa_framing.specs.Framer.{new_framer};
 ghost use Rattle.program_base.specs.Decoded.{Begins, Decodes, IsRefused, PrintsFrames, RefusesWith};
-ghost use Rattle.program_base.specs.Decoded.{StopsAmong, frame_line, rest_line};
+ghost use Rattle.program_base.specs.Decoded.{StopsAmong, frame_line, line_of, rest_line};
 ghost use Rattle.program_base.specs.Output.{Puts};
 ghost use Rattle.program_base.specs.Status.{failure_of};
 ghost use Rattle.program_base.specs.Stopping.{stop_of, stop_unread};
@@ -18,6 +18,7 @@ use crate::frame_line::FrameLine;
 use crate::input::{Sink, Unread, read_all, room_for};
 use crate::names::frame_name;
 use crate::output::put;
+use arrayvec::ArrayVec;
 use ipa_framing::{Frame, FrameFault, Framer};
 use octets::Memory;
 use std::alloc::Global;
@@ -73,18 +74,32 @@ impl From<Unread<Stop>> for Stop {
     }
 }
 
-/// Prints a frame's line. It is put together of octets, since a formatter took over a quarter of
-/// the program's time.
+/// The octets of the longest line: two digits, a space, a name, and the line feed.
+const LINE_LIMIT: usize = 28;
+
+/// The line of a frame of this stream, which has this name. It is put together of octets, since a
+/// formatter took over a quarter of the program's time.
+fn line_of(stream: u8, name: &str) -> ArrayVec<u8, LINE_LIMIT>
+    requires { length name.now ≤ 24 }
+    ensures { result.items ≡ line_of stream name.now }
+{
+    let mut digits = [0; 2];
+    hex::encode_to_slice([stream], &mut digits).unwrap();
+    let mut line = ArrayVec::new();
+    line.try_extend_from_slice(&digits).unwrap();
+    line.try_extend_from_slice(b" ").unwrap();
+    line.try_extend_from_slice(name.as_bytes()).unwrap();
+    line.try_extend_from_slice(b"\n").unwrap();
+    line
+}
+
+/// Prints a frame's line, in one piece.
+#[tactic(auto, using(crate::proofs::NameSizes::name_short))]
 fn print_frame<W: Write>(alloc: Global, frame: &Frame, output: &mut W) -> Result<(), Failure>
     ensures { Puts result (W.contents output.old) (W.contents output.new) (frame_line frame.now) }
 {
     let name = frame_name(alloc, frame)?;
-    let mut digits = [0; 2];
-    hex::encode_to_slice([frame.stream], &mut digits).unwrap();
-    put(output, &digits)?;
-    put(output, b" ")?;
-    put(output, name.as_bytes())?;
-    put(output, b"\n")?;
+    put(output, line_of(frame.stream, name).as_slice())?;
     Ok(())
 }
 
