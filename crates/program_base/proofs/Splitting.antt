@@ -1,7 +1,12 @@
 -- SPDX-License-Identifier: MIT OR Apache-2.0
 -- Lines and their words.
-use Rattle.std.proofs.Common.{◌≡◌, ◌≢◌, ℕ, ◌+◌, ◌<◌, Bool, List, [], ◌∷◌, length, refl, sym, ap, ◌∙◌, arith, inl, inr, not, None}
-use Rattle.std.proofs.lemmas.Bool.{cases_Bool, cond-true, cond-false}
+use Rattle.std.proofs.Common.{◌≡◌, ◌≢◌, ℕ, ◌+◌, ◌<◌, Bool, List, [], ◌∷◌, length, refl, sym, ap, ◌∙◌, arith, inl, inr, not, None, Some, take, drop, get_or, false, subst, lit<}
+use Rattle.std.proofs.lemmas.Bool.{cases_Bool, cond-true, cond-false, eqb-true}
+use Rattle.std.proofs.lemmas.Str.{IsCharBoundary-after_ascii}
+use Rattle.std.specs.Str.{IsCharBoundary, IsUtf8}
+use Rattle.std.proofs.lemmas.List.Sums.{position_or_len_is}
+use Rattle.memchr.specs.Find.{IsFirstByte, Nowhere, Passes, is_byte}
+use Rattle.program_base.specs.WordsLeft.{is_space}
 use Rattle.std.proofs.lemmas.List.Splits.{slice_split-cons_no, slice_split_first, length-slice_split}
 use Rattle.program_base.specs.Words.{end_of}
 use Rattle.std.specs.List.{slice_split, onto_first, position_or_len, before_first, after_first}
@@ -32,3 +37,31 @@ slice_split_found p line word rest found =
 pub end_of-some : (words : List (List ℕ)) → words ≢ [] → end_of words ≡ None
 end_of-some [] some = absurd (some refl)
 end_of-some (word ∷ words) some = refl
+
+-- ---- where the first space stands
+
+fails_before : (line : List ℕ) (n k : ℕ) → Nowhere (Passes (is_byte 32) line) 0 n → k < n → is_space (get_or line k 0) ≡ false
+fails_before line n k none below =
+    elim (cases_Bool (is_space (get_or line k 0))) [
+      | inl found ↦ absurd (none k (omega arith) below found)
+      | inr past ↦ past
+    ]
+
+pub space_at : (line : List ℕ) (n : ℕ) → IsFirstByte (is_byte 32) line (Some n) → slice_split is_space line ≡ take n line ∷ slice_split is_space (drop (n + 1) line)
+space_at line n first =
+    let high : n < length line = first.0.high in
+    let at : position_or_len is_space line ≡ n = position_or_len_is is_space line n 0 (omega arith) (λ k below. fails_before line n k first.0.before below) (λ _. first.1) in
+    slice_split_found is_space line (take n line) (drop (n + 1) line)
+    (omega arith, ap (λ (i : ℕ). take i line) (sym at), ap (λ (i : ℕ). drop (i + 1) line) (sym at))
+
+pub no_space : (line : List ℕ) → IsFirstByte (is_byte 32) line None → slice_split is_space line ≡ line ∷ []
+no_space line none =
+    slice_split_unfound is_space line
+    (position_or_len_is is_space line (length line) 0 (omega arith) (λ k below. fails_before line (length line) k none below) (λ (below : length line < length line). absurd (omega arith)))
+
+-- behind a space stands a character, or the end
+pub after_space : (line : List ℕ) (n : ℕ) → IsUtf8 line → IsFirstByte (is_byte 32) line (Some n) → IsCharBoundary line (n + 1)
+after_space line n text first =
+    let is : get_or line n 0 ≡ 32 = eqb-true (get_or line n 0) 32 first.1 in
+    let high : n < length line = first.0.high in
+    IsCharBoundary-after_ascii line n text high (subst (λ (octet : ℕ). octet < 128) (sym is) (lit< tt))

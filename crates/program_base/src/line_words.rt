@@ -11,6 +11,7 @@ use crate::hexadecimal::Hexadecimal;
 use crate::line_fault::BadEvent;
 use crate::value::{answer_in, number_in, sapi_in};
 use dtap_codec::Sapi;
+use memchr::memchr;
 use std::marker::Model;
 
 /// The words of a script line that are still to be read. Words are parted by one space.
@@ -127,8 +128,8 @@ fn split_first(line: &str) -> (&str, Option<&str>)
     ensures { slice_split is_space line.now
         ≡ result.0.now ∷ words_left (option_map (λ rest. rest.now) result.1) }
 {
-    match line.split_once(' ') {
-        Some((word, rest)) => (word, Some(rest)),
+    match memchr(b' ', line.as_bytes()) {
+        Some(end) => (&line[..end], Some(&line[end + 1..])),
         None => (line, None),
     }
 }
