@@ -89,6 +89,20 @@ impl Cell {
             bsic: self.bsic.number(),
         }
     }
+
+    /// This cell again, with a text and channels of its own.
+    pub(crate) fn copy(&self, alloc: Global) -> Result<Cell, Memory>
+        ensures { IfOk result (λ copy. copy ≡ self.now) }
+    {
+        Ok(Cell {
+            listen: Text::copy(alloc, self.listen.as_str())?,
+            location_area_code: self.location_area_code,
+            cell_identity: self.cell_identity,
+            arfcn: self.arfcn,
+            bsic: self.bsic,
+            channels: Vec::from_slice(alloc, self.channels.as_slice())?,
+        })
+    }
 }
 
 /// A cell as it is found in a table, whose text and channels these are.

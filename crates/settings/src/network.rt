@@ -17,6 +17,19 @@ pub(crate) struct Network {
     pub(crate) release98: bool,
 }
 
+impl Network {
+    /// This network again, with texts of its own.
+    pub(crate) fn copy(&self, alloc: Global) -> Result<Network, Memory>
+        ensures { IfOk result (λ copy. copy ≡ self.now) }
+    {
+        Ok(Network {
+            mcc: Text::copy(alloc, self.mcc.as_str())?,
+            mnc: Text::copy(alloc, self.mnc.as_str())?,
+            release98: self.release98,
+        })
+    }
+}
+
 /// The network as it is found in a table, whose texts these are.
 #[derive(Clone, Copy)]
 pub(crate) struct NetworkFound<'a> {

@@ -76,6 +76,20 @@ impl Settings {
         }
     }
 
+    /// These settings again, with texts, cells and channels of their own. It is refused only for
+    /// lack of memory.
+    pub fn copy(&self, alloc: Global) -> Result<Settings, Memory>
+        ensures { IfOk result (λ copy. copy ≡ self.now) }
+    {
+        Ok(Settings {
+            network: self.network.copy(alloc)?,
+            switch_address: Text::copy(alloc, self.switch_address.as_str())?,
+            timers: self.timers,
+            handover: self.handover,
+            cells: copies(alloc, &self.cells)?,
+        })
+    }
+
     /// The mobile country code, three decimal digits.
     pub fn mcc(&self) -> &str
         ensures value { result.now ≡ self.now.network.mcc }
@@ -222,6 +236,17 @@ fn airs(alloc: Global, cells: &[Cell]) -> Result<Vec<ho_decision::Cell>, Memory>
         airs.push(cell.air())?;
     }
     Ok(airs)
+}
+
+// These cells again, with texts and channels of their own.
+fn copies(alloc: Global, cells: &[Cell]) -> Result<Vec<Cell>, Memory>
+    ensures { IfOk result (λ copies. copies.items ≡ cells.now) }
+{
+    let mut copies = Vec::with_capacity(alloc, cells.len())?;
+    for cell in cells {
+        copies.push(cell.copy(alloc)?)?;
+    }
+    Ok(copies)
 }
 
 // The settings, with texts, cells and channels of their own.
