@@ -5,6 +5,6 @@ mod Copies
 pub mod Levels
 mod Rows
 pub mod Ten
-pub mod Unheard
+pub mod TooWeak
 pub mod Unique
 pub mod Window

@@ -1,19 +1,19 @@
 -- SPDX-License-Identifier: MIT OR Apache-2.0
--- Which frequencies reports name, by the number that BCCH-FREQ has for each.
-use Rattle.std.specs.Prelude.{◌≡◌, Bool, true, false, List, slice_index_or}
+-- How strong reports say that each frequency is, by the number that BCCH-FREQ has for it.
+use Rattle.std.specs.Prelude.{◌≤◌, ℕ, List, slice_index}
 use Rattle.std.specs.List.{All}
 use Rattle.dtap_codec.specs.declared.report.Neighbour.{Neighbour}
 use Rattle.dtap_codec.specs.declared.report.Report.{Report}
 use Rattle.dtap_codec.specs.Report.{neighbours_of}
 use Rattle.ho_decision.specs.declared.heard.Heard.{Heard}
 
--- the frequency of an entry is marked
-abbrev pub IsMarked : List Bool → Neighbour → Type 0
-IsMarked marks n = slice_index_or marks n.bcch_freq false ≡ true
+-- an entry's level is at most the greatest of its frequency
+abbrev pub IsWithin : List ℕ → Neighbour → Type 0
+IsWithin greatest n = n.rxlev ≤ slice_index greatest n.bcch_freq
 
 -- those of all entries that count are
-abbrev pub AreMarked : List Bool → List Report → Type 0
-AreMarked marks reports = All (λ r. All (IsMarked marks) (neighbours_of r)) reports
+abbrev pub AreWithin : List ℕ → List Report → Type 0
+AreWithin greatest reports = All (λ r. All (IsWithin greatest) (neighbours_of r)) reports
 
 abbrev pub AreHeard : List Report → Heard → Type 0
-AreHeard reports heard = AreMarked heard.marks reports
+AreHeard reports heard = AreWithin heard.greatest reports

@@ -1,5 +1,5 @@
 // SPDX-License-Identifier: MIT OR Apache-2.0
-ghost use Rattle.std.specs.Prelude.{◌≡◌, ◌==◌, ◌<◌, ◌∷◌, ◌++◌, [], length, count_by, IfOk, List};
+ghost use Rattle.std.specs.Prelude.{◌≡◌, ◌==◌, ◌<◌, ◌∷◌, ◌++◌, [], false, length, count_by, IfOk, List};
 ghost use Rattle.dtap_codec.specs.declared.report.Report.{Report as ReportValue};
 ghost use Rattle.ho_decision.specs.Average.{quality, last, serving_average};
 ghost use Rattle.ho_decision.specs.Decision.{Decides, average_at, is_bad, is_due};
@@ -209,7 +209,7 @@ impl Averages {
         self.sums.serving_level.average(&self.reports)
     }
 
-    /// Which neighbours the reports name.
+    /// How strong the reports say that the frequencies are.
     pub(crate) fn heard(&self) -> Heard
         ensures { AreHeard self.now.reports result }
     {
@@ -226,6 +226,25 @@ impl Averages {
     {
         average_level(settings, heard, place, &self.reports)
     }
+
+    /// Whether the average level of the cell at a place, from 0, of the settings may reach this one,
+    /// by what was heard.
+    pub(crate) fn may_reach(
+        &self,
+        settings: &HoSettings,
+        heard: &Heard,
+        place: usize,
+        level: u16,
+    ) -> bool
+        requires some { 0 < length self.now.reports }
+        requires place { place < length self.now.settings.cells }
+        requires same { settings.now ≡ self.now.settings }
+        requires heard { AreHeard self.now.reports heard.now }
+        ensures { result ≡ false
+            → average_at self.now.settings self.now.reports place < level }
+    {
+        heard.may_have(settings.levels[place], level)
+    }
 }
 
 // The average over reports of the level of the cell at a place.
@@ -241,7 +260,7 @@ fn average_level(
     ensures { result ≡ average_at settings.now reports.now.items place }
 {
     let measure = settings.levels[place];
-    if !heard.may_name(measure) {
+    if !heard.may_have(measure, 1) {
         return 0;
     }
     let window = settings.parameters.neighbour_window;

@@ -1,8 +1,11 @@
 // SPDX-License-Identifier: MIT OR Apache-2.0
-ghost use Rattle.std.specs.Prelude.{◌≡◌, ◌<◌, ◌≤◌, ◌-◌, ◌%◌, ◌==◌, ◌||◌, length, nat_le};
-ghost use Rattle.ho_decision.specs.Decision.{Decides, Chooses, bound, is_due};
+ghost use Rattle.std.specs.Prelude.{◌≡◌, ◌+◌, ◌<◌, ◌≤◌, ◌-◌, ◌%◌, ◌==◌, ◌||◌, length, nat_le};
+ghost use Rattle.ho_decision.specs.Choice.{after_offer};
+ghost use Rattle.ho_decision.specs.Decision.{Decides, Chooses, average_at, bound, is_due};
+ghost use Rattle.ho_decision.specs.Heard.{AreHeard};
 ghost use Rattle.ho_decision.specs.Settings.{IsAllowed};
 
+use crate::heard::Heard;
 use crate::{Averages, HoSettings};
 
 /// Over how many reports bad ones are counted.
@@ -94,10 +97,32 @@ fn best(settings: &HoSettings, averages: &Averages) -> Decision
     for place in 0..settings.cells.len() {
         let number = place as u8 + 1;
         if number != settings.serving {
-            choice.offer(number, averages.level_at(settings, &heard, place));
+            consider(settings, averages, &heard, place, &mut choice);
         }
     }
     choice.decision
+}
+
+// Takes the cell at a place, from 0, where its level is what is wanted. The level is worked out only
+// where it may be.
+fn consider(
+    settings: &HoSettings,
+    averages: &Averages,
+    heard: &Heard,
+    place: usize,
+    choice: &mut Choice,
+)
+    requires some { 0 < length averages.now.reports }
+    requires same { settings.now ≡ averages.now.settings }
+    requires place { place < length averages.now.settings.cells }
+    requires few { place < 255 }
+    requires heard { AreHeard averages.now.reports heard.now }
+    ensures { choice.new ≡ after_offer choice.old (place + 1)
+        (average_at averages.now.settings averages.now.reports place) }
+{
+    if averages.may_reach(settings, heard, place, choice.wanted) {
+        choice.offer(place as u8 + 1, averages.level_at(settings, heard, place));
+    }
 }
 
 // What the average level of a neighbour has to reach.

@@ -1,9 +1,9 @@
 // SPDX-License-Identifier: MIT OR Apache-2.0
-ghost use Rattle.std.specs.Prelude.{◌≡◌, ℕ, false, length, List};
+ghost use Rattle.std.specs.Prelude.{◌≡◌, ◌<◌, ◌≤◌, ℕ, false, length, List};
 ghost use Rattle.std.specs.List.{All};
 ghost use Rattle.dtap_codec.specs.declared.report.Neighbour.{Neighbour as Entry};
 ghost use Rattle.dtap_codec.specs.declared.report.Report.{Report as ReportValue};
-ghost use Rattle.ho_decision.specs.Heard.{AreHeard, AreMarked, IsMarked};
+ghost use Rattle.ho_decision.specs.Heard.{AreHeard, AreWithin, IsWithin};
 ghost use Rattle.ho_decision.specs.Measure.{level_at, value_of};
 
 use crate::measure::Measure;
@@ -13,66 +13,71 @@ use dtap_codec::{Neighbour, Report};
 /// How many numbers an octet has room for, and so BCCH-FREQ.
 const NUMBERS: usize = 256;
 
-/// Which frequencies reports name: a cell of another one has level 0 in each of them.
+/// How strong reports say that each frequency is: no cell of it has a greater level in any of them.
 #[derive(Drop)]
 pub(crate) struct Heard {
-    /// By the number that BCCH-FREQ has for a frequency, whether an entry that counts has it.
-    pub marks: [bool; NUMBERS],
+    /// By the number that BCCH-FREQ has for a frequency, the greatest level of an entry that counts
+    /// and has it; 0 without one.
+    pub greatest: [u8; NUMBERS],
 }
 
 impl Heard {
-    /// What these reports name.
+    /// What these reports say.
     pub fn of(reports: &HeapCircularBuffer<Report>) -> Heard
         ensures { AreHeard reports.now.items result }
     {
-        let mut marks = [false; NUMBERS];
+        let mut greatest = [0; NUMBERS];
         let (first, rest) = reports.as_slices();
-        mark_reports(&mut marks, first);
-        mark_reports(&mut marks, rest);
-        Heard { marks }
+        note_reports(&mut greatest, first);
+        note_reports(&mut greatest, rest);
+        Heard { greatest }
     }
 
-    /// Whether a report may name the cell that is measured; where none does, its level is 0 in all.
-    pub fn may_name(&self, measure: Measure) -> bool
+    /// Whether the cell that is measured may have this level in a report; where it can't, its level
+    /// is below that in all.
+    pub fn may_have(&self, measure: Measure, level: u16) -> bool
         ensures { (reports : List ReportValue) → AreHeard reports self.now → result ≡ false
-            → All (λ r. value_of measure r ≡ 0) reports }
+            → All (λ r. value_of measure r < level) reports }
     {
         match measure {
-            Measure::NeighbourLevel { place, .. } => self.may_have(place),
+            Measure::NeighbourLevel { place, .. } => self.has_level(place, level),
             _ => true,
         }
     }
 
-    // Whether a report may name the frequency of this place.
-    fn may_have(&self, place: Option<usize>) -> bool
+    // Whether the frequency of this place may have this level in a report.
+    fn has_level(&self, place: Option<usize>, level: u16) -> bool
         ensures { (reports : List ReportValue) → AreHeard reports self.now → result ≡ false
-            → (bsic : ℕ) → All (λ r. level_at place bsic r ≡ 0) reports }
+            → (bsic : ℕ) → All (λ r. level_at place bsic r < level) reports }
     {
         match place {
-            Some(place) => place >= NUMBERS || self.marks[place],
+            Some(place) => place >= NUMBERS || u16::from(self.greatest[place]) >= level,
             None => true,
         }
     }
 }
 
-// Marks the frequencies of these reports too.
-fn mark_reports(marks: &mut [bool], reports: &[Report])
-    requires { length marks.old ≡ NUMBERS }
-    ensures marked { AreMarked marks.new reports.now }
-    ensures kept { (n : Entry) → IsMarked marks.old n → IsMarked marks.new n }
+// Takes the levels of these reports in too.
+fn note_reports(greatest: &mut [u8], reports: &[Report])
+    requires { length greatest.old ≡ NUMBERS }
+    ensures noted { AreWithin greatest.new reports.now }
+    ensures kept { (n : Entry) → IsWithin greatest.old n → IsWithin greatest.new n }
 {
     for report in reports {
-        mark(marks, report.neighbours());
+        note(greatest, report.neighbours());
     }
 }
 
-// Marks the frequencies of these entries too.
-fn mark(marks: &mut [bool], entries: &[Neighbour])
-    requires { length marks.old ≡ NUMBERS }
-    ensures marked { All (IsMarked marks.new) entries.now }
-    ensures kept { (n : Entry) → IsMarked marks.old n → IsMarked marks.new n }
+// Takes the levels of these entries in too.
+fn note(greatest: &mut [u8], entries: &[Neighbour])
+    requires { length greatest.old ≡ NUMBERS }
+    ensures noted { All (IsWithin greatest.new) entries.now }
+    ensures kept { (n : Entry) → IsWithin greatest.old n → IsWithin greatest.new n }
 {
     for entry in entries {
-        marks[usize::from(entry.bcch_freq)] = true;
+        let place = usize::from(entry.bcch_freq);
+        if entry.rxlev > greatest[place] {
+            greatest[place] = entry.rxlev;
+        }
     }
 }

@@ -1,25 +1,25 @@
 -- SPDX-License-Identifier: MIT OR Apache-2.0
 -- What measures a cell's level is at the cell's place.
-use Rattle.std.proofs.Common.{◌<◌, List, length, arith, sym, ap, ◌∙◌}
+use Rattle.std.proofs.Common.{◌<◌, List, length, arith, ap, ◌∙◌}
 use Rattle.dtap_codec.specs.declared.report.Report.{Report}
 use Rattle.ho_decision.specs.declared.measure.Measure.{Measure}
 use Rattle.ho_decision.specs.Settings.{Settings, settings_of}
 use Rattle.ho_decision.specs.Decision.{average_at}
 use Rattle.ho_decision.specs.Measure.{value_of}
-use Rattle.ho_decision.proofs.Unheard.{average_of_none}
 use Rattle.ho_decision.proofs.Levels.{level_measured}
+use Rattle.ho_decision.proofs.TooWeak.{average_below}
 use Rattle.ho_decision.proofs.averages.average_level.Goals as goal
 
-pub returns-then-not-may_name : goal.returns-then-not-may_name
-returns-then-not-may_name c =
+pub returns-then-not-may_have : goal.returns-then-not-may_have
+returns-then-not-may_have c =
     let reports : List Report = c.args.reports.now.items in
     let inside = c.settings.inside in
     let t : Settings = settings_of inside.parameters inside.cells.items inside.serving in
     let m : Measure = c.index-measure.result.now in
     let there : c.args.place < length t.cells = omega (arith, c.requires.place, ap (λ (s : Settings). length s.cells) c.settings.view_is) in
-    sym (average_of_none (value_of m) t.parameters.neighbour_window reports (c.may_name.ensures reports c.requires.heard c.if-not-may_name.true))
-    ∙ level_measured t reports inside.levels.items c.args.place m there c.settings.invariant.0 c.index-measure.ensures
-    ∙ ap (λ (s : Settings). average_at s reports c.args.place) c.settings.view_is
+    let none = average_below (value_of m) t.parameters.neighbour_window 1 reports c.requires.some (c.may_have.ensures reports c.requires.heard c.if-not-may_have.true) in
+    let measured = level_measured t reports inside.levels.items c.args.place m there c.settings.invariant.0 c.index-measure.ensures ∙ ap (λ (s : Settings). average_at s reports c.args.place) c.settings.view_is in
+    omega (arith, none, measured)
 
 pub returns : goal.returns
 returns c =

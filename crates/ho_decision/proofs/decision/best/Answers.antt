@@ -4,7 +4,7 @@ use Rattle.std.proofs.Common.{◌≡◌, ◌≢◌, ℕ, ◌+◌, List, length, 
 use Rattle.dtap_codec.specs.declared.report.Report.{Report}
 use Rattle.ho_decision.specs.declared.decision.Choice.{Choice}
 use Rattle.ho_decision.specs.Settings.{Settings}
-use Rattle.ho_decision.specs.Decision.{Chooses}
+use Rattle.ho_decision.specs.Decision.{Chooses, average_at}
 use Rattle.ho_decision.proofs.Choice.{Wants, chosen, wants_keeps, wants_offered}
 use Rattle.ho_decision.proofs.decision.best.Goals as goal
 use Rattle.ho_decision.proofs.decision.best.Goals.{then-number-settings, else-number-settings}
@@ -21,8 +21,8 @@ loop-place-preserved c =
       | then-number-settings w ↦
           let other : place + 1 ≢ s.serving = λ e. w.if-number-settings.true (e ∙ sym serving) in
           subst P
-          (sym (w.choice-is ∙ w.offer.ensures))
-          (wants_offered s reports place (place + 1) w.level_at.result choice other refl w.level_at.ensures c.loop-place.invariant)
+          (sym (w.choice-is ∙ w.consider.ensures))
+          (wants_offered s reports place (place + 1) (average_at s reports place) choice other refl refl c.loop-place.invariant)
       | else-number-settings w ↦
           subst P
           (sym w.choice-is)
