@@ -7,6 +7,13 @@ pub mod ControlledQueues
 pub mod ControlledOrder
 pub mod Breaking
 pub mod Made
+pub mod Cut
+pub mod CutMobiles
+pub mod CutMoves
+pub mod CutStations
+pub mod CutRelay
+pub mod CutEvents
+pub mod CutWorlds
 mod Rows
 mod HeadlineRows
 mod ControlledRows

@@ -3,6 +3,7 @@ pub mod FixedState
 pub mod Fixed
 pub mod WorldState
 pub mod World
+pub mod Beside
 pub mod Views
 pub mod Openers
 pub mod Queues

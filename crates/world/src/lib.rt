@@ -11,4 +11,5 @@ pub use world_model::{Event, SwitchAction};
 mod fixed;
 mod laws;
 mod of_octets;
+mod passing;
 mod world;

@@ -5,6 +5,7 @@ ghost use Rattle.dtap_codec.specs.Number.{count_of};
 ghost use Rattle.settings.specs.Parameters.{Parameters};
 ghost use Rattle.world_model.specs.declared.event.Event.{Event as WorldEvent};
 ghost use Rattle.world_model.specs.Takes.{Takes};
+ghost use Rattle.world.specs.Beside.{ComesToTheSame, is_up_in, stands_beside};
 ghost use Rattle.world.specs.WorldState.{WorldState};
 ghost use Rattle.world.specs.World.{fixed_world, controlled_world};
 ghost use Rattle.world.specs.World.{scene_after, after, after_all, broken};
@@ -15,6 +16,7 @@ ghost use Rattle.world.specs.Headline.{Begins, IsInOrder, IsMadeBy, QueuesKeepOr
 use crate::Event;
 use crate::fixed::{FIXED_CONNECTION, FIXED_MOBILE, FixedWorld};
 use crate::of_octets::{are_of_octets, is_of_octets};
+use crate::passing::is_beside;
 use dtap_codec::Modulus;
 use octets::{Memory, Octets};
 use settings::Settings;
@@ -194,6 +196,42 @@ impl World {
             self.act(event)?;
         }
         Ok(())
+    }
+
+    /// Lets the event's actor act, and says whether it is known that the break of the link of a
+    /// source comes to the same in front of the event and behind it. Memory is wanted as by `step`.
+    pub fn pass(&mut self, event: &Event, source: u16) -> Result<bool, Memory>
+        ensures ok { OnOk result (self.new ≡ after self.old event.now) }
+        ensures same { IfOk result (λ same.
+            same ≡ true → ComesToTheSame self.old event.now source) }
+        ensures failed { OnErr result (self.new.failed ≡ true) }
+        ensures memory { OnErr result
+            (self.old.failed ≡ false → IsSome (scene_after self.old.scene event.now)) }
+    {
+        let stands = self.stands_beside(event, source);
+        self.act(event)?;
+        Ok(stands && self.is_up(source))
+    }
+
+    // Whether the link of a source is up, and the event is beside its break.
+    fn stands_beside(&self, event: &Event, source: u16) -> bool
+        ensures { result ≡ stands_beside self.now.scene event.now source }
+    {
+        match &self.scene {
+            Scene::Fixed(_) => false,
+            Scene::Controlled(network) => {
+                network.is_up(source) && is_beside(network, event, source)
+            }
+        }
+    }
+
+    fn is_up(&self, source: u16) -> bool
+        ensures { result ≡ is_up_in self.now.scene source }
+    {
+        match &self.scene {
+            Scene::Fixed(_) => false,
+            Scene::Controlled(network) => network.is_up(source),
+        }
     }
 
     fn act(&mut self, event: &Event) -> Result<bool, Memory>
