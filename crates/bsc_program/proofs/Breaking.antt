@@ -1,25 +1,26 @@
 -- SPDX-License-Identifier: MIT OR Apache-2.0
--- How the lines of all breaks are written, one by one.
-use Rattle.std.proofs.Common.{◌≡◌, ℕ, suc, ◌+◌, List, [], ◌++◌, length, Option, Result, Ok, Err, refl, sym, ap, subst, ◌∙◌, arith}
-use Rattle.std.specs.Prelude.{IfOk}
+-- How the lines of all breaks are written, one by one, and where a place has what the place before it has.
+use Rattle.std.proofs.Common.{◌≡◌, ℕ, suc, ◌+◌, ◌<◌, List, [], ◌∷◌, ◌++◌, length, Option, Result, Ok, Err, refl, sym, ap, subst, ◌∙◌, arith}
+use Rattle.std.proofs.Common.{get_or, take, drop}
+use Rattle.std.specs.Prelude.{OnOk}
 use Rattle.std.specs.Io.KnownBytes.{Appends}
-use Rattle.std.proofs.KnownBytes.{Appends-nil, Appends-trans}
-use Rattle.settings.specs.Parameters.{Parameters}
+use Rattle.std.proofs.KnownBytes.{Appends-trans}
+use Rattle.std.proofs.Math.Seq.{drop-cons}
+use Rattle.std.proofs.lemmas.List.{take_more}
 use Rattle.world_model.specs.declared.event.Event.{Event}
-use Rattle.world.specs.World.{controlled_world}
-use Rattle.program_base.specs.SettingsText.{settings_of}
-use Rattle.bsc_program.specs.Breaks.{break_line, break_lines, broken_world, texts_below}
-use Rattle.program_base.specs.declared.fault.ProgramFault.{ProgramFault}
+use Rattle.world_model.specs.declared.event.Event.TheVariants.{BaseDown}
+use Rattle.world.proofs.Order.{after_all-append}
+use Rattle.world.specs.Beside.{ComesToTheSame}
+use Rattle.world.specs.World.{after, after_all}
+use Rattle.world.specs.WorldState.{WorldState}
+use Rattle.bsc_program.specs.declared.breaks.Counts.{Counts}
+use Rattle.bsc_program.specs.BreakCounts.{broken_counts, counted_line, counts_of, unbroken_world}
+use Rattle.bsc_program.specs.Breaks.{break_line, broken_world, texts_below}
 
-abbrev pub line_at : Parameters → List Event → ℕ → ℕ → List ℕ
-line_at settings events source place = break_line place (broken_world (controlled_world settings) events source place).scene
+-- ---- lines
 
--- the lines of the places before the next one were written
-abbrev pub WritesPlaces : Result Parameters ProgramFault → List Event → ℕ → ℕ → Option (List ℕ) → Option (List ℕ) → Type 0
-WritesPlaces settings events source next old new = IfOk settings (λ settings. Appends old new (texts_below (line_at settings events source) next))
-
-abbrev pub WritesBreaks : List ℕ → List Event → ℕ → ℕ → Option (List ℕ) → Option (List ℕ) → Type 0
-WritesBreaks text events source next old new = WritesPlaces (settings_of text) events source next old new
+abbrev pub line_at : WorldState → List Event → ℕ → ℕ → List ℕ
+line_at begin events source place = break_line place (broken_world begin events source place).scene
 
 none_below : (text : ℕ → List ℕ) → texts_below text 0 ≡ []
 unfolding texts_below
@@ -34,29 +35,97 @@ more_below text n =
     let next : suc n ≡ n + 1 = omega arith in
     one_more text n ∙ ap (texts_below text) next
 
-places_none : (settings : Result Parameters ProgramFault) (events : List Event) (source : ℕ) (old : Option (List ℕ)) → WritesPlaces settings events source 0 old old
-places_none (Err fault) events source old = tt
-places_none (Ok settings) events source old = subst (Appends old old) (sym (none_below (line_at settings events source))) (Appends-nil old)
+first_below : (text : ℕ → List ℕ) → text 0 ≡ texts_below text 1
+first_below text = ap (λ (xs : List ℕ). xs ++ text 0) (sym (none_below text)) ∙ one_more text 0
 
-pub breaks_none : (text : List ℕ) (events : List Event) (source : ℕ) (old : Option (List ℕ)) → WritesBreaks text events source 0 old old
-breaks_none text events source old = places_none (settings_of text) events source old
+-- ---- an event that the break can pass
 
-places_more : (settings : Result Parameters ProgramFault) (events : List Event) (source next : ℕ) (old mid new : Option (List ℕ)) → WritesPlaces settings events source next old mid
-    → IfOk settings (λ settings. Appends mid new (line_at settings events source next)) → WritesPlaces settings events source (next + 1) old new
-places_more (Err fault) events source next old mid new some line = tt
-places_more (Ok settings) events source next old mid new some line =
-    subst (Appends old new) (more_below (line_at settings events source) next)
-    (Appends-trans old mid new (texts_below (line_at settings events source) next) (line_at settings events source next) some line)
+-- behind the events in front of the place
+broken_behind : (begin : WorldState) (events : List Event) (source place : ℕ)
+    → broken_world begin events source place
+    ≡ after_all (after (after_all begin (take place events)) (BaseDown source)) (drop place events)
+broken_behind begin events source place = after_all-append begin (take place events) (BaseDown source ∷ drop place events)
 
-pub breaks_more : (text : List ℕ) (events : List Event) (source next : ℕ) (old mid new : Option (List ℕ)) → WritesBreaks text events source next old mid
-    → IfOk (settings_of text) (λ settings. Appends mid new (line_at settings events source next)) → WritesBreaks text events source (next + 1) old new
-breaks_more text events source next old mid new some line = places_more (settings_of text) events source next old mid new some line
+same_behind : (begin unbroken : WorldState) (events : List Event) (source place : ℕ) (event : Event)
+    → unbroken ≡ unbroken_world begin events place
+    → take (place + 1) events ≡ take place events ++ event ∷ [] → drop place events ≡ event ∷ drop (place + 1) events
+    → ComesToTheSame unbroken event source → broken_world begin events source (place + 1) ≡ broken_world begin events source place
+same_behind begin unbroken events source place event is more others same =
+    let break : WorldState → WorldState = λ world. after world (BaseDown source) in
+    let rest : WorldState → WorldState = λ world. after_all world (drop (place + 1) events) in
+    broken_behind begin events source (place + 1)
+    ∙ ap (λ (xs : List Event). rest (break (after_all begin xs))) more
+    ∙ ap (λ (world : WorldState). rest (break world)) (after_all-append begin (take place events) (event ∷ []))
+    ∙ ap (λ (world : WorldState). rest (break (after world event))) (sym is)
+    ∙ ap rest (sym same)
+    ∙ ap (λ (world : WorldState). rest (after (break world) event)) is
+    ∙ ap (after_all (break (after_all begin (take place events)))) (sym others)
+    ∙ sym (broken_behind begin events source place)
 
-places_all : (settings : Result Parameters ProgramFault) (events : List Event) (source next : ℕ) (old new : Option (List ℕ)) → WritesPlaces settings events source next old new → next ≡ length events + 1
-    → IfOk settings (λ settings. Appends old new (break_lines (controlled_world settings) events source))
-places_all (Err fault) events source next old new some all = tt
-places_all (Ok settings) events source next old new some all = subst (λ (n : ℕ). Appends old new (texts_below (line_at settings events source) n)) all some
+-- the event at a place
+pub record IsEvent (events : List Event) (place : ℕ) (event : Event) : Type 0 where
+  pub taken : take (place + 1) events ≡ take place events ++ event ∷ []
+  pub left : drop place events ≡ event ∷ drop (place + 1) events
 
-pub breaks_all : (text : List ℕ) (events : List Event) (source next : ℕ) (old new : Option (List ℕ)) → WritesBreaks text events source next old new → next ≡ length events + 1
-    → IfOk (settings_of text) (λ settings. Appends old new (break_lines (controlled_world settings) events source))
-breaks_all text events source next old new some all = places_all (settings_of text) events source next old new some all
+pub event_at : (events : List Event) (place : ℕ) (event : Event) → place < length events → event ≡ get_or events place event
+    → IsEvent events place event
+event_at events place event below is =
+    let next : suc place ≡ place + 1 = omega arith in
+    record {
+      taken = take_more events place event below ∙ ap (λ (x : Event). take place events ++ x ∷ []) (sym is);
+      left = drop-cons events place event below ∙ ap (λ (x : Event). x ∷ drop (suc place) events) (sym is)
+          ∙ ap (λ (n : ℕ). event ∷ drop n events) next;
+    }
+
+-- what was counted holds on where the break can pass the event
+pub counted_again : (begin unbroken : WorldState) (events : List Event) (source place : ℕ) (counts : Counts) (event : Event)
+    → unbroken ≡ unbroken_world begin events place → counts ≡ broken_counts begin events source place → IsEvent events place event
+    → ComesToTheSame unbroken event source → counts ≡ broken_counts begin events source (place + 1)
+counted_again begin unbroken events source place counts event follows is at same =
+    is ∙ ap (λ (world : WorldState). counts_of world.scene)
+    (sym (same_behind begin unbroken events source place event follows at.taken at.left same))
+
+pub follows_on : (begin unbroken next : WorldState) (events : List Event) (place : ℕ) (event : Event)
+    → unbroken ≡ unbroken_world begin events place → IsEvent events place event → next ≡ after unbroken event
+    → next ≡ unbroken_world begin events (place + 1)
+follows_on begin unbroken next events place event follows at ran =
+    ran
+    ∙ ap (λ (world : WorldState). after world event) follows
+    ∙ sym (after_all-append begin (take place events) (event ∷ []))
+    ∙ ap (after_all begin) (sym at.taken)
+
+pub on_ok : {X E P : Type 0} (result : Result X E) → P → OnOk result P
+on_ok (Ok x) p = p
+on_ok (Err error) p = tt
+
+-- ---- the loop
+
+-- at a place: its line is the last that was written, and no link broke yet
+pub record IsAt (begin : WorldState) (events : List Event) (source place : ℕ) (unbroken : WorldState) (counts : Counts)
+    (old new : Option (List ℕ)) : Type 0 where
+  pub follows : unbroken ≡ unbroken_world begin events place
+  pub counted : counts ≡ broken_counts begin events source place
+  pub written : Appends old new (texts_below (line_at begin events source) (place + 1))
+
+pub at_first : (begin unbroken : WorldState) (events : List Event) (source : ℕ) (counts : Counts) (old new : Option (List ℕ))
+    → unbroken ≡ begin → counts ≡ broken_counts begin events source 0 → Appends old new (counted_line 0 counts)
+    → IsAt begin events source 0 unbroken counts old new
+at_first begin unbroken events source counts old new same is line = record {
+  follows = same;
+  counted = is;
+  written = subst (Appends old new) (ap (counted_line 0) is ∙ first_below (line_at begin events source)) line;
+}
+
+pub at_next : (begin : WorldState) (events : List Event) (source place : ℕ) (unbroken next : WorldState) (counts more : Counts)
+    (old mid new : Option (List ℕ)) → IsAt begin events source place unbroken counts old mid
+    → next ≡ unbroken_world begin events (place + 1) → more ≡ broken_counts begin events source (place + 1)
+    → Appends mid new (counted_line (place + 1) more) → IsAt begin events source (place + 1) next more old new
+at_next begin events source place unbroken next counts more old mid new there follows is line =
+    let lines : ℕ → List ℕ = line_at begin events source in
+    record {
+      follows = follows;
+      counted = is;
+      written = subst (Appends old new) (more_below lines (place + 1))
+          (Appends-trans old mid new (texts_below lines (place + 1)) (lines (place + 1)) there.written
+          (subst (Appends mid new) (ap (counted_line (place + 1)) is) line));
+    }

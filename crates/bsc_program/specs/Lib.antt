@@ -2,5 +2,6 @@
 pub mod Report
 pub mod ScriptOrder
 pub mod Breaks
+pub mod BreakCounts
 pub mod Asked
 pub mod Replayed

@@ -1,21 +1,31 @@
 // SPDX-License-Identifier: MIT OR Apache-2.0
-ghost use Rattle.std.specs.Prelude.{◌≡◌, [], IfErr, IfOk, OnOk, length, unwrap_or};
+ghost use Rattle.std.specs.Prelude.{◌≡◌, ◌+◌, ◌<◌, [], IfErr, IfOk, OnOk, length, unwrap_or};
 ghost use Rattle.std.specs.Io.KnownBytes.{Appends};
 ghost use Rattle.world.specs.Views.{sent_list};
 ghost use Rattle.world.specs.World.{controlled_world};
 ghost use Rattle.program_base.specs.SettingsText.{settings_of};
-ghost use Rattle.bsc_program.specs.Breaks.{accepted_by_all, break_line, break_lines, broken_world};
+ghost use Rattle.bsc_program.specs.Breaks.{accepted_by_all, break_lines};
 ghost use Rattle.bsc_program.specs.Breaks.{sent_by_all};
+ghost use Rattle.bsc_program.specs.BreakCounts.{broken_counts, counted_line, counts_of};
+ghost use Rattle.bsc_program.specs.BreakCounts.{unbroken_world};
 ghost use Rattle.program_base.specs.Status.{status_of};
 
 use program_base::{Failure, read_settings};
+use settings::Settings;
 use std::alloc::Global;
 use std::io::Write;
 use world::{Event, World};
 
+/// How many messages of the flow the switch accepted on all connections of a world, and how many
+/// all mobiles sent.
+#[derive(Clone, Copy)]
+struct Counts {
+    accepted: u128,
+    sent: u128,
+}
+
 /// Writes a line for each place of these events at which the link of a source breaks, in the world
-/// of the settings in the text. For each the world begins anew, and the settings are read again,
-/// since a world keeps its own.
+/// of the settings in the text.
 pub(crate) fn write_breaks<W: Write>(
     alloc: Global,
     text: &str,
@@ -28,45 +38,116 @@ pub(crate) fn write_breaks<W: Write>(
         (break_lines (controlled_world settings) events.now source))) }
     ensures err { IfErr result (λ failure. status_of failure ≡ 3) }
 {
-    for place in 0..=events.len() {
-        write_broken(alloc, text, events, source, place, output)?;
+    // they were read before, so that they want nothing but memory
+    let Ok(settings) = read_settings(alloc, text) else {
+        return Err(Failure::Memory);
+    };
+    write_places(alloc, &settings, events, source, output)
+}
+
+/// Writes the lines of all places. A world in which no link breaks follows the places.
+fn write_places<W: Write>(
+    alloc: Global,
+    settings: &Settings,
+    events: &[Event],
+    source: u16,
+    output: &mut W,
+) -> Result<(), Failure>
+    ensures ok { OnOk result (Appends (W.contents output.old) (W.contents output.new)
+        (break_lines (controlled_world settings.now) events.now source)) }
+    ensures err { IfErr result (λ failure. status_of failure ≡ 3) }
+{
+    let mut unbroken = World::new(alloc, settings.copy(alloc)?)?;
+    write_followed(alloc, settings, events, source, &mut unbroken, output)
+}
+
+/// Writes the lines of all places, with a world before the first event that is to follow them.
+fn write_followed<W: Write>(
+    alloc: Global,
+    settings: &Settings,
+    events: &[Event],
+    source: u16,
+    unbroken: &mut World,
+    output: &mut W,
+) -> Result<(), Failure>
+    requires begins { unbroken.old ≡ controlled_world settings.now }
+    ensures ok { OnOk result (Appends (W.contents output.old) (W.contents output.new)
+        (break_lines (controlled_world settings.now) events.now source)) }
+    ensures err { IfErr result (λ failure. status_of failure ≡ 3) }
+{
+    let mut counts = counts_at(alloc, settings, events, source, 0)?;
+    write_break(counts, 0, output)?;
+    for place in 0..events.len() {
+        counts = counts_behind(alloc, settings, events, source, place, unbroken, counts)?;
+        write_break(counts, place + 1, output)?;
     }
     Ok(())
 }
 
-/// Writes the line of one place. The settings in the text were read before, so that they want
-/// nothing but memory.
-fn write_broken<W: Write>(
+/// What is counted where the link breaks behind the event at a place, from what is counted where it
+/// breaks in front of it: the same, if the break can pass the event. Else a world is made anew. The
+/// world in which no link breaks follows.
+fn counts_behind(
     alloc: Global,
-    text: &str,
+    settings: &Settings,
     events: &[Event],
     source: u16,
     place: usize,
-    output: &mut W,
-) -> Result<(), Failure>
-    ensures ok { OnOk result (IfOk (settings_of text.now) (λ settings.
-        Appends (W.contents output.old) (W.contents output.new)
-        (break_line place
-        (broken_world (controlled_world settings) events.now source place).scene))) }
+    unbroken: &mut World,
+    counts: Counts,
+) -> Result<Counts, Failure>
+    requires below { place < length events.now }
+    requires follows { unbroken.old
+        ≡ unbroken_world (controlled_world settings.now) events.now place }
+    requires counted { counts
+        ≡ broken_counts (controlled_world settings.now) events.now source place }
+    ensures follows { OnOk result (unbroken.new
+        ≡ unbroken_world (controlled_world settings.now) events.now (place + 1)) }
+    ensures counted { IfOk result (λ counts. counts
+        ≡ broken_counts (controlled_world settings.now) events.now source (place + 1)) }
     ensures err { IfErr result (λ failure. status_of failure ≡ 3) }
 {
-    let Ok(settings) = read_settings(alloc, text) else {
-        return Err(Failure::Memory);
-    };
-    let world = World::with_break(alloc, settings, events, place, source)?;
-    write_break(&world, place, output)
+    if unbroken.pass(&events[place], source)? {
+        Ok(counts)
+    } else {
+        counts_at(alloc, settings, events, source, place + 1)
+    }
 }
 
-/// Writes the line of a world in which a link broke at this place of the script: how many messages
-/// of the flow the switch accepted on all connections, and how many all mobiles sent. The line is
-/// flushed, so that it is there before the next one is made.
-fn write_break<W: Write>(world: &World, place: usize, output: &mut W) -> Result<(), Failure>
-    ensures ok { OnOk result (Appends (W.contents output.old) (W.contents output.new)
-        (break_line place world.now.scene)) }
+/// What is counted in the world of these settings after the events, where the link of the source
+/// breaks at this place.
+fn counts_at(
+    alloc: Global,
+    settings: &Settings,
+    events: &[Event],
+    source: u16,
+    place: usize,
+) -> Result<Counts, Failure>
+    ensures ok { IfOk result (λ counts. counts
+        ≡ broken_counts (controlled_world settings.now) events.now source place) }
     ensures err { IfErr result (λ failure. status_of failure ≡ 3) }
 {
-    let accepted = accepted_by_all(world);
-    let sent = sent_by_all(world);
+    let world = World::with_break(alloc, settings.copy(alloc)?, events, place, source)?;
+    Ok(counts_in(&world))
+}
+
+fn counts_in(world: &World) -> Counts
+    ensures { result ≡ counts_of world.now.scene }
+{
+    Counts {
+        accepted: accepted_by_all(world),
+        sent: sent_by_all(world),
+    }
+}
+
+/// Writes the line of a place of the script at which a link breaks, with what was counted. The line
+/// is flushed, so that it is there before the next one is made.
+fn write_break<W: Write>(counts: Counts, place: usize, output: &mut W) -> Result<(), Failure>
+    ensures ok { OnOk result (Appends (W.contents output.old) (W.contents output.new)
+        (counted_line place counts)) }
+    ensures err { IfErr result (λ failure. status_of failure ≡ 3) }
+{
+    let Counts { accepted, sent } = counts;
     writeln!(output, "break {place} accepted {accepted} sent {sent}")?;
     output.flush()?;
     Ok(())
