@@ -1,6 +1,6 @@
 -- SPDX-License-Identifier: MIT OR Apache-2.0
 -- Numbers that rise: what a search by halving finds among them, and what one fewer makes of them.
-use Rattle.std.proofs.Common.{◌≡◌, ◌≢◌, ℕ, zero, suc, ◌+◌, ◌<◌, ◌≤◌, ◌==◌, if◌then◌else◌, List, [], ◌∷◌, ◌++◌, length, get_or, Option, Some, None, Result, Ok, Err, IfOk, IfErr, refl, sym, subst, ap, ◌∙◌, inl, inr, arith}
+use Rattle.std.proofs.Common.{◌≡◌, ◌≢◌, ℕ, zero, suc, ◌+◌, ◌<◌, ◌≤◌, ◌==◌, if◌then◌else◌, cond, List, [], ◌∷◌, ◌++◌, length, get_or, Option, Some, None, Result, Ok, Err, IfOk, IfErr, refl, sym, subst, ap, ◌∙◌, inl, inr, arith}
 use Rattle.std.specs.List.{AllByRecursion, remove}
 use Rattle.std.specs.List.Sorted.{IsSearchInRange, IsBinarySearchResult, IsNonDecreasingBy}
 use Rattle.std.specs.Map.{lookup, remove_entry}
@@ -13,7 +13,7 @@ use Rattle.std.proofs.lemmas.List.Edits.{length-remove, get_or-remove_below, get
 use Rattle.std.proofs.lemmas.List.Sorted.{IsNonDecreasingBy-from_default}
 use Rattle.controller_model.specs.Controller.{Entry}
 use Rattle.connections.specs.Entries.{IsBelow}
-use Rattle.connections.specs.Index.{AreNumbersBelow, HasNoPlace, HasNumber, IsIndex, IsPlaceOf, NumbersRise, at, listed, number_in}
+use Rattle.connections.specs.Index.{AreNumbersBelow, AreSame, HasNoPlace, HasNumber, IsIndex, IsPlaceOf, NumbersRise, at, listed, number_in}
 
 -- ---- a search
 
@@ -106,7 +106,49 @@ left_rise ps place rise within i j lt le =
           ]
     ]
 
+-- the numbers behind the first are above it, and rise
+above_first : (p : ℕ × ℕ) (ps : List (ℕ × ℕ)) → NumbersRise (p ∷ ps) → (i : ℕ) → i < length ps → p.0 < number_in ps i
+above_first p ps rise i lt = rise 0 (suc i) (omega arith) (omega arith)
+
+behind_rise : (p : ℕ × ℕ) (ps : List (ℕ × ℕ)) → NumbersRise (p ∷ ps) → NumbersRise ps
+behind_rise p ps rise i j lt within = rise (suc i) (suc j) (omega arith) (omega arith)
+
+-- what is looked up then
+pub lookup_left : (ps : List (ℕ × ℕ)) (n q : ℕ) → NumbersRise ps → lookup (λ k. q == k) (remove_entry (λ k. n == k) ps) ≡ cond (n == q) None (lookup (λ k. q == k) ps)
+lookup_left [] n q rise = grind (arith, nat_tests)
+lookup_left (p ∷ ps) n q rise =
+    let none : p.0 ≡ q → lookup (λ k. q == k) ps ≡ None = λ same. lookup_none ps q (λ i lt is. let above = above_first p ps rise i lt in omega arith) in
+    grind (arith, nat_tests, none, lookup_left ps n q (behind_rise p ps rise))
+
+pub same_left : (keys left ps : List (ℕ × ℕ)) (n : ℕ) → NumbersRise ps → AreSame keys ps
+    → ((q : ℕ) → lookup (λ k. q == k) left ≡ cond (n == q) None (lookup (λ k. q == k) keys)) → AreSame left (remove_entry (λ k. n == k) ps)
+same_left keys left ps n rise same updates q = updates q ∙ ap (λ o. cond (n == q) None o) (same q) ∙ sym (lookup_left ps n q rise)
+
 -- ---- one more
+
+first_below : (p : ℕ × ℕ) (ps : List (ℕ × ℕ)) (n key : ℕ) → p.0 < n → ((i : ℕ) → i < length ps → p.0 < number_in ps i) → (q : ℕ) → q < length (ps ++ (n, key) ∷ []) → p.0 < number_in (ps ++ (n, key) ∷ []) q
+first_below p [] n key less above zero within = less
+first_below p [] n key less above (suc q) within = absurd (omega arith)
+first_below p (x ∷ xs) n key less above zero within = above 0 (omega arith)
+first_below p (x ∷ xs) n key less above (suc q) within = first_below p xs n key less (λ i lt. above (suc i) (omega arith)) q (omega arith)
+
+-- the number behind all others is above them
+pub more_rise : (ps : List (ℕ × ℕ)) (n key : ℕ) → NumbersRise ps → AreNumbersBelow n ps → NumbersRise (ps ++ (n, key) ∷ [])
+more_rise [] n key rise below i j lt within = absurd (omega arith)
+more_rise (p ∷ ps) n key rise below zero (suc j) lt within =
+    let first : (q : ℕ) → q < length (ps ++ (n, key) ∷ []) → p.0 < number_in (ps ++ (n, key) ∷ []) q = first_below p ps n key (below 0 (omega arith)) (above_first p ps rise) in
+    first j (omega arith)
+more_rise (p ∷ ps) n key rise below (suc i) (suc j) lt within =
+    more_rise ps n key (behind_rise p ps rise) (λ k less. below (suc k) (omega arith)) i j (omega arith) (omega arith)
+more_rise (p ∷ ps) n key rise below i zero lt within = absurd (omega arith)
+
+lookup_more : (ps : List (ℕ × ℕ)) (n key q : ℕ) → AreNumbersBelow n ps → lookup (λ k. q == k) (ps ++ (n, key) ∷ []) ≡ cond (n == q) (Some key) (lookup (λ k. q == k) ps)
+lookup_more [] n key q below = grind (arith, nat_tests)
+lookup_more (p ∷ ps) n key q below = grind (arith, nat_tests, below 0 (omega arith), lookup_more ps n key q (λ i lt. below (suc i) (omega arith)))
+
+pub same_more : (keys more ps : List (ℕ × ℕ)) (n key : ℕ) → AreNumbersBelow n ps → AreSame keys ps
+    → ((q : ℕ) → lookup (λ k. q == k) more ≡ cond (n == q) (Some key) (lookup (λ k. q == k) keys)) → AreSame more (ps ++ (n, key) ∷ [])
+same_more keys more ps n key below same updates q = updates q ∙ ap (λ o. cond (n == q) (Some key) o) (same q) ∙ sym (lookup_more ps n key q below)
 
 below_first : (n number : ℕ) (o : Option Entry) (rest : List Entry) → HasNumber number o → AllByRecursion (IsBelow n) (option_to_list o ++ rest) → (number < n) × AllByRecursion (IsBelow n) rest
 below_first n number (Some e) rest has all = (omega (arith, has.0, all.0), all.1)

@@ -4,14 +4,15 @@
 use Rattle.std.specs.Prelude.{◌≡◌, ◌≢◌, ℕ, ◌==◌, ◌<◌, ◌||◌, Bool, true, false}
 use Rattle.std.specs.Prelude.{List, [], ◌∷◌, ◌++◌, length, slice_index_or, Option, Some, None}
 use Rattle.std.specs.Option.{option_to_list}
-use Rattle.std.specs.Map.{remove_entry}
+use Rattle.std.specs.Map.{lookup, remove_entry}
 use Rattle.controller_model.specs.Controller.{Entry}
 use Rattle.connections.specs.Entries.{is_removed}
 
--- the numbers with their keys, and how many there is room for
+-- the numbers with their keys, how many there is room for, and for how many more to look up
 pub record IndexState : Type 0 where
   pub entries : List (ℕ × ℕ)
   pub room : ℕ
+  pub spare : ℕ
 
 -- the number at a place
 abbrev pub number_in : List (ℕ × ℕ) → ℕ → ℕ
@@ -20,6 +21,10 @@ number_in ps place = (slice_index_or ps place (0, 0)).0
 -- the numbers rise
 abbrev pub NumbersRise : List (ℕ × ℕ) → Type 0
 NumbersRise ps = (i j : ℕ) → i < j → j < length ps → number_in ps i < number_in ps j
+
+-- a number has the same key in both
+abbrev pub AreSame : List (ℕ × ℕ) → List (ℕ × ℕ) → Type 0
+AreSame keys ps = (n : ℕ) → lookup (λ k. n == k) keys ≡ lookup (λ k. n == k) ps
 
 -- each number is below this one
 abbrev pub AreNumbersBelow : ℕ → List (ℕ × ℕ) → Type 0

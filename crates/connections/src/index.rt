@@ -4,26 +4,33 @@ ghost use Rattle.std.specs.Prelude.{IfErr, IfOk, OnOk};
 ghost use Rattle.std.specs.Map.{lookup, remove_entry};
 ghost use Rattle.connections.specs.Index.{AreNumbersBelow, HasNoPlace, IsPlaceOf};
 
+use indexmap::IndexMap;
 use octets::Memory;
 use std::alloc::Global;
 use std::marker::Model;
 
-/// The numbers of connections, each with the key of its slot. They rise: so a number is looked up by
-/// halving, and one that leaves lets those behind it move up by a place.
+/// The numbers of connections, each with the key of its slot, by rising number; and the same in no
+/// order, in which a key is looked up. The place of a number that leaves is found by halving.
 #[derive(Drop)]
 pub(crate) struct Index {
     pairs: Vec<(u32, usize)>,
+    keys: IndexMap<u32, usize>,
 }
 
 impl Model for Index {
     ghost use Rattle.std.specs.Prelude.{vec_capacity};
-    ghost use Rattle.connections.specs.Index.{IndexState, NumbersRise};
+    ghost use Rattle.std.specs.HashMap.{spare};
+    ghost use Rattle.connections.specs.Index.{AreSame, IndexState, NumbersRise};
 
     ghost Value = { IndexState };
 
-    ghost view = { λ i. record { entries = i.pairs.items; room = vec_capacity i.pairs } };
+    ghost view = { λ i. record {
+      entries = i.pairs.items;
+      room = vec_capacity i.pairs;
+      spare = spare i.keys;
+    } };
 
-    ghost invariant = { λ i. NumbersRise i.pairs.items };
+    ghost invariant = { λ i. NumbersRise i.pairs.items × AreSame i.keys.entries i.pairs.items };
 }
 
 impl Index {
@@ -32,6 +39,7 @@ impl Index {
     {
         Index {
             pairs: Vec::new(alloc),
+            keys: IndexMap::new(alloc),
         }
     }
 
@@ -45,10 +53,7 @@ impl Index {
     pub(crate) fn key_of(&self, number: u32) -> Option<usize>
         ensures { result ≡ lookup (λ k. number == k) self.now.entries }
     {
-        match self.place_of(number) {
-            Ok(place) => Some(self.pairs[place].1),
-            Err(_) => None,
-        }
+        self.keys.get(&number).copied()
     }
 
     /// The key at a place, from 0.
@@ -61,19 +66,26 @@ impl Index {
     /// Makes room for one more.
     pub(crate) fn reserve(&mut self) -> Result<(), Memory>
         ensures room { OnOk result (length self.new.entries < self.new.room) }
+        ensures spare { OnOk result (0 < self.new.spare) }
         ensures same { self.new.entries ≡ self.old.entries }
     {
         self.pairs.reserve(1)?;
+        self.keys.reserve(1)?;
         Ok(())
     }
 
     /// One more, whose number is above all others.
     pub(crate) fn push_reserved(&mut self, number: u32, key: usize)
         requires room { length self.old.entries < self.old.room }
+        requires spare { 0 < self.old.spare }
         requires last { AreNumbersBelow number self.old.entries }
         ensures { self.new.entries ≡ self.old.entries ++ (number, key) ∷ [] }
     {
         self.pairs.push_reserved((number, key));
+        match self.keys.insert(number, key) {
+            Ok(_) => {}
+            Err(_) => unreachable!(),
+        }
     }
 
     /// Without this number.
@@ -82,6 +94,7 @@ impl Index {
     {
         if let Ok(place) = self.place_of(number) {
             self.pairs.remove(place);
+            self.keys.swap_remove(&number);
         }
     }
 

@@ -10,10 +10,10 @@ pub returns-clause-found : goal.returns-clause-found
 returns-clause-found c =
     let facts = c.binary_search_by_key.ensures in
     let by_key = facts.position (λ pair. pair.0) (answers_always _ _ _ (λ f a r g called. search rules)) in
-    rw (← ap (λ (i : IndexState). i.entries) c.self.view_is, ← c.deref.ensures.value) (searched_found _ (rw c.deref.ensures.value c.self.invariant) c.args.number _ facts.bound by_key)
+    rw (← ap (λ (i : IndexState). i.entries) c.self.view_is, ← c.deref.ensures.value) (searched_found _ (rw c.deref.ensures.value c.self.invariant.0) c.args.number _ facts.bound by_key)
 
 pub returns-clause-absent : goal.returns-clause-absent
 returns-clause-absent c =
     let facts = c.binary_search_by_key.ensures in
     let by_key = facts.position (λ pair. pair.0) (answers_always _ _ _ (λ f a r g called. search rules)) in
-    rw (← ap (λ (i : IndexState). i.entries) c.self.view_is, ← c.deref.ensures.value) (searched_none _ (rw c.deref.ensures.value c.self.invariant) c.args.number _ facts.bound by_key)
+    rw (← ap (λ (i : IndexState). i.entries) c.self.view_is, ← c.deref.ensures.value) (searched_none _ (rw c.deref.ensures.value c.self.invariant.0) c.args.number _ facts.bound by_key)
