@@ -18,7 +18,7 @@ use program_base::{frame_name, rsl_fault_name, rsl_message_name, sccp_message_na
 use rsl_codec::{Rsl, RslFault};
 use std::alloc::Global;
 
-/// What the line of a frame says, beside the octets of its body. The number N(SD) is that of four.
+/// What the line of a frame says, beside the octets of its body. The number N(SD) is read as one of four.
 #[derive(Clone, Copy)]
 pub(crate) struct Said {
     pub(crate) name: &'static str,

@@ -67,7 +67,11 @@ pub(crate) fn put_event<W: Write>(
             put(output, text.as_slice())?;
             Ok(())
         }
-        Err(_) => write_event(alloc, modulus, number, line, trace, output),
+        Err(_) => {
+            // what was gathered is given back first
+            *text = Vec::new(alloc);
+            write_event(alloc, modulus, number, line, trace, output)
+        }
     }
 }
 

@@ -27,8 +27,8 @@ is_off source _ = true
 abbrev pub sits_off : ℕ → Actors → ℕ → Bool
 sits_off source w mobile = is_off source (option_map (λ p. p.seat) (mobile_of w mobile))
 
--- It is neither of the source nor puts an item behind all others. The first item of the inbox is
--- handled, and it isn't the one that a break puts there.
+-- It is neither of the source nor puts an item behind all others. A `handle` finds an item that
+-- waits already: so it isn't the one that a break puts there.
 abbrev pub is_beside : Actors → Event → ℕ → Bool
 is_beside w (Upper mobile sapi message) source = true
 is_beside w (Connect mobile station initial accepts) source = not (station == source)
