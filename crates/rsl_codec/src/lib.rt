@@ -27,6 +27,7 @@ mod identifiers;
 mod link_identifier;
 mod measured;
 mod radio_link;
+mod reading_type;
 mod rsl;
 mod rsl_type;
 mod values;

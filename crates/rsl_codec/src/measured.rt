@@ -178,7 +178,7 @@ fn is_result(discriminator: u8, octet: u8) -> bool
 }
 
 // The same of the octets behind the type.
-fn measurement_in(body: &[u8]) -> Option<(ChanNo, MeasurementNumber, Option<&[u8]>)>
+pub(crate) fn measurement_in(body: &[u8]) -> Option<(ChanNo, MeasurementNumber, Option<&[u8]>)>
     ensures { IfSome result (λ m. IsMeasurement
         (rsl_reading_by (Some types.MeasurementResult) body.now) m.0 m.1.0
         (option_map (λ v. v.now) m.2)) }

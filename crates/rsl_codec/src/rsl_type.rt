@@ -1,6 +1,8 @@
 // SPDX-License-Identifier: MIT OR Apache-2.0
-ghost use Rattle.std.specs.Prelude.{◌≡◌};
+ghost use Rattle.std.specs.Prelude.{◌≡◌, ◌==◌};
+ghost use Rattle.std.specs.List.{find};
 ghost use Rattle.rsl_codec.specs.RslType.{is_transparent, rsl_discriminator, rsl_octet, rsl_type};
+ghost use Rattle.rsl_codec.specs.declared.rsl_type.TheConstants.{RSL_TYPES};
 
 /// The message discriminator of radio link layer management (TS 48.058 clause 9.1).
 pub const RADIO_LINK: u8 = 0x02;
@@ -111,8 +113,39 @@ impl RslType {
     pub fn of_octets(discriminator: u8, octet: u8) -> Option<RslType>
         ensures { result ≡ rsl_type discriminator octet }
     {
-        RSL_TYPES.iter().copied().find(|kind| {
-            kind.discriminator() >> 1 == discriminator >> 1 && kind.octet() == octet
+        let kind = RslType::of_octet(octet)?;
+        if kind.discriminator() >> 1 == discriminator >> 1 {
+            Some(kind)
+        } else {
+            None
+        }
+    }
+
+    // The type with this message type; no two have the same.
+    fn of_octet(octet: u8) -> Option<RslType>
+        ensures { result ≡ find (λ kind. rsl_octet kind == octet) RSL_TYPES }
+    {
+        Some(match octet {
+            0x01 => RslType::DataRequest,
+            0x02 => RslType::DataIndication,
+            0x03 => RslType::ErrorIndication,
+            0x04 => RslType::EstablishRequest,
+            0x05 => RslType::EstablishConfirm,
+            0x06 => RslType::EstablishIndication,
+            0x07 => RslType::ReleaseRequest,
+            0x08 => RslType::ReleaseConfirm,
+            0x09 => RslType::ReleaseIndication,
+            0x13 => RslType::ChannelRequired,
+            0x16 => RslType::ImmediateAssignCommand,
+            0x21 => RslType::ChannelActivation,
+            0x22 => RslType::ChannelActivationAck,
+            0x23 => RslType::ChannelActivationNack,
+            0x24 => RslType::ConnectionFailure,
+            0x27 => RslType::HandoverDetection,
+            0x28 => RslType::MeasurementResult,
+            0x2e => RslType::RfChannelRelease,
+            0x33 => RslType::RfChannelReleaseAck,
+            _ => return None,
         })
     }
 }
