@@ -5,5 +5,6 @@ pub mod InOrder
 pub mod Lines
 pub mod WrittenOrder
 pub mod Messages
+pub mod AnswersInOrder
 mod Rows
 mod FalseOctetRows

@@ -84,7 +84,7 @@ sized_all : (body : List ℕ) → AreOctets body → AreSized (elements_of body)
 unfolding elements_of
 sized_all body fits id v found = found_sized ELEMENTS body (walk ELEMENTS body).elements (walk ELEMENTS body).is_cut id v fits (walk_found ELEMENTS body fits) found
 
-whole_elements : (body : List ℕ) → AreOctets body → breaks_off body ≡ false → AreElements ELEMENTS body (elements_of body) false
+pub whole_elements : (body : List ℕ) → AreOctets body → breaks_off body ≡ false → AreElements ELEMENTS body (elements_of body) false
 unfolding breaks_off elements_of
 whole_elements body fits whole = subst (AreElements ELEMENTS body (walk ELEMENTS body).elements) whole (walk_found ELEMENTS body fits)
 

@@ -1,6 +1,6 @@
 -- SPDX-License-Identifier: MIT OR Apache-2.0
 -- Definitions against literal octets (TS 48.058 clauses 8 and 9).
-use Rattle.std.proofs.Common.{◌≡◌, ℕ, Bool, List, [], ◌∷◌, ◌++◌, filter, length, map, replicate, true, false, Some, None, Ok, Err, refl}
+use Rattle.std.proofs.Common.{◌≡◌, ℕ, Bool, List, [], ◌∷◌, ◌++◌, drop, filter, get_or, length, map, replicate, true, false, Some, None, Ok, Err, refl, ap, inl, inr, arith}
 use Rattle.std.specs.List.{range_with_len}
 use Rattle.octets.proofs.Hex.{hex}
 use Rattle.octets.specs.declared.element.Format.TheVariants.{Tv, Tlv, TlvE}
@@ -20,6 +20,7 @@ use Rattle.rsl_codec.specs.RslFaults.{element_causes, has_l3, needed}
 use Rattle.rsl_codec.specs.RslReading.{rsl_reading, message_at, elements_of, breaks_off, channel_only_at, link_at, data_at, error_at, establishment_at, release_at, channel_required_at, assignment_at, activation_at, activation_ack_at, failure_at, detection_at, measurement_result_at}
 use Rattle.rsl_codec.specs.RslText.{rsl_text, rsl_element_text, rsl_write_fault}
 use Rattle.rsl_codec.specs.RslType.{rsl_discriminator, rsl_octet, rsl_type}
+use Rattle.rsl_codec.specs.WrittenOrder.{AreInOrder, IsInOrder}
 
 -- ---- the types: discriminator and octet of each
 
@@ -530,3 +531,103 @@ write_faults_of_both : map (λ (sizes : ℕ × ℕ). rsl_write_fault (measuremen
     Some faults.Short ∷ Some faults.TooLong ∷ Some faults.TooLong ∷ Some faults.TooLong ∷ None ∷ []
 unfolding rsl_write_fault
 write_faults_of_both = refl
+
+-- ---- elements of a MEASUREMENT RESULT in written order
+
+abbrev StandsInOrder : List ℕ → Type 0
+StandsInOrder octets = IsInOrder (rsl_reading octets) (drop 2 octets)
+
+-- with L3 information
+order_with_l3 : StandsInOrder (hex "08 28 01 41 1b 05 19 03 14 15 16 04 02 0a 01 03 0b 00 02 06 15")
+unfolding rsl_reading message_at elements_of breaks_off rsl_type walk measurement_result_at
+order_with_l3 = record {
+  message = record {
+    channel = 0x41;
+    number = record { 0 = 5 };
+    uplink = Some (record { 0 = hex "14 15 16" });
+    bs_power = Some (record { 0 = 2 });
+    l1 = Some (record { 0 = 0x0103 });
+    l3 = Some (hex "06 15");
+  };
+  reads = refl;
+  order = inr refl;
+}
+
+-- without it, and with what begins with no identifier of the table behind them
+order_without_l3 : StandsInOrder (hex "09 28 01 41 1b 05 19 00 04 02 0a 01 03 0c 01")
+unfolding rsl_reading message_at elements_of breaks_off rsl_type walk measurement_result_at
+order_without_l3 = record {
+  message = record {
+    channel = 0x41;
+    number = record { 0 = 5 };
+    uplink = Some (record { 0 = [] });
+    bs_power = Some (record { 0 = 2 });
+    l1 = Some (record { 0 = 0x0103 });
+    l3 = None;
+  };
+  reads = refl;
+  order = inl refl;
+}
+
+-- with the longest L3 information, and with one that is longer
+order_with_251 : StandsInOrder (hex "08 28 01 41 1b 05 19 00 04 02 0a 01 03 0b 00 fb" ++ replicate 251 0x33)
+unfolding rsl_reading message_at elements_of breaks_off rsl_type walk measurement_result_at
+order_with_251 = record {
+  message = record {
+    channel = 0x41;
+    number = record { 0 = 5 };
+    uplink = Some (record { 0 = [] });
+    bs_power = Some (record { 0 = 2 });
+    l1 = Some (record { 0 = 0x0103 });
+    l3 = Some (replicate 251 0x33);
+  };
+  reads = refl;
+  order = inr refl;
+}
+
+no_order_with_252 : StandsInOrder (hex "08 28 01 41 1b 05 19 00 04 02 0a 01 03 0b 00 fc" ++ replicate 252 0x33) → ⊥
+unfolding rsl_reading message_at elements_of breaks_off rsl_type walk measurement_result_at
+no_order_with_252 is = let no = is.reads in absurd cc
+
+abbrev third_of : List ℕ → ℕ
+third_of ids = get_or ids 2 0
+
+abbrev fifth_of : List ℕ → ℕ
+fifth_of ids = get_or ids 4 0
+
+-- the power before the uplink
+not_ids_of_another : AreInOrder (0x01 ∷ 0x1b ∷ 0x04 ∷ 0x19 ∷ 0x0a ∷ 0x0b ∷ []) → ⊥
+not_ids_of_another (inl same) = omega (arith, ap third_of same)
+not_ids_of_another (inr same) = omega (arith, ap third_of same)
+
+another_order : StandsInOrder (hex "08 28 01 41 1b 05 04 02 19 03 14 15 16 0a 01 03 0b 00 02 06 15") → ⊥
+unfolding elements_of walk
+another_order is = not_ids_of_another is.order
+
+-- no L1 information, as in report_measured, which is read
+not_ids_of_missing : AreInOrder (0x01 ∷ 0x1b ∷ 0x19 ∷ 0x04 ∷ 0x0b ∷ []) → ⊥
+not_ids_of_missing (inl same) = omega (arith, ap fifth_of same)
+not_ids_of_missing (inr same) = omega (arith, ap fifth_of same)
+
+one_is_missing : StandsInOrder
+    (hex "08 28 01 41 1b 05 19 03 14 14 00 04 00 0b 00 12 06 15 14 14 00 57 02 40 00 00 00 00 00 00 00 00 00 00") → ⊥
+unfolding elements_of walk
+one_is_missing is = not_ids_of_missing is.order
+
+-- the number again behind the L3 information
+not_ids_of_repeated : AreInOrder (0x01 ∷ 0x1b ∷ 0x19 ∷ 0x04 ∷ 0x0a ∷ 0x0b ∷ 0x1b ∷ []) → ⊥
+not_ids_of_repeated (inl same) = omega (arith, ap length same)
+not_ids_of_repeated (inr same) = omega (arith, ap length same)
+
+one_is_repeated : StandsInOrder (hex "08 28 01 41 1b 05 19 03 14 15 16 04 02 0a 01 03 0b 00 02 06 15 1b 05") → ⊥
+unfolding elements_of walk
+one_is_repeated is = not_ids_of_repeated is.order
+
+-- an element that is cut, and another message of the same elements
+one_is_cut : StandsInOrder (hex "08 28 01 41 1b 05 19 03 14 15 16 04 02 0a 01 03 0b 00 02 06") → ⊥
+unfolding rsl_reading message_at elements_of breaks_off rsl_type walk measurement_result_at
+one_is_cut is = let no = is.reads in absurd cc
+
+another_message : StandsInOrder (hex "08 22 01 41 1b 05 19 03 14 15 16 04 02 0a 01 03") → ⊥
+unfolding rsl_reading message_at elements_of breaks_off rsl_type walk activation_ack_at
+another_message is = let no = is.reads in absurd cc

@@ -95,7 +95,7 @@ is_whole : (body : List ℕ) (es : List Element) → walk ELEMENTS body ≡ find
 unfolding breaks_off
 is_whole body es walked = ap (λ (f : Finding). f.is_cut) walked
 
-are_these : (body : List ℕ) (es : List Element) → walk ELEMENTS body ≡ finding es false → elements_of body ≡ es
+pub are_these : (body : List ℕ) (es : List Element) → walk ELEMENTS body ≡ finding es false → elements_of body ≡ es
 unfolding elements_of
 are_these body es walked = ap (λ (f : Finding). f.elements) walked
 

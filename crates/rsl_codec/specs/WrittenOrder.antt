@@ -1,6 +1,6 @@
 -- SPDX-License-Identifier: MIT OR Apache-2.0
 -- A MEASUREMENT RESULT whose elements stand in written order.
-use Rattle.std.specs.Prelude.{◌≡◌, ℕ, List, [], ◌∷◌, Option, Some, None}
+use Rattle.std.specs.Prelude.{◌≡◌, ◌⊎◌, ℕ, List, [], ◌∷◌, ◌++◌, map, Option, Some, None}
 use Rattle.std.specs.Prelude.{Result, Ok}
 use Rattle.octets.specs.Element.{Element, element}
 use Rattle.rsl_codec.specs.declared.dedicated_channel.MeasurementResult.{MeasurementResult}
@@ -12,6 +12,7 @@ use Rattle.rsl_codec.specs.declared.fault.RslFault.{RslFault}
 use Rattle.rsl_codec.specs.declared.rsl.Rsl.{Rsl}
 use Rattle.rsl_codec.specs.declared.rsl.Rsl.TheVariants as messages
 use Rattle.rsl_codec.specs.Fields.{number_value}
+use Rattle.rsl_codec.specs.RslReading.{elements_of}
 
 -- the L3 information, where it is there
 abbrev pub l3_elements : Option (List ℕ) → List Element
@@ -34,3 +35,18 @@ pub record IsMeasurement
   pub channel_is : message.channel ≡ channel
   pub number_is : message.number.0 ≡ number
   pub l3_is : message.l3 ≡ l3
+
+-- the identifiers of its elements in written order, but for the L3 information
+abbrev pub measured_order : List ℕ
+measured_order =
+    CHANNEL_NUMBER ∷ MEASUREMENT_NUMBER ∷ UPLINK_MEASUREMENTS ∷ BS_POWER ∷ L1_INFORMATION ∷ []
+
+-- These identifiers are in written order: all of them, but perhaps no L3 information.
+abbrev pub AreInOrder : List ℕ → Type 0
+AreInOrder ids = (ids ≡ measured_order) ⊎ (ids ≡ measured_order ++ (L3_INFORMATION ∷ []))
+
+-- What is read is a MEASUREMENT RESULT, and the elements of its body stand in written order.
+pub record IsInOrder (reading : Result Rsl RslFault) (body : List ℕ) : Type 0 where
+  pub message : MeasurementResult
+  pub reads : reading ≡ Ok (messages.MeasurementResult message)
+  pub order : AreInOrder (map (λ e. e.id) (elements_of body))

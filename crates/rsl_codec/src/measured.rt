@@ -1,14 +1,16 @@
 // SPDX-License-Identifier: MIT OR Apache-2.0
-ghost use Rattle.std.specs.Prelude.{◌≡◌, ◌/◌, ◌≤◌, ◌∷◌, ◌++◌, false, length, option_map};
-ghost use Rattle.std.specs.Prelude.{Some, IfSome, IsTrue};
+ghost use Rattle.std.specs.Prelude.{◌≡◌, ◌↔◌, ℕ, ◌/◌, ◌≤◌, List, ◌∷◌, ◌++◌, drop, false};
+ghost use Rattle.std.specs.Prelude.{length, map, option_map, Option, Some, IfSome, IsSome, IsTrue};
 ghost use Rattle.octets.specs.Answer.{Gives};
 ghost use Rattle.octets.specs.Element.{AreElements, Stops};
 ghost use Rattle.octets.specs.Walk.{finding, walk};
 ghost use Rattle.octets.specs.declared.limits.TheConstants.{LENGTH_LIMIT};
 ghost use Rattle.rsl_codec.specs.declared.identifiers.TheConstants.{ELEMENTS};
 ghost use Rattle.rsl_codec.specs.Fields.{number_value};
-ghost use Rattle.rsl_codec.specs.WrittenOrder.{IsMeasurement, l3_elements, measured_elements};
+ghost use Rattle.rsl_codec.specs.WrittenOrder.{AreInOrder, IsInOrder, IsMeasurement};
+ghost use Rattle.rsl_codec.specs.WrittenOrder.{l3_elements, measured_elements};
 ghost use Rattle.rsl_codec.specs.RslReading.{measurement_result_at, optional_l3_at};
+ghost use Rattle.rsl_codec.specs.RslReading.{breaks_off, elements_of};
 ghost use Rattle.rsl_codec.specs.RslReading.{rsl_reading, rsl_reading_by};
 ghost use Rattle.rsl_codec.specs.RslType.{rsl_type};
 ghost use Rattle.rsl_codec.specs.declared.rsl_type.RslType.TheVariants as types;
@@ -40,9 +42,11 @@ pub(crate) struct Measured<'a> {
 /// The values of a body of these elements in written order, behind which nothing is looked at. This
 /// is how stations write it, and it needs no walk.
 pub(crate) fn measured_values(body: &[u8]) -> Option<Measured<'_>>
-    ensures { IfSome result (λ m. walk ELEMENTS body.now ≡ finding
+    ensures walked { IfSome result (λ m. walk ELEMENTS body.now ≡ finding
         (measured_elements m.channel m.number m.uplink.now m.bs_power m.l1
         (option_map (λ v. v.now) m.l3)) false) }
+    ensures answers { AreInOrder (map (λ e. e.id) (elements_of body.now)) →
+        breaks_off body.now ≡ false → IsSome result }
 {
     let (channel, rest) = one_octet(body, CHANNEL_NUMBER)?;
     let (number, rest) = one_octet(rest, MEASUREMENT_NUMBER)?;
@@ -63,7 +67,9 @@ pub(crate) fn measured_values(body: &[u8]) -> Option<Measured<'_>>
 // The value of the element at the front, which has this identifier and one octet, and the octets
 // behind it.
 fn one_octet(octets: &[u8], id: u8) -> Option<(u8, &[u8])>
-    ensures { IfSome result (λ p. octets.now ≡ id ∷ (p.0 ∷ p.1.now)) }
+    ensures is { IfSome result (λ p. octets.now ≡ id ∷ (p.0 ∷ p.1.now)) }
+    ensures answers { (value : ℕ) (rest : List ℕ) →
+        octets.now ≡ id ∷ (value ∷ rest) → IsSome result }
 {
     match octets {
         [first, value, rest @ ..] if *first == id => Some((*value, rest)),
@@ -73,7 +79,9 @@ fn one_octet(octets: &[u8], id: u8) -> Option<(u8, &[u8])>
 
 // The same of two octets, the high one first.
 fn two_octets(octets: &[u8], id: u8) -> Option<(u16, &[u8])>
-    ensures { IfSome result (λ p. octets.now ≡ id ∷ (number_value p.0 ++ p.1.now)) }
+    ensures is { IfSome result (λ p. octets.now ≡ id ∷ (number_value p.0 ++ p.1.now)) }
+    ensures answers { (high low : ℕ) (rest : List ℕ) →
+        octets.now ≡ id ∷ (high ∷ (low ∷ rest)) → IsSome result }
 {
     match octets {
         [first, high, low, rest @ ..] if *first == id => {
@@ -88,6 +96,8 @@ fn counted(octets: &[u8], id: u8) -> Option<(&[u8], &[u8])>
     ensures is { IfSome result (λ p.
         octets.now ≡ id ∷ (length p.0.now ∷ (p.0.now ++ p.1.now))) }
     ensures size { IfSome result (λ p. length p.0.now ≤ LENGTH_LIMIT) }
+    ensures answers { (value rest : List ℕ) →
+        octets.now ≡ id ∷ (length value ∷ (value ++ rest)) → IsSome result }
 {
     match octets {
         [first, size, rest @ ..] if *first == id => rest.split_at_checked(usize::from(*size)),
@@ -100,6 +110,8 @@ fn long_counted(octets: &[u8], id: u8) -> Option<(&[u8], &[u8])>
     ensures is { IfSome result (λ p.
         octets.now ≡ id ∷ (number_value (length p.0.now) ++ (p.0.now ++ p.1.now))) }
     ensures size { IfSome result (λ p. length p.0.now ≤ 65535) }
+    ensures answers { (value rest : List ℕ) →
+        octets.now ≡ id ∷ (number_value (length value) ++ (value ++ rest)) → IsSome result }
 {
     match octets {
         [first, high, low, rest @ ..] if *first == id => {
@@ -111,8 +123,10 @@ fn long_counted(octets: &[u8], id: u8) -> Option<(&[u8], &[u8])>
 
 // The L3 information, where octets are it alone, or nothing, but for what isn't looked at.
 fn last_l3(octets: &[u8]) -> Option<Option<&[u8]>>
-    ensures { IfSome result (λ l3. AreElements ELEMENTS octets.now
+    ensures are { IfSome result (λ l3. AreElements ELEMENTS octets.now
         (l3_elements (option_map (λ v. v.now) l3)) false) }
+    ensures answers { (l3 : Option (List ℕ)) →
+        AreElements ELEMENTS octets.now (l3_elements l3) false → IsSome result }
 {
     match long_counted(octets, L3_INFORMATION) {
         Some((l3, rest)) if stops(rest) => Some(Some(l3)),
@@ -123,7 +137,7 @@ fn last_l3(octets: &[u8]) -> Option<Option<&[u8]>>
 
 // Whether no element begins here.
 fn stops(octets: &[u8]) -> bool
-    ensures { IsTrue result → Stops ELEMENTS octets.now }
+    ensures { IsTrue result ↔ Stops ELEMENTS octets.now }
 {
     match octets {
         [id, ..] => element::format_of(&ELEMENTS, *id).is_none(),
@@ -155,12 +169,15 @@ impl MeasurementResult {
 }
 
 /// The channel, the number and the L3 information of octets that `Rsl::read` reads as a MEASUREMENT
-/// RESULT; it copies nothing. There is none where `Rsl::read` refuses them or reads another message,
-/// nor where their elements stand in another order than they are written.
+/// RESULT; it copies nothing. It answers exactly where their elements are all those of the message,
+/// but perhaps no L3 information, in the order in which they are written. So there is none where
+/// `Rsl::read` refuses them or reads another message, nor where an element stands elsewhere, is
+/// missing or is repeated.
 #[tactic(auto, unfolding(crate::specs::RslReading::rsl_reading))]
 pub fn read_measurement(octets: &[u8]) -> Option<(ChanNo, MeasurementNumber, Option<&[u8]>)>
-    ensures { IfSome result (λ m. IsMeasurement (rsl_reading octets.now) m.0 m.1.0
+    ensures reads { IfSome result (λ m. IsMeasurement (rsl_reading octets.now) m.0 m.1.0
         (option_map (λ v. v.now) m.2)) }
+    ensures answers { IsSome result ↔ IsInOrder (rsl_reading octets.now) (drop 2 octets.now) }
 {
     match octets {
         [discriminator, octet, body @ ..] if is_result(*discriminator, *octet) => {
@@ -172,16 +189,18 @@ pub fn read_measurement(octets: &[u8]) -> Option<(ChanNo, MeasurementNumber, Opt
 
 // Whether it is the type of a MEASUREMENT RESULT.
 fn is_result(discriminator: u8, octet: u8) -> bool
-    ensures { IsTrue result → rsl_type discriminator octet ≡ Some types.MeasurementResult }
+    ensures { IsTrue result ↔ (rsl_type discriminator octet ≡ Some types.MeasurementResult) }
 {
     discriminator / 2 == DEDICATED_CHANNEL / 2 && octet == RslType::MeasurementResult.octet()
 }
 
 // The same of the octets behind the type.
 pub(crate) fn measurement_in(body: &[u8]) -> Option<(ChanNo, MeasurementNumber, Option<&[u8]>)>
-    ensures { IfSome result (λ m. IsMeasurement
+    ensures reads { IfSome result (λ m. IsMeasurement
         (rsl_reading_by (Some types.MeasurementResult) body.now) m.0 m.1.0
         (option_map (λ v. v.now) m.2)) }
+    ensures answers { IsSome result ↔
+        IsInOrder (rsl_reading_by (Some types.MeasurementResult) body.now) body.now }
 {
     let values = measured_values(body)?;
     match ChanNo::read(values.channel) {
@@ -194,8 +213,8 @@ pub(crate) fn measurement_in(body: &[u8]) -> Option<(ChanNo, MeasurementNumber, 
 
 // Whether an L3 information, where it is there, has 1 to 251 octets.
 fn has_room(l3: Option<&[u8]>) -> bool
-    ensures { IsTrue result → optional_l3_at (option_map (λ v. v.now) l3.entry)
-        ≡ Ok (option_map (λ v. v.now) l3.entry) }
+    ensures { IsTrue result ↔ (optional_l3_at (option_map (λ v. v.now) l3.entry)
+        ≡ Ok (option_map (λ v. v.now) l3.entry)) }
 {
     match l3 {
         Some(l3) => !l3.is_empty() && l3.len() <= MESSAGE_LIMIT,
