@@ -5,4 +5,5 @@ mod Numbering
 pub mod Written
 mod Fit
 mod Places
+mod Index
 pub mod SwitchWritten

@@ -1,6 +1,6 @@
 -- SPDX-License-Identifier: MIT OR Apache-2.0
 -- The mobile of a number stands in one place.
-use Rattle.std.proofs.Common.{◌≡◌, ℕ, zero, suc, ◌≤◌, ◌<◌, nat_lt, Bool, true, false, cond, List, [], ◌∷◌, length, get_or, set, slice_get, unwrap_or, Option, Some, None, Result, Ok, Err, IsSome, IfOk, OnOk, OnErr, refl, sym, ap, ◌∙◌, subst, arith}
+use Rattle.std.proofs.Common.{◌≡◌, ℕ, zero, suc, ◌<◌, Bool, false, List, [], ◌∷◌, length, get_or, set, slice_get, unwrap_or, Option, Some, None, Result, Ok, Err, IsSome, IfOk, OnOk, OnErr, refl, sym, ap, ◌∙◌, subst}
 use Rattle.std.specs.Option.{option_and_then, option_map}
 use Rattle.std.proofs.lemmas.Option.{slice_get-get_or}
 use Rattle.octets.specs.declared.memory.Memory.{Memory}
@@ -8,21 +8,6 @@ use Rattle.world_model.specs.Takes.{Takes}
 use Rattle.world_model.specs.World.{Mobile}
 use Rattle.world_ends.specs.Mobiles.{by_mobile, mobile_in, place_in, with_mobile_in}
 use Rattle.world_ends.specs.MobilesState.{MobilesState}
-
-pub some_place : (n length place : ℕ) → cond (nat_lt n length) (Some n) None ≡ Some place → place ≡ n
-some_place n length place is = by_test (nat_lt n length) is where
-  by_test : (b : Bool) → cond b (Some n) None ≡ Some place → place ≡ n
-  by_test true h = cc
-  by_test false h = absurd cc
-
-pub none_place : (n length : ℕ) → n ≤ length → cond (nat_lt n length) (Some n) None ≡ None → length ≡ n
-none_place n length few is = by_test (nat_lt n length) refl is where
-  over : (n length : ℕ) → nat_lt n length ≡ false → n ≤ length → length ≡ n
-  over n length h few = grind arith
-
-  by_test : (b : Bool) → nat_lt n length ≡ b → cond b (Some n) None ≡ None → length ≡ n
-  by_test true test h = absurd cc
-  by_test false test h = over n length test few
 
 -- ---- what happens to one of them, where it can
 

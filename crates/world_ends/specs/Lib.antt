@@ -4,6 +4,7 @@ pub mod Stations
 pub mod Activations
 pub mod Placed
 pub mod MobilesState
+pub mod Index
 pub mod Mobiles
 pub mod SwitchWritten
 pub mod SwitchSideState

@@ -20,7 +20,8 @@ impl MobileStation {
     /// A message comes: DTAP is received; a command of the controller is remembered, and a CHANNEL
     /// RELEASE lets the mobile go.
     pub(crate) fn hear(&mut self, alloc: Global, heard: AirMessage) -> Result<(), Memory>
-        ensures { OnOk result (self.new ≡ hearing self.old heard) }
+        ensures after { OnOk result (self.new ≡ hearing self.old heard) }
+        ensures number { self.new.number ≡ self.old.number }
     {
         if is_dtap(heard.message.as_slice()) {
             self.received.push(heard.message)?;
@@ -37,7 +38,8 @@ impl MobileStation {
     }
 
     fn obey(&mut self, message: &RrMessage, target: Option<Tenure>)
-        ensures { self.new ≡ controlled self.old target (Ok message.now) }
+        ensures after { self.new ≡ controlled self.old target (Ok message.now) }
+        ensures number { self.new.number ≡ self.old.number }
     {
         match (message, target) {
             (RrMessage::ChannelRelease { .. }, _) => self.seat = Seat::Gone,
@@ -52,7 +54,8 @@ impl MobileStation {
     }
 
     fn remember(&mut self, change: Change, target: Tenure)
-        ensures { self.new ≡ remembering self.old change target self.old.seat }
+        ensures after { self.new ≡ remembering self.old change target self.old.seat }
+        ensures number { self.new.number ≡ self.old.number }
     {
         if let Seat::On { tenure, .. } = self.seat {
             self.seat = Seat::On {
@@ -64,7 +67,8 @@ impl MobileStation {
 
     /// It leaves its channel as the command told it.
     pub(crate) fn leave(&mut self, from: Tenure, command: Command)
-        ensures { self.new ≡ leaving from command self.old }
+        ensures after { self.new ≡ leaving from command self.old }
+        ensures number { self.new.number ≡ self.old.number }
     {
         self.end.leave();
         self.seat = Seat::Moving { from, command };
@@ -79,7 +83,8 @@ impl MobileStation {
         change: Change,
     ) -> Result<(), Memory>
         requires { is_moving self.old.seat ≡ true }
-        ensures { OnOk result (self.new ≡ arriving tenure (complete_of change) self.old) }
+        ensures after { OnOk result (self.new ≡ arriving tenure (complete_of change) self.old) }
+        ensures number { self.new.number ≡ self.old.number }
     {
         let complete = complete(alloc, change)?;
         match self.end.arrive(complete.into_vec()) {
@@ -99,7 +104,8 @@ impl MobileStation {
         change: Change,
     ) -> Result<(), Memory>
         requires { is_moving self.old.seat ≡ true }
-        ensures { OnOk result (self.new ≡ arriving tenure (failure_of change) self.old) }
+        ensures after { OnOk result (self.new ≡ arriving tenure (failure_of change) self.old) }
+        ensures number { self.new.number ≡ self.old.number }
     {
         let failure = failure(alloc, change)?;
         match self.end.give_up(failure.into_vec()) {
@@ -113,7 +119,8 @@ impl MobileStation {
 
     /// It is on the channel that it asked for.
     pub(crate) fn assign(&mut self, tenure: Tenure)
-        ensures { self.new ≡ assigned_to tenure self.old }
+        ensures after { self.new ≡ assigned_to tenure self.old }
+        ensures number { self.new.number ≡ self.old.number }
     {
         self.seat = seat_on(tenure);
     }

@@ -132,6 +132,7 @@ impl MobileStation {
         ensures ok { IfOk result (λ taken.
             Takes self.old (sending sapi message.now self.old) taken self.new) }
         ensures memory { OnErr result (IsSome (sending sapi message.now self.old)) }
+        ensures number { self.new.number ≡ self.old.number }
     {
         if !self.may_send() || self.end.refusal(sapi, message).is_some() {
             return Ok(false);
@@ -160,6 +161,7 @@ impl MobileStation {
         ensures l3 { IfOk result IsL3 }
         ensures after { OnOk result (self.new ≡ unwrap_or (taking sapi self.old) self.old) }
         ensures memory { OnErr result (IsSome (frame_of sapi self.old)) }
+        ensures number { self.new.number ≡ self.old.number }
     {
         let frame = match self.end.frame(sapi) {
             Ok(Some(frame)) => Octets::copy(alloc, frame)?,
@@ -181,7 +183,8 @@ impl MobileStation {
 
     /// The station acknowledges the frame that it took.
     pub(crate) fn acknowledge(&mut self, sapi: Sapi) -> bool
-        ensures { Takes self.old (acknowledging sapi self.old) result self.new }
+        ensures takes { Takes self.old (acknowledging sapi self.old) result self.new }
+        ensures number { self.new.number ≡ self.old.number }
     {
         self.end.acked(sapi)
     }

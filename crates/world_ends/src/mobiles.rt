@@ -1,7 +1,7 @@
 // SPDX-License-Identifier: MIT OR Apache-2.0
-ghost use Rattle.std.specs.Prelude.{◌≡◌, ◌∷◌, [], ◌++◌, IsSome, IfSome, IfOk};
-ghost use Rattle.std.specs.Prelude.{OnOk, OnErr, true, unwrap_or, option_map};
-ghost use Rattle.std.specs.List.{find, position};
+ghost use Rattle.std.specs.Prelude.{◌≡◌, ◌∷◌, [], ◌++◌, IsSome, IfSome, IfOk, None};
+ghost use Rattle.std.specs.Prelude.{OnOk, OnErr, replicate, true, unwrap_or, option_map};
+ghost use Rattle.std.specs.List.{find};
 ghost use Rattle.std.specs.Option.{option_and_then};
 ghost use Rattle.dtap_codec.specs.Number.{count_of};
 ghost use Rattle.mobile_end.specs.Lawful.{is_initial};
@@ -9,7 +9,6 @@ ghost use Rattle.rsl_codec.specs.Rsl.{IsL3};
 ghost use Rattle.world_model.specs.Mobiles.{complete, connected, failure, hearing};
 ghost use Rattle.world_model.specs.Stations.{accepts, is_on};
 ghost use Rattle.world_model.specs.Takes.{Takes};
-ghost use Rattle.world_model.specs.World.{has_number};
 ghost use Rattle.world_ends.specs.Mobiles.{acknowledging, arriving, assigned_to};
 ghost use Rattle.world_ends.specs.Mobiles.{at_mobile, by_mobile, frame_of, is_moving};
 ghost use Rattle.world_ends.specs.Mobiles.{leaving, mobile_in, place_in, sending, taking};
@@ -22,22 +21,30 @@ use std::alloc::Global;
 use std::marker::Model;
 use world_model::{AirMessage, Command, Tenure};
 
+/// How many numbers a mobile can have.
+const NUMBERS: usize = 256;
+
 /// The mobiles of a world, in the order in which they connected. What happens to a mobile of
 /// another number changes nothing. An `Err` says that memory ran out.
 #[derive(Drop)]
 pub struct Mobiles {
     alloc: Global,
     modulus: Modulus,
+    /// By number, the place of the first mobile of it.
+    places: [Option<usize>; NUMBERS],
     mobiles: Vec<MobileStation>,
 }
 
 impl Model for Mobiles {
     ghost use Rattle.dtap_codec.specs.Number.{count_of};
+    ghost use Rattle.world_ends.specs.Index.{IsIndex};
     ghost use Rattle.world_ends.specs.MobilesState.{MobilesState};
 
     ghost Value = { MobilesState };
 
     ghost view = { λ m. record { modulus = count_of m.modulus; mobiles = m.mobiles.items } };
+
+    ghost invariant = { λ m. IsIndex m.places m.mobiles.items };
 }
 
 impl Mobiles {
@@ -49,6 +56,7 @@ impl Mobiles {
         Mobiles {
             alloc,
             modulus,
+            places: no_places(),
             mobiles: Vec::new(alloc),
         }
     }
@@ -64,18 +72,7 @@ impl Mobiles {
     fn place_of(&self, number: u8) -> usize
         ensures { result ≡ place_in number self.now.mobiles }
     {
-        match self.position_of(number) {
-            Some(place) => place,
-            None => self.mobiles.len(),
-        }
-    }
-
-    fn position_of(&self, number: u8) -> Option<usize>
-        ensures { result ≡ position (has_number number) self.now.mobiles }
-    {
-        self.mobiles
-            .iter()
-            .position(|mobile| mobile.number() == number)
+        self.places[usize::from(number)].unwrap_or(self.mobiles.len())
     }
 
     // The mobile of this tenure.
@@ -117,7 +114,9 @@ impl Mobiles {
             initial,
             accepts_sapi_three,
         )?;
+        let first = self.place_of(number);
         self.mobiles.push(mobile)?;
+        self.places[usize::from(number)] = Some(first);
         Ok(())
     }
 
@@ -221,4 +220,11 @@ impl Mobiles {
             mobile.assign(tenure);
         }
     }
+}
+
+// No mobile of any number.
+fn no_places() -> [Option<usize>; NUMBERS]
+    ensures { result ≡ replicate 256 None }
+{
+    [None; NUMBERS]
 }

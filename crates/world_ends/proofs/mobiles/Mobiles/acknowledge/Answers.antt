@@ -12,4 +12,4 @@ returns c =
     let found : slice_get c.self.inside.mobiles.items c.place_of-place.result ≡ Some c.in-Some.mobile.now = is_there c.self.inside.mobiles.items c.place_of-place.result c.in-Some.mobile.now c.in-Some.ensures.item.3.0 c.in-Some.ensures.value in
     let at : c.place_of-place.result ≡ place_in c.args.number c.self.inside.mobiles.items = subst (λ (s : MobilesState). c.place_of-place.result ≡ place_in c.args.number s.mobiles) (sym c.self.view_is) c.place_of-place.ensures in
     subst (λ (s : MobilesState). Takes s (by_mobile c.args.number (acknowledging c.args.sapi) s) c.acknowledge.result (record (the_view c.self.inside) { mobiles = set c.self.inside.mobiles.items c.place_of-place.result c.acknowledge.new.self })) c.self.view_is
-    (takes_found c.args.number (acknowledging c.args.sapi) (the_view c.self.inside) c.in-Some.mobile.now c.acknowledge.new.self c.acknowledge.result c.place_of-place.result at found c.acknowledge.ensures)
+    (takes_found c.args.number (acknowledging c.args.sapi) (the_view c.self.inside) c.in-Some.mobile.now c.acknowledge.new.self c.acknowledge.result c.place_of-place.result at found c.acknowledge.ensures.takes)
