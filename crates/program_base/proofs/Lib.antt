@@ -12,6 +12,7 @@ pub mod Taking
 pub mod Entering
 pub mod Commanding
 pub mod Splitting
+mod Decimals
 pub mod HexadecimalLemmas
 pub mod Reading
 pub mod Saying

@@ -1,6 +1,6 @@
 // SPDX-License-Identifier: MIT OR Apache-2.0
-ghost use Rattle.std.specs.Prelude.{◌≡◌, true, is_some, IfOk};
-ghost use Rattle.hex.specs.Hex.{is_hex_digit};
+ghost use Rattle.std.specs.Prelude.{◌≡◌, true, is_some, unwrap_or, IfOk};
+ghost use Rattle.hex.specs.Hex.{hex_digit_value, is_hex_digit};
 ghost use Rattle.std.specs.List.{list_all};
 ghost use Rattle.program_base.specs.Words.{Reads, octets_in};
 
@@ -41,11 +41,23 @@ impl<'a> Hexadecimal<'a> {
     pub(crate) fn decode(self, alloc: Global) -> Result<Octets, Memory>
         ensures { IfOk result (λ octets. octets ≡ self.entry) }
     {
-        match hex::decode(alloc, self.digits) {
-            Ok(octets) => Ok(Octets::new(octets)),
-            Err(_) => Err(Memory),
-        }
+        let octets = decode_digits(alloc, self.digits.as_bytes())?;
+        Ok(Octets::new(octets))
     }
+}
+
+/// The octets whose digits these are. The room for them is taken at once.
+fn decode_digits(alloc: Global, digits: &[u8]) -> Result<Vec<u8>, Memory>
+    requires { is_some (octets_in digits.now) ≡ true }
+    ensures { IfOk result (λ octets. octets_in digits.now ≡ Some octets.items) }
+{
+    let mut octets = Vec::with_capacity(alloc, digits.len() / 2)?;
+    let mut rest = digits;
+    while let [high, low, behind @ ..] = rest {
+        octets.push_reserved(16 * digit_value(*high) + digit_value(*low));
+        rest = behind;
+    }
+    Ok(octets)
 }
 
 /// Whether the word is pairs of hexadecimal digits, and at least one.
@@ -55,14 +67,41 @@ fn is_hexadecimal(word: &str) -> bool
     !word.is_empty() && word.len() % 2 == 0 && all_hexadecimal(word.as_bytes())
 }
 
+/// Whether each octet is a digit. All are looked up, so that no look-up waits for the one before it.
 fn all_hexadecimal(octets: &[u8]) -> bool
     ensures { result ≡ list_all is_hex_digit octets.now }
 {
-    octets.iter().all(|octet| is_hex_digit(*octet))
+    let mut values = 0;
+    for octet in octets {
+        values |= digit_value(*octet);
+    }
+    values < 16
 }
 
-fn is_hex_digit(octet: u8) -> bool
-    ensures { result ≡ is_hex_digit octet }
+/// The value of a digit, and 16 where the octet is none.
+fn digit_value(octet: u8) -> u8
+    ensures { result ≡ unwrap_or (hex_digit_value octet) 16 }
 {
-    octet.is_ascii_hexdigit()
+    DIGIT_VALUES[usize::from(octet)]
 }
+
+/// The value of each octet as a digit of either case, and 16 where it is none.
+#[rattlefmt::skip]
+static DIGIT_VALUES: [u8; 256] = [
+    16, 16, 16, 16, 16, 16, 16, 16, 16, 16, 16, 16, 16, 16, 16, 16,
+    16, 16, 16, 16, 16, 16, 16, 16, 16, 16, 16, 16, 16, 16, 16, 16,
+    16, 16, 16, 16, 16, 16, 16, 16, 16, 16, 16, 16, 16, 16, 16, 16,
+     0,  1,  2,  3,  4,  5,  6,  7,  8,  9, 16, 16, 16, 16, 16, 16,
+    16, 10, 11, 12, 13, 14, 15, 16, 16, 16, 16, 16, 16, 16, 16, 16,
+    16, 16, 16, 16, 16, 16, 16, 16, 16, 16, 16, 16, 16, 16, 16, 16,
+    16, 10, 11, 12, 13, 14, 15, 16, 16, 16, 16, 16, 16, 16, 16, 16,
+    16, 16, 16, 16, 16, 16, 16, 16, 16, 16, 16, 16, 16, 16, 16, 16,
+    16, 16, 16, 16, 16, 16, 16, 16, 16, 16, 16, 16, 16, 16, 16, 16,
+    16, 16, 16, 16, 16, 16, 16, 16, 16, 16, 16, 16, 16, 16, 16, 16,
+    16, 16, 16, 16, 16, 16, 16, 16, 16, 16, 16, 16, 16, 16, 16, 16,
+    16, 16, 16, 16, 16, 16, 16, 16, 16, 16, 16, 16, 16, 16, 16, 16,
+    16, 16, 16, 16, 16, 16, 16, 16, 16, 16, 16, 16, 16, 16, 16, 16,
+    16, 16, 16, 16, 16, 16, 16, 16, 16, 16, 16, 16, 16, 16, 16, 16,
+    16, 16, 16, 16, 16, 16, 16, 16, 16, 16, 16, 16, 16, 16, 16, 16,
+    16, 16, 16, 16, 16, 16, 16, 16, 16, 16, 16, 16, 16, 16, 16, 16,
+];

@@ -2,6 +2,7 @@
 ghost use Rattle.std.specs.Prelude.{◌≡◌, ◌≢◌, ◌≤◌, [], ◌∷◌, option_map};
 ghost use Rattle.std.specs.Prelude.{IfOk};
 ghost use Rattle.std.specs.List.{slice_split};
+ghost use Rattle.memchr.specs.Find.{IsFirstByte, is_byte};
 ghost use Rattle.program_base.specs.WordsLeft.{is_space, words_left};
 ghost use Rattle.program_base.specs.Words.{word_at, value_at, number_in, mobile_in, station_in};
 ghost use Rattle.program_base.specs.Words.{source_in, any_number_in, sapi_in, answer_in, octets_in};
@@ -13,6 +14,9 @@ use crate::value::{answer_in, number_in, sapi_in};
 use dtap_codec::Sapi;
 use memchr::memchr;
 use std::marker::Model;
+
+/// The octets of the longest names that a line begins with, and the space behind them.
+const NAME_AND_SPACE: usize = 12;
 
 /// The words of a script line that are still to be read. Words are parted by one space.
 #[derive(Drop)]
@@ -128,8 +132,24 @@ fn split_first(line: &str) -> (&str, Option<&str>)
     ensures { slice_split is_space line.now
         ≡ result.0.now ∷ words_left (option_map (λ rest. rest.now) result.1) }
 {
-    match memchr(b' ', line.as_bytes()) {
+    match first_space(line.as_bytes()) {
         Some(end) => (&line[..end], Some(&line[end + 1..])),
         None => (line, None),
     }
+}
+
+/// Where the first space of a line stands. Most words end among the first octets, which are looked
+/// at one by one: that's done sooner than a call that could look at many at once.
+fn first_space(line: &[u8]) -> Option<usize>
+    ensures { IsFirstByte (is_byte 32) line.now result }
+{
+    for at in 0..line.len().min(NAME_AND_SPACE) {
+        if line[at] == b' ' {
+            return Some(at);
+        }
+    }
+    if line.len() <= NAME_AND_SPACE {
+        return None;
+    }
+    memchr(b' ', line)
 }

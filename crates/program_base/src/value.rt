@@ -1,7 +1,5 @@
 // SPDX-License-Identifier: MIT OR Apache-2.0
 ghost use Rattle.std.specs.Prelude.{◌≡◌, ◌≤◌, ◌^◌, true, IfOk, MatchResult};
-ghost use Rattle.std.specs.Char.{is_ascii_digit};
-ghost use Rattle.std.specs.List.{list_all};
 ghost use Rattle.program_base.specs.Words.{Reads, is_decimal, decimal_after, number_in, source_in};
 ghost use Rattle.program_base.specs.Words.{sapi_in, answer_in};
 
@@ -30,30 +28,29 @@ pub fn read_source(cells: u16, word: &str) -> Option<u16>
     }
 }
 
-/// The number that a word of decimal digits writes, where that is below 2 to the 32.
+/// The number that a word of decimal digits writes, where that is below 2 to the 32. The word is
+/// read once, up to where it's refused.
+#[tactic(auto, using(crate::proofs::Decimals::decimal_grows))]
 fn decimal(word: &str) -> Result<u32, BadEvent>
     ensures { MatchResult result (λ n. (is_decimal word.now ≡ true) × (decimal_after 0 word.now
         ≡ n)) (λ _. is_decimal word.now ≡ true → 2 ^ 32 ≤ decimal_after 0 word.now) }
 {
-    if !is_decimal(word) {
+    if word.is_empty() {
         return Err(BadEvent);
     }
-    match word.parse::<u32>() {
-        Ok(number) => Ok(number),
-        Err(_) => Err(BadEvent),
+    let mut number = 0_u64;
+    let mut rest = word.as_bytes();
+    while let [digit, behind @ ..] = rest {
+        if !digit.is_ascii_digit() {
+            return Err(BadEvent);
+        }
+        number = 10 * number + u64::from(*digit - b'0');
+        if number > u64::from(u32::MAX) {
+            return Err(BadEvent);
+        }
+        rest = behind;
     }
-}
-
-fn is_decimal(word: &str) -> bool
-    ensures { result ≡ is_decimal word.now }
-{
-    !word.is_empty() && all_digits(word.as_bytes())
-}
-
-fn all_digits(octets: &[u8]) -> bool
-    ensures { result ≡ list_all is_ascii_digit octets.now }
-{
-    octets.iter().all(|octet| octet.is_ascii_digit())
+    Ok(number as u32)
 }
 
 /// A SAPI, which is the word `0` or `3`.
