@@ -1,6 +1,8 @@
 // SPDX-License-Identifier: MIT OR Apache-2.0
 //! The names of what frames carry, as `bsc decode` prints them.
 ghost use Rattle.std.specs.Prelude.{◌≡◌, IfOk};
+ghost use Rattle.rsl_codec.specs.declared.rsl.Rsl.{Rsl as Message};
+ghost use Rattle.rsl_codec.specs.RslType.{type_of};
 ghost use Rattle.program_base.specs.Names.{ccm_name as ccm_name_of, name_of};
 ghost use Rattle.program_base.specs.Names.{rsl_fault_name as rsl_fault_name_of};
 ghost use Rattle.program_base.specs.Names.{rsl_message_name as rsl_message_name_of};
@@ -11,33 +13,41 @@ ghost use Rattle.program_base.specs.Names.{sccp_name as sccp_name_of};
 use bssmap_codec::{InterfaceFault, Sccp, read_sccp};
 use ipa_framing::{CCM_STREAM, Frame, OML_STREAM, PING, PONG, RSL_STREAM, SCCP_STREAM};
 use octets::Memory;
-use rsl_codec::{Rsl, RslFault};
+use rsl_codec::{Rsl, RslFault, RslType};
 use std::alloc::Global;
 
 /// The name of an RSL message (TS 48.058 clause 8).
 pub fn rsl_message_name(message: &Rsl) -> &'static str
     ensures { result.now ≡ rsl_message_name_of message.now }
 {
-    match message {
-        Rsl::DataRequest(_) => "DATA REQUEST",
-        Rsl::DataIndication(_) => "DATA INDICATION",
-        Rsl::ErrorIndication(_) => "ERROR INDICATION",
-        Rsl::EstablishRequest(_) => "ESTABLISH REQUEST",
-        Rsl::EstablishConfirm(_) => "ESTABLISH CONFIRM",
-        Rsl::EstablishIndication(_) => "ESTABLISH INDICATION",
-        Rsl::ReleaseRequest(_) => "RELEASE REQUEST",
-        Rsl::ReleaseConfirm(_) => "RELEASE CONFIRM",
-        Rsl::ReleaseIndication(_) => "RELEASE INDICATION",
-        Rsl::ChannelRequired(_) => "CHANNEL REQUIRED",
-        Rsl::ImmediateAssignCommand(_) => "IMMEDIATE ASSIGN COMMAND",
-        Rsl::ChannelActivation(_) => "CHANNEL ACTIVATION",
-        Rsl::ChannelActivationAck(_) => "CHANNEL ACTIVATION ACK",
-        Rsl::ChannelActivationNack(_) => "CHANNEL ACTIVATION NACK",
-        Rsl::ConnectionFailure(_) => "CONNECTION FAILURE",
-        Rsl::HandoverDetection(_) => "HANDOVER DETECTION",
-        Rsl::MeasurementResult(_) => "MEASUREMENT RESULT",
-        Rsl::RfChannelRelease(_) => "RF CHANNEL RELEASE",
-        Rsl::RfChannelReleaseAck(_) => "RF CHANNEL RELEASE ACK",
+    rsl_type_name(message.kind())
+}
+
+/// The name of the messages of a type.
+fn rsl_type_name(kind: RslType) -> &'static str
+    ensures { (message : Message) → type_of message ≡ kind →
+        result.now ≡ rsl_message_name_of message }
+{
+    match kind {
+        RslType::DataRequest => "DATA REQUEST",
+        RslType::DataIndication => "DATA INDICATION",
+        RslType::ErrorIndication => "ERROR INDICATION",
+        RslType::EstablishRequest => "ESTABLISH REQUEST",
+        RslType::EstablishConfirm => "ESTABLISH CONFIRM",
+        RslType::EstablishIndication => "ESTABLISH INDICATION",
+        RslType::ReleaseRequest => "RELEASE REQUEST",
+        RslType::ReleaseConfirm => "RELEASE CONFIRM",
+        RslType::ReleaseIndication => "RELEASE INDICATION",
+        RslType::ChannelRequired => "CHANNEL REQUIRED",
+        RslType::ImmediateAssignCommand => "IMMEDIATE ASSIGN COMMAND",
+        RslType::ChannelActivation => "CHANNEL ACTIVATION",
+        RslType::ChannelActivationAck => "CHANNEL ACTIVATION ACK",
+        RslType::ChannelActivationNack => "CHANNEL ACTIVATION NACK",
+        RslType::ConnectionFailure => "CONNECTION FAILURE",
+        RslType::HandoverDetection => "HANDOVER DETECTION",
+        RslType::MeasurementResult => "MEASUREMENT RESULT",
+        RslType::RfChannelRelease => "RF CHANNEL RELEASE",
+        RslType::RfChannelReleaseAck => "RF CHANNEL RELEASE ACK",
     }
 }
 
@@ -59,8 +69,8 @@ pub fn rsl_fault_name(fault: RslFault) -> &'static str
 fn rsl_name(alloc: Global, body: &[u8]) -> Result<&'static str, Memory>
     ensures { IfOk result (λ name. name.now ≡ rsl_name_of body.now) }
 {
-    match Rsl::read(alloc, body) {
-        Ok(message) => Ok(rsl_message_name(&message)),
+    match Rsl::read_type(alloc, body) {
+        Ok(kind) => Ok(rsl_type_name(kind)),
         Err(RslFault::Memory) => Err(Memory),
         Err(fault) => Ok(rsl_fault_name(fault)),
     }
