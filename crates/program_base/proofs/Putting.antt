@@ -1,9 +1,10 @@
 -- SPDX-License-Identifier: MIT OR Apache-2.0
 -- How what is written of a text goes on.
-use Rattle.std.proofs.Common.{◌≡◌, ℕ, List, ◌++◌, Option, Result, Ok, Err, sym, ap, ◌∙◌, append_assoc, take, drop, take-append-drop}
-use Rattle.std.specs.Io.KnownBytes.{Appends, Keeps}
+use Rattle.std.proofs.Common.{◌≡◌, ℕ, List, [], ◌++◌, Option, Result, Ok, Err, sym, ap, subst, ◌∙◌, append_assoc, take, drop, take-append-drop}
+use Rattle.std.specs.Prelude.{IfOk, OnErr}
+use Rattle.std.specs.Io.KnownBytes.{Appends, Keeps, WriteAppends}
 use Rattle.std.specs.Result.{IsErrAnd}
-use Rattle.std.proofs.KnownBytes.{Appends-kept, Appends-trans}
+use Rattle.std.proofs.KnownBytes.{Appends-kept, Appends-nil, Appends-trans}
 use Rattle.program_base.specs.Output.{AppendsBeginning, Puts}
 
 -- ---- a text
@@ -26,3 +27,23 @@ puts_kept text rest old mid new some keeps = (some.0, some.1, Appends-kept old m
 pub puts_failed : {X E : Type 0} (result : Result X E) (Said : E → Type 0) (old new : Option (List ℕ)) (text : List ℕ) → IsErrAnd result Said → AppendsBeginning old new text → Puts result old new text
 puts_failed (Ok done) Said old new text failed begun = absurd failed
 puts_failed (Err error) Said old new text failed begun = begun
+
+-- ---- what goes on behind a first write
+
+pub puts_after : {X E : Type 0} (result : Result X E) (old mid new : Option (List ℕ)) (front rest : List ℕ) → Appends old mid front → Puts result mid new rest → Puts result old new (front ++ rest)
+puts_after (Ok done) old mid new front rest wrote more = Appends-trans old mid new front rest wrote more
+puts_after (Err error) old mid new front rest wrote more = (
+  front ++ more.0,
+  more.1,
+  ap (λ (xs : List ℕ). front ++ xs) more.2 ∙ sym (append_assoc front more.0 more.1),
+  Appends-trans old mid new front more.0 wrote more.3,
+)
+
+-- behind what the first write took, or all where it failed
+puts_behind : {X E F : Type 0} (first : Result ℕ F) (result : Result X E) (old mid new : Option (List ℕ)) (text : List ℕ) → WriteAppends old mid first text → IfOk first (λ count. Puts result mid new (drop count text)) → OnErr first (Puts result mid new text) → Puts result old new text
+puts_behind (Ok count) result old mid new text wrote rest all =
+    subst (Puts result old new) (take-append-drop count text) (puts_after result old mid new (take count text) (drop count text) wrote rest)
+puts_behind (Err error) result old mid new text wrote rest all = puts_after result old mid new [] text (Appends-kept old old mid [] (Appends-nil old) wrote) all
+
+pub puts_rest : {X E F : Type 0} (first said : Result ℕ F) (result : Result X E) (old mid new : Option (List ℕ)) (text : List ℕ) → said ≡ first → WriteAppends old mid first text → IfOk said (λ count. Puts result mid new (drop count text)) → OnErr said (Puts result mid new text) → Puts result old new text
+puts_rest first said result old mid new text is wrote = puts_behind said result old mid new text (subst (λ r. WriteAppends old mid r text) (sym is) wrote)

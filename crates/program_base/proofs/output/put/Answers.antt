@@ -1,19 +1,15 @@
 -- SPDX-License-Identifier: MIT OR Apache-2.0
-use Rattle.std.proofs.Common.{◌∙◌, ap, refl, subst, sym}
-use Rattle.program_base.proofs.Putting.{PutsSome, puts_kept, puts_more}
-use Rattle.program_base.proofs.Lists.{all_of}
-use Rattle.program_base.proofs.output.put.Goals.{in-Ok, in-Err}
+use Rattle.std.proofs.Common.{◌≡◌, sym, ◌∙◌}
+use Rattle.program_base.proofs.Putting.{puts_rest}
+use Rattle.program_base.proofs.output.put.Goals.{in_default-via-in_default, in_default-via-in-Ok+else-count-octets}
 use Rattle.program_base.proofs.output.put.Goals as goal
 
-pub loop-preserved : goal.loop-preserved
-loop-preserved g c =
-    let old = g.W.Write.contents c.args.output.now in
-    let mid = g.W.Write.contents c.loop.output in
-    let new = g.W.Write.contents c.write.new.self in
-    elim c.match-write.branch [
-      | in-Ok w ↦
-          puts_more c.args.octets.now c.loop.rest.now c.match-write.rest.now w.in-Ok.count old mid new c.loop.invariant w.in-Ok.ensures.bytes
-          (ap (λ b. b.now) w.rest-is ∙ all_of c.loop.rest.now w.in-Ok.count _ refl)
-      | in-Err w ↦
-          subst (λ b. PutsSome c.args.octets.now b.now old new) (sym w.rest-is) (puts_kept c.args.octets.now c.loop.rest.now old mid new c.loop.invariant w.in-Err.ensures.bytes)
-    ]
+pub returns-in_default : goal.returns-in_default
+returns-in_default g c =
+    let is : c.in_default.first ≡ c.write-first.result = elim c.in_default.branch [
+      | in_default-via-in-Ok+else-count-octets w ↦ w.first-is ∙ sym w.in-Ok.is
+      | in_default-via-in_default w ↦ w.first-is
+    ] in
+    puts_rest c.write-first.result c.in_default.first c.put_rest.result (g.W.Write.contents c.args.output.now)
+    (g.W.Write.contents c.write-first.new.self) (g.W.Write.contents c.put_rest.new.output) c.args.octets.now is c.write-first.ensures.bytes
+    c.put_rest.ensures.ok c.put_rest.ensures.err
