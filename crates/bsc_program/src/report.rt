@@ -1,5 +1,5 @@
 // SPDX-License-Identifier: MIT OR Apache-2.0
-ghost use Rattle.std.specs.Prelude.{◌≡◌, ◌++◌, List, ℕ, IfErr, IfOk, OnOk, codes};
+ghost use Rattle.std.specs.Prelude.{◌≡◌, ◌≤◌, ◌++◌, List, ℕ, IfErr, IfOk, OnOk, codes, length};
 ghost use Rattle.std.specs.Io.KnownBytes.{Appends};
 ghost use Rattle.hex.specs.Hex.{encode_lower};
 ghost use Rattle.program_base.specs.Status.{status_of};
@@ -7,10 +7,14 @@ ghost use Rattle.bsc_program.specs.Report.{IsReport, WritesIfSome, connection_te
 ghost use Rattle.bsc_program.specs.Report.{list_text, mobile_text};
 
 use octets::{Memory, Octets};
-use program_base::Failure;
+use program_base::{Failure, put};
 use std::alloc::Global;
 use std::io::Write;
 use world::World;
+
+/// So many octets have their digits put together without memory of their own. Nearly all messages
+/// are shorter, and the room for their digits and a line feed is quickly cleared.
+const SHORT: usize = 127;
 
 /// Writes the report of a world: for each mobile what it sent and received, for each connection of
 /// the switch what was taken, accepted and without number, and how many events were not taken.
@@ -129,7 +133,28 @@ fn write_message<W: Write>(alloc: Global, message: &Octets, output: &mut W) -> R
         (encode_lower message.now ++ codes "\n")) }
     ensures err { IfErr result (λ failure. status_of failure ≡ 3) }
 {
-    let digits = hex::encode(alloc, message.as_slice()).map_err(Memory::from)?;
+    let octets = message.as_slice();
+    if octets.len() <= SHORT {
+        return write_short(octets, output);
+    }
+    let digits = hex::encode(alloc, octets).map_err(Memory::from)?;
     writeln!(output, "{digits}")?;
+    Ok(())
+}
+
+/// Writes a short message as a line, all of it at once.
+fn write_short<W: Write>(message: &[u8], output: &mut W) -> Result<(), Failure>
+    requires { length message.now ≤ SHORT }
+    ensures ok { OnOk result (Appends (W.contents output.old) (W.contents output.new)
+        (encode_lower message.now ++ codes "\n")) }
+    ensures err { IfErr result (λ failure. status_of failure ≡ 3) }
+{
+    let mut room = [0_u8; 2 * SHORT + 1];
+    let end = 2 * message.len();
+    let Ok(()) = hex::encode_to_slice(message, &mut room[..end]) else {
+        unreachable!()
+    };
+    room[end] = b'\n';
+    put(output, &room[..end + 1])?;
     Ok(())
 }
