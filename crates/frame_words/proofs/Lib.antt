@@ -1,5 +1,4 @@
 -- SPDX-License-Identifier: MIT OR Apache-2.0
-pub mod Channels
 pub mod Columns
 mod Rows
 mod LongRows

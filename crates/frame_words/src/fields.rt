@@ -9,11 +9,12 @@ ghost use Rattle.frame_words.specs.Fields.{channel_by, channel_field, channel_of
 ghost use Rattle.frame_words.specs.Fields.{destination_of, reference_field, references_by};
 ghost use Rattle.frame_words.specs.Fields.{references_text, source_of};
 
-use crate::digits::write_digits;
+use crate::digits::{digits_of, reference_digits};
+use crate::joined::write_joined;
 use bssmap_codec::{InterfaceFault, Reference, Sccp, read_sccp};
 use ipa_framing::{Frame, RSL_STREAM, SCCP_STREAM};
 use octets::Memory;
-use program_base::{Failure, put};
+use program_base::Failure;
 use rsl_codec::{Rsl, RslFault};
 use std::alloc::Global;
 use std::io::Write;
@@ -29,7 +30,7 @@ pub fn write_fields<W: Write>(alloc: Global, frame: &Frame, output: &mut W) -> R
     match frame.stream {
         RSL_STREAM => {
             let channel = channel_in(alloc, frame.body.as_slice())?;
-            write_channel(alloc, channel, output)
+            write_channel(channel, output)
         }
         SCCP_STREAM => write_references(alloc, frame.body.as_slice(), output),
         _ => Ok(()),
@@ -73,11 +74,7 @@ pub(crate) fn channel_of(message: &Rsl) -> u8
     }
 }
 
-fn write_channel<W: Write>(
-    alloc: Global,
-    channel: Option<u8>,
-    output: &mut W,
-) -> Result<(), Failure>
+fn write_channel<W: Write>(channel: Option<u8>, output: &mut W) -> Result<(), Failure>
     ensures text { OnOk result (Appends (W.contents output.old) (W.contents output.new)
         (channel_field channel)) }
     ensures err { IfErr result (λ failure. status_of failure ≡ 3) }
@@ -85,8 +82,7 @@ fn write_channel<W: Write>(
     let Some(octet) = channel else {
         return Ok(());
     };
-    put(output, b" channel ")?;
-    write_digits(alloc, &[octet], output)
+    write_joined(b" channel ", &digits_of(octet), b"", output)
 }
 
 /// Writes the references of a message of the switch's link.
@@ -96,19 +92,19 @@ fn write_references<W: Write>(alloc: Global, body: &[u8], output: &mut W) -> Res
     ensures err { IfErr result (λ failure. status_of failure ≡ 3) }
 {
     match read_sccp(alloc, body) {
-        Ok(message) => write_both(alloc, &message, output),
+        Ok(message) => write_both(&message, output),
         Err(InterfaceFault::Memory) => Err(Failure::Memory),
         Err(_) => Ok(()),
     }
 }
 
-fn write_both<W: Write>(alloc: Global, message: &Sccp, output: &mut W) -> Result<(), Failure>
+fn write_both<W: Write>(message: &Sccp, output: &mut W) -> Result<(), Failure>
     ensures text { OnOk result (Appends (W.contents output.old) (W.contents output.new)
         (references_text message.now)) }
     ensures err { IfErr result (λ failure. status_of failure ≡ 3) }
 {
-    write_reference(alloc, " to ", destination_of(message), output)?;
-    write_reference(alloc, " from ", source_of(message), output)
+    write_reference(" to ", destination_of(message), output)?;
+    write_reference(" from ", source_of(message), output)
 }
 
 /// What the receiver of a message calls the connection.
@@ -149,7 +145,6 @@ fn octets_of(reference: &Reference) -> [u8; 3]
 
 /// Writes a reference behind a word, where there is one.
 fn write_reference<W: Write>(
-    alloc: Global,
     word: &str,
     reference: Option<[u8; 3]>,
     output: &mut W,
@@ -161,6 +156,5 @@ fn write_reference<W: Write>(
     let Some(octets) = reference else {
         return Ok(());
     };
-    put(output, word.as_bytes())?;
-    write_digits(alloc, &octets, output)
+    write_joined(word.as_bytes(), &reference_digits(octets), b"", output)
 }

@@ -4,8 +4,9 @@
 #![tactic(auto)]
 
 pub use carried::carried_name;
-pub use digits::{write_decimal, write_digits};
+pub use digits::{write_decimal, write_digits, write_digits_line};
 pub use fields::write_fields;
+pub use joined::write_joined;
 pub use long_line::decode_long;
 pub use message_name::write_message_name;
 pub use number::write_number;
@@ -13,6 +14,7 @@ pub use number::write_number;
 mod carried;
 mod digits;
 mod fields;
+mod joined;
 mod line;
 mod long_line;
 mod message_name;

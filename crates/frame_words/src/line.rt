@@ -8,6 +8,7 @@ ghost use Rattle.frame_words.specs.MessageName.{behind_space};
 ghost use Rattle.frame_words.specs.Numbered.{number_field};
 ghost use Rattle.frame_words.specs.Said.{found_fields};
 
+use crate::digits::{digits_of, reference_digits};
 use crate::number::write_found;
 use crate::said::{Fields, Said, said_in};
 use ipa_framing::Frame;
@@ -99,15 +100,6 @@ fn put_reference(word: &str, reference: &Option<[u8; 3]>, line: &mut Vec<u8>) ->
     Ok(())
 }
 
-/// The hexadecimal digits of a reference.
-fn reference_digits(octets: [u8; 3]) -> [u8; 6]
-    ensures { result ≡ encode_lower octets }
-{
-    let mut digits = [0; 6];
-    hex::encode_to_slice(octets, &mut digits).unwrap();
-    digits
-}
-
 /// Appends the column of the octets of a frame's body, and the end of the line.
 fn put_body(alloc: Global, frame: &Frame, line: &mut Vec<u8>) -> Result<(), Memory>
     ensures { OnOk result (line.new.items ≡ line.old.items
@@ -118,13 +110,4 @@ fn put_body(alloc: Global, frame: &Frame, line: &mut Vec<u8>) -> Result<(), Memo
     line.extend_from_slice(digits.as_bytes())?;
     line.extend_from_slice(b"\n")?;
     Ok(())
-}
-
-/// The hexadecimal digits of an octet.
-fn digits_of(octet: u8) -> [u8; 2]
-    ensures { result ≡ encode_lower (octet ∷ []) }
-{
-    let mut digits = [0; 2];
-    hex::encode_to_slice([octet], &mut digits).unwrap();
-    digits
 }

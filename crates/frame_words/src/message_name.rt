@@ -1,10 +1,11 @@
 // SPDX-License-Identifier: MIT OR Apache-2.0
-ghost use Rattle.std.specs.Prelude.{◌≡◌, IfErr, OnOk, option_map};
+ghost use Rattle.std.specs.Prelude.{◌≡◌, ◌++◌, IfErr, OnOk, option_map};
 ghost use Rattle.std.specs.Io.KnownBytes.{Appends};
 ghost use Rattle.program_base.specs.Status.{status_of};
 ghost use Rattle.frame_words.specs.MessageName.{behind_space, message_name};
 
 use crate::carried::carried_name;
+use crate::joined::write_joined;
 use ipa_framing::Frame;
 use program_base::{Failure, frame_name, put};
 use std::alloc::Global;
@@ -22,19 +23,18 @@ pub fn write_message_name<W: Write>(
 {
     let name = frame_name(alloc, frame)?;
     let carried = carried_name(alloc, frame)?;
-    put(output, name.as_bytes())?;
-    write_behind_space(carried, output)
+    write_both(name, carried, output)
 }
 
-fn write_behind_space<W: Write>(name: Option<&str>, output: &mut W) -> Result<(), Failure>
+/// Writes a name, and behind a space the other where there is one.
+fn write_both<W: Write>(name: &str, carried: Option<&str>, output: &mut W) -> Result<(), Failure>
     ensures text { OnOk result (Appends (W.contents output.old) (W.contents output.new)
-        (behind_space (option_map (λ text. text.now) name.entry))) }
+        (name.now ++ behind_space (option_map (λ text. text.now) carried.entry))) }
     ensures err { IfErr result (λ failure. status_of failure ≡ 3) }
 {
-    let Some(name) = name else {
-        return Ok(());
-    };
-    put(output, b" ")?;
-    put(output, name.as_bytes())?;
+    match carried {
+        None => put(output, name.as_bytes())?,
+        Some(carried) => write_joined(name.as_bytes(), b" ", carried.as_bytes(), output)?,
+    }
     Ok(())
 }

@@ -9,12 +9,13 @@ ghost use Rattle.rsl_codec.specs.RslReading.{rsl_reading};
 ghost use Rattle.frame_words.specs.Numbered.{bssap_number, number_field, number_in_frame};
 ghost use Rattle.frame_words.specs.Numbered.{rsl_number, sccp_number, transfer_number};
 
-use crate::digits::write_decimal;
+use crate::joined::write_joined;
 use bssmap_codec::{Bssap, InterfaceFault, Sccp, read_bssap, read_sccp};
 use dtap_codec::{Modulus, number_of};
 use ipa_framing::{Frame, RSL_STREAM, SCCP_STREAM};
+use itoa::Buffer;
 use octets::Memory;
-use program_base::{Failure, put};
+use program_base::Failure;
 use rsl_codec::{Rsl, RslFault};
 use std::alloc::Global;
 use std::io::Write;
@@ -44,8 +45,8 @@ pub(crate) fn write_found<W: Write>(number: Option<u8>, output: &mut W) -> Resul
     match number {
         None => Ok(()),
         Some(number) => {
-            put(output, b" N(SD) ")?;
-            write_decimal(u64::from(number), output)
+            let mut digits = Buffer::new();
+            write_joined(b" N(SD) ", digits.format(number).as_bytes(), b"", output)
         }
     }
 }

@@ -1,0 +1,66 @@
+// SPDX-License-Identifier: MIT OR Apache-2.0
+//! Texts that are put together before they are written, since a write costs more than a copy.
+ghost use Rattle.std.specs.Prelude.{◌≡◌, ◌++◌, IfErr, OnOk};
+ghost use Rattle.std.specs.Io.KnownBytes.{Appends};
+ghost use Rattle.program_base.specs.Status.{status_of};
+
+use arrayvec::{ArrayVec, CapacityError};
+use program_base::{Failure, put};
+use std::io::Write;
+
+/// So many octets are put together without memory of their own.
+const ROOM: usize = 160;
+
+/// Writes three texts, one behind the other: in one piece where they have no more octets than the
+/// room, which is the case of nearly all lines.
+pub fn write_joined<W: Write>(
+    first: &[u8],
+    second: &[u8],
+    third: &[u8],
+    output: &mut W,
+) -> Result<(), Failure>
+    ensures text { OnOk result (Appends (W.contents output.old) (W.contents output.new)
+        (first.now ++ second.now ++ third.now)) }
+    ensures err { IfErr result (λ failure. status_of failure ≡ 3) }
+{
+    let mut room = ArrayVec::<u8, ROOM>::new();
+    match gather(first, second, third, &mut room) {
+        Ok(()) => {
+            put(output, room.as_slice())?;
+            Ok(())
+        }
+        Err(_) => write_apart(first, second, third, output),
+    }
+}
+
+/// Appends three texts to what is in the room, where it takes them.
+fn gather(
+    first: &[u8],
+    second: &[u8],
+    third: &[u8],
+    room: &mut ArrayVec<u8, ROOM>,
+) -> Result<(), CapacityError>
+    ensures { OnOk result (room.new.items ≡ room.old.items
+        ++ (first.now ++ second.now ++ third.now)) }
+{
+    room.try_extend_from_slice(first)?;
+    room.try_extend_from_slice(second)?;
+    room.try_extend_from_slice(third)
+}
+
+/// Writes three texts piece by piece.
+fn write_apart<W: Write>(
+    first: &[u8],
+    second: &[u8],
+    third: &[u8],
+    output: &mut W,
+) -> Result<(), Failure>
+    ensures text { OnOk result (Appends (W.contents output.old) (W.contents output.new)
+        (first.now ++ second.now ++ third.now)) }
+    ensures err { IfErr result (λ failure. status_of failure ≡ 3) }
+{
+    put(output, first)?;
+    put(output, second)?;
+    put(output, third)?;
+    Ok(())
+}
