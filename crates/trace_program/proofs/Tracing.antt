@@ -68,14 +68,32 @@ pub notes_all : (number next : ℕ) (xs : List Note) (old new : Option (List ℕ
 notes_all number next xs old new some all = subst (λ (ys : List Note). Appends old new (flat_map (note_line number) ys))
     (take_all next xs all) some
 
--- the line of a frame, from its three parts
-pub line_written : (m number : ℕ) (fate : Option Fate) (crossing : Crossing) (old one two new : Option (List ℕ))
-    → Appends old one (decimal number ++ codes "\t") → Appends one two (ends_text crossing.from crossing.to)
-    → Appends two new (frame_text m fate crossing)
+-- the line of a frame, from its two parts
+pub line_written : (m number : ℕ) (fate : Option Fate) (crossing : Crossing) (head : List ℕ) (old mid new : Option (List ℕ))
+    → Appends old mid head → head ≡ decimal number ++ codes "\t" ++ ends_text crossing.from crossing.to
+    → Appends mid new (frame_text m fate crossing)
     → Appends old new (crossing_line m number fate crossing)
-line_written m number fate crossing old one two new first ends frame =
-    Appends-trans old two new (decimal number ++ codes "\t" ++ ends_text crossing.from crossing.to) (frame_text m fate crossing)
-    (Appends-trans old one two (decimal number ++ codes "\t") (ends_text crossing.from crossing.to) first ends) frame
+line_written m number fate crossing head old mid new first is frame =
+    let columns : List ℕ = decimal number ++ codes "\t" ++ ends_text crossing.from crossing.to in
+    Appends-trans old mid new columns (frame_text m fate crossing) (subst (Appends old mid) is first) frame
+
+-- what stands in a line from the name of a frame on, from its three parts
+pub frame_written : (name said fate word digits read : List ℕ) (old one two new : Option (List ℕ)) → Appends old one name
+    → Appends one two said → word ≡ fate ++ codes "\t" → read ≡ digits → Appends two new (word ++ read ++ codes "\n")
+    → Appends old new (name ++ (said ++ fate ++ codes "\t") ++ digits ++ codes "\n")
+frame_written name said fate word digits read old one two new named column is same rest =
+    let tab : List ℕ = codes "\t" in
+    let feed : List ℕ = codes "\n" in
+    let front : List ℕ = name ++ said in
+    let joined : front ++ (fate ++ tab) ≡ name ++ (said ++ fate ++ tab) =
+    append_assoc name said (fate ++ tab) ∙ ap (λ (xs : List ℕ). name ++ xs) (sym (append_assoc said fate tab)) in
+    let whole : front ++ (fate ++ tab ++ digits ++ feed) ≡ name ++ (said ++ fate ++ tab) ++ digits ++ feed =
+    sym (append_assoc front (fate ++ tab ++ digits) feed) ∙ ap (λ (xs : List ℕ). xs ++ feed) (sym (append_assoc front (fate ++ tab) digits))
+    ∙ ap (λ (xs : List ℕ). xs ++ digits ++ feed) joined in
+    let end : word ++ read ++ feed ≡ fate ++ tab ++ digits ++ feed =
+    ap (λ (xs : List ℕ). xs ++ read ++ feed) is ∙ ap (λ (xs : List ℕ). fate ++ tab ++ xs ++ feed) same in
+    subst (Appends old new) (ap (λ (xs : List ℕ). front ++ xs) end ∙ whole)
+    (Appends-trans old two new front (word ++ read ++ feed) (Appends-trans old one two name said named column) rest)
 
 -- the line of what became of a connection, from its two parts
 pub note_written : (number connection : ℕ) (note : Note) (old mid new : Option (List ℕ))

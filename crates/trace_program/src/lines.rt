@@ -1,18 +1,23 @@
 // SPDX-License-Identifier: MIT OR Apache-2.0
-ghost use Rattle.std.specs.Prelude.{◌≡◌, ◌++◌, [], IfErr, OnOk, codes, decimal};
+ghost use Rattle.std.specs.Prelude.{◌≡◌, ◌≤◌, ◌+◌, ◌++◌, [], IfErr, OnOk, codes, decimal};
 ghost use Rattle.std.specs.List.{flat_map};
 ghost use Rattle.std.specs.Io.KnownBytes.{Appends};
+ghost use Rattle.arrayvec.specs.ArrayVec.{array_vec_len};
 ghost use Rattle.program_base.specs.Status.{status_of};
 ghost use Rattle.dtap_codec.specs.Number.{count_of};
+ghost use Rattle.frame_words.specs.Fields.{fields_text};
 ghost use Rattle.trace_program.specs.TraceLines.{crossing_line, end_text, ends_text, event_line};
-ghost use Rattle.trace_program.specs.TraceLines.{event_lines, frame_text, outcome_text};
-ghost use Rattle.trace_program.specs.TraceLines.{is_uplink, number_said, said_column};
-ghost use Rattle.world_trace.specs.declared.crossing.End.TheVariants.{Station};
+ghost use Rattle.trace_program.specs.TraceLines.{event_lines, frame_text, is_uplink};
+ghost use Rattle.trace_program.specs.TraceLines.{number_said, outcome_text, passage_text};
 
 use crate::notes::write_notes;
-use crate::words::{cause_text, fate_text, passage_text};
+use crate::words::{cause_text, fate_tab, tab_passage};
+use arrayvec::ArrayVec;
 use dtap_codec::Modulus;
-use frame_words::{write_decimal, write_digits, write_fields, write_message_name, write_number};
+use frame_words::{
+    write_digits_line, write_fields, write_joined, write_message_name, write_number,
+};
+use itoa::Buffer;
 use program_base::{Failure, put};
 use std::alloc::Global;
 use std::io::Write;
@@ -20,6 +25,12 @@ use world_trace::{Cause, Crossing, End, EventTrace, Fate};
 
 /// So much room of a text is kept from one event to the next.
 const KEPT_ROOM: usize = 16_384;
+
+/// The octets of the longest end of a link, with the tab behind it.
+const END_LIMIT: usize = 14;
+
+/// The octets of the longest columns before the name of a frame: twenty digits, a tab, two ends.
+const HEAD_LIMIT: usize = 21 + 2 * END_LIMIT;
 
 /// Writes the line of an event, a line for each frame that crossed a link at it or was made, and a
 /// line for each thing that became of a connection.
@@ -96,9 +107,9 @@ fn write_event_line<W: Write>(
         (event_line number line.now refusal)) }
     ensures err { IfErr result (λ failure. status_of failure ≡ 3) }
 {
-    write_decimal(number, output)?;
-    put(output, b"\tscript\tworld\t")?;
-    put(output, line)?;
+    let mut digits = Buffer::new();
+    let digits = digits.format(number).as_bytes();
+    write_joined(digits, b"\tscript\tworld\t", line, output)?;
     write_outcome(refusal, output)
 }
 
@@ -145,23 +156,51 @@ fn write_crossing<W: Write>(
         (crossing_line (count_of modulus) number fate crossing.now)) }
     ensures err { IfErr result (λ failure. status_of failure ≡ 3) }
 {
-    write_decimal(number, output)?;
-    put(output, b"\t")?;
-    write_ends(crossing.from, crossing.to, output)?;
+    let head = head_of(number, crossing.from, crossing.to);
+    put(output, head.as_slice())?;
     write_frame(alloc, modulus, fate, crossing, output)
 }
 
-/// Writes the columns of the ends of a link, from which to which.
-fn write_ends<W: Write>(from: End, to: End, output: &mut W) -> Result<(), Failure>
-    ensures text { OnOk result (Appends (W.contents output.old) (W.contents output.new)
-        (ends_text from to)) }
-    ensures err { IfErr result (λ failure. status_of failure ≡ 3) }
+/// The columns before the name of a frame: the number of the event, and the ends of the link, from
+/// which to which.
+fn head_of(number: u64, from: End, to: End) -> ArrayVec<u8, HEAD_LIMIT>
+    ensures { result.items ≡ decimal number ++ codes "\t" ++ ends_text from to }
 {
-    write_end(from, output)?;
-    put(output, b"\t")?;
-    write_end(to, output)?;
-    put(output, b"\t")?;
-    Ok(())
+    let mut digits = Buffer::new();
+    let mut head = ArrayVec::new();
+    head.try_extend_from_slice(digits.format(number).as_bytes())
+        .unwrap();
+    head.push(b'\t');
+    put_end(from, &mut head);
+    put_end(to, &mut head);
+    head
+}
+
+/// Appends the column of an end.
+fn put_end(end: End, head: &mut ArrayVec<u8, HEAD_LIMIT>)
+    requires { array_vec_len head.old + END_LIMIT ≤ HEAD_LIMIT }
+    ensures text { head.new.items ≡ head.old.items ++ (end_text end ++ codes "\t") }
+    ensures room { array_vec_len head.new ≤ array_vec_len head.old + END_LIMIT }
+{
+    match end {
+        End::Switch => head.try_extend_from_slice(b"switch\t").unwrap(),
+        End::Station(number) => put_station(number, head),
+        End::Controller => head.try_extend_from_slice(b"bsc\t").unwrap(),
+    }
+}
+
+/// Appends the column of a station.
+fn put_station(number: u16, head: &mut ArrayVec<u8, HEAD_LIMIT>)
+    requires { array_vec_len head.old + END_LIMIT ≤ HEAD_LIMIT }
+    ensures text { head.new.items ≡ head.old.items
+        ++ (codes "station " ++ decimal number ++ codes "\t") }
+    ensures room { array_vec_len head.new ≤ array_vec_len head.old + END_LIMIT }
+{
+    let mut digits = Buffer::new();
+    head.try_extend_from_slice(b"station ").unwrap();
+    head.try_extend_from_slice(digits.format(number).as_bytes())
+        .unwrap();
+    head.push(b'\t');
 }
 
 /// Writes the name of a frame, what else is said of it, and the octets of its body.
@@ -177,31 +216,26 @@ fn write_frame<W: Write>(
     ensures err { IfErr result (λ failure. status_of failure ≡ 3) }
 {
     write_message_name(alloc, &crossing.frame, output)?;
-    write_said(alloc, modulus, fate, crossing, output)?;
-    write_digits(alloc, crossing.frame.body.as_slice(), output)?;
-    put(output, b"\n")?;
-    Ok(())
+    write_said(alloc, modulus, crossing, output)?;
+    let body = crossing.frame.body.as_slice();
+    write_digits_line(alloc, fate_tab(fate), body, output)
 }
 
-/// Writes the column of what else is said of a frame.
+/// Writes the column of what else is said of a frame, but for its fate.
 fn write_said<W: Write>(
     alloc: Global,
     modulus: Modulus,
-    fate: Option<Fate>,
     crossing: &Crossing,
     output: &mut W,
 ) -> Result<(), Failure>
     ensures text { OnOk result (Appends (W.contents output.old) (W.contents output.new)
-        (said_column (count_of modulus) fate crossing.now)) }
+        (codes "\t" ++ passage_text crossing.now.passage ++ fields_text crossing.now.frame
+        ++ number_said (count_of modulus) crossing.now)) }
     ensures err { IfErr result (λ failure. status_of failure ≡ 3) }
 {
-    put(output, b"\t")?;
-    put(output, passage_text(crossing.passage).as_bytes())?;
+    put(output, tab_passage(crossing.passage).as_bytes())?;
     write_fields(alloc, &crossing.frame, output)?;
-    write_number_said(alloc, modulus, crossing, output)?;
-    put(output, fate_text(fate).as_bytes())?;
-    put(output, b"\t")?;
-    Ok(())
+    write_number_said(alloc, modulus, crossing, output)
 }
 
 /// Writes the number N(SD) of what goes up.
@@ -231,26 +265,4 @@ fn is_uplink(from: End, to: End) -> bool
         (_, End::Switch) => true,
         _ => false,
     }
-}
-
-fn write_end<W: Write>(end: End, output: &mut W) -> Result<(), Failure>
-    ensures text { OnOk result (Appends (W.contents output.old) (W.contents output.new)
-        (end_text end)) }
-    ensures err { IfErr result (λ failure. status_of failure ≡ 3) }
-{
-    match end {
-        End::Switch => put(output, b"switch")?,
-        End::Station(number) => return write_station(number, output),
-        End::Controller => put(output, b"bsc")?,
-    }
-    Ok(())
-}
-
-fn write_station<W: Write>(number: u16, output: &mut W) -> Result<(), Failure>
-    ensures text { OnOk result (Appends (W.contents output.old) (W.contents output.new)
-        (end_text (Station number))) }
-    ensures err { IfErr result (λ failure. status_of failure ≡ 3) }
-{
-    put(output, b"station ")?;
-    write_decimal(u64::from(number), output)
 }

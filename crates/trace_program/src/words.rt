@@ -1,5 +1,5 @@
 // SPDX-License-Identifier: MIT OR Apache-2.0
-ghost use Rattle.std.specs.Prelude.{◌≡◌};
+ghost use Rattle.std.specs.Prelude.{◌≡◌, ◌++◌, codes};
 ghost use Rattle.trace_program.specs.TraceLines.{cause_text, fate_text, holding_text};
 ghost use Rattle.trace_program.specs.TraceLines.{passage_text, phase_text, sapi_text};
 ghost use Rattle.trace_program.specs.TraceLines.{timer_text, way_text};
@@ -7,14 +7,14 @@ ghost use Rattle.trace_program.specs.TraceLines.{timer_text, way_text};
 use dtap_codec::Sapi;
 use world_trace::{Cause, Fate, Holding, Passage, Phase, Timer, Way};
 
-/// The word of a passage.
-pub(crate) fn passage_text(passage: Passage) -> &'static str
-    ensures { result.now ≡ passage_text passage }
+/// The word of a passage, behind the tab that begins its column.
+pub(crate) fn tab_passage(passage: Passage) -> &'static str
+    ensures { result.now ≡ codes "\t" ++ passage_text passage }
 {
     match passage {
-        Passage::Made => "made",
-        Passage::Sent => "sent",
-        Passage::Got => "got",
+        Passage::Made => "\tmade",
+        Passage::Sent => "\tsent",
+        Passage::Got => "\tgot",
     }
 }
 
@@ -43,16 +43,17 @@ pub(crate) fn cause_text(cause: Cause) -> &'static str
     }
 }
 
-/// What the switch made of what it took, behind a space; nothing where it took nothing.
-pub(crate) fn fate_text(fate: Option<Fate>) -> &'static str
-    ensures { result.now ≡ fate_text fate }
+/// What the switch made of what it took, behind a space; nothing where it took nothing. Behind that
+/// the tab that ends the column.
+pub(crate) fn fate_tab(fate: Option<Fate>) -> &'static str
+    ensures { result.now ≡ fate_text fate ++ codes "\t" }
 {
     match fate {
-        None => "",
-        Some(Fate::Accepted) => " accepted",
-        Some(Fate::Duplicate) => " duplicate",
-        Some(Fate::Gap) => " gap",
-        Some(Fate::Unnumbered) => " unnumbered",
+        None => "\t",
+        Some(Fate::Accepted) => " accepted\t",
+        Some(Fate::Duplicate) => " duplicate\t",
+        Some(Fate::Gap) => " gap\t",
+        Some(Fate::Unnumbered) => " unnumbered\t",
     }
 }
 

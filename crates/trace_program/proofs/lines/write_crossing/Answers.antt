@@ -1,19 +1,14 @@
 -- SPDX-License-Identifier: MIT OR Apache-2.0
-use Rattle.std.proofs.Common.{◌++◌, codes, decimal}
-use Rattle.std.proofs.KnownBytes.{Appends-trans}
+use Rattle.std.proofs.Common.{◌∙◌}
 use Rattle.std.proofs.lemmas.Result.{on_ok_weaker}
-use Rattle.std.specs.Io.KnownBytes.{Appends}
 use Rattle.dtap_codec.specs.Number.{count_of}
 use Rattle.trace_program.proofs.Tracing.{line_written}
 use Rattle.trace_program.proofs.lines.write_crossing.Goals as goal
 
 pub returns-clause-text : goal.returns-clause-text
 returns-clause-text g c =
-    let first : Appends (g.W.Write.contents c.args.output.now) (g.W.Write.contents c.put.new.output) (decimal c.args.number ++ codes "\t") =
-    Appends-trans (g.W.Write.contents c.args.output.now) (g.W.Write.contents c.write_decimal.new.output)
-    (g.W.Write.contents c.put.new.output) (decimal c.args.number) (codes "\t") c.in_ok-write_decimal.ensures.text c.in_ok-put.ensures in
     on_ok_weaker c.write_frame.result
-    (line_written (count_of c.args.modulus) c.args.number c.args.fate c.args.crossing.now (g.W.Write.contents c.args.output.now)
-    (g.W.Write.contents c.put.new.output) (g.W.Write.contents c.write_ends.new.output) (g.W.Write.contents c.write_frame.new.output)
-    first c.in_ok-write_ends.ensures.text)
+    (line_written (count_of c.args.modulus) c.args.number c.args.fate c.args.crossing.now c.as_slice.result.now
+    (g.W.Write.contents c.args.output.now) (g.W.Write.contents c.put.new.output) (g.W.Write.contents c.write_frame.new.output)
+    c.in_ok-put.ensures (c.as_slice.ensures.value ∙ c.head_of-head.ensures))
     c.write_frame.ensures.text
