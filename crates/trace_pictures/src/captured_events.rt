@@ -9,7 +9,7 @@ use octets::Memory;
 use std::alloc::Global;
 use world_actors::Network;
 use world_model::Event;
-use world_trace::step;
+use world_trace::Tracing;
 
 /// Lets these events happen, and gives the file of the frames that they put on links. It is refused
 /// only for lack of memory.
@@ -35,9 +35,10 @@ pub fn frames_sent(
 {
     let mut frames = Vec::new(alloc);
     let mut ms = 0;
+    let mut tracing = Tracing::of(alloc, network)?;
     for event in events {
         ms = time_after(ms, event);
-        let trace = step(alloc, network, event)?;
+        let trace = tracing.step(network, event)?;
         add_frames(alloc, ms, trace.crossings.as_slice(), &mut frames)?;
     }
     Ok(frames)

@@ -1,6 +1,7 @@
 // SPDX-License-Identifier: MIT OR Apache-2.0
-ghost use Rattle.std.specs.Prelude.{◌≡◌, IfErr};
+ghost use Rattle.std.specs.Prelude.{◌≡◌, IfErr, OnOk};
 ghost use Rattle.program_base.specs.Status.{status_of};
+ghost use Rattle.world_trace.specs.Sights.{sights_of};
 
 use crate::lifelines::Lifelines;
 use frame_pictures::{Arrow, Chart, ChartEvent, Fate, Mark};
@@ -13,7 +14,7 @@ use std::io::Write;
 use trace_program::write_note_text;
 use world_actors::Network;
 use world_model::Event;
-use world_trace::{Crossing, End, Holding, Note, Passage, step};
+use world_trace::{Crossing, End, Holding, Note, Passage, Tracing};
 
 /// Lets these events happen in a world with so many cells, and gives the chart of them. `script`
 /// has their lines.
@@ -30,10 +31,11 @@ pub fn chart_of(
     let mut charted = Vec::new(alloc);
     let mut number = 0_u64;
     let mut rest = script;
+    let mut tracing = Tracing::of(alloc, network)?;
     for event in events {
         let (line, others) = split_line(rest);
         number = number.saturating_add(1);
-        let drawn = chart_event(alloc, &lifelines, network, event, number, line)?;
+        let drawn = chart_event(alloc, &lifelines, &mut tracing, network, event, number, line)?;
         charted.push(drawn).map_err(Memory::from)?;
         rest = others;
     }
@@ -56,14 +58,17 @@ fn split_line(script: &[u8]) -> (&[u8], &[u8]) {
 fn chart_event(
     alloc: Global,
     lifelines: &Lifelines,
+    tracing: &mut Tracing,
     network: &mut Network,
     event: &Event,
     number: u64,
     line: &[u8],
 ) -> Result<ChartEvent, Failure>
+    requires { tracing.old ≡ sights_of network.old.controller.entries }
+    ensures seen { OnOk result (tracing.new ≡ sights_of network.new.controller.entries) }
     ensures err { IfErr result (λ failure. status_of failure ≡ 3) }
 {
-    let trace = step(alloc, network, event)?;
+    let trace = tracing.step(network, event)?;
     let text = Vec::from_slice(alloc, line).map_err(Memory::from)?;
     let arrows = arrows_of(alloc, lifelines, trace.crossings.as_slice())?;
     let marks = marks_of(alloc, lifelines, trace.notes.as_slice())?;

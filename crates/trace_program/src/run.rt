@@ -15,7 +15,7 @@ use std::alloc::Global;
 use std::io::Write;
 use world_actors::Network;
 use world_model::Event;
-use world_trace::{Cause, step};
+use world_trace::{Cause, Tracing};
 
 /// How many events weren't taken, and the number of the first of them, 0 where there is none.
 #[derive(Clone, Copy)]
@@ -48,9 +48,10 @@ pub fn write_trace<W: Write>(
     let mut number = 1;
     let mut rest = script;
     let mut text = Vec::new(alloc);
+    let mut tracing = Tracing::of(alloc, network)?;
     for event in events {
         let (line, others) = split_line(rest);
-        let trace = step(alloc, network, event)?;
+        let trace = tracing.step(network, event)?;
         put_event(alloc, modulus, number, line, &trace, &mut text, output)?;
         tally = count(trace.refusal, number, tally);
         rest = others;

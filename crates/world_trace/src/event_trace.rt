@@ -6,6 +6,7 @@ ghost use Rattle.world_trace.specs.Crossings.{crossings};
 ghost use Rattle.world_trace.specs.Fates.{fate_at};
 ghost use Rattle.world_trace.specs.Makings.{made_at};
 ghost use Rattle.world_trace.specs.Notes.{notes_at};
+ghost use Rattle.world_trace.specs.Turns.{turn_sights};
 
 use crate::cause::{Cause, cause_of};
 use crate::crossing::Crossing;
@@ -13,9 +14,10 @@ use crate::expiry::note_expired;
 use crate::fate::{Fate, connection_at, counts_of, fate_by};
 use crate::got::{got, waiting};
 use crate::made::Makings;
-use crate::note::{Note, puts_of};
+use crate::note::{Note, note_steps, puts_of};
 use crate::sent::Marks;
-use crate::turn::{note_turn, turn_sights};
+use crate::sight::Sight;
+use crate::turn::turn_sights;
 use octets::Memory;
 use std::alloc::Global;
 use world_actors::Network;
@@ -55,25 +57,50 @@ pub fn step(alloc: Global, network: &mut Network, event: &Event) -> Result<Event
     ensures made { IfOk result (λ trace. trace.made.items ≡ made_at network.old event.now) }
     ensures notes { IfOk result (λ trace. trace.notes.items ≡ notes_at network.old event.now) }
 {
+    let before = turn_sights(alloc, network, event)?;
+    let (trace, _) = step_from(alloc, network, event, before.as_slice())?;
+    Ok(trace)
+}
+
+/// The same, with what is seen of the connections before an event that is the controller's turn;
+/// and what is seen of them behind it.
+pub(crate) fn step_from(
+    alloc: Global,
+    network: &mut Network,
+    event: &Event,
+    before: &[Sight],
+) -> Result<(EventTrace, Vec<Sight>), Memory>
+    requires { before.now ≡ turn_sights event.now network.old.controller }
+    ensures actors { OnOk result (network.new ≡ actors_after network.old event.now) }
+    ensures refusal { IfOk result (λ p. p.0.refusal ≡ refusal network.old event.now) }
+    ensures crossings { IfOk result (λ p.
+        p.0.crossings.items ≡ crossings network.old event.now) }
+    ensures fate { IfOk result (λ p. p.0.fate ≡ fate_at network.old event.now) }
+    ensures made { IfOk result (λ p. p.0.made.items ≡ made_at network.old event.now) }
+    ensures notes { IfOk result (λ p. p.0.notes.items ≡ notes_at network.old event.now) }
+    ensures behind { IfOk result (λ p.
+        p.1.items ≡ turn_sights event.now network.new.controller) }
+{
     let connection = connection_at(alloc, network, event)?;
     let counts = counts_of(network, connection);
     let makings = Makings::of(alloc, network, event)?;
     let mut notes = Vec::new(alloc);
     note_expired(network, event, &mut notes)?;
-    let sights = turn_sights(alloc, network, event)?;
     let Passed { refusal, crossings } = pass(alloc, network, event)?;
     let fate = fate_by(counts, counts_of(network, connection));
     let mut made = Vec::new(alloc);
     makings.note_behind(alloc, network, &mut made)?;
     let puts = puts_of(crossings.as_slice());
-    note_turn(alloc, network, event, puts, sights.as_slice(), &mut notes)?;
-    Ok(EventTrace {
+    let behind = turn_sights(alloc, network, event)?;
+    note_steps(puts, before, behind.as_slice(), &mut notes)?;
+    let trace = EventTrace {
         refusal,
         crossings,
         fate,
         made,
         notes,
-    })
+    };
+    Ok((trace, behind))
 }
 
 /// Lets the event's actor act, where it can, and says what crossed the links of the controller.

@@ -11,6 +11,7 @@ pub use fate::Fate;
 pub use made::SOURCE_LIMIT;
 pub use note::{Holding, Note, Timer, Way};
 pub use sight::Phase;
+pub use tracing::Tracing;
 
 mod cause;
 mod crossing;
@@ -22,4 +23,5 @@ mod made;
 mod note;
 mod sent;
 mod sight;
+mod tracing;
 mod turn;

@@ -1,9 +1,7 @@
 // SPDX-License-Identifier: MIT OR Apache-2.0
-ghost use Rattle.std.specs.Prelude.{◌≡◌, ◌++◌, IfOk, OnOk};
-ghost use Rattle.world_trace.specs.Notes.{notes_between};
+ghost use Rattle.std.specs.Prelude.{◌≡◌, IfOk};
 ghost use Rattle.world_trace.specs.Turns.{is_turn, turn_sights};
 
-use crate::note::{Note, Puts, note_steps};
 use crate::sight::{Sight, sights};
 use octets::Memory;
 use std::alloc::Global;
@@ -24,22 +22,6 @@ pub(crate) fn turn_sights(
     } else {
         Ok(Vec::new(alloc))
     }
-}
-
-/// Notes what an event made of the connections, of which this was seen before it.
-pub(crate) fn note_turn(
-    alloc: Global,
-    network: &Network,
-    event: &Event,
-    puts: Puts,
-    before: &[Sight],
-    notes: &mut Vec<Note>,
-) -> Result<(), Memory>
-    ensures { OnOk result (notes.new.items ≡ notes.old.items
-        ++ notes_between puts before.now (turn_sights event.now network.now.controller)) }
-{
-    let behind = turn_sights(alloc, network, event)?;
-    note_steps(puts, before, behind.as_slice(), notes)
 }
 
 /// Whether it is one at which the controller does something.

@@ -26,4 +26,5 @@ loop-event-preserved g c =
       number = ap (λ k. k + 1) c.loop-event.invariant.number;
       below = counted_below c.in_ok-trace.trace.refusal c.loop-event.number c.loop-event.tally c.count-tally.result
           c.loop-event.invariant.below c.count-tally.ensures;
+      seen = c.in_ok-trace.ensures.seen;
     }

@@ -2,6 +2,7 @@
 use Rattle.std.proofs.Common.{◌≡◌, ◌+◌, ◌<◌, drop}
 use Rattle.dtap_codec.specs.Number.{count_of}
 use Rattle.trace_program.specs.Traced.{tally_of}
+use Rattle.world_trace.specs.Sights.{sights_of}
 use Rattle.trace_program.proofs.Tracing.{Traces}
 use Rattle.trace_program.proofs.run.write_trace.Given as goal
 
@@ -13,4 +14,5 @@ invariant-loop-event g l = record {
       (record { not_taken = 0; first = 0 });
   number : l.number ≡ l.event-index + 1;
   below : l.tally.not_taken < l.number;
+  seen : l.tracing ≡ sights_of l.network.controller.entries;
 }

@@ -5,9 +5,8 @@ use Rattle.world_trace.specs.declared.note.Note.{Note}
 use Rattle.world_trace.specs.declared.sight.Sight.{Sight}
 use Rattle.world_trace.specs.Makings.{made_behind}
 use Rattle.world_trace.specs.Notes.{expired_at, notes_between, puts_of}
-use Rattle.world_trace.specs.Turns.{turn_sights}
 use Rattle.world_trace.proofs.Stepping.{made_found, notes_found}
-use Rattle.world_trace.proofs.event_trace.step.Goals as goal
+use Rattle.world_trace.proofs.event_trace.step_from.Goals as goal
 
 pub returns-clause-made : goal.returns-clause-made
 returns-clause-made c =
@@ -20,10 +19,10 @@ pub returns-clause-notes : goal.returns-clause-notes
 returns-clause-notes c =
     let w = c.args.network.now in
     let event = c.args.event.now in
-    notes_found w c.pass.new.network event c.in_ok-refusal.field-0.crossings.items c.puts_of-puts.result c.in_ok-sights.sights.items
-    c.note_expired.new.notes.items c.note_turn.new.notes.items
+    notes_found w c.pass.new.network event c.in_ok-refusal.field-0.crossings.items c.puts_of-puts.result c.args.before.now
+    c.note_expired.new.notes.items c.note_steps.new.notes.items
     (c.in_ok-note_expired.ensures ∙ ap (λ (ns : List Note). ns ++ expired_at w.controller event) c.new-notes.ensures.items)
-    c.in_ok-sights.ensures c.in_ok-refusal.ensures.crossings (c.puts_of-puts.ensures ∙ ap puts_of c.as_slice.ensures.value) c.in_ok-refusal.ensures.actors
-    (c.in_ok-note_turn.ensures
-    ∙ ap (λ (ss : List Sight). c.note_expired.new.notes.items
-    ++ notes_between c.puts_of-puts.result ss (turn_sights event c.pass.new.network.controller)) c.as_slice-2.ensures.value)
+    c.requires c.in_ok-refusal.ensures.crossings (c.puts_of-puts.ensures ∙ ap puts_of c.as_slice.ensures.value) c.in_ok-refusal.ensures.actors
+    (c.in_ok-note_steps.ensures
+    ∙ ap (λ (ss : List Sight). c.note_expired.new.notes.items ++ notes_between c.puts_of-puts.result c.args.before.now ss)
+    (c.as_slice-2.ensures.value ∙ c.in_ok-behind.ensures))
