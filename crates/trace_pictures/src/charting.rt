@@ -35,7 +35,15 @@ pub fn chart_of(
     for event in events {
         let (line, others) = split_line(rest);
         number = number.saturating_add(1);
-        let drawn = chart_event(alloc, &lifelines, &mut tracing, network, event, number, line)?;
+        let drawn = chart_event(
+            alloc,
+            &lifelines,
+            &mut tracing,
+            network,
+            event,
+            number,
+            line,
+        )?;
         charted.push(drawn).map_err(Memory::from)?;
         rest = others;
     }

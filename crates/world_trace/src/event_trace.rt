@@ -47,7 +47,7 @@ struct Passed {
 
 /// Lets the event's actor act, where it can, and says what crossed the links of the controller,
 /// what was made for it, and what became of its connections. It is refused only for lack of memory,
-/// and then nothing is said of the actors.
+/// and then nothing is said of the actors. `Tracing` has the same for many events, one by one.
 pub fn step(alloc: Global, network: &mut Network, event: &Event) -> Result<EventTrace, Memory>
     ensures actors { OnOk result (network.new ≡ actors_after network.old event.now) }
     ensures refusal { IfOk result (λ trace. trace.refusal ≡ refusal network.old event.now) }
@@ -62,8 +62,8 @@ pub fn step(alloc: Global, network: &mut Network, event: &Event) -> Result<Event
     Ok(trace)
 }
 
-/// The same, with what is seen of the connections before an event that is the controller's turn;
-/// and what is seen of them behind it.
+/// What `step` says, where `before` is what is seen of the connections before the event; and what
+/// is seen of them behind it. Both are empty but at the controller's turn.
 pub(crate) fn step_from(
     alloc: Global,
     network: &mut Network,

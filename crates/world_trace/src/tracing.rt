@@ -18,7 +18,7 @@ use world_actors::Network;
 use world_model::Event;
 
 /// What was seen last of the controller's connections. It is kept from event to event, so that each
-/// event looks at them once, and not before and behind.
+/// turn of the controller looks at them once, behind it, and not before it too.
 #[derive(Drop)]
 pub struct Tracing {
     alloc: Global,
@@ -35,7 +35,7 @@ impl Model for Tracing {
 }
 
 impl Tracing {
-    /// The connections of this network. An `Err` says that memory ran out.
+    /// What is seen of the connections of this network. An `Err` says that memory ran out.
     pub fn of(alloc: Global, network: &Network) -> Result<Tracing, Memory>
         ensures { IfOk result (λ tracing. tracing ≡ sights_of network.now.controller.entries) }
     {
