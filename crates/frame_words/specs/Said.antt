@@ -30,27 +30,28 @@ Says said name carried fields number =
     (said.name.now ≡ name) × (option_map (λ text. text.now) said.carried ≡ carried)
     × (found_fields said.fields ≡ fields) × (said.number ≡ number)
 
-abbrev pub SaysRsl : Said → Result Rsl RslFault → Type 0
-SaysRsl said reading =
+-- where messages of the flow have m numbers
+abbrev pub SaysRsl : ℕ → Said → Result Rsl RslFault → Type 0
+SaysRsl m said reading =
     Says said (rsl_name_by reading) (rsl_carries_by reading) (channel_field (channel_by reading))
-    (rsl_number 4 reading)
+    (rsl_number m reading)
 
-abbrev pub SaysSccp : Said → Result Sccp InterfaceFault → Type 0
-SaysSccp said reading =
+abbrev pub SaysSccp : ℕ → Said → Result Sccp InterfaceFault → Type 0
+SaysSccp m said reading =
     Says said (sccp_name_by reading) (sccp_carries_by reading) (references_by reading)
-    (sccp_number 4 reading)
+    (sccp_number m reading)
 
-abbrev pub SaysFrame : Said → Frame → Type 0
-SaysFrame said frame =
-    Says said (name_of frame) (carried_by frame) (fields_text frame) (number_in_frame 4 frame)
+abbrev pub SaysFrame : ℕ → Said → Frame → Type 0
+SaysFrame m said frame =
+    Says said (name_of frame) (carried_by frame) (fields_text frame) (number_in_frame m frame)
 
 -- the same of the octets in a DT1
-abbrev pub SaysBssap : Inside → Result Bssap InterfaceFault → Type 0
-SaysBssap inside reading =
+abbrev pub SaysBssap : ℕ → Inside → Result Bssap InterfaceFault → Type 0
+SaysBssap m inside reading =
     (option_map (λ text. text.now) inside.name ≡ Some (bssap_name_by reading))
-    × (inside.number ≡ bssap_number 4 reading)
+    × (inside.number ≡ bssap_number m reading)
 
-abbrev pub SaysInside : Inside → Sccp → Type 0
-SaysInside inside message =
+abbrev pub SaysInside : ℕ → Inside → Sccp → Type 0
+SaysInside m inside message =
     (option_map (λ text. text.now) inside.name ≡ sccp_carries_by (Ok message))
-    × (inside.number ≡ sccp_number 4 (Ok message))
+    × (inside.number ≡ sccp_number m (Ok message))

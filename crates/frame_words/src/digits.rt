@@ -1,12 +1,11 @@
 // SPDX-License-Identifier: MIT OR Apache-2.0
-ghost use Rattle.std.specs.Prelude.{◌≡◌, ◌≤◌, ◌++◌, ◌∷◌, [], IfErr, OnOk, codes, decimal};
+ghost use Rattle.std.specs.Prelude.{◌≡◌, ◌≤◌, ◌++◌, ◌∷◌, [], IfErr, OnOk, codes};
 ghost use Rattle.std.specs.Prelude.{length};
 ghost use Rattle.std.specs.Io.KnownBytes.{Appends};
 ghost use Rattle.hex.specs.Hex.{encode_lower};
 ghost use Rattle.program_base.specs.Status.{status_of};
 
 use crate::joined::write_joined;
-use itoa::Buffer;
 use octets::Memory;
 use program_base::{Failure, put};
 use std::alloc::Global;
@@ -22,25 +21,11 @@ pub fn write_digits<W: Write>(alloc: Global, octets: &[u8], output: &mut W) -> R
     ensures err { IfErr result (λ failure. status_of failure ≡ 3) }
 {
     if octets.len() <= SHORT {
-        return write_short(octets, output);
+        put(output, short_digits(octets, &mut [0; 2 * SHORT]))?;
+        return Ok(());
     }
     let digits = hex::encode(alloc, octets).map_err(Memory::from)?;
     put(output, digits.as_bytes())?;
-    Ok(())
-}
-
-fn write_short<W: Write>(octets: &[u8], output: &mut W) -> Result<(), Failure>
-    requires { length octets.now ≤ SHORT }
-    ensures text { OnOk result (Appends (W.contents output.old) (W.contents output.new)
-        (encode_lower octets.now)) }
-    ensures err { IfErr result (λ failure. status_of failure ≡ 3) }
-{
-    let mut room = [0_u8; 2 * SHORT];
-    let digits = &mut room[..2 * octets.len()];
-    let Ok(()) = hex::encode_to_slice(octets, digits) else {
-        unreachable!()
-    };
-    put(output, digits)?;
     Ok(())
 }
 
@@ -56,24 +41,26 @@ pub fn write_digits_line<W: Write>(
     ensures err { IfErr result (λ failure. status_of failure ≡ 3) }
 {
     if octets.len() <= SHORT {
-        return write_short_line(word, octets, output);
+        let mut room = [0; 2 * SHORT];
+        let digits = short_digits(octets, &mut room);
+        return write_joined(word.as_bytes(), digits, b"\n", output);
     }
-    let digits = hex::encode(alloc, octets).map_err(Memory::from)?;
-    write_joined(word.as_bytes(), digits.as_bytes(), b"\n", output)
+    put(output, word.as_bytes())?;
+    write_digits(alloc, octets, output)?;
+    put(output, b"\n")?;
+    Ok(())
 }
 
-fn write_short_line<W: Write>(word: &str, octets: &[u8], output: &mut W) -> Result<(), Failure>
+/// The hexadecimal digits of few octets, which are put into this room.
+fn short_digits<'a>(octets: &[u8], room: &'a mut [u8; 2 * SHORT]) -> &'a [u8]
     requires { length octets.now ≤ SHORT }
-    ensures text { OnOk result (Appends (W.contents output.old) (W.contents output.new)
-        (word.now ++ encode_lower octets.now ++ codes "\n")) }
-    ensures err { IfErr result (λ failure. status_of failure ≡ 3) }
+    ensures { result.now ≡ encode_lower octets.now }
 {
-    let mut room = [0_u8; 2 * SHORT];
     let digits = &mut room[..2 * octets.len()];
     let Ok(()) = hex::encode_to_slice(octets, digits) else {
         unreachable!()
     };
-    write_joined(word.as_bytes(), digits, b"\n", output)
+    digits
 }
 
 /// The hexadecimal digits of an octet.
@@ -92,15 +79,4 @@ pub(crate) fn reference_digits(octets: [u8; 3]) -> [u8; 6]
     let mut digits = [0; 6];
     hex::encode_to_slice(octets, &mut digits).unwrap();
     digits
-}
-
-/// Writes a number in decimal digits.
-pub fn write_decimal<W: Write>(number: u64, output: &mut W) -> Result<(), Failure>
-    ensures text { OnOk result (Appends (W.contents output.old) (W.contents output.new)
-        (decimal number)) }
-    ensures err { IfErr result (λ failure. status_of failure ≡ 3) }
-{
-    let mut digits = Buffer::new();
-    put(output, digits.format(number).as_bytes())?;
-    Ok(())
 }

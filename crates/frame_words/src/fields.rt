@@ -74,7 +74,7 @@ pub(crate) fn channel_of(message: &Rsl) -> u8
     }
 }
 
-fn write_channel<W: Write>(channel: Option<u8>, output: &mut W) -> Result<(), Failure>
+pub(crate) fn write_channel<W: Write>(channel: Option<u8>, output: &mut W) -> Result<(), Failure>
     ensures text { OnOk result (Appends (W.contents output.old) (W.contents output.new)
         (channel_field channel)) }
     ensures err { IfErr result (λ failure. status_of failure ≡ 3) }
@@ -144,7 +144,7 @@ fn octets_of(reference: &Reference) -> [u8; 3]
 }
 
 /// Writes a reference behind a word, where there is one.
-fn write_reference<W: Write>(
+pub(crate) fn write_reference<W: Write>(
     word: &str,
     reference: Option<[u8; 3]>,
     output: &mut W,

@@ -4,8 +4,9 @@
 #![tactic(auto)]
 
 pub use carried::carried_name;
-pub use digits::{write_decimal, write_digits, write_digits_line};
+pub use digits::{write_digits, write_digits_line};
 pub use fields::write_fields;
+pub use frame_said::write_said;
 pub use joined::write_joined;
 pub use long_line::decode_long;
 pub use message_name::write_message_name;
@@ -14,6 +15,7 @@ pub use number::write_number;
 mod carried;
 mod digits;
 mod fields;
+mod frame_said;
 mod joined;
 mod line;
 mod long_line;

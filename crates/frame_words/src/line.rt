@@ -11,6 +11,7 @@ ghost use Rattle.frame_words.specs.Said.{found_fields};
 use crate::digits::{digits_of, reference_digits};
 use crate::number::write_found;
 use crate::said::{Fields, Said, said_in};
+use dtap_codec::Modulus;
 use ipa_framing::Frame;
 use octets::Memory;
 use program_base::Failure;
@@ -23,7 +24,7 @@ const LINE_ROOM: usize = 128;
 pub(crate) fn line_of(alloc: Global, frame: &Frame) -> Result<Vec<u8>, Failure>
     ensures { IfOk result (λ line. line.items ≡ long_line frame.now) }
 {
-    let said = said_in(alloc, frame)?;
+    let said = said_in(alloc, Modulus::Four, frame)?;
     let digits = frame.body.len().saturating_mul(2);
     let room = LINE_ROOM.saturating_add(digits);
     let mut line = Vec::with_capacity(alloc, room).map_err(Memory::from)?;

@@ -23,11 +23,15 @@ pub fn write_message_name<W: Write>(
 {
     let name = frame_name(alloc, frame)?;
     let carried = carried_name(alloc, frame)?;
-    write_both(name, carried, output)
+    write_names(name, carried, output)
 }
 
 /// Writes a name, and behind a space the other where there is one.
-fn write_both<W: Write>(name: &str, carried: Option<&str>, output: &mut W) -> Result<(), Failure>
+pub(crate) fn write_names<W: Write>(
+    name: &str,
+    carried: Option<&str>,
+    output: &mut W,
+) -> Result<(), Failure>
     ensures text { OnOk result (Appends (W.contents output.old) (W.contents output.new)
         (name.now ++ behind_space (option_map (λ text. text.now) carried.entry))) }
     ensures err { IfErr result (λ failure. status_of failure ≡ 3) }

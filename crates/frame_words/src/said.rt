@@ -3,6 +3,7 @@
 ghost use Rattle.std.specs.Prelude.{◌≡◌, [], IfOk, Ok, None};
 ghost use Rattle.bssmap_codec.specs.BssapReading.{bssap_reading};
 ghost use Rattle.bssmap_codec.specs.SccpReading.{sccp_reading};
+ghost use Rattle.dtap_codec.specs.Number.{count_of};
 ghost use Rattle.rsl_codec.specs.RslReading.{rsl_reading};
 ghost use Rattle.frame_words.specs.Said.{Says, SaysBssap, SaysFrame, SaysInside, SaysRsl, SaysSccp};
 
@@ -18,7 +19,7 @@ use program_base::{frame_name, rsl_fault_name, rsl_message_name, sccp_message_na
 use rsl_codec::{Rsl, RslFault};
 use std::alloc::Global;
 
-/// What the line of a frame says, beside the octets of its body. The number N(SD) is read as one of four.
+/// What the line of a frame says, beside the octets of its body.
 #[derive(Clone, Copy)]
 pub(crate) struct Said {
     pub(crate) name: &'static str,
@@ -58,55 +59,55 @@ impl Said {
     }
 }
 
-/// What a frame says.
-pub(crate) fn said_in(alloc: Global, frame: &Frame) -> Result<Said, Memory>
-    ensures { IfOk result (λ said. SaysFrame said frame.now) }
+/// What a frame says, where messages of the flow have as many numbers as the modulus says.
+pub(crate) fn said_in(alloc: Global, modulus: Modulus, frame: &Frame) -> Result<Said, Memory>
+    ensures { IfOk result (λ said. SaysFrame (count_of modulus) said frame.now) }
 {
     match frame.stream {
-        RSL_STREAM => rsl_said(alloc, frame.body.as_slice()),
-        SCCP_STREAM => sccp_said(alloc, frame.body.as_slice()),
+        RSL_STREAM => rsl_said(alloc, modulus, frame.body.as_slice()),
+        SCCP_STREAM => sccp_said(alloc, modulus, frame.body.as_slice()),
         _ => Ok(Said::of_name(frame_name(alloc, frame)?)),
     }
 }
 
 /// What a message of a station's link says, or why it isn't one.
-fn rsl_said(alloc: Global, body: &[u8]) -> Result<Said, Memory>
-    ensures { IfOk result (λ said. SaysRsl said (rsl_reading body.now)) }
+fn rsl_said(alloc: Global, modulus: Modulus, body: &[u8]) -> Result<Said, Memory>
+    ensures { IfOk result (λ said. SaysRsl (count_of modulus) said (rsl_reading body.now)) }
 {
     match Rsl::read(alloc, body) {
-        Ok(message) => rsl_message_said(alloc, &message),
+        Ok(message) => rsl_message_said(alloc, modulus, &message),
         Err(RslFault::Memory) => Err(Memory),
         Err(fault) => Ok(Said::of_name(rsl_fault_name(fault))),
     }
 }
 
-fn rsl_message_said(alloc: Global, message: &Rsl) -> Result<Said, Memory>
-    ensures { IfOk result (λ said. SaysRsl said (Ok message.now)) }
+fn rsl_message_said(alloc: Global, modulus: Modulus, message: &Rsl) -> Result<Said, Memory>
+    ensures { IfOk result (λ said. SaysRsl (count_of modulus) said (Ok message.now)) }
 {
     let carried = rsl_message_carries(alloc, message)?;
     Ok(Said {
         name: rsl_message_name(message),
         carried,
         fields: Fields::Channel(channel_of(message)),
-        number: rsl_message_number(Modulus::Four, message),
+        number: rsl_message_number(modulus, message),
     })
 }
 
 /// What a message of the switch's link says, or why it isn't one.
-fn sccp_said(alloc: Global, body: &[u8]) -> Result<Said, Memory>
-    ensures { IfOk result (λ said. SaysSccp said (sccp_reading body.now)) }
+fn sccp_said(alloc: Global, modulus: Modulus, body: &[u8]) -> Result<Said, Memory>
+    ensures { IfOk result (λ said. SaysSccp (count_of modulus) said (sccp_reading body.now)) }
 {
     match read_sccp(alloc, body) {
-        Ok(message) => sccp_message_said(alloc, &message),
+        Ok(message) => sccp_message_said(alloc, modulus, &message),
         Err(InterfaceFault::Memory) => Err(Memory),
         Err(fault) => Ok(Said::of_name(interface_fault_name(fault))),
     }
 }
 
-fn sccp_message_said(alloc: Global, message: &Sccp) -> Result<Said, Memory>
-    ensures { IfOk result (λ said. SaysSccp said (Ok message.now)) }
+fn sccp_message_said(alloc: Global, modulus: Modulus, message: &Sccp) -> Result<Said, Memory>
+    ensures { IfOk result (λ said. SaysSccp (count_of modulus) said (Ok message.now)) }
 {
-    let inside = inside_of(alloc, message)?;
+    let inside = inside_of(alloc, modulus, message)?;
     Ok(Said {
         name: sccp_message_name(message),
         carried: inside.name,
@@ -119,11 +120,11 @@ fn sccp_message_said(alloc: Global, message: &Sccp) -> Result<Said, Memory>
 }
 
 /// What the octets say that a message of the switch's link carries.
-fn inside_of(alloc: Global, message: &Sccp) -> Result<Inside, Memory>
-    ensures { IfOk result (λ inside. SaysInside inside message.now) }
+fn inside_of(alloc: Global, modulus: Modulus, message: &Sccp) -> Result<Inside, Memory>
+    ensures { IfOk result (λ inside. SaysInside (count_of modulus) inside message.now) }
 {
     match message {
-        Sccp::DataForm1 { data, .. } => bssap_said(alloc, data.as_slice()),
+        Sccp::DataForm1 { data, .. } => bssap_said(alloc, modulus, data.as_slice()),
         _ => Ok(Inside {
             name: None,
             number: None,
@@ -132,13 +133,14 @@ fn inside_of(alloc: Global, message: &Sccp) -> Result<Inside, Memory>
 }
 
 /// What a message of BSSAP says, or why it isn't one.
-fn bssap_said(alloc: Global, octets: &[u8]) -> Result<Inside, Memory>
-    ensures { IfOk result (λ inside. SaysBssap inside (bssap_reading octets.now)) }
+fn bssap_said(alloc: Global, modulus: Modulus, octets: &[u8]) -> Result<Inside, Memory>
+    ensures { IfOk result
+        (λ inside. SaysBssap (count_of modulus) inside (bssap_reading octets.now)) }
 {
     match read_bssap(alloc, octets) {
         Ok(message) => Ok(Inside {
             name: Some(bssap_message_name(&message)),
-            number: transfer_number(Modulus::Four, &message),
+            number: transfer_number(modulus, &message),
         }),
         Err(InterfaceFault::Memory) => Err(Memory),
         Err(fault) => Ok(Inside {

@@ -77,23 +77,26 @@ line_written m number fate crossing head old mid new first is frame =
     let columns : List ℕ = decimal number ++ codes "\t" ++ ends_text crossing.from crossing.to in
     Appends-trans old mid new columns (frame_text m fate crossing) (subst (Appends old mid) is first) frame
 
--- what stands in a line from the name of a frame on, from its three parts
-pub frame_written : (name said fate word digits read : List ℕ) (old one two new : Option (List ℕ)) → Appends old one name
-    → Appends one two said → word ≡ fate ++ codes "\t" → read ≡ digits → Appends two new (word ++ read ++ codes "\n")
-    → Appends old new (name ++ (said ++ fate ++ codes "\t") ++ digits ++ codes "\n")
-frame_written name said fate word digits read old one two new named column is same rest =
-    let tab : List ℕ = codes "\t" in
+-- the text of a frame, from what it says and its octets, each behind the words that are written with it
+pub frame_written : (name tab column fields number fate word digits read : List ℕ) (old mid new : Option (List ℕ))
+    → Appends old mid (name ++ (column ++ fields ++ number)) → column ≡ tab → word ≡ fate ++ codes "\t" → read ≡ digits
+    → Appends mid new (word ++ read ++ codes "\n")
+    → Appends old new (name ++ (tab ++ fields ++ number ++ fate ++ codes "\t") ++ digits ++ codes "\n")
+frame_written name tab column fields number fate word digits read old mid new begun opens is same rest =
     let feed : List ℕ = codes "\n" in
+    let said : List ℕ = tab ++ fields ++ number in
+    let end : List ℕ = fate ++ codes "\t" in
     let front : List ℕ = name ++ said in
-    let joined : front ++ (fate ++ tab) ≡ name ++ (said ++ fate ++ tab) =
-    append_assoc name said (fate ++ tab) ∙ ap (λ (xs : List ℕ). name ++ xs) (sym (append_assoc said fate tab)) in
-    let whole : front ++ (fate ++ tab ++ digits ++ feed) ≡ name ++ (said ++ fate ++ tab) ++ digits ++ feed =
-    sym (append_assoc front (fate ++ tab ++ digits) feed) ∙ ap (λ (xs : List ℕ). xs ++ feed) (sym (append_assoc front (fate ++ tab) digits))
-    ∙ ap (λ (xs : List ℕ). xs ++ digits ++ feed) joined in
-    let end : word ++ read ++ feed ≡ fate ++ tab ++ digits ++ feed =
-    ap (λ (xs : List ℕ). xs ++ read ++ feed) is ∙ ap (λ (xs : List ℕ). fate ++ tab ++ xs ++ feed) same in
-    subst (Appends old new) (ap (λ (xs : List ℕ). front ++ xs) end ∙ whole)
-    (Appends-trans old two new front (word ++ read ++ feed) (Appends-trans old one two name said named column) rest)
+    let joined : front ++ end ≡ name ++ (said ++ end) = append_assoc name said end in
+    let spread : said ++ end ≡ said ++ fate ++ codes "\t" = sym (append_assoc said fate (codes "\t")) in
+    let first : Appends old mid front = subst (λ (xs : List ℕ). Appends old mid (name ++ (xs ++ fields ++ number))) opens begun in
+    let last : word ++ read ++ feed ≡ end ++ digits ++ feed =
+    ap (λ (xs : List ℕ). xs ++ read ++ feed) is ∙ ap (λ (xs : List ℕ). end ++ xs ++ feed) same in
+    let whole : front ++ (end ++ digits ++ feed) ≡ name ++ (said ++ fate ++ codes "\t") ++ digits ++ feed =
+    sym (append_assoc front (end ++ digits) feed) ∙ ap (λ (xs : List ℕ). xs ++ feed) (sym (append_assoc front end digits))
+    ∙ ap (λ (xs : List ℕ). xs ++ digits ++ feed) (joined ∙ ap (λ (xs : List ℕ). name ++ xs) spread) in
+    subst (Appends old new) (ap (λ (xs : List ℕ). front ++ xs) last ∙ whole)
+    (Appends-trans old mid new front (word ++ read ++ feed) first rest)
 
 -- the line of what became of a connection, from its two parts
 pub note_written : (number connection : ℕ) (note : Note) (old mid new : Option (List ℕ))

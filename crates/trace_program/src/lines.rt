@@ -5,18 +5,15 @@ ghost use Rattle.std.specs.Io.KnownBytes.{Appends};
 ghost use Rattle.arrayvec.specs.ArrayVec.{array_vec_len};
 ghost use Rattle.program_base.specs.Status.{status_of};
 ghost use Rattle.dtap_codec.specs.Number.{count_of};
-ghost use Rattle.frame_words.specs.Fields.{fields_text};
 ghost use Rattle.trace_program.specs.TraceLines.{crossing_line, end_text, ends_text, event_line};
 ghost use Rattle.trace_program.specs.TraceLines.{event_lines, frame_text, is_uplink};
-ghost use Rattle.trace_program.specs.TraceLines.{number_said, outcome_text, passage_text};
+ghost use Rattle.trace_program.specs.TraceLines.{outcome_text};
 
 use crate::notes::write_notes;
 use crate::words::{cause_text, fate_tab, tab_passage};
 use arrayvec::ArrayVec;
 use dtap_codec::Modulus;
-use frame_words::{
-    write_digits_line, write_fields, write_joined, write_message_name, write_number,
-};
+use frame_words::{write_digits_line, write_joined, write_said};
 use itoa::Buffer;
 use program_base::{Failure, put};
 use std::alloc::Global;
@@ -215,45 +212,11 @@ fn write_frame<W: Write>(
         (frame_text (count_of modulus) fate crossing.now)) }
     ensures err { IfErr result (λ failure. status_of failure ≡ 3) }
 {
-    write_message_name(alloc, &crossing.frame, output)?;
-    write_said(alloc, modulus, crossing, output)?;
+    let word = tab_passage(crossing.passage);
+    let is_numbered = is_uplink(crossing.from, crossing.to);
+    write_said(alloc, modulus, &crossing.frame, word, is_numbered, output)?;
     let body = crossing.frame.body.as_slice();
     write_digits_line(alloc, fate_tab(fate), body, output)
-}
-
-/// Writes the column of what else is said of a frame, but for its fate.
-fn write_said<W: Write>(
-    alloc: Global,
-    modulus: Modulus,
-    crossing: &Crossing,
-    output: &mut W,
-) -> Result<(), Failure>
-    ensures text { OnOk result (Appends (W.contents output.old) (W.contents output.new)
-        (codes "\t" ++ passage_text crossing.now.passage ++ fields_text crossing.now.frame
-        ++ number_said (count_of modulus) crossing.now)) }
-    ensures err { IfErr result (λ failure. status_of failure ≡ 3) }
-{
-    put(output, tab_passage(crossing.passage).as_bytes())?;
-    write_fields(alloc, &crossing.frame, output)?;
-    write_number_said(alloc, modulus, crossing, output)
-}
-
-/// Writes the number N(SD) of what goes up.
-fn write_number_said<W: Write>(
-    alloc: Global,
-    modulus: Modulus,
-    crossing: &Crossing,
-    output: &mut W,
-) -> Result<(), Failure>
-    ensures text { OnOk result (Appends (W.contents output.old) (W.contents output.new)
-        (number_said (count_of modulus) crossing.now)) }
-    ensures err { IfErr result (λ failure. status_of failure ≡ 3) }
-{
-    if is_uplink(crossing.from, crossing.to) {
-        write_number(alloc, modulus, &crossing.frame, output)
-    } else {
-        Ok(())
-    }
 }
 
 /// Whether a frame goes from the side of the mobiles to that of the switch.
