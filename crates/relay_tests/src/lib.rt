@@ -16,6 +16,8 @@ mod mobile;
 #[cfg(test)]
 mod program;
 #[cfg(test)]
+mod puts;
+#[cfg(test)]
 mod reception;
 #[cfg(test)]
 mod settled_worlds;

@@ -1,0 +1,114 @@
+// SPDX-License-Identifier: MIT OR Apache-2.0
+//! `put` beside the loop that it was before one write that takes all ended it at once: which fault
+//! comes, and how often a device is asked, has no clause.
+use program_base::put;
+use std::io::{self, ErrorKind, Write};
+use std::test::Fail;
+
+/// How a device answers a write.
+#[derive(Clone, Copy)]
+enum Answer {
+    TakesAll,
+    TakesOne,
+    TakesNone,
+    IsInterrupted,
+    Fails,
+}
+
+const ANSWERS: [Answer; 5] = [
+    Answer::TakesAll,
+    Answer::TakesOne,
+    Answer::TakesNone,
+    Answer::IsInterrupted,
+    Answer::Fails,
+];
+
+/// The lists of up to five answers, by number.
+const LISTS: usize = 3125;
+
+const TEXT: &[u8] = &[0x17, 0x2b, 0x05, 0xff];
+
+/// A device with a list of answers, the first in the lowest digit of base five; behind them it
+/// takes all. The mark is of the octets that it took, in order.
+#[derive(Drop)]
+struct Device {
+    answers: usize,
+    tries: usize,
+    mark: u64,
+}
+
+impl Write for Device {
+    fn write(&mut self, buf: &[u8]) -> io::Result<usize> {
+        let answer = ANSWERS[self.answers % ANSWERS.len()];
+        self.answers /= ANSWERS.len();
+        self.tries = self.tries.saturating_add(1);
+        let count = match answer {
+            Answer::TakesAll => buf.len(),
+            Answer::TakesOne => buf.len().min(1),
+            Answer::TakesNone => 0,
+            Answer::IsInterrupted => return Err(io::Error::from(ErrorKind::Interrupted)),
+            Answer::Fails => return Err(io::Error::from(ErrorKind::BrokenPipe)),
+        };
+        for octet in &buf[..count] {
+            self.mark = self
+                .mark
+                .wrapping_mul(257)
+                .wrapping_add(u64::from(*octet) + 1);
+        }
+        Ok(count)
+    }
+
+    fn flush(&mut self) -> io::Result<()> {
+        Ok(())
+    }
+}
+
+/// `put` as it was.
+fn put_in_a_loop<W: Write>(output: &mut W, octets: &[u8]) -> io::Result<()> {
+    let mut rest = octets;
+    for _ in 0..u64::MAX {
+        if rest.is_empty() {
+            return Ok(());
+        }
+        match output.write(rest) {
+            Ok(0) => return Err(io::Error::from(ErrorKind::WriteZero)),
+            Ok(count) => rest = &rest[count..],
+            Err(error) if error.kind() == ErrorKind::Interrupted => {}
+            Err(error) => return Err(error),
+        }
+    }
+    Err(io::Error::from(ErrorKind::TimedOut))
+}
+
+/// The fault of a put, how often the device was asked, and the mark of what it took.
+type Outcome = (Option<ErrorKind>, usize, u64);
+
+fn outcome(put: io::Result<()>, device: &Device) -> Outcome {
+    (
+        put.err().map(|error| error.kind()),
+        device.tries,
+        device.mark,
+    )
+}
+
+fn answering(answers: usize) -> Device {
+    Device {
+        answers,
+        tries: 0,
+        mark: 0,
+    }
+}
+
+#[test]
+fn put_ends_as_its_loop_did(rt: HostRuntime) -> Result<(), Fail> {
+    for answers in 0..LISTS {
+        for length in 0..=TEXT.len() {
+            let text = &TEXT[..length];
+            let (mut one, mut other) = (answering(answers), answering(answers));
+            let wanted = put_in_a_loop(&mut one, text);
+            let got = put(&mut other, text);
+            assert_eq!(rt; outcome(got, &other), outcome(wanted, &one));
+        }
+    }
+    Ok(())
+}
