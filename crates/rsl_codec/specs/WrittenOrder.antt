@@ -1,5 +1,5 @@
 -- SPDX-License-Identifier: MIT OR Apache-2.0
--- A MEASUREMENT RESULT whose elements stand in written order.
+-- A MEASUREMENT RESULT whose elements are in written order.
 use Rattle.std.specs.Prelude.{◌≡◌, ◌⊎◌, ℕ, List, [], ◌∷◌, ◌++◌, map, Option, Some, None}
 use Rattle.std.specs.Prelude.{Result, Ok}
 use Rattle.octets.specs.Element.{Element, element}
@@ -45,7 +45,7 @@ measured_order =
 abbrev pub AreInOrder : List ℕ → Type 0
 AreInOrder ids = (ids ≡ measured_order) ⊎ (ids ≡ measured_order ++ (L3_INFORMATION ∷ []))
 
--- What is read is a MEASUREMENT RESULT, and the elements of its body stand in written order.
+-- What is read is a MEASUREMENT RESULT, and the elements of its body are in written order.
 pub record IsInOrder (reading : Result Rsl RslFault) (body : List ℕ) : Type 0 where
   pub message : MeasurementResult
   pub reads : reading ≡ Ok (messages.MeasurementResult message)

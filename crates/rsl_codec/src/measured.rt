@@ -27,7 +27,7 @@ use crate::{
 use octets::{MESSAGE_LIMIT, Octets, element};
 use std::alloc::Global;
 
-/// The values of a MEASUREMENT RESULT whose elements stand in written order: all of them, but
+/// The values of a MEASUREMENT RESULT whose elements are in written order: all of them, but
 /// perhaps no L3 information.
 #[derive(Clone, Copy)]
 pub(crate) struct Measured<'a> {
@@ -171,7 +171,7 @@ impl MeasurementResult {
 /// The channel, the number and the L3 information of octets that `Rsl::read` reads as a MEASUREMENT
 /// RESULT; it copies nothing. It answers exactly where their elements are all those of the message,
 /// but perhaps no L3 information, in the order in which they are written. So there is none where
-/// `Rsl::read` refuses them or reads another message, nor where an element stands elsewhere, is
+/// `Rsl::read` refuses them or reads another message, nor where an element is elsewhere, is
 /// missing or is repeated.
 #[tactic(auto, unfolding(crate::specs::RslReading::rsl_reading))]
 pub fn read_measurement(octets: &[u8]) -> Option<(ChanNo, MeasurementNumber, Option<&[u8]>)>

@@ -1,10 +1,15 @@
 // SPDX-License-Identifier: MIT OR Apache-2.0
+ghost use Rattle.std.specs.Prelude.{◌≤◌, ◌<◌, IfSome};
+
 use octets::Memory;
 use std::alloc::Global;
-use std::sync::atomic::{AtomicBool, Ordering};
+use std::sync::atomic::{AtomicBool, AtomicU64, Ordering};
 use std::sync::{Arc, Wait};
 use std::thread::Parker;
 use std::time::Duration;
+
+/// How many signs a word has.
+const WIDTH: usize = 64;
 
 /// Wakes the thread that waits until something is put. It promises nothing: a wait ends at a ring,
 /// after its time, or for no reason.
@@ -19,10 +24,11 @@ struct Shared {
     parker: Parker,
     /// Whether nothing more is to be put.
     last: AtomicBool,
-    /// Of each source whether its queue may hold an item. Who puts one raises the sign behind it.
-    /// Who finds the queue empty lowers the sign and looks once more: so a sign that isn't raised
-    /// stands for an empty queue, or for an item whose put hasn't returned yet.
-    signs: Vec<AtomicBool>,
+    /// A sign for each source, a bit, those of 64 sources in a word: whether its queue may hold an
+    /// item. Who puts one raises the sign behind it. Who finds the queue empty lowers the sign and
+    /// looks once more: so the queue of a sign that isn't raised is empty, or holds an item whose
+    /// put hasn't returned yet.
+    signs: Vec<AtomicU64>,
 }
 
 impl Bell {
@@ -32,9 +38,10 @@ impl Bell {
 
     /// A bell with a sign for each of so many sources. None is raised.
     pub(crate) fn with_signs(alloc: Global, sources: u16) -> Result<Bell, Memory> {
-        let mut signs = Vec::with_capacity(alloc, usize::from(sources))?;
-        for _ in 0..sources {
-            signs.push(AtomicBool::new(false))?;
+        let words = usize::from(sources).div_ceil(WIDTH);
+        let mut signs = Vec::with_capacity(alloc, words)?;
+        for _ in 0..words {
+            signs.push(AtomicU64::new(0))?;
         }
         let shared = Shared {
             parker: Parker::new(),
@@ -69,23 +76,46 @@ impl Bell {
 
     /// Raises the sign of a source, where it isn't.
     pub(crate) fn raise(&self, source: u16) {
-        if let Some(sign) = self.shared.signs.get(usize::from(source)) {
-            if !sign.load(Ordering::SeqCst) {
-                sign.store(true, Ordering::SeqCst);
+        if let Some(word) = self.shared.signs.get(usize::from(source) / WIDTH) {
+            let sign = sign_of(source);
+            if word.load(Ordering::SeqCst) & sign == 0 {
+                word.fetch_or(sign, Ordering::SeqCst);
             }
         }
     }
 
     pub(crate) fn lower(&self, source: u16) {
-        if let Some(sign) = self.shared.signs.get(usize::from(source)) {
-            sign.store(false, Ordering::SeqCst);
+        if let Some(word) = self.shared.signs.get(usize::from(source) / WIDTH) {
+            word.fetch_and(!sign_of(source), Ordering::SeqCst);
         }
     }
 
-    pub(crate) fn is_raised(&self, source: u16) -> bool {
-        match self.shared.signs.get(usize::from(source)) {
-            Some(sign) => sign.load(Ordering::SeqCst),
-            None => false,
+    /// The first source from one on, up to another, whose sign is raised.
+    pub(crate) fn first_raised(&self, from: u16, to: u16) -> Option<u16>
+        ensures { IfSome result (λ source. (from ≤ source) × (source < to)) }
+    {
+        let from = usize::from(from);
+        let to = usize::from(to);
+        for place in from / WIDTH..to.div_ceil(WIDTH) {
+            let begin = from.max(place * WIDTH);
+            let raised = self.word(place) >> (begin % WIDTH);
+            if raised != 0 {
+                let source = begin + raised.trailing_zeros() as usize;
+                return if source < to {
+                    Some(source as u16)
+                } else {
+                    None
+                };
+            }
+        }
+        None
+    }
+
+    /// The signs of the sources from 64 times this place on.
+    fn word(&self, place: usize) -> u64 {
+        match self.shared.signs.get(place) {
+            Some(word) => word.load(Ordering::SeqCst),
+            None => 0,
         }
     }
 
@@ -93,4 +123,9 @@ impl Bell {
     pub(crate) fn wait<R: Wait>(&self, rt: &R, longest: Duration) {
         self.shared.parker.park_timeout(rt, longest);
     }
+}
+
+/// The sign of a source in its word.
+fn sign_of(source: u16) -> u64 {
+    1 << (usize::from(source) % WIDTH)
 }

@@ -68,12 +68,12 @@ fn take_among_raised<R: Wait>(
     requires takes { EachMayTake ends.old.items }
     ensures { TakesOne to ends.old.items result ends.new.items }
 {
-    for source in from..to {
-        if bell.is_raised(source) {
-            if let Some(item) = take_raised(rt, bell, ends, source) {
-                return Some(item);
-            }
+    let mut next = from;
+    while let Some(source) = bell.first_raised(next, to) {
+        if let Some(item) = take_raised(rt, bell, ends, source) {
+            return Some(item);
         }
+        next = source + 1;
     }
     None
 }

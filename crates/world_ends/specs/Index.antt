@@ -1,5 +1,5 @@
 -- SPDX-License-Identifier: MIT OR Apache-2.0
--- Where the mobile of a number stands.
+-- The place of the mobile of a number.
 use Rattle.std.specs.Prelude.{◌≡◌, ℕ, ◌<◌, List, slice_get, Option, Some}
 use Rattle.std.specs.List.{position}
 use Rattle.world_model.specs.World.{Mobile, has_number}
