@@ -1,5 +1,6 @@
 // SPDX-License-Identifier: MIT OR Apache-2.0
 ghost use Rattle.std.specs.Prelude.{◌≡◌, ◌∷◌, ◌++◌, [], IfOk, List, OnOk, drop, slice_get};
+ghost use Rattle.std.specs.Prelude.{option_map};
 ghost use Rattle.world_trace.specs.declared.sight.Sight.{Sight as SightState};
 ghost use Rattle.world_trace.specs.Notes.{absent, change_of, down_notes, goes, hold_notes};
 ghost use Rattle.world_trace.specs.Notes.{is_live, is_put, puts_of};
@@ -156,7 +157,7 @@ pub(crate) fn note_steps(
 {
     let mut next = 0;
     for sight in before {
-        next = note_beside(puts, *sight, behind, next, notes)?;
+        next = note_beside(puts, sight, behind, next, notes)?;
     }
     note_begun(puts, behind, next, notes)
 }
@@ -165,33 +166,33 @@ pub(crate) fn note_steps(
 /// and gives the place of the one behind that.
 fn note_beside(
     puts: Puts,
-    before: Sight,
+    before: &Sight,
     behind: &[Sight],
     next: usize,
     notes: &mut Vec<Note>,
 ) -> Result<usize, Memory>
     ensures { IfOk result (λ last. (others : List SightState) →
         notes.new.items ++ notes_between puts others (drop last behind.now)
-        ≡ notes.old.items ++ notes_between puts (before ∷ others) (drop next behind.now)) }
+        ≡ notes.old.items ++ notes_between puts (before.now ∷ others) (drop next behind.now)) }
 {
     match same_at(behind, next, before.number) {
         Some(sight) => {
-            note_step(puts, before, sight, notes)?;
+            note_kept(puts, before, sight, notes)?;
             Ok(next + 1)
         }
         None => {
-            note_step(puts, before, absent(before.number), notes)?;
+            note_step(puts, before, &absent(before.number), notes)?;
             Ok(next)
         }
     }
 }
 
 /// The connection at a place, where it has this number.
-fn same_at(sights: &[Sight], place: usize, number: u32) -> Option<Sight>
-    ensures { result ≡ same number (slice_get sights.now place) }
+fn same_at(sights: &[Sight], place: usize, number: u32) -> Option<&Sight>
+    ensures { option_map (λ s. s.now) result ≡ same number (slice_get sights.now place) }
 {
     match sights.get(place) {
-        Some(sight) if sight.number == number => Some(*sight),
+        Some(sight) if sight.number == number => Some(sight),
         _ => None,
     }
 }
@@ -207,34 +208,54 @@ fn note_begun(
         (notes.new.items ≡ notes.old.items ++ notes_between puts [] (drop next behind.now)) }
 {
     for place in next..behind.len() {
-        let sight = behind[place];
-        note_step(puts, absent(sight.number), sight, notes)?;
+        let sight = &behind[place];
+        note_step(puts, &absent(sight.number), sight, notes)?;
     }
     Ok(())
 }
 
-/// Notes what became of one connection, mostly nothing.
+/// Notes what became of a connection that is still there, mostly nothing. What was seen of it is
+/// compared where it is.
 #[tactic(auto, using(crate::proofs::Turning::unchanged_none))]
-fn note_step(puts: Puts, before: Sight, behind: Sight, notes: &mut Vec<Note>) -> Result<(), Memory>
-    ensures { OnOk result (notes.new.items ≡ notes.old.items ++ step_notes puts before behind) }
+fn note_kept(
+    puts: Puts,
+    before: &Sight,
+    behind: &Sight,
+    notes: &mut Vec<Note>,
+) -> Result<(), Memory>
+    ensures { OnOk result
+        (notes.new.items ≡ notes.old.items ++ step_notes puts before.now behind.now) }
 {
     if is_unchanged(before, behind) {
         return Ok(());
     }
-    note_phase(before.number, before.phase, behind.phase, notes)?;
-    note_down(puts, before, behind, notes)?;
-    note_up(puts, before, behind, notes)
+    note_step(puts, before, behind, notes)
 }
 
 /// Whether a connection is as far as before, and as many of its messages are held.
-fn is_unchanged(before: Sight, behind: Sight) -> bool
-    ensures { result ≡ is_unchanged before behind }
+fn is_unchanged(before: &Sight, behind: &Sight) -> bool
+    ensures { result ≡ is_unchanged before.now behind.now }
 {
     order(before.phase) == order(behind.phase)
         && before.down_zero == behind.down_zero
         && before.down_three == behind.down_three
         && before.up_zero == behind.up_zero
         && before.up_three == behind.up_three
+}
+
+/// Notes what became of one connection.
+fn note_step(
+    puts: Puts,
+    before: &Sight,
+    behind: &Sight,
+    notes: &mut Vec<Note>,
+) -> Result<(), Memory>
+    ensures { OnOk result
+        (notes.new.items ≡ notes.old.items ++ step_notes puts before.now behind.now) }
+{
+    note_phase(before.number, before.phase, behind.phase, notes)?;
+    note_down(puts, before, behind, notes)?;
+    note_up(puts, before, behind, notes)
 }
 
 fn note_phase(number: u32, from: Phase, to: Phase, notes: &mut Vec<Note>) -> Result<(), Memory>
@@ -247,8 +268,14 @@ fn note_phase(number: u32, from: Phase, to: Phase, notes: &mut Vec<Note>) -> Res
 }
 
 /// Notes what became of the messages that are held for the mobile.
-fn note_down(puts: Puts, before: Sight, behind: Sight, notes: &mut Vec<Note>) -> Result<(), Memory>
-    ensures { OnOk result (notes.new.items ≡ notes.old.items ++ down_notes puts before behind) }
+fn note_down(
+    puts: Puts,
+    before: &Sight,
+    behind: &Sight,
+    notes: &mut Vec<Note>,
+) -> Result<(), Memory>
+    ensures { OnOk result
+        (notes.new.items ≡ notes.old.items ++ down_notes puts before.now behind.now) }
 {
     let number = before.number;
     let are_put = puts.down && is_live(behind.phase);
@@ -259,8 +286,9 @@ fn note_down(puts: Puts, before: Sight, behind: Sight, notes: &mut Vec<Note>) ->
 }
 
 /// Notes what became of the messages that are held for the switch.
-fn note_up(puts: Puts, before: Sight, behind: Sight, notes: &mut Vec<Note>) -> Result<(), Memory>
-    ensures { OnOk result (notes.new.items ≡ notes.old.items ++ up_notes puts before behind) }
+fn note_up(puts: Puts, before: &Sight, behind: &Sight, notes: &mut Vec<Note>) -> Result<(), Memory>
+    ensures { OnOk result
+        (notes.new.items ≡ notes.old.items ++ up_notes puts before.now behind.now) }
 {
     let number = before.number;
     let are_put = puts.up && is_live(behind.phase);

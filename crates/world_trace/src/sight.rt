@@ -1,5 +1,6 @@
 // SPDX-License-Identifier: MIT OR Apache-2.0
-ghost use Rattle.std.specs.Prelude.{◌≡◌, ◌++◌, IfOk, OnOk, option_to_list, slice_get};
+ghost use Rattle.std.specs.Prelude.{◌≡◌, ◌<◌, ◌≤◌, ◌+◌, ◌++◌, IfOk, option_to_list, slice_get};
+ghost use Rattle.std.specs.Prelude.{vec_capacity, vec_len};
 ghost use Rattle.world_trace.specs.Sights.{phase_in, phase_of, sight_of, sights_of};
 
 use conn_fsm::Conn;
@@ -50,35 +51,37 @@ pub(crate) fn sights(alloc: Global, network: &Network) -> Result<Vec<Sight>, Mem
 {
     let mut sights = Vec::with_capacity(alloc, network.connection_count())?;
     for place in 0..network.connection_count() {
-        note_sight(network, place, &mut sights)?;
+        note_sight(network, place, &mut sights);
     }
     Ok(sights)
 }
 
+/// Puts what is seen of the connection at a place behind the others, for which there is room.
 #[tactic(auto, using(crate::proofs::Seeing::sight_some, crate::proofs::Seeing::sight_none))]
-fn note_sight(network: &Network, place: usize, sights: &mut Vec<Sight>) -> Result<(), Memory>
-    ensures { OnOk result (sights.new.items ≡ sights.old.items ++ sights_of
-        (option_to_list (slice_get network.now.controller.entries place))) }
+fn note_sight(network: &Network, place: usize, sights: &mut Vec<Sight>)
+    requires { vec_len sights.old < vec_capacity sights.old }
+    ensures items { sights.new.items ≡ sights.old.items ++ sights_of
+        (option_to_list (slice_get network.now.controller.entries place)) }
+    ensures len { vec_len sights.new ≤ vec_len sights.old + 1 }
+    ensures capacity { vec_capacity sights.new ≡ vec_capacity sights.old }
 {
     match network.connection_at(place) {
-        Some(conn) => {
-            sights.push(sight_of(conn))?;
-            Ok(())
-        }
-        None => Ok(()),
+        Some(conn) => sights.push_reserved(sight_of(conn)),
+        None => {}
     }
 }
 
+/// What is seen of a connection: first what is counted, so that nothing waits for these calls.
 fn sight_of(conn: &Conn) -> Sight
     ensures { result ≡ sight_of conn.now }
 {
     Sight {
-        number: conn.number(),
-        phase: phase_of(conn.state()),
         down_zero: conn.held_count(Sapi::Zero),
         down_three: conn.held_count(Sapi::Three),
         up_zero: conn.held_up_count(Sapi::Zero),
         up_three: conn.held_up_count(Sapi::Three),
+        number: conn.number(),
+        phase: phase_of(conn.state()),
     }
 }
 

@@ -5,13 +5,13 @@ use Rattle.world_trace.specs.Notes.{step_notes}
 use Rattle.world_trace.proofs.Turning.{beside_none, beside_some}
 use Rattle.world_trace.proofs.note.note_beside.Goals as goal
 
-pub returns-in_ok-note_step-in-Some : goal.returns-in_ok-note_step-in-Some
-returns-in_ok-note_step-in-Some c = λ others.
-    beside_some c.args.puts c.args.before c.in-Some.sight c.args.behind.now others c.args.next c.args.notes.now.items
-    c.note_step.new.notes.items (sym c.in-Some.ensures) c.in_ok-note_step-in-Some.ensures
+pub returns-in_ok-note_kept-in-Some : goal.returns-in_ok-note_kept-in-Some
+returns-in_ok-note_kept-in-Some c = λ others.
+    beside_some c.args.puts c.args.before.now c.in-Some.sight.now c.args.behind.now others c.args.next c.args.notes.now.items
+    c.note_kept.new.notes.items (sym c.in-Some.ensures) c.in_ok-note_kept-in-Some.ensures
 
 pub returns-in_ok-note_step-in-None : goal.returns-in_ok-note_step-in-None
 returns-in_ok-note_step-in-None c = λ others.
-    beside_none c.args.puts c.args.before c.args.behind.now others c.args.next c.args.notes.now.items c.note_step-in-None.new.notes.items
+    beside_none c.args.puts c.args.before.now c.args.behind.now others c.args.next c.args.notes.now.items c.note_step.new.notes.items
     (sym c.in-None.ensures)
-    (c.in_ok-note_step-in-None.ensures ∙ ap (λ (s : Sight). c.args.notes.now.items ++ step_notes c.args.puts c.args.before s) c.absent.ensures)
+    (c.in_ok-note_step-in-None.ensures ∙ ap (λ (s : Sight). c.args.notes.now.items ++ step_notes c.args.puts c.args.before.now s) c.absent.ensures)

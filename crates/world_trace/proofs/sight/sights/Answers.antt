@@ -1,4 +1,5 @@
 -- SPDX-License-Identifier: MIT OR Apache-2.0
+use Rattle.std.proofs.Common.{◌∙◌, arith}
 use Rattle.controller_model.specs.Controller.{Entry}
 use Rattle.world_trace.specs.Sights.{sight_of}
 use Rattle.world_trace.proofs.Walking.{map_more}
@@ -6,5 +7,11 @@ use Rattle.world_trace.proofs.sight.sights.Goals as goal
 
 pub loop-place-preserved : goal.loop-place-preserved
 loop-place-preserved c =
-    map_more (λ (e : Entry). sight_of e.connection) c.loop-place.sights.items c.note_sight.new.sights.items _
-    c.args.network.now.controller.entries c.loop-place.place c.loop-place.invariant c.in_ok-note_sight.ensures
+    let now = c.loop-place in
+    let seen = c.note_sight.ensures in
+    record {
+      seen = map_more (λ (e : Entry). sight_of e.connection) now.sights.items c.note_sight.new.sights.items _
+          c.args.network.now.controller.entries now.place now.invariant.seen seen.items;
+      within = omega (arith, now.invariant.within, seen.len);
+      room = seen.capacity ∙ now.invariant.room;
+    }

@@ -1,7 +1,12 @@
 -- SPDX-License-Identifier: MIT OR Apache-2.0
-use Rattle.std.proofs.Common.{◌≡◌, ◌++◌, drop}
+use Rattle.std.proofs.Common.{◌≡◌, ◌≤◌, ◌++◌, drop, length, vec_capacity, vec_len}
 use Rattle.world_trace.specs.Sights.{sights_of}
 use Rattle.world_trace.proofs.sight.sights.Given as goal
 
+-- what was seen, with what is left to see, is all of it, for which there is room
 abbrev pub invariant-loop-place : goal.invariant-loop-place
-invariant-loop-place l = l.sights.items ++ sights_of (drop l.place l.network.controller.entries) ≡ sights_of l.network.controller.entries
+invariant-loop-place l = record {
+  seen : l.sights.items ++ sights_of (drop l.place l.network.controller.entries) ≡ sights_of l.network.controller.entries;
+  within : vec_len l.sights ≤ l.place;
+  room : vec_capacity l.sights ≡ length l.network.controller.entries;
+}
