@@ -15,6 +15,8 @@ mod frames;
 #[cfg(test)]
 mod inbox;
 #[cfg(test)]
+mod many_sources;
+#[cfg(test)]
 mod outbox;
 #[cfg(test)]
 mod pauses;
