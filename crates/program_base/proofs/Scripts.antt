@@ -311,8 +311,8 @@ neither : (event : Event) (fault : LineFault) → fault ≡ BadEvent → ((let r
 neither event fault bad (inl is) = absurd (cc is)
 neither event fault bad (inr is) = absurd (cc (bad, is))
 
-pub no_event : (cells : ℕ) (line text : List ℕ) (fault : LineFault) → text ≡ line → fault ≡ BadEvent → ((event : Event) → IsLine cells event text → ((let r : Result Event LineFault = Err fault in r) ≡ Ok event) ⊎ ((let r : Result Event LineFault = Err fault in r) ≡ Err Memory)) → IsBadLine cells line
-no_event cells line text fault is bad only = inr (λ event says. neither event fault bad (only event (subst (IsLine cells event) (sym is) says)))
+pub no_event : (cells : ℕ) (line : List ℕ) (fault : LineFault) → fault ≡ BadEvent → ((event : Event) → IsLine cells event line → ((let r : Result Event LineFault = Err fault in r) ≡ Ok event) ⊎ ((let r : Result Event LineFault = Err fault in r) ≡ Err Memory)) → IsBadLine cells line
+no_event cells line fault bad only = inr (λ event says. neither event fault bad (only event says))
 
 -- behind no octets
 pub behind_none : (xs ys : List ℕ) → length xs ≡ 0 → ys ≡ xs ++ ys

@@ -1,9 +1,7 @@
 -- SPDX-License-Identifier: MIT OR Apache-2.0
 -- Lines and their words.
-use Rattle.std.proofs.Common.{◌≡◌, ◌≢◌, ℕ, ◌+◌, ◌<◌, Bool, List, [], ◌∷◌, length, refl, sym, ap, ◌∙◌, arith, inl, inr, not, None, Some, take, drop, get_or, false, subst, lit<}
-use Rattle.std.proofs.lemmas.Bool.{cases_Bool, cond-true, cond-false, eqb-true}
-use Rattle.std.proofs.lemmas.Str.{IsCharBoundary-after_ascii}
-use Rattle.std.specs.Str.{IsCharBoundary, IsUtf8}
+use Rattle.std.proofs.Common.{◌≡◌, ◌≢◌, ℕ, ◌+◌, ◌<◌, Bool, List, [], ◌∷◌, length, refl, sym, ap, ◌∙◌, arith, inl, inr, not, None, Some, take, drop, get_or, false}
+use Rattle.std.proofs.lemmas.Bool.{cases_Bool, cond-true, cond-false}
 use Rattle.std.proofs.lemmas.List.Sums.{position_or_len_is}
 use Rattle.memchr.specs.Find.{IsFirstByte, Nowhere, Passes, is_byte}
 use Rattle.program_base.specs.WordsLeft.{is_space}
@@ -58,10 +56,3 @@ pub no_space : (line : List ℕ) → IsFirstByte (is_byte 32) line None → slic
 no_space line none =
     slice_split_unfound is_space line
     (position_or_len_is is_space line (length line) 0 (omega arith) (λ k below. fails_before line (length line) k none below) (λ (below : length line < length line). absurd (omega arith)))
-
--- behind a space stands a character, or the end
-pub after_space : (line : List ℕ) (n : ℕ) → IsUtf8 line → IsFirstByte (is_byte 32) line (Some n) → IsCharBoundary line (n + 1)
-after_space line n text first =
-    let is : get_or line n 0 ≡ 32 = eqb-true (get_or line n 0) 32 first.1 in
-    let high : n < length line = first.0.high in
-    IsCharBoundary-after_ascii line n text high (subst (λ (octet : ℕ). octet < 128) (sym is) (lit< tt))

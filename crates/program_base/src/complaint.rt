@@ -48,16 +48,16 @@ pub(crate) fn complaint_of(cells: u16, line: &[u8]) -> Option<Complaint> {
 }
 
 fn wrong_in_line(cells: u16, line: &[u8]) -> Result<(), Wrong> {
-    let Ok(line) = str::from_utf8(line) else {
+    if str::from_utf8(line).is_err() {
         return Err(Wrong::NotText);
-    };
+    }
     if line.is_empty() {
         return Err(Wrong::Empty);
     }
-    if line.as_bytes().contains(&b'\r') {
+    if line.contains(&b'\r') {
         return Err(Wrong::CarriageReturn);
     }
-    if has_empty_word(line.as_bytes()) {
+    if has_empty_word(line) {
         return Err(Wrong::Spaces);
     }
     wrong_in_words(cells, Words::of(line))
@@ -93,7 +93,7 @@ fn wrong_in_words(cells: u16, mut words: Words<'_>) -> Result<(), Wrong> {
 }
 
 /// Whether a word says what this sign wants.
-fn says(sign: Sign, cells: u16, word: &str) -> bool {
+fn says(sign: Sign, cells: u16, word: &[u8]) -> bool {
     match sign {
         Sign::Mobile => number_in(word, 1, 255).is_ok(),
         Sign::Station => number_in(word, 1, u32::from(cells)).is_ok(),

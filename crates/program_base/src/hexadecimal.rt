@@ -9,10 +9,13 @@ use octets::{Memory, Octets};
 use std::alloc::Global;
 use std::marker::Model;
 
+/// The octets that are looked up before it's asked whether all were digits.
+const PIECE: usize = 64;
+
 /// Octets, at least one, as a script line has them: in pairs of hexadecimal digits of either case.
 #[derive(Drop)]
 pub(crate) struct Hexadecimal<'a> {
-    digits: &'a str,
+    digits: &'a [u8],
 }
 
 impl<'a> Model for Hexadecimal<'a> {
@@ -28,7 +31,7 @@ impl<'a> Model for Hexadecimal<'a> {
 
 impl<'a> Hexadecimal<'a> {
     /// The octets whose hexadecimal digits the word has.
-    pub(crate) fn read(word: &'a str) -> Result<Hexadecimal<'a>, BadEvent>
+    pub(crate) fn read(word: &'a [u8]) -> Result<Hexadecimal<'a>, BadEvent>
         ensures { Reads (λ octets. octets) result (octets_in word.now) }
     {
         if !is_hexadecimal(word) {
@@ -41,7 +44,7 @@ impl<'a> Hexadecimal<'a> {
     pub(crate) fn decode(self, alloc: Global) -> Result<Octets, Memory>
         ensures { IfOk result (λ octets. octets ≡ self.entry) }
     {
-        let octets = decode_digits(alloc, self.digits.as_bytes())?;
+        let octets = decode_digits(alloc, self.digits)?;
         Ok(Octets::new(octets))
     }
 }
@@ -61,14 +64,30 @@ fn decode_digits(alloc: Global, digits: &[u8]) -> Result<Vec<u8>, Memory>
 }
 
 /// Whether the word is pairs of hexadecimal digits, and at least one.
-fn is_hexadecimal(word: &str) -> bool
+fn is_hexadecimal(word: &[u8]) -> bool
     ensures { result ≡ is_some (octets_in word.now) }
 {
-    !word.is_empty() && word.len() % 2 == 0 && all_hexadecimal(word.as_bytes())
+    !word.is_empty() && word.len() % 2 == 0 && all_hexadecimal(word)
+}
+
+/// Whether each octet is a digit. They are looked up in pieces, up to the first that has another
+/// octet.
+fn all_hexadecimal(octets: &[u8]) -> bool
+    ensures { result ≡ list_all is_hex_digit octets.now }
+{
+    let mut rest = octets;
+    while rest.len() > PIECE {
+        let (piece, behind) = rest.split_at(PIECE);
+        if !all_digits(piece) {
+            return false;
+        }
+        rest = behind;
+    }
+    all_digits(rest)
 }
 
 /// Whether each octet is a digit. All are looked up, so that no look-up waits for the one before it.
-fn all_hexadecimal(octets: &[u8]) -> bool
+fn all_digits(octets: &[u8]) -> bool
     ensures { result ≡ list_all is_hex_digit octets.now }
 {
     let mut values = 0;

@@ -22,7 +22,7 @@ const NAME_AND_SPACE: usize = 12;
 #[derive(Drop)]
 pub(crate) struct Words<'a> {
     /// From the next word on, or none where all were read.
-    rest: Option<&'a str>,
+    rest: Option<&'a [u8]>,
 }
 
 impl<'a> Model for Words<'a> {
@@ -36,14 +36,14 @@ impl<'a> Model for Words<'a> {
 
 impl<'a> Words<'a> {
     /// The words of a line.
-    pub(crate) fn of(line: &'a str) -> Words<'a>
+    pub(crate) fn of(line: &'a [u8]) -> Words<'a>
         ensures { result ≡ slice_split is_space line.now }
     {
         Words { rest: Some(line) }
     }
 
     /// The next word.
-    pub(crate) fn word(&mut self) -> Result<&'a str, BadEvent>
+    pub(crate) fn word(&mut self) -> Result<&'a [u8], BadEvent>
         ensures { ReadsNext (λ word. word.now) result (word_at self.old) self.new }
     {
         let Some(line) = self.rest else {
@@ -128,17 +128,17 @@ impl<'a> Words<'a> {
 }
 
 /// The first word of a line, and the line behind the space after it, if there is one.
-fn split_first(line: &str) -> (&str, Option<&str>)
+fn split_first(line: &[u8]) -> (&[u8], Option<&[u8]>)
     ensures { slice_split is_space line.now
         ≡ result.0.now ∷ words_left (option_map (λ rest. rest.now) result.1) }
 {
-    match first_space(line.as_bytes()) {
+    match first_space(line) {
         Some(end) => (&line[..end], Some(&line[end + 1..])),
         None => (line, None),
     }
 }
 
-/// Where the first space of a line stands. Most words end among the first octets, which are looked
+/// The place of the first space of a line. Most words end among the first octets, which are looked
 /// at one by one: that's done sooner than a call that could look at many at once.
 fn first_space(line: &[u8]) -> Option<usize>
     ensures { IsFirstByte (is_byte 32) line.now result }

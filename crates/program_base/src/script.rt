@@ -48,13 +48,13 @@ pub(crate) enum Action {
 
 /// The action with this name.
 #[tactic(auto, unfolding(crate::specs::ScriptReading::action_in))]
-pub(crate) fn action_in(word: &str) -> Result<Action, BadEvent>
+pub(crate) fn action_in(word: &[u8]) -> Result<Action, BadEvent>
     ensures { Reads (λ action. action) result (action_in word.now) }
 {
     match word {
-        "assign" => Ok(Action::Assign),
-        "clear" => Ok(Action::Clear),
-        "dtap" => Ok(Action::Dtap),
+        b"assign" => Ok(Action::Assign),
+        b"clear" => Ok(Action::Clear),
+        b"dtap" => Ok(Action::Dtap),
         _ => Err(BadEvent),
     }
 }
@@ -117,15 +117,14 @@ impl Kind {
 }
 
 /// The kind of line that begins with this word. It is compared with one name alone.
-pub(crate) fn kind_in(word: &str) -> Result<Kind, BadEvent>
+pub(crate) fn kind_in(word: &[u8]) -> Result<Kind, BadEvent>
     ensures { Reads (λ kind. kind) result (kind_in word.now) }
 {
-    let octets = word.as_bytes();
-    if octets.len() < 3 {
+    if word.len() < 3 {
         return Err(BadEvent);
     }
-    match Kind::of_shape(octets.len(), octets[octets.len() - 3]) {
-        Some(kind) if word == kind.name() => Ok(kind),
+    match Kind::of_shape(word.len(), word[word.len() - 3]) {
+        Some(kind) if word == kind.name().as_bytes() => Ok(kind),
         _ => Err(BadEvent),
     }
 }
@@ -305,6 +304,18 @@ fn line_of(alloc: Global, cells: u16, mut words: Words<'_>) -> Result<Event, Lin
 /// Reads one line of a script: the event whose text the line is, where there are so many cells. A
 /// line that is no event's text is `BadEvent`; memory is needed only where the line is one's.
 pub fn read_line(alloc: Global, cells: u16, line: &str) -> Result<Event, LineFault>
+    ensures event { IfOk result (λ event. IsLine cells event line.now) }
+    ensures only { (event : WorldEvent) → IsLine cells event line.now
+        → (result ≡ Ok event) ⊎ (result ≡ Err LineFault.Memory) }
+    ensures memory { result ≡ Err LineFault.Memory
+        → (event : WorldEvent) × IsLine cells event line.now }
+{
+    read_octets(alloc, cells, line.as_bytes())
+}
+
+/// Reads the octets of one line of a script, as `read_line` does. Octets that are no text are no
+/// event's.
+pub(crate) fn read_octets(alloc: Global, cells: u16, line: &[u8]) -> Result<Event, LineFault>
     ensures event { IfOk result (λ event. IsLine cells event line.now) }
     ensures only { (event : WorldEvent) → IsLine cells event line.now
         → (result ≡ Ok event) ⊎ (result ≡ Err LineFault.Memory) }

@@ -7,7 +7,7 @@ use crate::line_fault::BadEvent;
 use dtap_codec::Sapi;
 
 /// A decimal number from low to high, in digits alone, of which the first may be zeros.
-pub(crate) fn number_in(word: &str, low: u32, high: u32) -> Result<u32, BadEvent>
+pub(crate) fn number_in(word: &[u8], low: u32, high: u32) -> Result<u32, BadEvent>
     ensures number { Reads (λ n. n) result (number_in low high word.now) }
     ensures range { IfOk result (λ n. (low ≤ n) × (n ≤ high)) }
 {
@@ -22,7 +22,7 @@ pub(crate) fn number_in(word: &str, low: u32, high: u32) -> Result<u32, BadEvent
 pub fn read_source(cells: u16, word: &str) -> Option<u16>
     ensures { result ≡ source_in cells word.now }
 {
-    match number_in(word, 0, u32::from(cells)) {
+    match number_in(word.as_bytes(), 0, u32::from(cells)) {
         Ok(number) => Some(number as u16),
         Err(BadEvent) => None,
     }
@@ -31,7 +31,7 @@ pub fn read_source(cells: u16, word: &str) -> Option<u16>
 /// The number that a word of decimal digits writes, where that is below 2 to the 32. The word is
 /// read once, up to where it's refused.
 #[tactic(auto, using(crate::proofs::Decimals::decimal_grows))]
-fn decimal(word: &str) -> Result<u32, BadEvent>
+fn decimal(word: &[u8]) -> Result<u32, BadEvent>
     ensures { MatchResult result (λ n. (is_decimal word.now ≡ true) × (decimal_after 0 word.now
         ≡ n)) (λ _. is_decimal word.now ≡ true → 2 ^ 32 ≤ decimal_after 0 word.now) }
 {
@@ -39,7 +39,7 @@ fn decimal(word: &str) -> Result<u32, BadEvent>
         return Err(BadEvent);
     }
     let mut number = 0_u64;
-    let mut rest = word.as_bytes();
+    let mut rest = word;
     while let [digit, behind @ ..] = rest {
         if !digit.is_ascii_digit() {
             return Err(BadEvent);
@@ -54,10 +54,10 @@ fn decimal(word: &str) -> Result<u32, BadEvent>
 }
 
 /// A SAPI, which is the word `0` or `3`.
-pub(crate) fn sapi_in(word: &str) -> Result<Sapi, BadEvent>
+pub(crate) fn sapi_in(word: &[u8]) -> Result<Sapi, BadEvent>
     ensures { Reads (λ sapi. sapi) result (sapi_in word.now) }
 {
-    match word.as_bytes() {
+    match word {
         [b'0'] => Ok(Sapi::Zero),
         [b'3'] => Ok(Sapi::Three),
         _ => Err(BadEvent),
@@ -65,10 +65,10 @@ pub(crate) fn sapi_in(word: &str) -> Result<Sapi, BadEvent>
 }
 
 /// Yes or no, which is the word `y` or `n`.
-pub(crate) fn answer_in(word: &str) -> Result<bool, BadEvent>
+pub(crate) fn answer_in(word: &[u8]) -> Result<bool, BadEvent>
     ensures { Reads (λ answer. answer) result (answer_in word.now) }
 {
-    match word.as_bytes() {
+    match word {
         [b'y'] => Ok(true),
         [b'n'] => Ok(false),
         _ => Err(BadEvent),

@@ -9,12 +9,12 @@ ghost use Rattle.program_base.specs.declared.failure.Failure.TheVariants.{BadEve
 use crate::failure::Failure;
 use crate::input::{Sink, read_all, room_for};
 use crate::line_fault::LineFault;
-use crate::script::read_line;
+use crate::script::read_octets;
 use memchr::memchr;
 use octets::Memory;
 use std::alloc::Global;
 use std::io::Read;
-use std::{mem, str};
+use std::mem;
 use world_model::Event;
 
 /// The octets that one read asks for.
@@ -72,10 +72,7 @@ impl Script {
     {
         self.lines = self.lines.saturating_add(1);
         let bad_event = Failure::BadEvent(self.lines);
-        let Ok(line) = str::from_utf8(line) else {
-            return Err(bad_event);
-        };
-        match read_line(self.alloc, self.cells, line) {
+        match read_octets(self.alloc, self.cells, line) {
             Ok(event) => {
                 self.events.push(event).map_err(Memory::from)?;
                 Ok(())

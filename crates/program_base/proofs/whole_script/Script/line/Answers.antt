@@ -5,4 +5,4 @@ use Rattle.program_base.proofs.whole_script.Script.line.Goals as goal
 
 pub returns-in-Err-BadEvent-clause-bad : goal.returns-in-Err-BadEvent-clause-bad
 returns-in-Err-BadEvent-clause-bad c = λ n is.
-    (no_event c.args.self.now.cells c.args.line.now c.in-Ok.line.now c.in-Err-BadEvent.field-0 c.in-Ok.ensures.cases.0 c.in-Err-BadEvent.field-0-is c.in-Err-BadEvent.ensures.only, cc is ∙ c.saturating_add-self.ensures)
+    (no_event c.args.self.now.cells c.args.line.now c.in-Err-BadEvent.field-0 c.in-Err-BadEvent.field-0-is c.in-Err-BadEvent.ensures.only, cc is ∙ c.saturating_add-self.ensures)

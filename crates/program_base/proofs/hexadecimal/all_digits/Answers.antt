@@ -1,6 +1,6 @@
 -- SPDX-License-Identifier: MIT OR Apache-2.0
 use Rattle.program_base.proofs.HexadecimalLemmas.{digits_more}
-use Rattle.program_base.proofs.hexadecimal.all_hexadecimal.Goals as goal
+use Rattle.program_base.proofs.hexadecimal.all_digits.Goals as goal
 
 pub loop-octet-preserved : goal.loop-octet-preserved
 loop-octet-preserved c =
