@@ -86,7 +86,7 @@ fn all_hexadecimal(octets: &[u8]) -> bool
     all_digits(rest)
 }
 
-/// Whether each octet is a digit. All are looked up, so that no look-up waits for the one before it.
+/// Whether each octet is a digit. All are looked up, so that no look-up waits for another.
 fn all_digits(octets: &[u8]) -> bool
     ensures { result ≡ list_all is_hex_digit octets.now }
 {
