@@ -1,8 +1,9 @@
 -- SPDX-License-Identifier: MIT OR Apache-2.0
 -- The definitions at literal values.
-use Rattle.std.proofs.Common.{◌≡◌, ℕ, ◌<◌, zero, suc, Bool, true, false, true≢false, List, [], ◌∷◌, ◌++◌, length, slice_index_or, Ok, Err, refl, sym, ap, ◌∙◌, subst, arith, length-append}
+use Rattle.std.proofs.Common.{◌≡◌, ℕ, ◌-◌, ◌^◌, ◌<◌, zero, suc, Bool, true, false, true≢false, List, [], ◌∷◌, ◌++◌, length, slice_index_or, Ok, Err, refl, sym, ap, ◌∙◌, subst, arith, length-append}
 use mathlib.Core.Option.{some, some-injective, some-ne-none}
 use lib.ListN.{get_elem?}
+use Rattle.std.proofs.lemmas.Nat.Bits.{bit_at_above, bit_at_ones_above, bit_at-pow_other, bit_at-zero}
 use Rattle.atomic_table.specs.Seated.{TableId}
 use Rattle.ipa_framing.specs.declared.frame.Frame.{Frame}
 use Rattle.ruled_relay.specs.declared.item.Item.{Item}
@@ -17,6 +18,7 @@ use Rattle.ruled_relay.specs.Ends.{EndView, WasFull}
 use Rattle.ruled_relay.specs.Outbox.{AreNewOutbox, GivesLine, PutterView, PutsLine, TakesLine, refusing}
 use Rattle.ruled_relay.specs.Refusals.{Fate, accepted, refused, Meets, refused_first, most_refused, lines_put}
 use Rattle.ruled_relay.specs.Row.{EachAt, Row}
+use Rattle.ruled_relay.specs.Signs.{HasNoneBetween, HasNoneSet, IsFirstSet}
 use Rattle.ruled_relay.specs.Left.{GivesAll, items_of, left_from, left_of}
 use Rattle.ruled_relay.specs.Inbox.{AreJoined, AreNewInbox, GivesItem, IsAllGiven, IsJoined, PassView, PutsItem, TakesItem, queues_of}
 
@@ -316,3 +318,64 @@ given_until_none : (q : TableId) → GivesAll (joined q (what 8 ∷ []) [] ∷ [
 unfolding joined item what
 given_until_none q =
     (joined q (what 8 ∷ []) (what 8 ∷ []) ∷ [], (joined q (what 8 ∷ []) [], refl, refl, ([], refl), λ at d small e. absurd (omega arith)), all_given q)
+
+-- ---- the bits of a word: 34 has the bits 1 and 5
+
+set_and_clear : ◌≡◌ {A = ℕ} 1 0 → ⊥
+set_and_clear same = absurd (omega arith)
+
+none_from_2_to_5 : HasNoneBetween 2 5 34
+none_from_2_to_5 zero least below = absurd (omega arith)
+none_from_2_to_5 (suc zero) least below = absurd (omega arith)
+none_from_2_to_5 (suc (suc zero)) least below = refl
+none_from_2_to_5 (suc (suc (suc zero))) least below = refl
+none_from_2_to_5 (suc (suc (suc (suc zero)))) least below = refl
+none_from_2_to_5 (suc (suc (suc (suc (suc place))))) least below = absurd (omega arith)
+
+one_at_its_first_place : HasNoneBetween 1 5 34 → ⊥
+one_at_its_first_place none = set_and_clear (none 1 (omega arith) (omega arith))
+
+one_at_its_last_place : HasNoneBetween 2 6 34 → ⊥
+one_at_its_last_place none = set_and_clear (none 5 (omega arith) (omega arith))
+
+one_below_is_not_counted : IsFirstSet 2 34 5
+one_below_is_not_counted = (omega arith, omega arith, refl, none_from_2_to_5)
+
+nor_is_it_the_first : IsFirstSet 2 34 1 → ⊥
+nor_is_it_the_first first = absurd (omega (arith, first.0))
+
+none_between : (word place : ℕ) → HasNoneBetween place place word
+none_between word place at least below = absurd (omega arith)
+
+one_at_the_place_itself : IsFirstSet 5 34 5
+one_at_the_place_itself = (omega arith, omega arith, refl, none_between 34 5)
+
+not_the_second : IsFirstSet 0 34 5 → ⊥
+not_the_second first = set_and_clear (first.3 1 (omega arith) (omega arith))
+
+not_one_that_is_clear : IsFirstSet 2 34 4 → ⊥
+not_one_that_is_clear first = set_and_clear (sym first.2)
+
+the_lowest_bit : IsFirstSet 0 35 0
+the_lowest_bit = (omega arith, omega arith, refl, none_between 35 0)
+
+the_highest_bit : IsFirstSet 0 (2 ^ 63) 63
+the_highest_bit = (omega arith, omega arith, refl, λ place least below. bit_at-pow_other 63 place (λ e. absurd (omega arith)))
+
+none_beyond_the_word : IsFirstSet 0 (2 ^ 64) 64 → ⊥
+none_beyond_the_word first = absurd (omega (arith, first.1))
+
+none_in_no_word : HasNoneSet 0 0
+none_in_no_word place least below = bit_at-zero place
+
+none_behind_the_last : HasNoneSet 6 34
+none_behind_the_last place least below = bit_at_above 34 6 place (omega arith) least
+
+none_but_the_highest_is_set : HasNoneSet 63 (2 ^ 63 - 1)
+none_but_the_highest_is_set place least below = bit_at_ones_above 63 place least
+
+the_highest_is_set : HasNoneSet 0 (2 ^ 63) → ⊥
+the_highest_is_set none = set_and_clear (none 63 (omega arith) (omega arith))
+
+the_last_is_set : HasNoneSet 5 34 → ⊥
+the_last_is_set none = set_and_clear (none 5 (omega arith) (omega arith))

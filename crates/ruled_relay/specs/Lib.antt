@@ -6,3 +6,4 @@ pub mod Outbox
 pub mod Refusals
 pub mod Row
 pub mod Rule
+pub mod Signs

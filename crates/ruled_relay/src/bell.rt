@@ -1,5 +1,6 @@
 // SPDX-License-Identifier: MIT OR Apache-2.0
-ghost use Rattle.std.specs.Prelude.{◌≤◌, ◌<◌, IfSome};
+ghost use Rattle.std.specs.Prelude.{◌≤◌, ◌<◌, IfSome, MatchOption};
+ghost use Rattle.ruled_relay.specs.Signs.{HasNoneSet, IsFirstSet};
 
 use octets::Memory;
 use std::alloc::Global;
@@ -26,8 +27,10 @@ struct Shared {
     last: AtomicBool,
     /// A sign for each source, a bit, those of 64 sources in a word: whether its queue may hold an
     /// item. Who puts one raises the sign behind it. Who finds the queue empty lowers the sign and
-    /// looks once more: so the queue of a sign that isn't raised is empty, or holds an item whose
-    /// put hasn't returned yet.
+    /// looks once more; if there is an item then, the sign is raised again. Meanwhile the queue may
+    /// hold items whose puts have returned. At any other time the queue of a sign that isn't raised
+    /// is empty, or holds an item whose put hasn't returned yet. Where no signs are kept, there is
+    /// no word.
     signs: Vec<AtomicU64>,
 }
 
@@ -36,7 +39,8 @@ impl Bell {
         Bell::with_signs(alloc, 0)
     }
 
-    /// A bell with a sign for each of so many sources. None is raised.
+    /// A bell with a sign for each of so many sources. None is raised. For no sources it keeps no
+    /// signs: who waits at it asks its queues one by one.
     pub(crate) fn with_signs(alloc: Global, sources: u16) -> Result<Bell, Memory> {
         let words = usize::from(sources).div_ceil(WIDTH);
         let mut signs = Vec::with_capacity(alloc, words)?;
@@ -74,6 +78,11 @@ impl Bell {
         self.shared.last.swap(false, Ordering::SeqCst)
     }
 
+    /// Whether it keeps signs.
+    pub(crate) fn has_signs(&self) -> bool {
+        !self.shared.signs.is_empty()
+    }
+
     /// Raises the sign of a source, where it isn't.
     pub(crate) fn raise(&self, source: u16) {
         if let Some(word) = self.shared.signs.get(usize::from(source) / WIDTH) {
@@ -98,9 +107,8 @@ impl Bell {
         let to = usize::from(to);
         for place in from / WIDTH..to.div_ceil(WIDTH) {
             let begin = from.max(place * WIDTH);
-            let raised = self.word(place) >> (begin % WIDTH);
-            if raised != 0 {
-                let source = begin + raised.trailing_zeros() as usize;
+            if let Some(sign) = first_set(self.word(place), (begin % WIDTH) as u32) {
+                let source = place * WIDTH + sign as usize;
                 return if source < to {
                     Some(source as u16)
                 } else {
@@ -123,6 +131,18 @@ impl Bell {
     pub(crate) fn wait<R: Wait>(&self, rt: &R, longest: Duration) {
         self.shared.parker.park_timeout(rt, longest);
     }
+}
+
+/// The place of the first bit of a word that is set, of those from one on.
+fn first_set(word: u64, from: u32) -> Option<u32>
+    requires { from < 64 }
+    ensures { MatchOption result (HasNoneSet from word) (IsFirstSet from word) }
+{
+    let rest = word >> from;
+    if rest == 0 {
+        return None;
+    }
+    Some(from + rest.trailing_zeros())
 }
 
 /// The sign of a source in its word.

@@ -16,6 +16,9 @@ use std::marker::Model;
 use std::sync::Wait;
 use std::time::Duration;
 
+/// At most so many sources are asked one by one, sooner than their signs are kept.
+const FEW: u16 = 4;
+
 /// Why an item wasn't put. Either way it comes back.
 #[derive(Drop)]
 pub enum PutFault {
@@ -110,7 +113,7 @@ impl Inbox {
         ensures each { IfOk result (λ r. AreNewInbox capacity r.0 r.1.items) }
         ensures queues { IfOk result (λ r. queues_of r.0 ≡ map (λ p. p.queue) r.1.items) }
     {
-        let bell = Bell::with_signs(alloc, sources)?;
+        let bell = Bell::with_signs(alloc, signs_for(sources))?;
         let mut desk = Vec::with_capacity(alloc, usize::from(sources))?;
         let mut passes = Vec::with_capacity(alloc, usize::from(sources))?;
         for source in 0..sources {
@@ -149,6 +152,11 @@ impl Inbox {
             sources: desk.sources,
         }
     }
+}
+
+/// How many signs are kept for so many sources: one for each, or none for few.
+fn signs_for(sources: u16) -> u16 {
+    if sources <= FEW { 0 } else { sources }
 }
 
 impl SourcePass {

@@ -78,8 +78,26 @@ fn take_among_raised<R: Wait>(
     None
 }
 
-/// Asks all sources in turn, beginning with one of them, until one has an item. Those whose sign
-/// isn't raised have none.
+/// Asks all sources in turn, beginning with one of them, until one has an item.
+fn take_unsigned<R: Wait>(
+    rt: &R,
+    ends: &mut Vec<End<What>>,
+    turn: u16,
+    sources: u16,
+) -> Option<Item>
+    requires within { (turn ≤ sources) × (sources ≤ vec_len ends.old) }
+    requires takes { EachMayTake ends.old.items }
+    ensures { TakesOne sources ends.old.items result ends.new.items }
+{
+    match take_among(rt, ends, turn, sources) {
+        Some(item) => Some(item),
+        None => take_among(rt, ends, 0, turn),
+    }
+}
+
+/// Asks all sources in turn, beginning with one of them, until one has an item. Where signs are
+/// kept, it passes over those whose sign isn't raised: they have none, or one whose put hasn't
+/// returned yet.
 pub(crate) fn take_in_turn<R: Wait>(
     rt: &R,
     bell: &Bell,
@@ -91,6 +109,9 @@ pub(crate) fn take_in_turn<R: Wait>(
     requires takes { EachMayTake ends.old.items }
     ensures { TakesOne sources ends.old.items result ends.new.items }
 {
+    if !bell.has_signs() {
+        return take_unsigned(rt, ends, turn, sources);
+    }
     match take_among_raised(rt, bell, ends, turn, sources) {
         Some(item) => Some(item),
         None => take_among_raised(rt, bell, ends, 0, turn),
