@@ -1,7 +1,7 @@
 -- SPDX-License-Identifier: MIT OR Apache-2.0
 -- A row of queues, one for each source, seen as the ends at one side of them: what a call does to
 -- the one at a place.
-use Rattle.std.specs.Prelude.{◌≡◌, ℕ, ◌<◌, ◌≤◌, true, List, Option, Some, None}
+use Rattle.std.specs.Prelude.{◌≡◌, ◌⊎◌, ℕ, ◌<◌, ◌≤◌, true, List, Option, Some, None}
 use Rattle.std.specs.Prelude.{slice_set}
 use mathlib.Core.Option.{some}
 use lib.ListN.{get_elem?}
@@ -48,6 +48,15 @@ TakesAmong from to old (Some item) new =
     × ChangesAt item.source old new (λ e d. Takes e item.what d)
     × EachAmong from item.source old (λ e. IsDrained e.seen)
 TakesAmong from to old None new = (new ≡ old) × EachAmong from to old (λ e. IsDrained e.seen)
+
+-- Of so many sources all are asked in turn, from one on and then those before it: the item is taken
+-- at the place of the first whose queue isn't drained; or all are drained.
+abbrev pub TakesInTurn : ℕ → ℕ → Row → Option Item → Row → Type 0
+TakesInTurn turn sources old (Some item) new =
+    TakesAmong turn sources old (Some item) new
+    ⊎ (EachAmong turn sources old (λ e. IsDrained e.seen) × TakesAmong 0 turn old (Some item) new)
+TakesInTurn turn sources old None new =
+    (new ≡ old) × EachAmong 0 sources old (λ e. IsDrained e.seen)
 
 -- the item is taken at the place of its source, one of so many; or nothing changes
 abbrev pub TakesOne : ℕ → Row → Option Item → Row → Type 0

@@ -1,7 +1,8 @@
 // SPDX-License-Identifier: MIT OR Apache-2.0
 //! A row of queues, one for each source.
 ghost use Rattle.std.specs.Prelude.{◌≡◌, ◌<◌, ◌≤◌, true, vec_len};
-ghost use Rattle.ruled_relay.specs.Row.{EachMayTake, HasAt, JoinsAt, TakesAmong, TakesAt, TakesOne};
+ghost use Rattle.ruled_relay.specs.Row.{EachMayTake, HasAt, JoinsAt, TakesAmong, TakesAt};
+ghost use Rattle.ruled_relay.specs.Row.{TakesInTurn, TakesOne};
 ghost use Rattle.ruled_relay.specs.Rule.{putting};
 
 use crate::bell::Bell;
@@ -87,7 +88,8 @@ fn take_unsigned<R: Wait>(
 ) -> Option<Item>
     requires within { (turn ≤ sources) × (sources ≤ vec_len ends.old) }
     requires takes { EachMayTake ends.old.items }
-    ensures { TakesOne sources ends.old.items result ends.new.items }
+    ensures one { TakesOne sources ends.old.items result ends.new.items }
+    ensures turn { TakesInTurn turn sources ends.old.items result ends.new.items }
 {
     match take_among(rt, ends, turn, sources) {
         Some(item) => Some(item),
