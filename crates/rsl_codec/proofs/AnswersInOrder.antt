@@ -111,7 +111,7 @@ last_one octets [] are same = absurd cc
 last_one octets (e ∷ []) are same = one_more octets e (same_id e.id 0x0b [] [] same) are
 last_one octets (e ∷ f ∷ es) are same = absurd cc
 
--- ---- L1 information, or none, and the same behind it
+-- ---- L1 information or none, and behind it L3 information or none
 
 -- its octets, where there are such
 abbrev pub pair_text : Option (ℕ × ℕ) → List ℕ
@@ -242,7 +242,7 @@ begins_with (a ∷ octets) id format rest known is stops =
 begins : (octets rest : List ℕ) → octets ≡ 0x0b ∷ rest → Stops ELEMENTS octets → false ≡ true
 begins octets rest is stops = begins_with octets 0x0b TlvE rest refl is stops
 
--- L1 information isn't L3 information, nor does no element begin with it
+-- octets that begin with L1 information are neither L3 information nor octets at which no element begins
 no_l1 : (octets rest : List ℕ) (l3 : Option (List ℕ)) → octets ≡ 0x0a ∷ rest → AreElements ELEMENTS octets (l3_elements l3) false → false ≡ true
 no_l1 octets rest None is are = begins_with octets 0x0a (Tv 2) rest refl is are
 no_l1 octets rest (Some v) is are =

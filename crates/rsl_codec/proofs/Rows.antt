@@ -1,6 +1,6 @@
 -- SPDX-License-Identifier: MIT OR Apache-2.0
 -- Definitions against literal octets (TS 48.058 clauses 8 and 9).
-use Rattle.std.proofs.Common.{◌≡◌, ℕ, Bool, List, [], ◌∷◌, ◌++◌, drop, filter, get_or, length, map, replicate, true, false, Some, None, Ok, Err, refl, ap, inl, inr, arith}
+use Rattle.std.proofs.Common.{◌≡◌, ℕ, Bool, List, [], ◌∷◌, ◌++◌, drop, filter, get_or, length, map, replicate, true, false, Some, None, Ok, Err, refl, ap, arith}
 use Rattle.std.specs.List.{range_with_len}
 use Rattle.octets.proofs.Hex.{hex}
 use Rattle.octets.specs.declared.element.Format.TheVariants.{Tv, Tlv, TlvE}
@@ -630,6 +630,9 @@ fourth_of ids = get_or ids 3 0
 abbrev fifth_of : List ℕ → ℕ
 fifth_of ids = get_or ids 4 0
 
+abbrev sixth_of : List ℕ → ℕ
+sixth_of ids = get_or ids 5 0
+
 -- the power before the uplink
 not_ids_of_another : AreInOrder (0x01 ∷ 0x1b ∷ 0x04 ∷ 0x19 ∷ 0x0a ∷ 0x0b ∷ []) → ⊥
 not_ids_of_another (l1, l3, same) = omega (arith, ap third_of same)
@@ -667,10 +670,25 @@ one_is_repeated : StandsInOrder (hex "08 28 01 41 1b 05 19 03 14 15 16 04 02 0a 
 unfolding elements_of walk
 one_is_repeated is = not_ids_of_repeated is.order
 
+-- L1 information twice
+not_ids_of_l1_twice : AreInOrder (0x01 ∷ 0x1b ∷ 0x19 ∷ 0x04 ∷ 0x0a ∷ 0x0a ∷ []) → ⊥
+not_ids_of_l1_twice (false, false, same) = omega (arith, ap length same)
+not_ids_of_l1_twice (false, true, same) = omega (arith, ap length same)
+not_ids_of_l1_twice (true, false, same) = omega (arith, ap length same)
+not_ids_of_l1_twice (true, true, same) = omega (arith, ap sixth_of same)
+
+l1_is_repeated : StandsInOrder (hex "08 28 01 41 1b 05 19 03 14 15 16 04 02 0a 01 03 0a 01 03") → ⊥
+unfolding elements_of walk
+l1_is_repeated is = not_ids_of_l1_twice is.order
+
 -- L1 information, and L3 information, that is cut, and another message of the same elements
 l1_is_cut : StandsInOrder (hex "08 28 01 41 1b 05 19 03 14 15 16 04 02 0a 01") → ⊥
 unfolding rsl_reading message_at elements_of breaks_off rsl_type walk measurement_result_at
 l1_is_cut is = let no = is.reads in absurd cc
+
+l1_is_its_identifier_alone : StandsInOrder (hex "08 28 01 41 1b 05 19 03 14 15 16 04 02 0a") → ⊥
+unfolding rsl_reading message_at elements_of breaks_off rsl_type walk measurement_result_at
+l1_is_its_identifier_alone is = let no = is.reads in absurd cc
 
 one_is_cut : StandsInOrder (hex "08 28 01 41 1b 05 19 03 14 15 16 04 02 0a 01 03 0b 00 02 06") → ⊥
 unfolding rsl_reading message_at elements_of breaks_off rsl_type walk measurement_result_at

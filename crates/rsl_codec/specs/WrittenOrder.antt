@@ -46,19 +46,19 @@ pub record IsMeasurement
   pub number_is : message.number.0 ≡ number
   pub l3_is : message.l3 ≡ l3
 
--- the identifiers of the elements that it always has, in written order
+-- the identifiers that written order begins with, none of them missing
 abbrev pub measured_order : List ℕ
 measured_order = CHANNEL_NUMBER ∷ MEASUREMENT_NUMBER ∷ UPLINK_MEASUREMENTS ∷ BS_POWER ∷ []
 
 -- the identifier of an element, where it is there
-abbrev pub where_there : Bool → ℕ → List ℕ
-where_there is_there id = if is_there then id ∷ [] else []
+abbrev pub id_where_there : Bool → ℕ → List ℕ
+id_where_there is_there id = if is_there then id ∷ [] else []
 
 -- These identifiers are in written order: all of them, but perhaps no L1 information and perhaps
 -- no L3 information.
 abbrev pub AreInOrder : List ℕ → Type 0
 AreInOrder ids = (has_l1 : Bool) × (has_l3 : Bool) × (ids ≡ measured_order ++
-    (where_there has_l1 L1_INFORMATION ++ where_there has_l3 L3_INFORMATION))
+    (id_where_there has_l1 L1_INFORMATION ++ id_where_there has_l3 L3_INFORMATION))
 
 -- What is read is a MEASUREMENT RESULT, and the elements of its body are in written order.
 pub record IsInOrder (reading : Result Rsl RslFault) (body : List ℕ) : Type 0 where

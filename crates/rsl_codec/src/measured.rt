@@ -185,7 +185,7 @@ impl MeasurementResult {
 /// RESULT; it copies nothing. It answers exactly where their elements are all those of the message,
 /// but perhaps no L1 information and perhaps no L3 information, in the order in which they are
 /// written. So there is none where `Rsl::read` refuses them or reads another message, nor where an
-/// element is elsewhere, another one is missing or one is repeated.
+/// element is elsewhere or is repeated, or one other than these two is missing.
 #[tactic(auto, unfolding(crate::specs::RslReading::rsl_reading))]
 pub fn read_measurement(octets: &[u8]) -> Option<(ChanNo, MeasurementNumber, Option<&[u8]>)>
     ensures reads { IfSome result (λ m. IsMeasurement (rsl_reading octets.now) m.0 m.1.0

@@ -1,6 +1,6 @@
 -- SPDX-License-Identifier: MIT OR Apache-2.0
 -- The definitions at literal values.
-use Rattle.std.proofs.Common.{◌≡◌, ℕ, ◌-◌, ◌^◌, ◌<◌, zero, suc, Bool, true, false, true≢false, List, [], ◌∷◌, ◌++◌, length, slice_index_or, Ok, Err, refl, sym, ap, ◌∙◌, subst, arith, length-append}
+use Rattle.std.proofs.Common.{◌≡◌, ℕ, ◌-◌, ◌^◌, ◌<◌, zero, suc, Bool, true, false, true≢false, List, [], ◌∷◌, ◌++◌, length, slice_index_or, Some, None, Ok, Err, inl, inr, refl, sym, ap, ◌∙◌, subst, arith, length-append}
 use mathlib.Core.Option.{some, some-injective, some-ne-none}
 use lib.ListN.{get_elem?}
 use Rattle.std.proofs.lemmas.Nat.Bits.{bit_at_above, bit_at_ones_above, bit_at-pow_other, bit_at-zero}
@@ -14,10 +14,10 @@ use Rattle.ruled_relay.specs.declared.outbox.Line.{Line}
 use Rattle.ruled_relay.specs.declared.outbox.Line.TheVariants as lines
 use Rattle.ruled_relay.specs.declared.inbox.PutFault.TheVariants as faults
 use Rattle.ruled_relay.specs.Rule.{known, putting, taking, left_over, Fits, IsWithin, Relayed}
-use Rattle.ruled_relay.specs.Ends.{EndView, WasFull}
+use Rattle.ruled_relay.specs.Ends.{EndView, IsDrained, WasFull}
 use Rattle.ruled_relay.specs.Outbox.{AreNewOutbox, GivesLine, PutterView, PutsLine, TakesLine, refusing}
 use Rattle.ruled_relay.specs.Refusals.{Fate, accepted, refused, Meets, refused_first, most_refused, lines_put}
-use Rattle.ruled_relay.specs.Row.{EachAt, Row}
+use Rattle.ruled_relay.specs.Row.{EachAmong, EachAt, Row, TakesInTurn}
 use Rattle.ruled_relay.specs.Signs.{HasNoneBetween, HasNoneSet, IsFirstSet}
 use Rattle.ruled_relay.specs.Left.{GivesAll, items_of, left_from, left_of}
 use Rattle.ruled_relay.specs.Inbox.{AreJoined, AreNewInbox, GivesItem, IsAllGiven, IsJoined, PassView, PutsItem, TakesItem, queues_of}
@@ -295,6 +295,43 @@ taken_last q = refl
 given_next : GivesLine (record { put = line 8 ∷ line 9 ∷ lines.End ∷ []; taken = line 8 ∷ [] }) (line 9) (record { put = line 8 ∷ line 9 ∷ lines.End ∷ []; taken = line 8 ∷ line 9 ∷ [] })
 given_next = (refl, (lines.End ∷ [], refl))
 
+-- ---- sources that are asked in turn: something is left of the first and of the third
+
+three_of : (q r s : TableId) → List What → Row
+three_of q r s given = joined q (what 8 ∷ []) [] ∷ joined r [] [] ∷ joined s (what 9 ∷ []) given ∷ []
+
+the_second_is_drained : (q r s : TableId) → EachAmong 1 2 (three_of q r s []) (λ e. IsDrained e.seen)
+unfolding three_of joined what
+the_second_is_drained q r s zero e least below here = absurd (omega arith)
+the_second_is_drained q r s (suc zero) e least below here = subst (λ (y : EndView What). IsDrained y.seen) (some-injective _ _ here) (λ puts. refl)
+the_second_is_drained q r s (suc (suc at)) e least below here = absurd (omega arith)
+
+the_third_in_turn : (q r s : TableId) → TakesInTurn 1 3 (three_of q r s []) (Some (item 2 (what 9))) (three_of q r s (what 9 ∷ []))
+unfolding three_of joined item what
+the_third_in_turn q r s = inl (
+  omega arith,
+  omega arith,
+  (joined s (what 9 ∷ []) [], joined s (what 9 ∷ []) (what 9 ∷ []), refl, refl, (refl, refl, (refl, ([], λ puts. refl)))),
+  the_second_is_drained q r s,
+)
+
+not_the_first_out_of_turn : (q r s : TableId) (new : Row) → TakesInTurn 1 3 (three_of q r s []) (Some (item 0 (what 8))) new → ⊥
+unfolding three_of joined item what
+not_the_first_out_of_turn q r s new (inl among) = absurd (omega (arith, among.0))
+not_the_first_out_of_turn q r s new (inr behind) =
+    let l = ap length (behind.0 2 (joined s (what 9 ∷ []) []) (omega arith) (omega arith) refl refl) in absurd (omega arith)
+
+not_the_third_before_the_first : (q r s : TableId) (new : Row) → TakesInTurn 0 3 (three_of q r s []) (Some (item 2 (what 9))) new → ⊥
+unfolding three_of joined item what
+not_the_third_before_the_first q r s new (inl among) =
+    let l = ap length (among.3 0 (joined q (what 8 ∷ []) []) (omega arith) (omega arith) refl refl) in absurd (omega arith)
+not_the_third_before_the_first q r s new (inr behind) = absurd (omega (arith, behind.1.1))
+
+none_only_where_all_are_drained : (q r s : TableId) → TakesInTurn 1 3 (three_of q r s []) None (three_of q r s []) → ⊥
+unfolding three_of joined what
+none_only_where_all_are_drained q r s h =
+    let l = ap length (h.1 0 (joined q (what 8 ∷ []) []) (omega arith) (omega arith) refl refl) in absurd (omega arith)
+
 -- ---- what is left
 
 of_one_queue : (r : TableId) → left_of (joined r (what 7 ∷ what 9 ∷ whats.Down ∷ []) (what 7 ∷ [])) ≡ what 9 ∷ whats.Down ∷ []
@@ -365,14 +402,14 @@ the_highest_bit = (omega arith, omega arith, refl, λ place least below. bit_at-
 none_beyond_the_word : IsFirstSet 0 (2 ^ 64) 64 → ⊥
 none_beyond_the_word first = absurd (omega (arith, first.1))
 
-none_in_no_word : HasNoneSet 0 0
-none_in_no_word place least below = bit_at-zero place
+none_in_an_empty_word : HasNoneSet 0 0
+none_in_an_empty_word place least below = bit_at-zero place
 
 none_behind_the_last : HasNoneSet 6 34
 none_behind_the_last place least below = bit_at_above 34 6 place (omega arith) least
 
-none_but_the_highest_is_set : HasNoneSet 63 (2 ^ 63 - 1)
-none_but_the_highest_is_set place least below = bit_at_ones_above 63 place least
+all_but_the_highest_are_set : HasNoneSet 63 (2 ^ 63 - 1)
+all_but_the_highest_are_set place least below = bit_at_ones_above 63 place least
 
 the_highest_is_set : HasNoneSet 0 (2 ^ 63) → ⊥
 the_highest_is_set none = set_and_clear (none 63 (omega arith) (omega arith))

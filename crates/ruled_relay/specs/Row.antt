@@ -49,8 +49,10 @@ TakesAmong from to old (Some item) new =
     × EachAmong from item.source old (λ e. IsDrained e.seen)
 TakesAmong from to old None new = (new ≡ old) × EachAmong from to old (λ e. IsDrained e.seen)
 
--- Of so many sources all are asked in turn, from one on and then those before it: the item is taken
--- at the place of the first whose queue isn't drained; or all are drained.
+-- So many sources are asked in turn, from one on and then those before it: the item is taken at
+-- the place of the first whose queue isn't drained, as far as its end knows; or all are drained, as
+-- far as theirs do. An end of a desk knows nothing of what was put, so of a desk it says no more
+-- than TakesOne.
 abbrev pub TakesInTurn : ℕ → ℕ → Row → Option Item → Row → Type 0
 TakesInTurn turn sources old (Some item) new =
     TakesAmong turn sources old (Some item) new

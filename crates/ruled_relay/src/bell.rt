@@ -26,11 +26,11 @@ struct Shared {
     /// Whether nothing more is to be put.
     last: AtomicBool,
     /// A sign for each source, a bit, those of 64 sources in a word: whether its queue may hold an
-    /// item. Who puts one raises the sign behind it. Who finds the queue empty lowers the sign and
-    /// looks once more; if there is an item then, the sign is raised again. Meanwhile the queue may
-    /// hold items whose puts have returned. At any other time the queue of a sign that isn't raised
-    /// is empty, or holds an item whose put hasn't returned yet. Where no signs are kept, there is
-    /// no word.
+    /// item. Who puts one raises the sign behind it. Where `Desk::take` finds the queue empty, it
+    /// lowers the sign and looks once more; if there is an item then, it raises the sign again.
+    /// Meanwhile the queue may hold items whose puts have returned. At any other time the queue of
+    /// a sign that isn't raised is empty, or holds an item whose put hasn't returned yet. Where no
+    /// signs are kept, there is no word.
     signs: Vec<AtomicU64>,
 }
 
@@ -39,8 +39,7 @@ impl Bell {
         Bell::with_signs(alloc, 0)
     }
 
-    /// A bell with a sign for each of so many sources. None is raised. For no sources it keeps no
-    /// signs: who waits at it asks its queues one by one.
+    /// A bell with a sign for each of so many sources. None is raised.
     pub(crate) fn with_signs(alloc: Global, sources: u16) -> Result<Bell, Memory> {
         let words = usize::from(sources).div_ceil(WIDTH);
         let mut signs = Vec::with_capacity(alloc, words)?;

@@ -16,7 +16,8 @@ use std::marker::Model;
 use std::sync::Wait;
 use std::time::Duration;
 
-/// At most so many sources are asked one by one, sooner than their signs are kept.
+/// An inbox of at most so many sources keeps no signs, since to ask each of them costs less. What
+/// tests signs needs more sources.
 const FEW: u16 = 4;
 
 /// Why an item wasn't put. Either way it comes back.

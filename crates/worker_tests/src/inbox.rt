@@ -84,6 +84,19 @@ fn refuses_take_never_gives_and_put_is_always_full(rt: HostRuntime) -> Result<()
     Ok(())
 }
 
+/// Five sources have signs: an item of the last of them, and then none.
+#[test]
+fn one_of_five_sources_has_an_item(rt: HostRuntime) -> Result<(), Fail> {
+    let alloc = rt.alloc();
+    let (mut desk, mut passes) = Inbox::new(alloc, 5, 1)?;
+    let last = item(alloc, 4, 1)?;
+    assert!(rt; desk.take(&rt).is_none());
+    assert!(rt; put_at(&rt, &mut passes, 4, last).is_ok());
+    assert!(rt; is_item(desk.take(&rt), 4, 1));
+    assert!(rt; desk.take(&rt).is_none());
+    Ok(())
+}
+
 /// Two items of source 0 and one of source 1; there is no source 2.
 #[test]
 fn a_source_alone_is_asked_and_then_the_next(rt: HostRuntime) -> Result<(), Fail> {

@@ -81,7 +81,10 @@ fn everything_comes_in_order_from_each_of_many_threads(rt: HostRuntime) {
     assert!(rt; desk.take(&rt).is_none());
 }
 
-/// How often each of six sources puts an item, each time once the one before was taken.
+/// How many sources put items. Up to 4 would have no signs.
+const PUTTERS: u16 = 6;
+
+/// How often each of them puts an item, each time once the one before was taken.
 const PUTS: u32 = 10_000;
 
 /// How many looks in a row may find nothing: some seconds.
@@ -115,17 +118,17 @@ fn gives<R: Wait>(rt: &R, desk: &mut Desk, count: u32) -> bool {
 }
 
 /// The desk passes over queues that it has found empty. An item that comes just then isn't passed
-/// over. Of up to 4 sources it asks each, so there are 6.
+/// over.
 #[test]
 fn an_item_that_is_put_while_its_queue_is_found_empty_is_taken(rt: HostRuntime) {
     let alloc = rt.alloc();
-    let (mut desk, passes) = Inbox::new(alloc, 6, 1).expect(&rt, "an inbox");
-    let mut threads = Vec::with_capacity(alloc, 6).expect(&rt, "room");
+    let (mut desk, passes) = Inbox::new(alloc, PUTTERS, 1).expect(&rt, "an inbox");
+    let mut threads = Vec::with_capacity(alloc, usize::from(PUTTERS)).expect(&rt, "room");
     for pass in passes {
         let thread = thread::spawn(&rt, move || put_often(&rt, pass)).expect(&rt, "a thread");
         threads.push(thread).expect(&rt, "room");
     }
-    assert!(rt; gives(&rt, &mut desk, 6 * PUTS));
+    assert!(rt; gives(&rt, &mut desk, u32::from(PUTTERS) * PUTS));
     for thread in threads {
         thread.join(&rt);
     }

@@ -1,8 +1,5 @@
 -- SPDX-License-Identifier: MIT OR Apache-2.0
-use Rattle.std.proofs.Common.{◌≡◌, List, ℕ, false, true, sym, subst, ◌∙◌, arith}
-use Rattle.octets.specs.Element.{AreElements}
-use Rattle.rsl_codec.specs.declared.identifiers.TheConstants.{ELEMENTS}
-use Rattle.rsl_codec.specs.WrittenOrder.{l3_elements}
+use Rattle.std.proofs.Common.{◌≡◌, false, true, sym, subst, ◌∙◌, arith}
 use Rattle.rsl_codec.proofs.WrittenOrder.{in_order}
 use Rattle.rsl_codec.proofs.AnswersInOrder.{Ends, behind_counted, behind_l1, behind_one, stands}
 use Rattle.rsl_codec.proofs.measured.measured_values.Goals as goal
