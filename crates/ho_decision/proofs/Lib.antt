@@ -3,6 +3,7 @@ pub mod Arfcns
 pub mod Choice
 mod Copies
 pub mod Levels
+pub mod NoneReaches
 mod Rows
 pub mod Ten
 pub mod TooWeak

@@ -6,4 +6,5 @@ pub mod Heard
 pub mod Measure
 pub mod Settings
 pub mod State
+pub mod Strongest
 pub mod Sums

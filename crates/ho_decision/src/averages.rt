@@ -1,5 +1,5 @@
 // SPDX-License-Identifier: MIT OR Apache-2.0
-ghost use Rattle.std.specs.Prelude.{◌≡◌, ◌==◌, ◌<◌, ◌∷◌, ◌++◌, [], false, length, count_by, nat_le, IfOk, List};
+ghost use Rattle.std.specs.Prelude.{ℕ, ◌≡◌, ◌==◌, ◌<◌, ◌∷◌, ◌++◌, [], false, length, count_by, nat_le, IfOk, List};
 ghost use Rattle.dtap_codec.specs.declared.report.Report.{Report as ReportValue};
 ghost use Rattle.ho_decision.specs.Average.{quality, last, serving_average};
 ghost use Rattle.ho_decision.specs.Decision.{Decides, average_at, is_bad, is_due};
@@ -12,6 +12,7 @@ ghost use Rattle.ho_decision.specs.declared.settings.TheConstants.{MAX_WINDOW};
 use crate::decision::{BAD_REPORTS, decide, ends_interval};
 use crate::heard::Heard;
 use crate::running::{Averaged, average_over};
+use crate::strongest::strongest;
 use crate::sums::Sums;
 use crate::{Decision, HoSettings, MAX_WINDOW};
 use circular_buffer::HeapCircularBuffer;
@@ -246,6 +247,17 @@ impl Averages {
         average_level(settings, heard, place, &self.reports)
     }
 
+    /// Whether the average level of any cell of the settings may reach this one, by the strongest
+    /// neighbours of the reports.
+    pub(crate) fn may_any_reach(&self, settings: &HoSettings, level: u16) -> bool
+        requires some { 0 < length self.now.reports }
+        requires same { settings.now ≡ self.now.settings }
+        ensures { result ≡ false → (place : ℕ) → place < length self.now.settings.cells
+            → average_at self.now.settings self.now.reports place < level }
+    {
+        may_any_reach(settings, &self.reports, level)
+    }
+
     /// Whether the average level of the cell at a place, from 0, of the settings may reach this one,
     /// by what was heard.
     pub(crate) fn may_reach(
@@ -284,6 +296,17 @@ fn average_level(
     }
     let window = settings.parameters.neighbour_window;
     average_over(Averaged { measure, window }, reports)
+}
+
+// Whether the average over reports of the level of any cell may reach this one.
+fn may_any_reach(settings: &HoSettings, reports: &HeapCircularBuffer<Report>, level: u16) -> bool
+    requires some { 0 < length reports.now.items }
+    ensures { result ≡ false → (place : ℕ) → place < length settings.now.cells
+        → average_at settings.now reports.now.items place < level }
+{
+    let window = settings.parameters.neighbour_window;
+    let count = reports.len().min(usize::from(window)) as u16;
+    strongest(reports, window) >= level.saturating_mul(count)
 }
 
 // A copy of the reports, in a ring of the same capacity.

@@ -84,9 +84,13 @@ fn best(settings: &HoSettings, averages: &Averages) -> Decision
     ensures { Chooses averages.now.settings averages.now.reports
         (length averages.now.settings.cells) result }
 {
+    let wanted = bound(settings, averages);
+    if !averages.may_any_reach(settings, wanted) {
+        return Decision::Stay;
+    }
     let mut choice = Choice {
         decision: Decision::Stay,
-        wanted: bound(settings, averages),
+        wanted,
     };
     let heard = averages.heard();
     for place in 0..settings.cells.len() {

@@ -17,4 +17,5 @@ mod law;
 mod measure;
 mod running;
 mod settings;
+mod strongest;
 mod sums;

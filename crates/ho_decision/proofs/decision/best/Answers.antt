@@ -36,3 +36,8 @@ returns c =
     let all : c.loop-place.place ≡ length s.cells = omega (arith, ap (λ (t : Settings). length t.cells) (c.settings.view_is ∙ c.requires.same)) in
     let P : ℕ → Type 0 = λ n. Chooses s reports n c.loop-place.choice.decision in
     subst P all (chosen s reports c.loop-place.place c.loop-place.choice.decision c.loop-place.choice.wanted c.loop-place.invariant)
+
+pub returns-then-not-may_any_reach : goal.returns-then-not-may_any_reach
+returns-then-not-may_any_reach c =
+    λ place other.
+    omega (arith, c.may_any_reach.ensures c.if-not-may_any_reach.true place other.there, c.bound-wanted.ensures)
