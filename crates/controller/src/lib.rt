@@ -15,6 +15,7 @@ pub use settings::{Settings, SettingsFault};
 mod access;
 mod breaks;
 mod channels;
+mod concerned;
 mod controller;
 mod items;
 mod life;

@@ -160,7 +160,7 @@ Stays w v = v.controller ≡ w.controller
 still : (w : Actors) (o : Option Actors) → OfTaken (Stays w) o → (unwrap_or o w).controller ≡ w.controller
 still w o leads = after_taken (Stays w) o w leads refl
 
-rests_at : (w : Actors) (event : Event) → is_turn event ≡ false → (actors_after w event).controller ≡ w.controller
+pub rests_at : (w : Actors) (event : Event) → is_turn event ≡ false → (actors_after w event).controller ≡ w.controller
 unfolding event_after FromAir
 rests_at w (BaseTakes station) other = still w (after_base_takes w station)
     (taking_leads (Stays w) w station (λ first others _ _ mobiles stations. refl))

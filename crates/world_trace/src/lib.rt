@@ -21,6 +21,7 @@ mod fate;
 mod got;
 mod made;
 mod note;
+mod reach;
 mod sent;
 mod sight;
 mod tracing;
