@@ -12,10 +12,11 @@ use octets::Memory;
 
 impl Controller {
     /// The number of the one connection that a frame of a link may change: the one that has its
-    /// channel, or that it names, or the next one where it asks for a channel. None where it
-    /// changes no connection. An `Err` says that memory ran out.
+    /// channel, or that it names, or the next one where it asks for a channel. Where there is no
+    /// number, it changes no connection. An `Err` says that memory ran out.
     pub fn concerned(&self, source: u16, frame: &Frame) -> Result<Option<u32>, Memory>
-        ensures { IfOk result (λ number. number ≡ concerned_by self.now (word_of source frame.now)) }
+        ensures { IfOk result (λ number.
+            number ≡ concerned_by self.now (word_of source frame.now)) }
     {
         let word = read_word(self.alloc, source, frame)?;
         Ok(self.concerned_by(&word))

@@ -35,8 +35,8 @@ impl Network {
         self.relay.connection_at(place)
     }
 
-    /// The number of the one connection of the controller that a frame of a link may change; none
-    /// where it changes no connection. An `Err` says that memory ran out.
+    /// The number of the one connection of the controller that a frame of a link may change. Where
+    /// there is no number, it changes no connection. An `Err` says that memory ran out.
     pub fn concerned(&self, source: u16, frame: &Frame) -> Result<Option<u32>, Memory>
         ensures { IfOk result (λ number.
             number ≡ concerned self.now.controller (word_of source frame.now)) }

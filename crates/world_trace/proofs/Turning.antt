@@ -173,12 +173,6 @@ rests_at w (Tick ms) other = absurd (cc other)
 rests_at w (BaseDown source) other = still w (after_break w source) (broken_leads (Stays w) w source (λ _ _. refl) (λ _ _. refl))
 rests_at w event other = still w (event_after w event) (aerial_leads (Stays w) w event refl (λ mobiles stations. refl))
 
--- what was seen before such an event is what is there behind it
-pub seen_still : (w v : Actors) (event : Event) (ss : List Sight) → is_turn event ≡ false → v ≡ actors_after w event → ss ≡ sights_of w.controller.entries
-    → ss ≡ sights_of v.controller.entries
-seen_still w v event ss other after is =
-    is ∙ ap (λ (c : Controller). sights_of c.entries) (sym (ap (λ (u : Actors). u.controller) after ∙ rests_at w event other))
-
 turn_by : (puts : Puts) (b : Bool) (w v : Controller) → (b ≡ false → v ≡ w)
     → notes_between puts (if b then sights_of w.entries else []) (if b then sights_of v.entries else [])
     ≡ notes_between puts (sights_of w.entries) (sights_of v.entries)

@@ -20,7 +20,8 @@ use world_actors::Network;
 use world_model::Event;
 
 /// What was seen last of the controller's connections. It is kept from event to event, so that they
-/// are looked at behind an event alone, and at a frame no other than the one that it concerns.
+/// are looked at behind an event alone: behind a frame that begins and ends none, no other than the
+/// one that it concerns.
 #[derive(Drop)]
 pub struct Tracing {
     alloc: Global,
