@@ -9,11 +9,8 @@ use Rattle.octets.proofs.Hex.{hex}
 use Rattle.conn_messages.specs.declared.channel.Change.TheVariants.{Assignment, Handover}
 use Rattle.conn_rules.specs.declared.input.Input.TheVariants as inputs
 use Rattle.conn_rules.specs.declared.state.Stage.TheVariants.{Preparing, Changing, Draining}
-use Rattle.controller_model.specs.Controller.{new_controller, place_at, with_state}
+use Rattle.controller_model.specs.Controller.{new_controller, place_at}
 use Rattle.controller_model.specs.Life.{may_open, new_entry, pong, step}
-use Rattle.controller_model.specs.Ownership.{concerned}
-use Rattle.controller_model.specs.declared.channel_state.ChannelState.TheVariants.{InUse, Releasing}
-use Rattle.controller_model.specs.declared.word.Word.TheVariants.{Nothing, Ping, Asks, OnChannel, Reports, OnConnection}
 use Rattle.controller_model.proofs.Lives.{on_stream, usual_settings}
 use Rattle.controller_model.proofs.OnLiterals.{on_literals}
 use Rattle.controller.specs.declared.many.Cause.TheVariants.{Time, Break}
@@ -22,10 +19,8 @@ use Rattle.controller.specs.Many.{AreReady, Due, IsReadyFor, all_due, due, due_o
 use Rattle.controller.specs.Offers.{HasCell, awaits, may_begin}
 use Rattle.controller.specs.Rest.{is_at_rest, left_without_number, new_from}
 use Rattle.controller.specs.Standing.{IsStanding}
-use Rattle.dtap_codec.specs.declared.report.Report.{Report}
 use Rattle.dtap_codec.specs.declared.sapi.Sapi.TheVariants.{Zero}
 use Rattle.ho_decision.specs.declared.decision.Decision.TheVariants.{Stay, Move}
-use Rattle.rsl_codec.specs.declared.values.RequestReference.{RequestReference}
 
 abbrev fresh : Controller
 fresh = new_controller usual_settings
@@ -281,36 +276,3 @@ nobody_is_left = refl
 
 one_is_left : left_without_number (record (new_from usual_settings 16777216) { entries = entry 7 ∷ [] }) ≡ Some 1
 one_is_left = refl
-
--- ---- which connection a frame may change
-
--- of station 2 one channel is that of 7, another was that of 6, and the next connection is 9
-abbrev shared : Controller
-shared = record fresh {
-  channels = with_state (place_at 2 0x48) (InUse 7) (with_state (place_at 2 0x08) (Releasing 6) fresh.channels);
-  next_number = 9;
-}
-
-asks_for_the_next : (request : RequestReference) (delay : ℕ) → concerned shared (Asks request delay) ≡ Some 9
-asks_for_the_next request delay = refl
-
-comes_on_its_channel : concerned shared (OnChannel (place_at 2 0x48) (inputs.ReleaseAck (place_at 2 0x48))) ≡ Some 7
-comes_on_its_channel = refl
-
-comes_on_its_old_channel : concerned shared (OnChannel (place_at 2 0x08) (inputs.ReleaseAck (place_at 2 0x08))) ≡ Some 6
-comes_on_its_old_channel = refl
-
-comes_on_a_free_channel : concerned shared (OnChannel (place_at 1 0x48) (inputs.ReleaseAck (place_at 1 0x48))) ≡ None
-comes_on_a_free_channel = refl
-
-reports_of_its_channel : (report : Report) → concerned shared (Reports (place_at 2 0x48) 3 report) ≡ Some 7
-reports_of_its_channel report = refl
-
-names_it : concerned shared (OnConnection 5 inputs.Move) ≡ Some 5
-names_it = refl
-
-says_nothing : concerned shared Nothing ≡ None
-says_nothing = refl
-
-is_a_ping : concerned shared Ping ≡ None
-is_a_ping = refl

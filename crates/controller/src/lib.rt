@@ -15,7 +15,6 @@ pub use settings::{Settings, SettingsFault};
 mod access;
 mod breaks;
 mod channels;
-mod concerned;
 mod controller;
 mod items;
 mod life;

@@ -16,7 +16,6 @@ use std::alloc::Global;
 ///
 /// Every link has CCM, the switch's SCCP, and a station's RSL. A body that its codec refuses says
 /// nothing. It is refused where memory runs out.
-#[inline(always)]
 #[tactic(auto, unfolding(controller_model::specs::Reading::word_of))]
 pub fn read_word(alloc: Global, source: u16, frame: &Frame) -> Result<Word, Memory>
     // What is answered is what the frame says.

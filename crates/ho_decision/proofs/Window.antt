@@ -4,9 +4,9 @@ use Rattle.std.proofs.Common.{◌≡◌, ℕ, ◌+◌, ◌-◌, ◌*◌, ◌<◌
 use Rattle.std.specs.List.{All, slice_get}
 use Rattle.std.proofs.lemmas.Bool.{ltb-true, ltb-false}
 use Rattle.std.proofs.lemmas.Option.{get_or_from_slice_get, slice_get_cases}
-use Rattle.std.proofs.lemmas.List.{drop-append-le, drop-drop, length-drop}
+use Rattle.std.proofs.lemmas.List.{drop-append-le, length-drop}
 use Rattle.std.proofs.lemmas.List.Elements.{All-drop}
-use Rattle.std.proofs.lemmas.List.Sums.{sum_by-drop_more, sum_by-le, sum_by-take-drop, sum_by_push}
+use Rattle.std.proofs.lemmas.List.Sums.{sum_by-drop_more, sum_by-le}
 use Rattle.dtap_codec.specs.declared.report.Report.{Report}
 use Rattle.ho_decision.specs.declared.settings.TheConstants.{MAX_WINDOW}
 use Rattle.ho_decision.specs.declared.running.RunningSum.{RunningSum}
@@ -63,22 +63,6 @@ pub leaving_window : (total : ℕ → ℕ) (w back left : ℕ) → back + 1 ≡ 
 leaving_window total w back left next e =
     let before : back ≡ w - 1 = omega arith in
     ap total (sym next) ∙ e ∙ ap (λ k. left + total k) before
-
--- fewer of the last ones add up to no more
-sum_by_fewer : {X : Type 0} (f : X → ℕ) (w : ℕ) (xs : List X) → sum_by f (last (w - 1) xs) ≤ sum_by f (last w xs)
-sum_by_fewer f w xs =
-    let more = length xs - (w - 1) - (length xs - w) in
-    let parts = sum_by-take-drop f (last w xs) more in
-    let same = ap (λ ys. sum_by f ys) (drop-drop more (length xs - w) xs) in
-    let at : length xs - w + more ≡ length xs - (w - 1) = omega arith in
-    let here = ap (λ k. sum_by f (drop k xs)) at in
-    omega (arith, parts, same, here)
-
--- as one more comes, the last ones have what it has, and no more beside than they had
-pub sum_by_one_more : {X : Type 0} (f : X → ℕ) (w : ℕ) (xs : List X) (x : X) → 1 ≤ w → (f x ≤ sum_by f (last w (xs ++ x ∷ []))) × (sum_by f (last w (xs ++ x ∷ [])) ≤ sum_by f (last w xs) + f x)
-sum_by_one_more f w xs x some =
-    let after : sum_by f (last w (xs ++ x ∷ [])) ≡ sum_by f (last (w - 1) xs) + f x = ap (λ ys. sum_by f ys) (last-more w xs x some) ∙ sum_by_push f (last (w - 1) xs) x in
-    (omega (arith, after), omega (arith, after, sum_by_fewer f w xs))
 
 -- there is none more
 pub sum_by-staying : {X : Type 0} (f : X → ℕ) (xs : List X) (back : ℕ) → None ≡ cond (ltb back (length xs)) (slice_get xs (length xs - back - 1)) None → sum_by f (last (back + 1) xs) ≡ sum_by f (last back xs)

@@ -1,15 +1,15 @@
 // SPDX-License-Identifier: MIT OR Apache-2.0
-ghost use Rattle.std.specs.Prelude.{ℕ, ◌≡◌, ◌==◌, ◌<◌, ◌∷◌, ◌++◌, [], false, length, count_by, nat_le, IfOk, List};
+ghost use Rattle.std.specs.Prelude.{ℕ, ◌≡◌, ◌==◌, ◌<◌, ◌∷◌, ◌++◌, [], false, length, count_by, IfOk, List};
 ghost use Rattle.dtap_codec.specs.declared.report.Report.{Report as ReportValue};
 ghost use Rattle.ho_decision.specs.Average.{quality, last, serving_average};
 ghost use Rattle.ho_decision.specs.Decision.{Decides, average_at, is_bad, is_due};
 ghost use Rattle.ho_decision.specs.State.{DecidesFor};
 ghost use Rattle.ho_decision.specs.Heard.{AreHeard};
 ghost use Rattle.ho_decision.specs.Settings.{IsAllowed};
-ghost use Rattle.ho_decision.specs.declared.decision.TheConstants.{BAD_REPORTS, QUALITY_WINDOW};
+ghost use Rattle.ho_decision.specs.declared.decision.TheConstants.{QUALITY_WINDOW};
 ghost use Rattle.ho_decision.specs.declared.settings.TheConstants.{MAX_WINDOW};
 
-use crate::decision::{BAD_REPORTS, decide, ends_interval};
+use crate::decision::{compares, decide};
 use crate::heard::Heard;
 use crate::running::{Averaged, average_over};
 use crate::strongest::strongest;
@@ -152,7 +152,10 @@ impl Averages {
         ensures { IfOk result (λ decision. DecidesFor
             (after_report self.now report.now number) decision) }
     {
-        if report.valid && !self.is_due_with(settings, report, number) {
+        if !report.valid {
+            return Ok(self.decide(settings));
+        }
+        if !self.is_due_with(settings, report, number) {
             return Ok(Decision::Stay);
         }
         let mut after = self.copied(alloc, settings)?;
@@ -167,28 +170,9 @@ impl Averages {
             ≡ is_due self.now.settings (self.now.reports ++ report.now ∷ []) number }
         ensures allowed { IsAllowed settings.now }
     {
-        // It is asked first, since it knows what settings are allowed.
-        let ends = ends_interval(settings, number);
-        self.are_bad_with(report) || self.is_silent_with(report) || ends
-    }
-
-    // Whether enough of the last `QUALITY_WINDOW` reports have bad quality for a comparison, this
-    // one added, which makes one more at most.
-    fn are_bad_with(&self, report: &Report) -> bool
-        ensures { result ≡ nat_le BAD_REPORTS
-            (count_by is_bad (last QUALITY_WINDOW (self.now.reports ++ report.now ∷ []))) }
-    {
-        self.bad_reports() >= BAD_REPORTS - 1 && self.bad_reports_with(report) >= BAD_REPORTS
-    }
-
-    // Whether the average level of the serving cell is 0, this report added. Where its level is no
-    // less than the window has reports, the average is 1 at least.
-    fn is_silent_with(&self, report: &Report) -> bool
-        ensures { result ≡ (serving_average self.now.settings
-            (self.now.reports ++ report.now ∷ []) == 0) }
-    {
-        report.rxlev_full < self.sums.serving_level.of.window
-            && self.serving_level_with(report) == 0
+        let bad = self.bad_reports_with(report);
+        let level = self.serving_level_with(report);
+        compares(settings, bad, level, number)
     }
 
     // How many of the last `QUALITY_WINDOW` reports have bad quality, this one added.

@@ -1,5 +1,5 @@
 // SPDX-License-Identifier: MIT OR Apache-2.0
-ghost use Rattle.std.specs.Prelude.{◌≡◌, ◌+◌, ◌<◌, ◌≤◌, ◌-◌, ◌%◌, ◌==◌, length};
+ghost use Rattle.std.specs.Prelude.{◌≡◌, ◌+◌, ◌<◌, ◌≤◌, ◌-◌, ◌%◌, ◌==◌, ◌||◌, length, nat_le};
 ghost use Rattle.ho_decision.specs.Choice.{after_offer};
 ghost use Rattle.ho_decision.specs.Decision.{Decides, Chooses, average_at, bound, is_due};
 ghost use Rattle.ho_decision.specs.Heard.{AreHeard};
@@ -12,7 +12,7 @@ use crate::{Averages, HoSettings};
 pub(crate) const QUALITY_WINDOW: u8 = 4;
 
 /// How many bad reports among these have the levels compared.
-pub(crate) const BAD_REPORTS: u16 = 3;
+const BAD_REPORTS: u16 = 3;
 
 /// Whether a connection is handed over.
 #[derive(Clone, Copy, PartialEq, Eq)]
@@ -40,19 +40,24 @@ fn is_due(settings: &HoSettings, averages: &Averages, number: u8) -> bool
     requires same { settings.now ≡ averages.now.settings }
     ensures { result ≡ is_due averages.now.settings averages.now.reports number }
 {
-    averages.bad_reports() >= BAD_REPORTS
-        || averages.serving_level() == 0
-        || ends_interval(settings, number)
+    compares(
+        settings,
+        averages.bad_reports(),
+        averages.serving_level(),
+        number,
+    )
 }
 
-/// Whether the report of this number is the last one of an interval.
-pub(crate) fn ends_interval(settings: &HoSettings, number: u8) -> bool
-    ensures ends { result ≡ (number % settings.now.parameters.interval
-        == settings.now.parameters.interval - 1) }
+/// Whether the levels are compared where so many reports are bad and the serving cell has this
+/// average level.
+pub(crate) fn compares(settings: &HoSettings, bad: u16, level: u8, number: u8) -> bool
+    ensures compares { result ≡ (nat_le BAD_REPORTS bad || (level == 0)
+        || (number % settings.now.parameters.interval
+        == settings.now.parameters.interval - 1)) }
     ensures allowed { IsAllowed settings.now }
 {
     let interval = settings.parameters.interval;
-    number % interval == interval - 1
+    bad >= BAD_REPORTS || level == 0 || number % interval == interval - 1
 }
 
 // The best cell so far, and the level that a further one has to have.

@@ -7,8 +7,6 @@ ghost use Rattle.bssmap_codec.specs.SccpText.{sccp_write_fault};
 ghost use Rattle.conn_rules.specs.Timers.{after_pass};
 ghost use Rattle.controller_model.specs.Controller.{new_controller};
 ghost use Rattle.controller_model.specs.Life.{expiry};
-ghost use Rattle.controller_model.specs.Ownership.{concerned};
-ghost use Rattle.controller_model.specs.Reading.{word_of};
 ghost use Rattle.rsl_codec.specs.RslText.{rsl_write_fault};
 ghost use Rattle.world_model.specs.Lists.{behind_first, first_in};
 ghost use Rattle.world_model.specs.Relay.{station_item, switch_item};
@@ -21,7 +19,6 @@ use crate::links::Links;
 use bssmap_codec::Sccp;
 use conn_fsm::{Conn, Input};
 use controller::{Controller, Outputs};
-use ipa_framing::Frame;
 use octets::Memory;
 use rsl_codec::Rsl;
 use ruled_relay::{Item, What};
@@ -153,14 +150,6 @@ impl Relay {
             ≡ option_map (λ e. e.connection) (slice_get self.now.controller.entries place) }
     {
         self.controller.connection_at(place)
-    }
-
-    /// The number of the one connection of the controller that a frame of a link may change.
-    pub fn concerned(&self, source: u16, frame: &Frame) -> Result<Option<u32>, Memory>
-        ensures { IfOk result (λ number.
-            number ≡ concerned self.now.controller (word_of source frame.now)) }
-    {
-        self.controller.concerned(source, frame)
     }
 
     /// What expires for the connection at this place once so many milliseconds more have passed.

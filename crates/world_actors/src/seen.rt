@@ -3,8 +3,6 @@ ghost use Rattle.std.specs.Prelude.{◌≡◌, IfOk, length, option_map, slice_g
 ghost use Rattle.std.specs.Option.{option_and_then};
 ghost use Rattle.conn_rules.specs.Timers.{after_pass};
 ghost use Rattle.controller_model.specs.Life.{expiry};
-ghost use Rattle.controller_model.specs.Ownership.{concerned};
-ghost use Rattle.controller_model.specs.Reading.{word_of};
 ghost use Rattle.world_model.specs.Queues.{made_items};
 ghost use Rattle.world_model.specs.Relay.{station_item as item_of_station};
 ghost use Rattle.world_model.specs.Relay.{switch_item as item_of_switch};
@@ -14,7 +12,6 @@ use crate::Network;
 use crate::items::{station_item, switch_item};
 use conn_fsm::{Conn, Input};
 use conn_messages::SWITCH_LINK;
-use ipa_framing::Frame;
 use octets::Memory;
 use ruled_relay::Item;
 
@@ -33,15 +30,6 @@ impl Network {
             ≡ option_map (λ e. e.connection) (slice_get self.now.controller.entries place) }
     {
         self.relay.connection_at(place)
-    }
-
-    /// The number of the one connection of the controller that a frame of a link may change. Where
-    /// there is no number, it changes no connection. An `Err` says that memory ran out.
-    pub fn concerned(&self, source: u16, frame: &Frame) -> Result<Option<u32>, Memory>
-        ensures { IfOk result (λ number.
-            number ≡ concerned self.now.controller (word_of source frame.now)) }
-    {
-        self.relay.concerned(source, frame)
     }
 
     /// What expires for the connection at this place once so many milliseconds more have passed:

@@ -2,8 +2,6 @@
 pub mod Crosses
 pub mod Making
 pub mod Noting
-pub mod Reaching
-pub mod Replacing
 pub mod Seeing
 pub mod Stepping
 pub mod Turning

@@ -160,7 +160,7 @@ Stays w v = v.controller ≡ w.controller
 still : (w : Actors) (o : Option Actors) → OfTaken (Stays w) o → (unwrap_or o w).controller ≡ w.controller
 still w o leads = after_taken (Stays w) o w leads refl
 
-pub rests_at : (w : Actors) (event : Event) → is_turn event ≡ false → (actors_after w event).controller ≡ w.controller
+rests_at : (w : Actors) (event : Event) → is_turn event ≡ false → (actors_after w event).controller ≡ w.controller
 unfolding event_after FromAir
 rests_at w (BaseTakes station) other = still w (after_base_takes w station)
     (taking_leads (Stays w) w station (λ first others _ _ mobiles stations. refl))
@@ -172,6 +172,12 @@ rests_at w (SwitchDoes action) other = still w (after_switch_does w action) (doe
 rests_at w (Tick ms) other = absurd (cc other)
 rests_at w (BaseDown source) other = still w (after_break w source) (broken_leads (Stays w) w source (λ _ _. refl) (λ _ _. refl))
 rests_at w event other = still w (event_after w event) (aerial_leads (Stays w) w event refl (λ mobiles stations. refl))
+
+-- what was seen before such an event is what is there behind it
+pub seen_still : (w v : Actors) (event : Event) (ss : List Sight) → is_turn event ≡ false → v ≡ actors_after w event → ss ≡ sights_of w.controller.entries
+    → ss ≡ sights_of v.controller.entries
+seen_still w v event ss other after is =
+    is ∙ ap (λ (c : Controller). sights_of c.entries) (sym (ap (λ (u : Actors). u.controller) after ∙ rests_at w event other))
 
 turn_by : (puts : Puts) (b : Bool) (w v : Controller) → (b ≡ false → v ≡ w)
     → notes_between puts (if b then sights_of w.entries else []) (if b then sights_of v.entries else [])

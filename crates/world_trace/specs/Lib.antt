@@ -4,7 +4,6 @@ pub mod Fates
 pub mod Makings
 pub mod Marks
 pub mod Notes
-pub mod Reaches
 pub mod Sights
 pub mod Turns
 pub mod Causes

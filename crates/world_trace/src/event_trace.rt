@@ -5,7 +5,8 @@ ghost use Rattle.world_trace.specs.Causes.{cause, refusal};
 ghost use Rattle.world_trace.specs.Crossings.{crossings};
 ghost use Rattle.world_trace.specs.Fates.{fate_at};
 ghost use Rattle.world_trace.specs.Makings.{made_at};
-ghost use Rattle.world_trace.specs.Notes.{expired_at, notes_at};
+ghost use Rattle.world_trace.specs.Notes.{notes_at};
+ghost use Rattle.world_trace.specs.Turns.{turn_sights};
 
 use crate::cause::{Cause, cause_of};
 use crate::crossing::Crossing;
@@ -15,6 +16,7 @@ use crate::got::{got, waiting};
 use crate::made::Makings;
 use crate::note::{Note, note_steps, puts_of};
 use crate::sent::Marks;
+use crate::sight::Sight;
 use crate::turn::turn_sights;
 use octets::Memory;
 use std::alloc::Global;
@@ -46,7 +48,6 @@ struct Passed {
 /// Lets the event's actor act, where it can, and says what crossed the links of the controller,
 /// what was made for it, and what became of its connections. It is refused only for lack of memory,
 /// and then nothing is said of the actors. `Tracing` has the same for many events, one by one.
-#[tactic(auto, using(crate::proofs::Stepping::notes_found))]
 pub fn step(alloc: Global, network: &mut Network, event: &Event) -> Result<EventTrace, Memory>
     ensures actors { OnOk result (network.new ≡ actors_after network.old event.now) }
     ensures refusal { IfOk result (λ trace. trace.refusal ≡ refusal network.old event.now) }
@@ -57,27 +58,28 @@ pub fn step(alloc: Global, network: &mut Network, event: &Event) -> Result<Event
     ensures notes { IfOk result (λ trace. trace.notes.items ≡ notes_at network.old event.now) }
 {
     let before = turn_sights(alloc, network, event)?;
-    let mut trace = step_alone(alloc, network, event)?;
-    let behind = turn_sights(alloc, network, event)?;
-    let puts = puts_of(trace.crossings.as_slice());
-    note_steps(puts, before.as_slice(), behind.as_slice(), &mut trace.notes)?;
+    let (trace, _) = step_from(alloc, network, event, before.as_slice())?;
     Ok(trace)
 }
 
-/// What `step` says, but that the notes are those of timers alone.
-pub(crate) fn step_alone(
+/// What `step` says, where `before` is what is seen of the connections before the event; and what
+/// is seen of them behind it. Both are empty but at the controller's turn.
+pub(crate) fn step_from(
     alloc: Global,
     network: &mut Network,
     event: &Event,
-) -> Result<EventTrace, Memory>
+    before: &[Sight],
+) -> Result<(EventTrace, Vec<Sight>), Memory>
+    requires { before.now ≡ turn_sights event.now network.old.controller }
     ensures actors { OnOk result (network.new ≡ actors_after network.old event.now) }
-    ensures refusal { IfOk result (λ trace. trace.refusal ≡ refusal network.old event.now) }
-    ensures crossings { IfOk result (λ trace.
-        trace.crossings.items ≡ crossings network.old event.now) }
-    ensures fate { IfOk result (λ trace. trace.fate ≡ fate_at network.old event.now) }
-    ensures made { IfOk result (λ trace. trace.made.items ≡ made_at network.old event.now) }
-    ensures notes { IfOk result (λ trace.
-        trace.notes.items ≡ expired_at network.old.controller event.now) }
+    ensures refusal { IfOk result (λ p. p.0.refusal ≡ refusal network.old event.now) }
+    ensures crossings { IfOk result (λ p.
+        p.0.crossings.items ≡ crossings network.old event.now) }
+    ensures fate { IfOk result (λ p. p.0.fate ≡ fate_at network.old event.now) }
+    ensures made { IfOk result (λ p. p.0.made.items ≡ made_at network.old event.now) }
+    ensures notes { IfOk result (λ p. p.0.notes.items ≡ notes_at network.old event.now) }
+    ensures behind { IfOk result (λ p.
+        p.1.items ≡ turn_sights event.now network.new.controller) }
 {
     let connection = connection_at(alloc, network, event)?;
     let counts = counts_of(network, connection);
@@ -88,13 +90,17 @@ pub(crate) fn step_alone(
     let fate = fate_by(counts, counts_of(network, connection));
     let mut made = Vec::new(alloc);
     makings.note_behind(alloc, network, &mut made)?;
-    Ok(EventTrace {
+    let puts = puts_of(crossings.as_slice());
+    let behind = turn_sights(alloc, network, event)?;
+    note_steps(puts, before, behind.as_slice(), &mut notes)?;
+    let trace = EventTrace {
         refusal,
         crossings,
         fate,
         made,
         notes,
-    })
+    };
+    Ok((trace, behind))
 }
 
 /// Lets the event's actor act, where it can, and says what crossed the links of the controller.

@@ -21,7 +21,6 @@ mod fate;
 mod got;
 mod made;
 mod note;
-mod reach;
 mod sent;
 mod sight;
 mod tracing;

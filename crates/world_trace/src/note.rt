@@ -217,7 +217,7 @@ fn note_begun(
 /// Notes what became of a connection that is still there, mostly nothing. What was seen of it is
 /// compared where it is.
 #[tactic(auto, using(crate::proofs::Turning::unchanged_none))]
-pub(crate) fn note_kept(
+fn note_kept(
     puts: Puts,
     before: &Sight,
     behind: &Sight,
