@@ -49,6 +49,10 @@ TakesAmong from to old (Some item) new =
     × EachAmong from item.source old (λ e. IsDrained e.seen)
 TakesAmong from to old None new = (new ≡ old) × EachAmong from to old (λ e. IsDrained e.seen)
 
+-- the queues of so many sources are drained, as far as their ends know
+abbrev pub AreDrained : ℕ → Row → Type 0
+AreDrained sources row = EachAmong 0 sources row (λ e. IsDrained e.seen)
+
 -- So many sources are asked in turn, from one on and then those before it: the item is taken at
 -- the place of the first whose queue isn't drained, as far as its end knows; or all are drained, as
 -- far as theirs do. An end of a desk knows nothing of what was put, so of a desk it says no more
@@ -57,8 +61,7 @@ abbrev pub TakesInTurn : ℕ → ℕ → Row → Option Item → Row → Type 0
 TakesInTurn turn sources old (Some item) new =
     TakesAmong turn sources old (Some item) new
     ⊎ (EachAmong turn sources old (λ e. IsDrained e.seen) × TakesAmong 0 turn old (Some item) new)
-TakesInTurn turn sources old None new =
-    (new ≡ old) × EachAmong 0 sources old (λ e. IsDrained e.seen)
+TakesInTurn turn sources old None new = (new ≡ old) × AreDrained sources old
 
 -- the item is taken at the place of its source, one of so many; or nothing changes
 abbrev pub TakesOne : ℕ → Row → Option Item → Row → Type 0

@@ -2,15 +2,13 @@
 ghost use Rattle.std.specs.Prelude.{◌≤◌, ◌<◌, IfSome, MatchOption};
 ghost use Rattle.ruled_relay.specs.Signs.{HasNoneSet, IsFirstSet};
 
+use crate::sources::{Sources, WIDTH, bit_of};
 use octets::Memory;
 use std::alloc::Global;
 use std::sync::atomic::{AtomicBool, AtomicU64, Ordering};
 use std::sync::{Arc, Wait};
 use std::thread::Parker;
 use std::time::Duration;
-
-/// How many signs a word has.
-const WIDTH: usize = 64;
 
 /// Wakes the thread that waits until something is put. It promises nothing: a wait ends at a ring,
 /// after its time, or for no reason.
@@ -25,12 +23,10 @@ struct Shared {
     parker: Parker,
     /// Whether nothing more is to be put.
     last: AtomicBool,
-    /// A sign for each source, a bit, those of 64 sources in a word: whether its queue may hold an
-    /// item. Who puts one raises the sign behind it. Where `Desk::take` finds the queue empty, it
-    /// lowers the sign and looks once more; if there is an item then, it raises the sign again.
-    /// Meanwhile the queue may hold items whose puts have returned. At any other time the queue of
-    /// a sign that isn't raised is empty, or holds an item whose put hasn't returned yet. Where no
-    /// signs are kept, there is no word.
+    /// A sign for each source, a bit, those of 64 sources in a word. Who puts an item raises the sign
+    /// behind it. `Desk::take` looks first where a sign is raised, and lowers it before it looks, so
+    /// that what comes behind its look raises it again. A sign never says that there is nothing.
+    /// Where no signs are kept, there is no word.
     signs: Vec<AtomicU64>,
 }
 
@@ -77,36 +73,36 @@ impl Bell {
         self.shared.last.swap(false, Ordering::SeqCst)
     }
 
-    /// Whether it keeps signs.
-    pub(crate) fn has_signs(&self) -> bool {
-        !self.shared.signs.is_empty()
-    }
-
     /// Raises the sign of a source, where it isn't.
     pub(crate) fn raise(&self, source: u16) {
         if let Some(word) = self.shared.signs.get(usize::from(source) / WIDTH) {
-            let sign = sign_of(source);
+            let sign = bit_of(source);
             if word.load(Ordering::SeqCst) & sign == 0 {
                 word.fetch_or(sign, Ordering::SeqCst);
             }
         }
     }
 
+    /// Lowers the sign of a source, where it is raised.
     pub(crate) fn lower(&self, source: u16) {
         if let Some(word) = self.shared.signs.get(usize::from(source) / WIDTH) {
-            word.fetch_and(!sign_of(source), Ordering::SeqCst);
+            let sign = bit_of(source);
+            if word.load(Ordering::SeqCst) & sign != 0 {
+                word.fetch_and(!sign, Ordering::SeqCst);
+            }
         }
     }
 
-    /// The first source from one on, up to another, whose sign is raised.
-    pub(crate) fn first_raised(&self, from: u16, to: u16) -> Option<u16>
+    /// The first source from one on, up to another, whose sign is raised or that is one of these.
+    pub(crate) fn first_raised(&self, others: &Sources, from: u16, to: u16) -> Option<u16>
         ensures { IfSome result (λ source. (from ≤ source) × (source < to)) }
     {
         let from = usize::from(from);
         let to = usize::from(to);
         for place in from / WIDTH..to.div_ceil(WIDTH) {
             let begin = from.max(place * WIDTH);
-            if let Some(sign) = first_set(self.word(place), (begin % WIDTH) as u32) {
+            let word = self.word(place) | others.word(place);
+            if let Some(sign) = first_set(word, (begin % WIDTH) as u32) {
                 let source = place * WIDTH + sign as usize;
                 return if source < to {
                     Some(source as u16)
@@ -142,9 +138,4 @@ fn first_set(word: u64, from: u32) -> Option<u32>
         return None;
     }
     Some(from + rest.trailing_zeros())
-}
-
-/// The sign of a source in its word.
-fn sign_of(source: u16) -> u64 {
-    1 << (usize::from(source) % WIDTH)
 }

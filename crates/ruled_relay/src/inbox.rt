@@ -10,6 +10,7 @@ use crate::bell::Bell;
 use crate::end::{End, ends};
 use crate::item::{Item, What};
 use crate::row::{join_at, take_among, take_in_turn};
+use crate::sources::Sources;
 use octets::Memory;
 use std::alloc::Global;
 use std::marker::Model;
@@ -63,6 +64,8 @@ impl Model for SourcePass {
 pub struct Desk {
     ends: Vec<End<What>>,
     bell: Bell,
+    /// The sources that may have more, of those that signs are kept for.
+    more: Sources,
     sources: u16,
     turn: u16,
 }
@@ -115,6 +118,7 @@ impl Inbox {
         ensures queues { IfOk result (λ r. queues_of r.0 ≡ map (λ p. p.queue) r.1.items) }
     {
         let bell = Bell::with_signs(alloc, signs_for(sources))?;
+        let more = Sources::new(alloc, signs_for(sources))?;
         let mut desk = Vec::with_capacity(alloc, usize::from(sources))?;
         let mut passes = Vec::with_capacity(alloc, usize::from(sources))?;
         for source in 0..sources {
@@ -129,6 +133,7 @@ impl Inbox {
         let desk = Desk {
             ends: desk,
             bell,
+            more,
             sources,
             turn: 0,
         };
@@ -208,13 +213,21 @@ impl Desk {
     }
 
     /// Takes an item, if a source has one. The sources are asked in turn, beginning after the one
-    /// that was taken from last, at first with source 0.
+    /// that was taken from last, at first with source 0. It is none only where each source was asked
+    /// in this call and had none then.
     pub fn take<R: Wait>(&mut self, rt: &R) -> Option<Item>
         ensures takes { MatchOption result (self.new ≡ self.old)
             (λ item. TakesItem self.old item self.new) }
         ensures same { queues_of self.new ≡ queues_of self.old }
     {
-        let item = take_in_turn(rt, &self.bell, &mut self.ends, self.turn, self.sources)?;
+        let item = take_in_turn(
+            rt,
+            &self.bell,
+            &mut self.more,
+            &mut self.ends,
+            self.turn,
+            self.sources,
+        )?;
         self.turn = item.source + 1;
         Some(item)
     }

@@ -16,3 +16,4 @@ mod item;
 mod outbox;
 mod row;
 mod rule;
+mod sources;

@@ -1,13 +1,14 @@
 // SPDX-License-Identifier: MIT OR Apache-2.0
 //! A row of queues, one for each source.
-ghost use Rattle.std.specs.Prelude.{◌≡◌, ◌<◌, ◌≤◌, true, vec_len};
-ghost use Rattle.ruled_relay.specs.Row.{EachMayTake, HasAt, JoinsAt, TakesAmong, TakesAt};
-ghost use Rattle.ruled_relay.specs.Row.{TakesInTurn, TakesOne};
+ghost use Rattle.std.specs.Prelude.{◌≡◌, ◌<◌, ◌≤◌, true, None, vec_len};
+ghost use Rattle.ruled_relay.specs.Row.{AreDrained, EachMayTake, HasAt, JoinsAt, TakesAmong};
+ghost use Rattle.ruled_relay.specs.Row.{TakesAt, TakesInTurn, TakesOne};
 ghost use Rattle.ruled_relay.specs.Rule.{putting};
 
 use crate::bell::Bell;
 use crate::end::End;
 use crate::item::{Item, What};
+use crate::sources::Sources;
 use std::sync::Wait;
 
 /// Takes the first item of one source.
@@ -40,27 +41,35 @@ pub(crate) fn take_among<R: Wait>(
     None
 }
 
-/// Takes the first item of a source whose sign is raised, or lowers the sign.
-fn take_raised<R: Wait>(rt: &R, bell: &Bell, ends: &mut Vec<End<What>>, source: u16) -> Option<Item>
+/// Takes the first item of a source that a sign or an earlier look leads to. It is among those that
+/// may have more until a look finds nothing. Its sign is lowered before the look: what is put behind
+/// the look raises it again.
+fn take_raised<R: Wait>(
+    rt: &R,
+    bell: &Bell,
+    more: &mut Sources,
+    ends: &mut Vec<End<What>>,
+    source: u16,
+) -> Option<Item>
     requires within { source < vec_len ends.old }
     requires takes { EachMayTake ends.old.items }
     ensures { TakesAt source ends.old.items result ends.new.items }
 {
-    if let Some(item) = take_at(rt, ends, source) {
-        return Some(item);
-    }
     bell.lower(source);
-    // what was put meanwhile may have found the sign still raised
-    let item = take_at(rt, ends, source)?;
-    bell.raise(source);
-    Some(item)
+    more.insert(source);
+    let item = take_at(rt, ends, source);
+    if item.is_none() {
+        more.remove(source);
+    }
+    item
 }
 
-/// Asks those of the sources from one on, up to another, whose signs are raised, in turn, until one
-/// of them has an item.
+/// Asks those of the sources from one on, up to another, whose signs are raised or that may have
+/// more, in turn, until one of them has an item.
 fn take_among_raised<R: Wait>(
     rt: &R,
     bell: &Bell,
+    more: &mut Sources,
     ends: &mut Vec<End<What>>,
     from: u16,
     to: u16,
@@ -70,8 +79,8 @@ fn take_among_raised<R: Wait>(
     ensures { TakesOne to ends.old.items result ends.new.items }
 {
     let mut next = from;
-    while let Some(source) = bell.first_raised(next, to) {
-        if let Some(item) = take_raised(rt, bell, ends, source) {
+    while let Some(source) = bell.first_raised(more, next, to) {
+        if let Some(item) = take_raised(rt, bell, more, ends, source) {
             return Some(item);
         }
         next = source + 1;
@@ -79,7 +88,28 @@ fn take_among_raised<R: Wait>(
     None
 }
 
-/// Asks all sources in turn, beginning with one of them, until one has an item.
+/// Asks the sources that signs and earlier looks lead to, in turn, beginning with one of them, until
+/// one has an item. That none of these has one says nothing of the others.
+fn take_signed<R: Wait>(
+    rt: &R,
+    bell: &Bell,
+    more: &mut Sources,
+    ends: &mut Vec<End<What>>,
+    turn: u16,
+    sources: u16,
+) -> Option<Item>
+    requires within { (turn ≤ sources) × (sources ≤ vec_len ends.old) }
+    requires takes { EachMayTake ends.old.items }
+    ensures { TakesOne sources ends.old.items result ends.new.items }
+{
+    match take_among_raised(rt, bell, more, ends, turn, sources) {
+        Some(item) => Some(item),
+        None => take_among_raised(rt, bell, more, ends, 0, turn),
+    }
+}
+
+/// Asks all sources in turn, beginning with one of them, until one has an item. No sign is looked
+/// at.
 fn take_unsigned<R: Wait>(
     rt: &R,
     ends: &mut Vec<End<What>>,
@@ -97,27 +127,28 @@ fn take_unsigned<R: Wait>(
     }
 }
 
-/// Asks all sources in turn, beginning with one of them, until one has an item. Where signs are
-/// kept, it passes over those whose sign isn't raised: they have none, or one whose put hasn't
-/// returned yet.
+/// Takes an item, if a source has one: of the sources that signs and earlier looks lead to, in turn,
+/// beginning with one of them; or, where these have none, of all sources in turn. There is none only
+/// where each source was asked and had none. A source whose item nothing led to may have more.
 pub(crate) fn take_in_turn<R: Wait>(
     rt: &R,
     bell: &Bell,
+    more: &mut Sources,
     ends: &mut Vec<End<What>>,
     turn: u16,
     sources: u16,
 ) -> Option<Item>
     requires within { (turn ≤ sources) × (sources ≤ vec_len ends.old) }
     requires takes { EachMayTake ends.old.items }
-    ensures { TakesOne sources ends.old.items result ends.new.items }
+    ensures one { TakesOne sources ends.old.items result ends.new.items }
+    ensures none { result ≡ None → AreDrained sources ends.old.items }
 {
-    if !bell.has_signs() {
-        return take_unsigned(rt, ends, turn, sources);
+    if let Some(item) = take_signed(rt, bell, more, ends, turn, sources) {
+        return Some(item);
     }
-    match take_among_raised(rt, bell, ends, turn, sources) {
-        Some(item) => Some(item),
-        None => take_among_raised(rt, bell, ends, 0, turn),
-    }
+    let item = take_unsigned(rt, ends, turn, sources)?;
+    more.insert(item.source);
+    Some(item)
 }
 
 /// Brings the two ends of one source's queue together.

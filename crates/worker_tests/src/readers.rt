@@ -215,19 +215,23 @@ fn a_reader_that_wants_memory_puts_a_first_part(rt: HostRuntime) -> Result<(), F
     ended(read.fault)
 }
 
-/// How many frames come before `Down`.
-fn count_frames<R: Wait>(rt: &R, desk: &mut Desk) -> u32 {
+/// How often a desk is asked, and waits a tenth of a second where it has nothing, before something
+/// is taken for lost.
+const LOOKS: u32 = 2_000;
+
+/// How many frames come before `Down`, which comes before long.
+fn count_frames<R: Wait>(rt: &R, desk: &mut Desk) -> Option<u32> {
     let mut frames = 0u32;
-    for _ in rt.forever() {
+    for _ in 0..LOOKS {
         match desk.take(rt) {
             Some(item) => match item.what {
                 What::Frame(_) => frames = frames.saturating_add(1),
-                What::Down => break,
+                What::Down => return Some(frames),
             },
             None => desk.wait(rt, Duration::from_millis(100)),
         }
     }
-    frames
+    None
 }
 
 /// Reads 100 frames into an inbox of one item.
@@ -242,7 +246,7 @@ fn a_reader_that_finds_the_inbox_full_gets_on(rt: HostRuntime) -> Result<(), Fai
     let alloc = rt.alloc();
     let (mut desk, pass) = inbox(alloc, 1)?;
     let reader = thread::spawn(&rt, move || flood(&rt, alloc, pass)).expect(&rt, "a thread");
-    assert!(rt; count_frames(&rt, &mut desk) == 100);
+    assert!(rt; count_frames(&rt, &mut desk) == Some(100));
     assert!(rt; reader.join(&rt).is_none());
     Ok(())
 }
@@ -296,6 +300,6 @@ fn long_frames_wait_until_few_items_do(rt: HostRuntime) -> Result<(), Fail> {
     .expect(&rt, "a thread");
     // 128 wait, and one is to be put
     assert!(rt; await_asked(&rt, &asked) == 129);
-    assert!(rt; count_frames(&rt, &mut desk) == 400);
+    assert!(rt; count_frames(&rt, &mut desk) == Some(400));
     ended(reader.join(&rt))
 }

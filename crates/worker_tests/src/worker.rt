@@ -169,26 +169,31 @@ fn await_asked<R: Clock>(rt: &R, asked: &AtomicU64, often: u64) {
     }
 }
 
-/// The next line of an outbox.
-fn next<R: Wait>(rt: &R, taker: &mut Taker) -> Line {
-    for _ in rt.forever() {
+/// How many waits of a hundredth of a second in a row may end with nothing. Who waits for longer
+/// waits for a line that was lost, and the test ends.
+const WAITS: u32 = 1_000;
+
+/// The next line of an outbox, for which it waits, and not for long.
+fn next<R: Wait>(rt: &R, taker: &mut Taker) -> Option<Line> {
+    for _ in 0..WAITS {
         match taker.take(rt) {
-            Some(line) => return line,
+            Some(line) => return Some(line),
             None => taker.wait(rt, Duration::from_millis(10)),
         }
     }
-    unreachable!()
+    None
 }
 
 /// Whether an outbox gives these frames, then the mark behind the last, and no more.
 fn gives<R: Wait>(rt: &R, taker: &mut Taker, texts: &[Text]) -> bool {
     for (stream, body) in texts {
         match next(rt, taker) {
-            Line::Frame(frame) if frame.stream == *stream && frame.body.as_slice() == *body => {}
+            Some(Line::Frame(frame)) if frame.stream == *stream && frame.body.as_slice() == *body =>
+                {}
             _ => return false,
         }
     }
-    matches!(next(rt, taker), Line::End) && taker.take(rt).is_none()
+    matches!(next(rt, taker), Some(Line::End)) && taker.take(rt).is_none()
 }
 
 #[test]

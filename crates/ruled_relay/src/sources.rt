@@ -1,0 +1,51 @@
+// SPDX-License-Identifier: MIT OR Apache-2.0
+use octets::Memory;
+use std::alloc::Global;
+
+/// How many sources a word has a bit for.
+pub(crate) const WIDTH: usize = 64;
+
+/// A set of sources, a bit for each, those of 64 in a word.
+#[derive(Drop)]
+pub(crate) struct Sources {
+    words: Vec<u64>,
+}
+
+impl Sources {
+    /// No source, with room for so many.
+    pub(crate) fn new(alloc: Global, count: u16) -> Result<Sources, Memory> {
+        let count = usize::from(count).div_ceil(WIDTH);
+        let mut words = Vec::with_capacity(alloc, count)?;
+        for _ in 0..count {
+            words.push(0)?;
+        }
+        Ok(Sources { words })
+    }
+
+    /// With this source, where there is room for it.
+    pub(crate) fn insert(&mut self, source: u16) {
+        if let Some(word) = self.words.get_mut(usize::from(source) / WIDTH) {
+            *word |= bit_of(source);
+        }
+    }
+
+    /// Without this source.
+    pub(crate) fn remove(&mut self, source: u16) {
+        if let Some(word) = self.words.get_mut(usize::from(source) / WIDTH) {
+            *word &= !bit_of(source);
+        }
+    }
+
+    /// The bits of the sources from 64 times this place on.
+    pub(crate) fn word(&self, place: usize) -> u64 {
+        match self.words.get(place) {
+            Some(word) => *word,
+            None => 0,
+        }
+    }
+}
+
+/// The bit of a source in its word.
+pub(crate) fn bit_of(source: u16) -> u64 {
+    1 << (usize::from(source) % WIDTH)
+}
