@@ -193,10 +193,10 @@ fn is_emptied<R: Wait>(rt: &R, pass: &mut SourcePass) -> bool {
 }
 
 /// How many looks in a row may find items of one source alone, before the other threads get time.
-const OWN_LOOKS: u32 = 10_000;
+const OWN_LOOKS: u32 = 1_000;
 
-/// How often the other threads get time, before something is taken for put off: some seconds.
-const RESTS: u32 = 300;
+/// How often the other threads get a thousandth of a second, before something is taken for put off.
+const RESTS: u32 = 1_000;
 
 /// Looks for an item of another source, where this one has one at each look. Says whether there was
 /// one.
@@ -220,7 +220,7 @@ fn gives_beside<R: Clock + Wait>(rt: &R, desk: &mut Desk, busy: &mut SourcePass)
         if finds_other(rt, desk, busy) {
             return true;
         }
-        thread::sleep(rt, Duration::from_millis(5));
+        thread::sleep(rt, Duration::from_millis(1));
     }
     false
 }
