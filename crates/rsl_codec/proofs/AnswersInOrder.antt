@@ -1,6 +1,6 @@
 -- SPDX-License-Identifier: MIT OR Apache-2.0
 -- The other way round: of octets that are read as a MEASUREMENT RESULT with its elements in written order, what each step finds.
-use Rattle.std.proofs.Common.{is_some, ◌≡◌, ℕ, ◌/◌, ◌%◌, ◌≤◌, Bool, true, false, cond, ◌&&◌, eqb, List, [], ◌∷◌, ◌++◌, length, get_or, map, Option, Some, None, Ok, refl, sym, ap, subst, ◌∙◌, append_assoc, arith}
+use Rattle.std.proofs.Common.{◌≡◌, ℕ, ◌/◌, ◌%◌, ◌≤◌, Bool, true, false, cond, ◌&&◌, eqb, List, [], ◌∷◌, ◌++◌, length, get_or, map, Option, Some, None, Ok, refl, sym, ap, subst, ◌∙◌, append_assoc, inl, inr, arith}
 use Rattle.std.proofs.lemmas.Bool.{eqb-true}
 use Rattle.std.specs.List.{find}
 use Rattle.octets.proofs.Steps.{bind_ok, guard, result_map_ok}
@@ -21,7 +21,7 @@ use Rattle.rsl_codec.specs.ChannelNumber.{channel_by}
 use Rattle.rsl_codec.specs.Fields.{number_value}
 use Rattle.rsl_codec.specs.RslReading.{breaks_off, elements_of, measurement_result_at, message_at, optional_l3_at, rsl_reading, rsl_reading_by}
 use Rattle.rsl_codec.specs.RslType.{rsl_type, rsl_discriminator, rsl_octet}
-use Rattle.rsl_codec.specs.WrittenOrder.{AreInOrder, IsInOrder, l1_text, l3_elements, measured_elements}
+use Rattle.rsl_codec.specs.WrittenOrder.{AreInOrder, IsInOrder, l3_elements, measured_elements}
 use Rattle.rsl_codec.proofs.Messages.{read_is_text, whole_elements}
 use Rattle.rsl_codec.proofs.Steps.{optional_l3_ok}
 use Rattle.rsl_codec.proofs.WrittenOrder.{are_these, reads_in_order}
@@ -111,93 +111,79 @@ last_one octets [] are same = absurd cc
 last_one octets (e ∷ []) are same = one_more octets e (same_id e.id 0x0b [] [] same) are
 last_one octets (e ∷ f ∷ es) are same = absurd cc
 
--- ---- L1 information or none, and behind it L3 information or none
-
--- its octets, where there are such
-abbrev pub pair_text : Option (ℕ × ℕ) → List ℕ
-pair_text None = []
-pair_text (Some pair) = 0x0a ∷ (pair.0 ∷ (pair.1 ∷ []))
-
-pub record Ends (octets : List ℕ) : Type 0 where
-  pub l1 : Option (ℕ × ℕ)
-  pub rest : List ℕ
-  pub l1_is : octets ≡ pair_text l1 ++ rest
-  pub l3 : Option (List ℕ)
-  pub last : AreElements ELEMENTS rest (l3_elements l3) false
-
-with_last : (octets : List ℕ) → Last octets → Ends octets
-with_last octets last = record { l1 = None; rest = octets; l1_is = refl; l3 = last.l3; last = last.are }
-
-with_l1 : (octets : List ℕ) (es : List Element) (ids : List ℕ) → AreElements ELEMENTS octets es false → map (λ e. e.id) es ≡ 0x0a ∷ ids →
-    ((rest : List ℕ) (last : List Element) → AreElements ELEMENTS rest last false → map (λ e. e.id) last ≡ ids → Last rest) → Ends octets
-with_l1 octets es ids are same ends =
-    let e = front octets es 0x0a (Tv 2) ids refl are same in
-    let l1 = two octets 0x0a e.value e.rest e.size e.text in
-    let last = ends e.rest e.behind e.are e.ids_are in
-    record { l1 = Some (l1.high, l1.low); rest = e.rest; l1_is = l1.text; l3 = last.l3; last = last.are }
-
 -- ---- the whole body
 
--- its octets, where its elements have these identifiers, and those of the last ones behind them
+-- its octets, where its elements have these identifiers, and those of L3 information behind them
 pub record Stands (body : List ℕ) : Type 0 where
   pub channel : ℕ
   pub number : ℕ
   pub uplink : List ℕ
   pub power : ℕ
+  pub high : ℕ
+  pub low : ℕ
   pub first : List ℕ
   pub second : List ℕ
   pub third : List ℕ
   pub fourth : List ℕ
+  pub fifth : List ℕ
   pub channel_is : body ≡ 0x01 ∷ (channel ∷ first)
   pub number_is : first ≡ 0x1b ∷ (number ∷ second)
   pub uplink_is : second ≡ 0x19 ∷ (length uplink ∷ (uplink ++ third))
   pub power_is : third ≡ 0x04 ∷ (power ∷ fourth)
-  pub ends : Ends fourth
+  pub l1_is : fourth ≡ 0x0a ∷ (high ∷ (low ∷ fifth))
+  pub l3 : Option (List ℕ)
+  pub last : AreElements ELEMENTS fifth (l3_elements l3) false
 
 stands_by : (body : List ℕ) (es : List Element) (ids : List ℕ) → AreElements ELEMENTS body es false →
-    map (λ e. e.id) es ≡ 0x01 ∷ 0x1b ∷ 0x19 ∷ 0x04 ∷ ids →
-    ((octets : List ℕ) (last : List Element) → AreElements ELEMENTS octets last false → map (λ e. e.id) last ≡ ids → Ends octets) →
+    map (λ e. e.id) es ≡ 0x01 ∷ 0x1b ∷ 0x19 ∷ 0x04 ∷ 0x0a ∷ ids →
+    ((octets : List ℕ) (last : List Element) → AreElements ELEMENTS octets last false → map (λ e. e.id) last ≡ ids → Last octets) →
     Stands body
 stands_by body es ids are same ends =
-    let a = front body es 0x01 (Tv 1) (0x1b ∷ 0x19 ∷ 0x04 ∷ ids) refl are same in
-    let b = front a.rest a.behind 0x1b (Tv 1) (0x19 ∷ 0x04 ∷ ids) refl a.are a.ids_are in
-    let c = front b.rest b.behind 0x19 Tlv (0x04 ∷ ids) refl b.are b.ids_are in
-    let d = front c.rest c.behind 0x04 (Tv 1) ids refl c.are c.ids_are in
+    let a = front body es 0x01 (Tv 1) (0x1b ∷ 0x19 ∷ 0x04 ∷ 0x0a ∷ ids) refl are same in
+    let b = front a.rest a.behind 0x1b (Tv 1) (0x19 ∷ 0x04 ∷ 0x0a ∷ ids) refl a.are a.ids_are in
+    let c = front b.rest b.behind 0x19 Tlv (0x04 ∷ 0x0a ∷ ids) refl b.are b.ids_are in
+    let d = front c.rest c.behind 0x04 (Tv 1) (0x0a ∷ ids) refl c.are c.ids_are in
+    let e = front d.rest d.behind 0x0a (Tv 2) ids refl d.are d.ids_are in
     let channel = one body 0x01 a.value a.rest a.size a.text in
     let number = one a.rest 0x1b b.value b.rest b.size b.text in
     let power = one c.rest 0x04 d.value d.rest d.size d.text in
+    let l1 = two d.rest 0x0a e.value e.rest e.size e.text in
+    let last = ends e.rest e.behind e.are e.ids_are in
     record {
       channel = channel.value;
       number = number.value;
       uplink = c.value;
       power = power.value;
+      high = l1.high;
+      low = l1.low;
       first = a.rest;
       second = b.rest;
       third = c.rest;
       fourth = d.rest;
+      fifth = e.rest;
       channel_is = channel.text;
       number_is = number.text;
       uplink_is = c.text;
       power_is = power.text;
-      ends = ends d.rest d.behind d.are d.ids_are;
+      l1_is = l1.text;
+      l3 = last.l3;
+      last = last.are;
     }
 
-stands_in : (body : List ℕ) (es : List Element) → AreElements ELEMENTS body es false → AreInOrder (map (λ e. e.id) es) → Stands body
-stands_in body es are (false, false, ids) = stands_by body es [] are ids (λ o last is same. with_last o (last_none o last is same))
-stands_in body es are (false, true, ids) = stands_by body es (0x0b ∷ []) are ids (λ o last is same. with_last o (last_one o last is same))
-stands_in body es are (true, false, ids) = stands_by body es (0x0a ∷ []) are ids (λ o last is same. with_l1 o last [] is same last_none)
-stands_in body es are (true, true, ids) =
-    stands_by body es (0x0a ∷ 0x0b ∷ []) are ids (λ o last is same. with_l1 o last (0x0b ∷ []) is same last_one)
-
 pub stands : (body : List ℕ) → AreOctets body → AreInOrder (map (λ e. e.id) (elements_of body)) → breaks_off body ≡ false → Stands body
-stands body fits order whole = stands_in body (elements_of body) (whole_elements body fits whole) order
+stands body fits order whole =
+    let are = whole_elements body fits whole in
+    elim order [
+      | inl ids ↦ stands_by body (elements_of body) [] are ids last_none
+      | inr ids ↦ stands_by body (elements_of body) (0x0b ∷ []) are ids last_one
+    ]
 
 -- ---- what is behind an element is one alone
 
 pub behind_one : (octets : List ℕ) (id a b : ℕ) (xs ys : List ℕ) → octets ≡ id ∷ (a ∷ xs) → octets ≡ id ∷ (b ∷ ys) → xs ≡ ys
 behind_one octets id a b xs ys h k = cc
 
-behind_two : (octets : List ℕ) (id n a b : ℕ) (xs ys : List ℕ) → octets ≡ id ∷ (n / 256 ∷ n % 256 ∷ xs) → octets ≡ id ∷ (a ∷ (b ∷ ys)) → xs ≡ ys
+pub behind_two : (octets : List ℕ) (id n a b : ℕ) (xs ys : List ℕ) → octets ≡ id ∷ (n / 256 ∷ n % 256 ∷ xs) → octets ≡ id ∷ (a ∷ (b ∷ ys)) → xs ≡ ys
 behind_two octets id n a b xs ys h k = cc
 
 same_rest : (v w xs ys : List ℕ) → length v ≡ length w → v ++ xs ≡ w ++ ys → xs ≡ ys
@@ -231,46 +217,12 @@ stops_behind : (octets : List ℕ) (es : List Element) → AreElements ELEMENTS 
 stops_behind octets [] are same = are
 stops_behind octets (e ∷ es) are same = absurd cc
 
-begins_with : (octets : List ℕ) (id : ℕ) (format : Format) (rest : List ℕ) → format_in ELEMENTS id ≡ Some format →
-    octets ≡ id ∷ rest → Stops ELEMENTS octets → false ≡ true
-begins_with [] id format rest known is stops = absurd cc
-begins_with (a ∷ octets) id format rest known is stops =
-    let here : format_in ELEMENTS a ≡ Some format = ap (format_in ELEMENTS) (same_id a id octets rest is) ∙ known in
-    let no : (let x : Option Format = Some format in x) ≡ None = sym here ∙ stops in
-    absurd cc
-
 begins : (octets rest : List ℕ) → octets ≡ 0x0b ∷ rest → Stops ELEMENTS octets → false ≡ true
-begins octets rest is stops = begins_with octets 0x0b TlvE rest refl is stops
-
--- octets that begin with L1 information are neither L3 information nor octets at which no element begins
-no_l1 : (octets rest : List ℕ) (l3 : Option (List ℕ)) → octets ≡ 0x0a ∷ rest → AreElements ELEMENTS octets (l3_elements l3) false → false ≡ true
-no_l1 octets rest None is are = begins_with octets 0x0a (Tv 2) rest refl is are
-no_l1 octets rest (Some v) is are =
-    let f = front octets (l3_elements (Some v)) 0x0b TlvE [] refl are refl in
-    let no : 0x0b ≡ 0x0a = same_id 0x0b 0x0a _ _ (sym f.text ∙ is) in
-    absurd (omega (arith, no))
-
-behind_by : (octets : List ℕ) (found : Option ℕ) (rest : List ℕ) (pair : Option (ℕ × ℕ)) (fifth : List ℕ) (l3 : Option (List ℕ)) →
-    octets ≡ l1_text found ++ rest →
-    ((high low : ℕ) (xs : List ℕ) → octets ≡ 0x0a ∷ (high ∷ (low ∷ xs)) → is_some found ≡ true) →
-    octets ≡ pair_text pair ++ fifth → AreElements ELEMENTS fifth (l3_elements l3) false → fifth ≡ rest
-behind_by octets None rest None fifth l3 is answers pair_is are = sym pair_is ∙ is
-behind_by octets None rest (Some pair) fifth l3 is answers pair_is are =
-    let no : false ≡ true = answers pair.0 pair.1 fifth pair_is in
+begins [] rest is stops = absurd cc
+begins (a ∷ octets) rest is stops =
+    let known : format_in ELEMENTS a ≡ Some TlvE = ap (format_in ELEMENTS) (same_id a 0x0b octets rest is) in
+    let no : (let x : Option Format = Some TlvE in x) ≡ None = sym known ∙ stops in
     absurd cc
-behind_by octets (Some l1) rest None fifth l3 is answers pair_is are =
-    let no : false ≡ true = no_l1 fifth (number_value l1 ++ rest) l3 (sym pair_is ∙ is) are in
-    absurd cc
-behind_by octets (Some l1) rest (Some pair) fifth l3 is answers pair_is are =
-    sym (behind_two octets 0x0a l1 pair.0 pair.1 rest fifth is pair_is)
-
--- behind L1 information that is found, or that isn't there, is what such octets end with
-pub behind_l1 : (octets : List ℕ) (found : Option ℕ) (rest : List ℕ) → octets ≡ l1_text found ++ rest →
-    ((high low : ℕ) (xs : List ℕ) → octets ≡ 0x0a ∷ (high ∷ (low ∷ xs)) → is_some found ≡ true) → (e : Ends octets) →
-    AreElements ELEMENTS rest (l3_elements e.l3) false
-behind_l1 octets found rest is answers e =
-    let same = behind_by octets found rest e.l1 e.rest e.l3 is answers e.l1_is e.last in
-    subst (λ (t : List ℕ). AreElements ELEMENTS t (l3_elements e.l3) false) same e.last
 
 -- behind L3 information no element begins
 pub stops_after : (octets l3 rest : List ℕ) → octets ≡ 0x0b ∷ (number_value (length l3) ++ (l3 ++ rest)) → (o : Option (List ℕ)) →
@@ -328,15 +280,13 @@ begins_so octets body fits is =
 
 -- ---- the values
 
-ids_in_order : (channel number : ℕ) (uplink : List ℕ) (power : ℕ) (l1 : Option ℕ) (l3 : Option (List ℕ)) →
+ids_in_order : (channel number : ℕ) (uplink : List ℕ) (power l1 : ℕ) (l3 : Option (List ℕ)) →
     AreInOrder (map (λ e. e.id) (measured_elements channel number uplink power l1 l3))
-ids_in_order channel number uplink power None None = (false, false, refl)
-ids_in_order channel number uplink power None (Some l3) = (false, true, refl)
-ids_in_order channel number uplink power (Some l1) None = (true, false, refl)
-ids_in_order channel number uplink power (Some l1) (Some l3) = (true, true, refl)
+ids_in_order channel number uplink power l1 None = inl refl
+ids_in_order channel number uplink power l1 (Some l3) = inr refl
 
 -- what is answered is in order
-pub is_in_order : (body : List ℕ) (octet channel number : ℕ) (uplink : List ℕ) (power : ℕ) (l1 : Option ℕ) (l3 : Option (List ℕ)) →
+pub is_in_order : (body : List ℕ) (octet channel number : ℕ) (uplink : List ℕ) (power l1 : ℕ) (l3 : Option (List ℕ)) →
     walk ELEMENTS body ≡ finding (measured_elements octet number uplink power l1 l3) false →
     channel_by octet ≡ Ok channel → optional_l3_at l3 ≡ Ok l3 →
     IsInOrder (rsl_reading_by (Some types.MeasurementResult) body) body
@@ -358,20 +308,13 @@ pub record Lawful (octet : ℕ) (l3 : Option (List ℕ)) : Type 0 where
 same_l3 : (l3 found : Option (List ℕ)) → optional_l3_at l3 ≡ Ok found → optional_l3_at l3 ≡ Ok l3
 same_l3 l3 found e = e ∙ ap (λ (o : Option (List ℕ)). Ok o) (sym (optional_l3_ok l3 found e).0)
 
-lawful_at : (octet number : ℕ) (uplink : List ℕ) (power : ℕ) (l1 : Option ℕ) (l3 : Option (List ℕ)) (m : MeasurementResult) →
+lawful_at : (octet number : ℕ) (uplink : List ℕ) (power l1 : ℕ) (l3 : Option (List ℕ)) (m : MeasurementResult) →
     measurement_result_at (measured_elements octet number uplink power l1 l3) ≡ Ok m → Lawful octet l3
 unfolding measurement_result_at
-lawful_at octet number uplink power None None m e =
+lawful_at octet number uplink power l1 None m e =
     let a = bind_ok (channel_by octet) _ m e in
     record { channel = a.0; channel_is = a.1; l3_is = refl }
-lawful_at octet number uplink power None (Some l3) m e =
-    let a = bind_ok (channel_by octet) _ m e in
-    let b = bind_ok (optional_l3_at (Some l3)) _ m a.2 in
-    record { channel = a.0; channel_is = a.1; l3_is = same_l3 (Some l3) b.0 b.1 }
-lawful_at octet number uplink power (Some l1) None m e =
-    let a = bind_ok (channel_by octet) _ m e in
-    record { channel = a.0; channel_is = a.1; l3_is = refl }
-lawful_at octet number uplink power (Some l1) (Some l3) m e =
+lawful_at octet number uplink power l1 (Some l3) m e =
     let a = bind_ok (channel_by octet) _ m e in
     let b = bind_ok (optional_l3_at (Some l3)) _ m a.2 in
     record { channel = a.0; channel_is = a.1; l3_is = same_l3 (Some l3) b.0 b.1 }
@@ -385,7 +328,7 @@ read_by : (es : List Element) (v : Rsl) → message_at types.MeasurementResult e
 unfolding message_at
 read_by es v e = let m = result_map_ok (λ x. messages.MeasurementResult x) (measurement_result_at es) v e in (m.0, m.1)
 
-pub lawful_in_order : (body : List ℕ) (octet number : ℕ) (uplink : List ℕ) (power : ℕ) (l1 : Option ℕ) (l3 : Option (List ℕ)) →
+pub lawful_in_order : (body : List ℕ) (octet number : ℕ) (uplink : List ℕ) (power l1 : ℕ) (l3 : Option (List ℕ)) →
     walk ELEMENTS body ≡ finding (measured_elements octet number uplink power l1 l3) false →
     IsInOrder (rsl_reading_by (Some types.MeasurementResult) body) body → Lawful octet l3
 lawful_in_order body octet number uplink power l1 l3 walked is =

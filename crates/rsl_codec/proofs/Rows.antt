@@ -1,6 +1,6 @@
 -- SPDX-License-Identifier: MIT OR Apache-2.0
 -- Definitions against literal octets (TS 48.058 clauses 8 and 9).
-use Rattle.std.proofs.Common.{◌≡◌, ℕ, Bool, List, [], ◌∷◌, ◌++◌, drop, filter, get_or, length, map, replicate, true, false, Some, None, Ok, Err, refl, ap, arith}
+use Rattle.std.proofs.Common.{◌≡◌, ℕ, Bool, List, [], ◌∷◌, ◌++◌, drop, filter, get_or, length, map, replicate, true, false, Some, None, Ok, Err, refl, ap, inl, inr, arith}
 use Rattle.std.specs.List.{range_with_len}
 use Rattle.octets.proofs.Hex.{hex}
 use Rattle.octets.specs.declared.element.Format.TheVariants.{Tv, Tlv, TlvE}
@@ -550,7 +550,7 @@ order_with_l3 = record {
     l3 = Some (hex "06 15");
   };
   reads = refl;
-  order = (true, true, refl);
+  order = inr refl;
 }
 
 -- without it, and with what begins with no identifier of the table behind them
@@ -566,39 +566,7 @@ order_without_l3 = record {
     l3 = None;
   };
   reads = refl;
-  order = (true, false, refl);
-}
-
--- without L1 information, as in report_measured, and without both
-order_without_l1 : StandsInOrder
-    (hex "08 28 01 41 1b 05 19 03 14 14 00 04 00 0b 00 12 06 15 14 14 00 57 02 40 00 00 00 00 00 00 00 00 00 00")
-unfolding rsl_reading message_at elements_of breaks_off rsl_type walk measurement_result_at
-order_without_l1 = record {
-  message = record {
-    channel = 0x41;
-    number = record { 0 = 5 };
-    uplink = Some (record { 0 = hex "14 14 00" });
-    bs_power = Some (record { 0 = 0 });
-    l1 = None;
-    l3 = Some (hex "06 15 14 14 00 57 02 40 00 00 00 00 00 00 00 00 00 00");
-  };
-  reads = refl;
-  order = (false, true, refl);
-}
-
-order_without_both : StandsInOrder (hex "08 28 01 41 1b 05 19 00 04 02")
-unfolding rsl_reading message_at elements_of breaks_off rsl_type walk measurement_result_at
-order_without_both = record {
-  message = record {
-    channel = 0x41;
-    number = record { 0 = 5 };
-    uplink = Some (record { 0 = [] });
-    bs_power = Some (record { 0 = 2 });
-    l1 = None;
-    l3 = None;
-  };
-  reads = refl;
-  order = (false, false, refl);
+  order = inl refl;
 }
 
 -- with the longest L3 information, and with one that is longer
@@ -614,7 +582,7 @@ order_with_251 = record {
     l3 = Some (replicate 251 0x33);
   };
   reads = refl;
-  order = (true, true, refl);
+  order = inr refl;
 }
 
 no_order_with_252 : StandsInOrder (hex "08 28 01 41 1b 05 19 00 04 02 0a 01 03 0b 00 fc" ++ replicate 252 0x33) → ⊥
@@ -624,72 +592,38 @@ no_order_with_252 is = let no = is.reads in absurd cc
 abbrev third_of : List ℕ → ℕ
 third_of ids = get_or ids 2 0
 
-abbrev fourth_of : List ℕ → ℕ
-fourth_of ids = get_or ids 3 0
-
 abbrev fifth_of : List ℕ → ℕ
 fifth_of ids = get_or ids 4 0
 
-abbrev sixth_of : List ℕ → ℕ
-sixth_of ids = get_or ids 5 0
-
 -- the power before the uplink
 not_ids_of_another : AreInOrder (0x01 ∷ 0x1b ∷ 0x04 ∷ 0x19 ∷ 0x0a ∷ 0x0b ∷ []) → ⊥
-not_ids_of_another (l1, l3, same) = omega (arith, ap third_of same)
+not_ids_of_another (inl same) = omega (arith, ap third_of same)
+not_ids_of_another (inr same) = omega (arith, ap third_of same)
 
 another_order : StandsInOrder (hex "08 28 01 41 1b 05 04 02 19 03 14 15 16 0a 01 03 0b 00 02 06 15") → ⊥
 unfolding elements_of walk
 another_order is = not_ids_of_another is.order
 
--- the L1 information behind the L3 information
-not_ids_of_l1_last : AreInOrder (0x01 ∷ 0x1b ∷ 0x19 ∷ 0x04 ∷ 0x0b ∷ 0x0a ∷ []) → ⊥
-not_ids_of_l1_last (false, false, same) = omega (arith, ap length same)
-not_ids_of_l1_last (false, true, same) = omega (arith, ap length same)
-not_ids_of_l1_last (true, l3, same) = omega (arith, ap fifth_of same)
+-- no L1 information, as in report_measured, which is read
+not_ids_of_missing : AreInOrder (0x01 ∷ 0x1b ∷ 0x19 ∷ 0x04 ∷ 0x0b ∷ []) → ⊥
+not_ids_of_missing (inl same) = omega (arith, ap fifth_of same)
+not_ids_of_missing (inr same) = omega (arith, ap fifth_of same)
 
-l1_is_last : StandsInOrder (hex "08 28 01 41 1b 05 19 03 14 15 16 04 02 0b 00 02 06 15 0a 01 03") → ⊥
-unfolding elements_of walk
-l1_is_last is = not_ids_of_l1_last is.order
-
--- no power
-not_ids_of_missing : AreInOrder (0x01 ∷ 0x1b ∷ 0x19 ∷ 0x0a ∷ 0x0b ∷ []) → ⊥
-not_ids_of_missing (l1, l3, same) = omega (arith, ap fourth_of same)
-
-one_is_missing : StandsInOrder (hex "08 28 01 41 1b 05 19 03 14 15 16 0a 01 03 0b 00 02 06 15") → ⊥
+one_is_missing : StandsInOrder
+    (hex "08 28 01 41 1b 05 19 03 14 14 00 04 00 0b 00 12 06 15 14 14 00 57 02 40 00 00 00 00 00 00 00 00 00 00") → ⊥
 unfolding elements_of walk
 one_is_missing is = not_ids_of_missing is.order
 
 -- the number again behind the L3 information
 not_ids_of_repeated : AreInOrder (0x01 ∷ 0x1b ∷ 0x19 ∷ 0x04 ∷ 0x0a ∷ 0x0b ∷ 0x1b ∷ []) → ⊥
-not_ids_of_repeated (false, false, same) = omega (arith, ap length same)
-not_ids_of_repeated (false, true, same) = omega (arith, ap length same)
-not_ids_of_repeated (true, false, same) = omega (arith, ap length same)
-not_ids_of_repeated (true, true, same) = omega (arith, ap length same)
+not_ids_of_repeated (inl same) = omega (arith, ap length same)
+not_ids_of_repeated (inr same) = omega (arith, ap length same)
 
 one_is_repeated : StandsInOrder (hex "08 28 01 41 1b 05 19 03 14 15 16 04 02 0a 01 03 0b 00 02 06 15 1b 05") → ⊥
 unfolding elements_of walk
 one_is_repeated is = not_ids_of_repeated is.order
 
--- L1 information twice
-not_ids_of_l1_twice : AreInOrder (0x01 ∷ 0x1b ∷ 0x19 ∷ 0x04 ∷ 0x0a ∷ 0x0a ∷ []) → ⊥
-not_ids_of_l1_twice (false, false, same) = omega (arith, ap length same)
-not_ids_of_l1_twice (false, true, same) = omega (arith, ap length same)
-not_ids_of_l1_twice (true, false, same) = omega (arith, ap length same)
-not_ids_of_l1_twice (true, true, same) = omega (arith, ap sixth_of same)
-
-l1_is_repeated : StandsInOrder (hex "08 28 01 41 1b 05 19 03 14 15 16 04 02 0a 01 03 0a 01 03") → ⊥
-unfolding elements_of walk
-l1_is_repeated is = not_ids_of_l1_twice is.order
-
--- L1 information, and L3 information, that is cut, and another message of the same elements
-l1_is_cut : StandsInOrder (hex "08 28 01 41 1b 05 19 03 14 15 16 04 02 0a 01") → ⊥
-unfolding rsl_reading message_at elements_of breaks_off rsl_type walk measurement_result_at
-l1_is_cut is = let no = is.reads in absurd cc
-
-l1_is_its_identifier_alone : StandsInOrder (hex "08 28 01 41 1b 05 19 03 14 15 16 04 02 0a") → ⊥
-unfolding rsl_reading message_at elements_of breaks_off rsl_type walk measurement_result_at
-l1_is_its_identifier_alone is = let no = is.reads in absurd cc
-
+-- an element that is cut, and another message of the same elements
 one_is_cut : StandsInOrder (hex "08 28 01 41 1b 05 19 03 14 15 16 04 02 0a 01 03 0b 00 02 06") → ⊥
 unfolding rsl_reading message_at elements_of breaks_off rsl_type walk measurement_result_at
 one_is_cut is = let no = is.reads in absurd cc

@@ -1,6 +1,6 @@
 -- SPDX-License-Identifier: MIT OR Apache-2.0
 -- A MEASUREMENT RESULT whose elements stand in written order.
-use Rattle.std.proofs.Common.{◌≡◌, ℕ, ◌/◌, ◌<◌, ◌≤◌, false, List, [], ◌∷◌, ◌++◌, length, Option, Some, None, option_map, Ok, refl, sym, ap, subst, arith}
+use Rattle.std.proofs.Common.{◌≡◌, ℕ, ◌/◌, ◌<◌, ◌≤◌, false, List, [], ◌∷◌, ◌++◌, length, Option, Some, None, Ok, refl, ap, arith}
 use Rattle.octets.specs.declared.element.Format.TheVariants.{Tv, Tlv, TlvE}
 use Rattle.octets.specs.Element.{AreElements, Element, Stops}
 use Rattle.octets.specs.Walk.{Finding, finding, walk}
@@ -10,7 +10,7 @@ use Rattle.rsl_codec.specs.declared.rsl_type.RslType.TheVariants as types
 use Rattle.rsl_codec.specs.declared.rsl.Rsl.TheVariants as messages
 use Rattle.rsl_codec.specs.ChannelNumber.{channel_by}
 use Rattle.rsl_codec.specs.Fields.{number_value}
-use Rattle.rsl_codec.specs.WrittenOrder.{IsMeasurement, l1_elements, l1_text, l3_elements, measured_elements}
+use Rattle.rsl_codec.specs.WrittenOrder.{IsMeasurement, l3_elements, measured_elements}
 use Rattle.rsl_codec.specs.RslReading.{breaks_off, elements_of, measurement_result_at, message_at, optional_l3_at, rsl_reading_by}
 use Rattle.rsl_codec.specs.RslType.{rsl_type}
 use Rattle.rsl_codec.proofs.Steps.{number_again}
@@ -22,7 +22,7 @@ last_is octets l3 rest is fits stops =
     (0x0b ∷ (number_value (length l3) ++ l3), rest, record { format = TlvE; known = refl; size = omega arith; text = refl }, is, stops)
 
 -- the octets of a body are these elements, one behind the other
-pub record InOrder (body : List ℕ) (channel number : ℕ) (uplink : List ℕ) (power : ℕ) (l1 : Option ℕ) (l3 : Option (List ℕ)) : Type 0 where
+pub record InOrder (body : List ℕ) (channel number : ℕ) (uplink : List ℕ) (power l1 : ℕ) (l3 : Option (List ℕ)) : Type 0 where
   pub first : List ℕ
   pub second : List ℕ
   pub third : List ℕ
@@ -33,16 +33,10 @@ pub record InOrder (body : List ℕ) (channel number : ℕ) (uplink : List ℕ) 
   pub uplink_is : second ≡ 0x19 ∷ (length uplink ∷ (uplink ++ third))
   pub uplink_fits : length uplink ≤ 255
   pub power_is : third ≡ 0x04 ∷ (power ∷ fourth)
-  pub l1_is : fourth ≡ l1_text l1 ++ fifth
+  pub l1_is : fourth ≡ 0x0a ∷ (number_value l1 ++ fifth)
   pub last : AreElements ELEMENTS fifth (l3_elements l3) false
 
-ends_so : (octets rest : List ℕ) (l1 : Option ℕ) (l3 : Option (List ℕ)) → octets ≡ l1_text l1 ++ rest →
-    AreElements ELEMENTS rest (l3_elements l3) false → AreElements ELEMENTS octets (l1_elements l1 ++ l3_elements l3) false
-ends_so octets rest None l3 is are = subst (λ (t : List ℕ). AreElements ELEMENTS t (l3_elements l3) false) (sym is) are
-ends_so octets rest (Some l1) l3 is are =
-    (0x0a ∷ number_value l1, rest, record { format = Tv 2; known = refl; size = refl; text = refl }, is, are)
-
-pub in_order : (body : List ℕ) (channel number : ℕ) (uplink : List ℕ) (power : ℕ) (l1 : Option ℕ) (l3 : Option (List ℕ)) →
+pub in_order : (body : List ℕ) (channel number : ℕ) (uplink : List ℕ) (power l1 : ℕ) (l3 : Option (List ℕ)) →
     InOrder body channel number uplink power l1 l3 →
     walk ELEMENTS body ≡ finding (measured_elements channel number uplink power l1 l3) false
 in_order body channel number uplink power l1 l3 are =
@@ -67,7 +61,13 @@ in_order body channel number uplink power l1 l3 are =
             are.fourth,
             record { format = Tv 1; known = refl; size = refl; text = refl },
             are.power_is,
-            ends_so are.fourth are.fifth l1 l3 are.l1_is are.last,
+            (
+              0x0a ∷ number_value l1,
+              are.fifth,
+              record { format = Tv 2; known = refl; size = refl; text = refl },
+              are.l1_is,
+              are.last,
+            ),
           ),
         ),
       ),
@@ -77,21 +77,19 @@ pub type_is : (discriminator octet : ℕ) → discriminator / 2 ≡ 4 → octet 
 unfolding rsl_type
 type_is discriminator octet e is = rw (e, is) refl
 
-result_at : (octet channel number : ℕ) (uplink : List ℕ) (power : ℕ) (l1 : Option ℕ) (l3 : Option (List ℕ)) →
+result_at : (octet channel number : ℕ) (uplink : List ℕ) (power l1 : ℕ) (l3 : Option (List ℕ)) →
     channel_by octet ≡ Ok channel → optional_l3_at l3 ≡ Ok l3 →
     message_at types.MeasurementResult (measured_elements octet number uplink power l1 l3) ≡ Ok (messages.MeasurementResult (record {
       channel = channel;
       number = record { 0 = number };
       uplink = Some (record { 0 = uplink });
       bs_power = Some (record { 0 = power });
-      l1 = option_map (λ l. record { 0 = l }) l1;
+      l1 = Some (record { 0 = l1 });
       l3 = l3;
     }))
 unfolding message_at measurement_result_at
-result_at octet channel number uplink power None None is there = rw is refl
-result_at octet channel number uplink power None (Some l3) is there = rw (is, there) refl
-result_at octet channel number uplink power (Some l1) None is there = rw (is, number_again l1) refl
-result_at octet channel number uplink power (Some l1) (Some l3) is there = rw (is, there, number_again l1) refl
+result_at octet channel number uplink power l1 None is there = rw (is, number_again l1) refl
+result_at octet channel number uplink power l1 (Some l3) is there = rw (is, there, number_again l1) refl
 
 is_whole : (body : List ℕ) (es : List Element) → walk ELEMENTS body ≡ finding es false → breaks_off body ≡ false
 unfolding breaks_off
@@ -102,7 +100,7 @@ unfolding elements_of
 are_these body es walked = ap (λ (f : Finding). f.elements) walked
 
 -- such a body is read so
-pub reads_in_order : (body : List ℕ) (octet channel number : ℕ) (uplink : List ℕ) (power : ℕ) (l1 : Option ℕ) (l3 : Option (List ℕ)) →
+pub reads_in_order : (body : List ℕ) (octet channel number : ℕ) (uplink : List ℕ) (power l1 : ℕ) (l3 : Option (List ℕ)) →
     walk ELEMENTS body ≡ finding (measured_elements octet number uplink power l1 l3) false →
     channel_by octet ≡ Ok channel → optional_l3_at l3 ≡ Ok l3 →
     IsMeasurement (rsl_reading_by (Some types.MeasurementResult) body) channel number l3
@@ -115,7 +113,7 @@ reads_in_order body octet channel number uplink power l1 l3 walked channel_is l3
         number = record { 0 = number };
         uplink = Some (record { 0 = uplink });
         bs_power = Some (record { 0 = power });
-        l1 = option_map (λ l. record { 0 = l }) l1;
+        l1 = Some (record { 0 = l1 });
         l3 = l3;
       };
       reads = rw (whole, these) (result_at octet channel number uplink power l1 l3 channel_is l3_is);

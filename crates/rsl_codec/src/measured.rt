@@ -8,7 +8,7 @@ ghost use Rattle.octets.specs.declared.limits.TheConstants.{LENGTH_LIMIT};
 ghost use Rattle.rsl_codec.specs.declared.identifiers.TheConstants.{ELEMENTS};
 ghost use Rattle.rsl_codec.specs.Fields.{number_value};
 ghost use Rattle.rsl_codec.specs.WrittenOrder.{AreInOrder, IsInOrder, IsMeasurement};
-ghost use Rattle.rsl_codec.specs.WrittenOrder.{l1_text, l3_elements, measured_elements};
+ghost use Rattle.rsl_codec.specs.WrittenOrder.{l3_elements, measured_elements};
 ghost use Rattle.rsl_codec.specs.RslReading.{measurement_result_at, optional_l3_at};
 ghost use Rattle.rsl_codec.specs.RslReading.{breaks_off, elements_of};
 ghost use Rattle.rsl_codec.specs.RslReading.{rsl_reading, rsl_reading_by};
@@ -28,14 +28,14 @@ use octets::{MESSAGE_LIMIT, Octets, element};
 use std::alloc::Global;
 
 /// The values of a MEASUREMENT RESULT whose elements are in written order: all of them, but
-/// perhaps no L1 information and perhaps no L3 information (TS 48.058 clause 8.4.8).
+/// perhaps no L3 information.
 #[derive(Clone, Copy)]
 pub(crate) struct Measured<'a> {
     pub channel: u8,
     pub number: u8,
     pub uplink: &'a [u8],
     pub bs_power: u8,
-    pub l1: Option<u16>,
+    pub l1: u16,
     pub l3: Option<&'a [u8]>,
 }
 
@@ -52,7 +52,7 @@ pub(crate) fn measured_values(body: &[u8]) -> Option<Measured<'_>>
     let (number, rest) = one_octet(rest, MEASUREMENT_NUMBER)?;
     let (uplink, rest) = counted(rest, UPLINK_MEASUREMENTS)?;
     let (bs_power, rest) = one_octet(rest, BS_POWER)?;
-    let (l1, rest) = first_l1(rest);
+    let (l1, rest) = two_octets(rest, L1_INFORMATION)?;
     let l3 = last_l3(rest)?;
     Some(Measured {
         channel,
@@ -91,20 +91,7 @@ fn two_octets(octets: &[u8], id: u8) -> Option<(u16, &[u8])>
     }
 }
 
-// The L1 information, where it is at the front, and the octets behind it.
-fn first_l1(octets: &[u8]) -> (Option<u16>, &[u8])
-    ensures is { octets.now ≡ l1_text result.0 ++ result.1.now }
-    ensures answers { (high low : ℕ) (rest : List ℕ) →
-        octets.now ≡ L1_INFORMATION ∷ (high ∷ (low ∷ rest)) → IsSome result.0 }
-{
-    match two_octets(octets, L1_INFORMATION) {
-        Some((l1, rest)) => (Some(l1), rest),
-        None => (None, octets),
-    }
-}
-
-// The value of the element at the front, which has this identifier and as many octets as the octet
-// before them says, and the octets behind it.
+// The same of as many octets as the octet before them says.
 fn counted(octets: &[u8], id: u8) -> Option<(&[u8], &[u8])>
     ensures is { IfSome result (λ p.
         octets.now ≡ id ∷ (length p.0.now ∷ (p.0.now ++ p.1.now))) }
@@ -175,7 +162,7 @@ impl MeasurementResult {
             number: MeasurementNumber(values.number),
             uplink: Some(uplink),
             bs_power: Some(BsPower(values.bs_power)),
-            l1: values.l1.map(L1Information),
+            l1: Some(L1Information(values.l1)),
             l3,
         })
     }
@@ -183,9 +170,9 @@ impl MeasurementResult {
 
 /// The channel, the number and the L3 information of octets that `Rsl::read` reads as a MEASUREMENT
 /// RESULT; it copies nothing. It answers exactly where their elements are all those of the message,
-/// but perhaps no L1 information and perhaps no L3 information, in the order in which they are
-/// written. So there is none where `Rsl::read` refuses them or reads another message, nor where an
-/// element is elsewhere or is repeated, or one other than these two is missing.
+/// but perhaps no L3 information, in the order in which they are written. So there is none where
+/// `Rsl::read` refuses them or reads another message, nor where an element is elsewhere, is
+/// missing or is repeated.
 #[tactic(auto, unfolding(crate::specs::RslReading::rsl_reading))]
 pub fn read_measurement(octets: &[u8]) -> Option<(ChanNo, MeasurementNumber, Option<&[u8]>)>
     ensures reads { IfSome result (λ m. IsMeasurement (rsl_reading octets.now) m.0 m.1.0

@@ -26,7 +26,7 @@ struct Shared {
     /// A sign for each source, a bit, those of 64 sources in a word. Who puts an item raises the sign
     /// behind it. `Desk::take` looks first where a sign is raised, and lowers it before it looks, so
     /// that what comes behind its look raises it again. A sign never says that there is nothing.
-    /// Where no signs are kept, there is no word.
+    /// The bell of an outbox keeps none.
     signs: Vec<AtomicU64>,
 }
 

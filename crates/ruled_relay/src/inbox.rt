@@ -17,10 +17,6 @@ use std::marker::Model;
 use std::sync::Wait;
 use std::time::Duration;
 
-/// An inbox of at most so many sources keeps no signs, since to ask each of them costs less. What
-/// tests signs needs more sources.
-const FEW: u16 = 4;
-
 /// Why an item wasn't put. Either way it comes back.
 #[derive(Drop)]
 pub enum PutFault {
@@ -64,7 +60,7 @@ impl Model for SourcePass {
 pub struct Desk {
     ends: Vec<End<What>>,
     bell: Bell,
-    /// The sources that may have more, of those that signs are kept for.
+    /// The sources that may have more, as far as the desk has looked.
     more: Sources,
     sources: u16,
     turn: u16,
@@ -117,8 +113,8 @@ impl Inbox {
         ensures each { IfOk result (λ r. AreNewInbox capacity r.0 r.1.items) }
         ensures queues { IfOk result (λ r. queues_of r.0 ≡ map (λ p. p.queue) r.1.items) }
     {
-        let bell = Bell::with_signs(alloc, signs_for(sources))?;
-        let more = Sources::new(alloc, signs_for(sources))?;
+        let bell = Bell::with_signs(alloc, sources)?;
+        let more = Sources::new(alloc, sources)?;
         let mut desk = Vec::with_capacity(alloc, usize::from(sources))?;
         let mut passes = Vec::with_capacity(alloc, usize::from(sources))?;
         for source in 0..sources {
@@ -158,11 +154,6 @@ impl Inbox {
             sources: desk.sources,
         }
     }
-}
-
-/// How many signs are kept for so many sources: one for each, or none for few.
-fn signs_for(sources: u16) -> u16 {
-    if sources <= FEW { 0 } else { sources }
 }
 
 impl SourcePass {

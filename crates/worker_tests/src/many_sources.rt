@@ -115,8 +115,7 @@ fn gives_in_turn<R: Abort + Wait>(rt: &R, alloc: Global, sources: u16) -> bool {
     pair.desk.take(rt).is_none() == pair.asked.take(rt).is_none()
 }
 
-/// A word holds the signs of 64 sources: numbers of sources round those of one word and of two. Up
-/// to 4 sources are asked with no signs: 4 has none, 5 has them.
+/// A word holds the signs of 64 sources: numbers of sources round those of one word and of two.
 #[test]
 fn each_source_is_asked_in_turn_however_many_there_are(rt: HostRuntime) {
     for sources in [0, 1, 2, 4, 5, 33, 63, 64, 65, 127, 128, 129, 300] {

@@ -95,7 +95,7 @@ fn everything_comes_in_order_from_each_of_many_threads(rt: HostRuntime) {
     assert!(rt; desk.take(&rt).is_none());
 }
 
-/// How many sources put items. Up to 4 would have no signs.
+/// How many sources put items.
 const PUTTERS: u16 = 6;
 
 /// How often each of them puts an item, each time once the one before was taken.
