@@ -275,7 +275,7 @@ fn average_level(
     ensures { result ≡ average_at settings.now reports.now.items place }
 {
     let measure = settings.levels[place];
-    if !heard.may_have(measure, 1) {
+    if !heard.may_name(measure) {
         return 0;
     }
     let window = settings.parameters.neighbour_window;

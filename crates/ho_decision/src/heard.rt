@@ -33,6 +33,14 @@ impl Heard {
         Heard { greatest }
     }
 
+    /// Whether a report may name the cell that is measured; where none does, its level is 0 in all.
+    pub fn may_name(&self, measure: Measure) -> bool
+        ensures { (reports : List ReportValue) → AreHeard reports self.now → result ≡ false
+            → All (λ r. value_of measure r ≡ 0) reports }
+    {
+        self.may_have(measure, 1)
+    }
+
     /// Whether the cell that is measured may have this level in a report; where it can't, its level
     /// is below that in all.
     pub fn may_have(&self, measure: Measure, level: u16) -> bool
