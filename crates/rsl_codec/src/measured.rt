@@ -39,8 +39,9 @@ pub(crate) struct Measured<'a> {
     pub l3: Option<&'a [u8]>,
 }
 
-/// The values of a body of these elements in written order, behind which nothing is looked at. This
-/// is how stations write it, and it needs no walk.
+/// The values of a body of these elements in written order, without a walk; none of any other body.
+/// It ends behind them, or goes on with an identifier outside the table, from which on nothing is
+/// looked at.
 pub(crate) fn measured_values(body: &[u8]) -> Option<Measured<'_>>
     ensures walked { IfSome result (λ m. walk ELEMENTS body.now ≡ finding
         (measured_elements m.channel m.number m.uplink.now m.bs_power m.l1

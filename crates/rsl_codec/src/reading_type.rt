@@ -1,5 +1,5 @@
 // SPDX-License-Identifier: MIT OR Apache-2.0
-//! The type of the message that octets are read as. For some types nothing is copied.
+//! The type of the message that octets are read as. Of some messages nothing is copied for it.
 ghost use Rattle.std.specs.Prelude.{◌≡◌, false, Some, IfSome, IsOk, IsTrue};
 ghost use Rattle.octets.specs.Answer.{Gives, result_map};
 ghost use Rattle.rsl_codec.specs.RslReading.{breaks_off, data_at, elements_of};
@@ -13,9 +13,12 @@ use octets::MESSAGE_LIMIT;
 use std::alloc::Global;
 
 impl Rsl {
-    /// The type of the message that `Rsl::read` reads of these octets, or why it reads none. Of
-    /// DATA REQUEST, DATA INDICATION and MEASUREMENT RESULT whose elements are in written order
-    /// nothing is copied, so that no memory is needed.
+    /// The type of the message that `Rsl::read` reads of these octets, or why it reads none.
+    ///
+    /// No memory is needed for a DATA REQUEST or a DATA INDICATION of a channel number, a link
+    /// identifier and L3 information, in this order and with nothing behind, nor for a MEASUREMENT
+    /// RESULT of which `read_measurement` answers. Any other message is read whole, with copies of
+    /// what it carries.
     pub fn read_type(alloc: Global, octets: &[u8]) -> Result<RslType, RslFault>
         ensures { Gives RslFault.Memory (λ kind. kind) result
             (result_map type_of (rsl_reading octets.now)) }
@@ -28,7 +31,7 @@ impl Rsl {
     }
 }
 
-// The type of a message whose elements are in written order, for some types.
+// The type of a message that `is_written` knows to be read.
 #[tactic(auto, unfolding(crate::specs::RslReading::rsl_reading))]
 fn written_type(octets: &[u8]) -> Option<RslType>
     ensures { IfSome result (λ kind. result_map type_of (rsl_reading octets.now) ≡ Ok kind) }
