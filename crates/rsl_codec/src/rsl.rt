@@ -101,7 +101,7 @@ fn read_all(alloc: Global, octets: &[u8]) -> Result<Rsl, RslFault>
 }
 
 /// The message of this type with this body. A MEASUREMENT RESULT whose elements are in written
-/// order, none missing but L1 or L3 information, is read without a walk.
+/// order, none missing but perhaps L3 information, is read without a walk.
 #[tactic(auto, unfolding(crate::specs::RslReading::breaks_off, crate::specs::RslReading::elements_of, crate::specs::RslReading::message_at))]
 fn read_body(alloc: Global, kind: RslType, body: &[u8]) -> Result<Rsl, RslFault>
     ensures { Gives RslFault.Memory (λ v. v) result (rsl_reading_by (Some kind) body.now) }
