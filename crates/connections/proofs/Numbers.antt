@@ -1,6 +1,6 @@
 -- SPDX-License-Identifier: MIT OR Apache-2.0
--- Numbers that rise: what a search by halving finds among them, and what one fewer makes of them.
-use Rattle.std.proofs.Common.{◌≡◌, ◌≢◌, ℕ, zero, suc, ◌+◌, ◌<◌, ◌≤◌, ◌==◌, if◌then◌else◌, cond, List, [], ◌∷◌, ◌++◌, length, get_or, Option, Some, None, Result, Ok, Err, IfOk, IfErr, refl, sym, subst, ap, ◌∙◌, inl, inr, arith}
+-- Numbers that rise: what a search finds among them, and what one fewer makes of them.
+use Rattle.std.proofs.Common.{◌≡◌, ◌≢◌, ℕ, zero, suc, ◌+◌, ◌-◌, ◌<◌, ◌≤◌, ◌==◌, cond, List, [], ◌∷◌, ◌++◌, length, drop, take, Option, Some, None, Result, Ok, Err, IfOk, IfErr, refl, sym, subst, ap, ◌∙◌, inl, inr, arith}
 use Rattle.std.specs.List.{AllByRecursion, remove}
 use Rattle.std.specs.List.Sorted.{IsSearchInRange, IsBinarySearchResult, IsNonDecreasingBy}
 use Rattle.std.specs.Map.{lookup, remove_entry}
@@ -9,6 +9,7 @@ use Rattle.std.specs.Ordering.{nat_cmp, ordering_index}
 use Rattle.std.proofs.lemmas.Bool.{cases_lt}
 use Rattle.std.proofs.lemmas.Bool.Decides.{nat_tests}
 use Rattle.std.proofs.lemmas.Cmp.{ranked}
+use Rattle.std.proofs.lemmas.List.{get_or-drop, length-drop, take_all}
 use Rattle.std.proofs.lemmas.List.Edits.{length-remove, get_or-remove_below, get_or-remove_above}
 use Rattle.std.proofs.lemmas.List.Sorted.{IsNonDecreasingBy-from_default}
 use Rattle.controller_model.specs.Controller.{Entry}
@@ -37,6 +38,40 @@ module _ (ps : List (ℕ × ℕ)) (rise : NumbersRise ps) (n : ℕ) where
         | inr behind ↦ let more : n < number_in ps i = ranked _ n _ (sym ((parted comparisons_rise).1 i (0, 0) behind lt)) in omega arith
       ]
 
+-- ---- a search from a place on
+
+-- what is lent of a list from a place on
+abbrev pub tail_from : List (ℕ × ℕ) → ℕ → List (ℕ × ℕ)
+tail_from ps k = take (length ps - k) (drop k ps)
+
+tail_is : (ps : List (ℕ × ℕ)) (k : ℕ) → tail_from ps k ≡ drop k ps
+tail_is ps k = take_all (length ps - k) (drop k ps) (omega (arith, length-drop k ps))
+
+found_behind : (ps : List (ℕ × ℕ)) (k n place : ℕ) → IsPlaceOf (drop k ps) n place → IsPlaceOf ps n (k + place)
+found_behind ps k n place is = record {
+  within = omega (arith, is.within, length-drop k ps);
+  is = ap (λ (p : ℕ × ℕ). p.0) (sym (get_or-drop k ps place (0, 0))) ∙ is.is;
+}
+
+-- a place among them is one of all, that many behind
+pub found_from : (ps : List (ℕ × ℕ)) (k n place : ℕ) → IsPlaceOf (tail_from ps k) n place → IsPlaceOf ps n (k + place)
+found_from ps k n place is = found_behind ps k n place (subst (λ (qs : List (ℕ × ℕ)). IsPlaceOf qs n place) (tail_is ps k) is)
+
+none_behind : (ps : List (ℕ × ℕ)) (k n : ℕ) → ((i : ℕ) → i < k → number_in ps i < n) → HasNoPlace (drop k ps) n → HasNoPlace ps n
+none_behind ps k n before none i lt same =
+    elim (cases_lt i k) [
+      | inl below ↦ let less = before i below in omega arith
+      | inr over ↦
+          let size = length-drop k ps in
+          let at : k + (i - k) ≡ i = omega arith in
+          let there : number_in (drop k ps) (i - k) ≡ number_in ps i = ap (λ (p : ℕ × ℕ). p.0) (get_or-drop k ps (i - k) (0, 0)) ∙ ap (λ m. number_in ps m) at in
+          absurd (none (i - k) (omega arith) (there ∙ same))
+    ]
+
+-- where none of them is it, and those before are smaller, there is none
+pub none_from : (ps : List (ℕ × ℕ)) (k n : ℕ) → ((i : ℕ) → i < k → number_in ps i < n) → HasNoPlace (tail_from ps k) n → HasNoPlace ps n
+none_from ps k n before none = none_behind ps k n before (subst (λ (qs : List (ℕ × ℕ)). HasNoPlace qs n) (tail_is ps k) none)
+
 -- ---- a look-up
 
 -- no place before this one has the number
@@ -52,15 +87,6 @@ behind_first p ps n place is = record { within = omega (arith, is.within); is = 
 pub lookup_none : (ps : List (ℕ × ℕ)) (n : ℕ) → HasNoPlace ps n → lookup (λ k. n == k) ps ≡ None
 lookup_none [] n none = refl
 lookup_none (p ∷ ps) n none = grind (arith, nat_tests, none 0 (omega arith), lookup_none ps n (λ i lt. none (suc i) (omega arith)))
-
-lookup_found : (ps : List (ℕ × ℕ)) (n place : ℕ) → IsPlaceOf ps n place → HasNoPlaceBefore ps n place → lookup (λ k. n == k) ps ≡ Some (get_or ps place (0, 0)).1
-lookup_found [] n place is before = absurd (omega (arith, is.within))
-lookup_found (p ∷ ps) n zero is before = grind (arith, nat_tests, is.is)
-lookup_found (p ∷ ps) n (suc place) is before =
-    grind (arith, nat_tests, before 0 (omega arith), lookup_found ps n place (behind_first p ps n place is) (λ i lt. before (suc i) (omega arith)))
-
-pub lookup_at : (ps : List (ℕ × ℕ)) (n place : ℕ) → NumbersRise ps → IsPlaceOf ps n place → lookup (λ k. n == k) ps ≡ Some (get_or ps place (0, 0)).1
-lookup_at ps n place rise is = lookup_found ps n place is (none_before ps n place rise is)
 
 -- ---- one fewer
 

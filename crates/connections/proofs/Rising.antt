@@ -1,9 +1,9 @@
 -- SPDX-License-Identifier: MIT OR Apache-2.0
 -- What holds of the connections is kept by their calls.
-use Rattle.std.proofs.Common.{◌≡◌, ℕ, ◌<◌, Bool, true, false, if◌then◌else◌, List, [], ◌∷◌, ◌++◌, map, find, Option, Some, None, Result, Ok, Err, IfOk, OnOk, OnErr, refl, sym, subst, ap, ◌∙◌, inl, inr, arith, eqb-true}
+use Rattle.std.proofs.Common.{◌≡◌, ℕ, ◌<◌, Bool, true, false, if◌then◌else◌, List, [], ◌∷◌, ◌++◌, map, find, Option, Some, None, Result, Ok, Err, IfOk, OnOk, OnErr, refl, sym, subst, ap, ◌∙◌, inl, inr, eqb-true}
 use Rattle.std.specs.List.{AllByRecursion}
 use Rattle.std.specs.Option.{ForSome}
-use Rattle.std.proofs.lemmas.Bool.{cases_Bool, ne_eqb}
+use Rattle.std.proofs.lemmas.Bool.{cases_Bool}
 use Rattle.conn_messages.specs.declared.channel.Channel.{Channel}
 use Rattle.conn_messages.specs.declared.out.Out.{Out}
 use Rattle.conn_rules.specs.declared.input.Input.{Input}
@@ -70,12 +70,6 @@ rising_back e old (x ∷ xs) found rising =
 rising_aged : (ms : ℕ) (es : List Entry) → AreRising es → AreRising (map (aged ms) es)
 rising_aged ms [] rising = tt
 rising_aged ms (e ∷ es) rising = (all_map (IsAbove e.connection.number) (aged ms) (λ x above. above) es rising.0, rising_aged ms es rising.1)
-
--- no number that is above all is there
-pub fresh : (n : ℕ) (es : List Entry) → AllByRecursion (IsBelow n) es → find (has_number n) es ≡ None
-fresh n [] below = refl
-fresh n (x ∷ xs) below =
-    ap (λ b. if b then Some x else find (has_number n) xs) (ne_eqb x.connection.number n (λ same. omega (arith, below.0, same))) ∙ fresh n xs below.1
 
 -- ---- calls
 

@@ -1,8 +1,9 @@
 // SPDX-License-Identifier: MIT OR Apache-2.0
-ghost use Rattle.std.specs.Prelude.{◌≡◌, ◌<◌, ◌==◌, ◌++◌, [], ◌∷◌, length, slice_get, option_map};
-ghost use Rattle.std.specs.Prelude.{IfErr, IfOk, OnOk};
+ghost use Rattle.std.specs.Prelude.{ℕ, ◌≡◌, ◌<◌, ◌≤◌, ◌==◌, ◌++◌, [], ◌∷◌, length};
+ghost use Rattle.std.specs.Prelude.{slice_get, option_map, IfErr, IfOk, OnOk};
 ghost use Rattle.std.specs.Map.{lookup, remove_entry};
-ghost use Rattle.connections.specs.Index.{AreNumbersBelow, HasNoPlace, IsPlaceOf};
+ghost use Rattle.connections.specs.Index.{AreNumbersBelow, HasNoPlace, IsPlaceOf, NumbersRise};
+ghost use Rattle.connections.specs.Index.{number_in};
 
 use indexmap::IndexMap;
 use octets::Memory;
@@ -10,7 +11,8 @@ use std::alloc::Global;
 use std::marker::Model;
 
 /// The numbers of connections, each with the key of its slot, by rising number; and the same in no
-/// order, in which a key is looked up. The place of a number that leaves is found by halving.
+/// order, in which a key is looked up. The place of a number that leaves is found from the end, by
+/// steps that double and then by halving: that takes by what lies behind it, and not by all.
 #[derive(Drop)]
 pub(crate) struct Index {
     pairs: Vec<(u32, usize)>,
@@ -103,6 +105,34 @@ impl Index {
         ensures found { IfOk result (IsPlaceOf self.now.entries number) }
         ensures absent { IfErr result (λ _. HasNoPlace self.now.entries number) }
     {
-        self.pairs.binary_search_by_key(&number, |pair| pair.0)
+        let from = search_from(&self.pairs, number);
+        match halved(&self.pairs[from..], number) {
+            Ok(place) => Ok(from + place),
+            Err(place) => Err(from + place),
+        }
     }
+}
+
+// From which place on a number is searched for: all those before it are smaller. It is found from
+// the end, by steps that double.
+fn search_from(pairs: &[(u32, usize)], number: u32) -> usize
+    requires { NumbersRise pairs.now }
+    ensures within { result ≤ length pairs.now }
+    ensures before { (i : ℕ) → i < result → number_in pairs.now i < number }
+{
+    let mut from = pairs.len().saturating_sub(1);
+    while from > 0 && pairs[from].0 > number {
+        from = from.saturating_sub(pairs.len() - from);
+    }
+    from
+}
+
+// The place of a number, by halving.
+fn halved(pairs: &[(u32, usize)], number: u32) -> Result<usize, usize>
+    requires { NumbersRise pairs.now }
+    ensures found { IfOk result (IsPlaceOf pairs.now number) }
+    ensures absent { IfErr result (λ _. HasNoPlace pairs.now number) }
+    ensures bound { IfErr result (λ place. place ≤ length pairs.now) }
+{
+    pairs.binary_search_by_key(&number, |pair| pair.0)
 }

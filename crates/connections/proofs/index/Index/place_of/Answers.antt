@@ -1,19 +1,24 @@
 -- SPDX-License-Identifier: MIT OR Apache-2.0
-use Rattle.std.proofs.Common.{rules, subst, sym, ap}
-use Rattle.std.proofs.lemmas.List.Sorted.{answers_always}
-use Rattle.connections.specs.Index.{IndexState, NumbersRise}
-use Rattle.connections.proofs.Numbers.{searched_found, searched_none}
+-- What is lent from a place on is the index's pairs behind it.
+use Rattle.std.proofs.Common.{ℕ, List, ◌<◌, subst, ap, ◌∙◌}
+use Rattle.connections.specs.Index.{HasNoPlace, IndexState, IsPlaceOf, number_in}
+use Rattle.connections.proofs.Numbers.{found_from, none_from, tail_from}
 use Rattle.connections.proofs.index.Index.place_of.Goals as goal
 
--- the closure gives a pair's number, and the slice is the index's pairs
-pub returns-clause-found : goal.returns-clause-found
-returns-clause-found c =
-    let facts = c.binary_search_by_key.ensures in
-    let by_key = facts.position (λ pair. pair.0) (answers_always _ _ _ (λ f a r g called. search rules)) in
-    rw (← ap (λ (i : IndexState). i.entries) c.self.view_is, ← c.deref.ensures.value) (searched_found _ (rw c.deref.ensures.value c.self.invariant.0) c.args.number _ facts.bound by_key)
+pub returns-in-Ok-clause-found : goal.returns-in-Ok-clause-found
+returns-in-Ok-clause-found c =
+    let from : ℕ = c.search_from-from.result in
+    let n : ℕ = c.args.number in
+    let same = c.deref-2.ensures.value ∙ ap (λ (i : IndexState). i.entries) c.self.view_is in
+    found_from c.args.self.now.entries from n c.in-Ok.place
+    (subst (λ (ps : List (ℕ × ℕ)). IsPlaceOf (tail_from ps from) n c.in-Ok.place) same c.in-Ok.ensures.found)
 
-pub returns-clause-absent : goal.returns-clause-absent
-returns-clause-absent c =
-    let facts = c.binary_search_by_key.ensures in
-    let by_key = facts.position (λ pair. pair.0) (answers_always _ _ _ (λ f a r g called. search rules)) in
-    rw (← ap (λ (i : IndexState). i.entries) c.self.view_is, ← c.deref.ensures.value) (searched_none _ (rw c.deref.ensures.value c.self.invariant.0) c.args.number _ facts.bound by_key)
+pub returns-in-Err-clause-absent : goal.returns-in-Err-clause-absent
+returns-in-Err-clause-absent c =
+    let from : ℕ = c.search_from-from.result in
+    let n : ℕ = c.args.number in
+    let first = c.deref.ensures.value ∙ ap (λ (i : IndexState). i.entries) c.self.view_is in
+    let same = c.deref-2.ensures.value ∙ ap (λ (i : IndexState). i.entries) c.self.view_is in
+    none_from c.args.self.now.entries from n
+    (subst (λ (ps : List (ℕ × ℕ)). (i : ℕ) → i < from → number_in ps i < n) first c.search_from-from.ensures.before)
+    (subst (λ (ps : List (ℕ × ℕ)). HasNoPlace (tail_from ps from) n) same c.in-Err.ensures.absent)

@@ -1,5 +1,5 @@
 -- SPDX-License-Identifier: MIT OR Apache-2.0
-use Rattle.std.proofs.Common.{◌≡◌, ℕ, ◌++◌, [], ◌∷◌, List, sym, subst, ap, ◌∙◌}
+use Rattle.std.proofs.Common.{ℕ, ◌++◌, [], ◌∷◌, List, sym, subst, ap, ◌∙◌}
 use Rattle.std.specs.List.{AllByRecursion}
 use Rattle.conn_rules.specs.Connection.{Connection}
 use Rattle.controller_model.specs.Controller.{Entry}
