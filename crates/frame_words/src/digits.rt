@@ -56,11 +56,11 @@ fn short_digits<'a>(octets: &[u8], room: &'a mut [u8; 2 * SHORT]) -> &'a [u8]
     requires { length octets.now ≤ SHORT }
     ensures { result.now ≡ encode_lower octets.now }
 {
-    let digits = &mut room[..2 * octets.len()];
-    let Ok(()) = hex::encode_to_slice(octets, digits) else {
+    let end = 2 * octets.len();
+    let Ok(()) = hex::encode_to_slice(octets, &mut room[..end]) else {
         unreachable!()
     };
-    digits
+    &room[..end]
 }
 
 /// The hexadecimal digits of an octet.

@@ -1,5 +1,5 @@
 // SPDX-License-Identifier: MIT OR Apache-2.0
-ghost use Rattle.std.specs.Prelude.{◌≡◌, ◌≤◌, ◌+◌, ◌++◌, [], IfErr, OnOk, codes, decimal};
+ghost use Rattle.std.specs.Prelude.{◌≡◌, ◌≤◌, ◌+◌, ◌++◌, IfErr, OnOk, codes, decimal};
 ghost use Rattle.std.specs.List.{flat_map};
 ghost use Rattle.std.specs.Io.KnownBytes.{Appends};
 ghost use Rattle.arrayvec.specs.ArrayVec.{array_vec_len};
@@ -20,9 +20,6 @@ use std::alloc::Global;
 use std::io::Write;
 use world_trace::{Cause, Crossing, End, EventTrace, Fate};
 
-/// So much room of a text is kept from one event to the next.
-const KEPT_ROOM: usize = 16_384;
-
 /// The octets of the longest end of a link, with the tab behind it.
 const END_LIMIT: usize = 14;
 
@@ -31,7 +28,7 @@ const HEAD_LIMIT: usize = 21 + 2 * END_LIMIT;
 
 /// Writes the line of an event, a line for each frame that crossed a link at it or was made, and a
 /// line for each thing that became of a connection.
-fn write_event<W: Write>(
+pub(crate) fn write_event<W: Write>(
     alloc: Global,
     modulus: Modulus,
     number: u64,
@@ -50,48 +47,6 @@ fn write_event<W: Write>(
     write_crossings(alloc, modulus, number, trace.fate, crossings, output)?;
     write_crossings(alloc, modulus, number, None, trace.made.as_slice(), output)?;
     write_notes(number, trace.notes.as_slice(), output)
-}
-
-/// Puts the lines of an event in one piece. They are gathered in this text before; where there is
-/// no memory for that, they are written piece by piece.
-pub(crate) fn put_event<W: Write>(
-    alloc: Global,
-    modulus: Modulus,
-    number: u64,
-    line: &[u8],
-    trace: &EventTrace,
-    text: &mut Vec<u8>,
-    output: &mut W,
-) -> Result<(), Failure>
-    ensures text { OnOk result (Appends (W.contents output.old) (W.contents output.new)
-        (event_lines (count_of modulus) number line.now
-        trace.now.refusal trace.now.fate trace.now.crossings.items
-        trace.now.made.items trace.now.notes.items)) }
-    ensures err { IfErr result (λ failure. status_of failure ≡ 3) }
-{
-    empty(alloc, text);
-    match write_event(alloc, modulus, number, line, trace, text) {
-        Ok(()) => {
-            put(output, text.as_slice())?;
-            Ok(())
-        }
-        Err(_) => {
-            // what was gathered is given back first
-            *text = Vec::new(alloc);
-            write_event(alloc, modulus, number, line, trace, output)
-        }
-    }
-}
-
-/// Empties a text, whose room is kept for the next event unless it is large.
-fn empty(alloc: Global, text: &mut Vec<u8>)
-    ensures { text.new.items ≡ [] }
-{
-    if text.capacity() <= KEPT_ROOM {
-        text.clear();
-    } else {
-        *text = Vec::new(alloc);
-    }
 }
 
 fn write_event_line<W: Write>(

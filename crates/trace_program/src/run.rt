@@ -7,7 +7,7 @@ ghost use Rattle.program_base.specs.Status.{status_of};
 ghost use Rattle.trace_program.specs.Traced.{behind_line, counted, line_of, no_tally, tally_of};
 ghost use Rattle.trace_program.specs.Traced.{trace_text};
 
-use crate::lines::put_event;
+use crate::lines::write_event;
 use dtap_codec::Modulus;
 use memchr::memchr;
 use program_base::Failure;
@@ -47,12 +47,11 @@ pub fn write_trace<W: Write>(
     };
     let mut number = 1;
     let mut rest = script;
-    let mut text = Vec::new(alloc);
     let mut tracing = Tracing::of(alloc, network)?;
     for event in events {
         let (line, others) = split_line(rest);
         let trace = tracing.step(network, event)?;
-        put_event(alloc, modulus, number, line, &trace, &mut text, output)?;
+        write_event(alloc, modulus, number, line, &trace, output)?;
         tally = count(trace.refusal, number, tally);
         rest = others;
         number += 1;
