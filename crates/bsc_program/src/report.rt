@@ -7,7 +7,7 @@ ghost use Rattle.bsc_program.specs.Report.{IsReport, WritesIfSome, connection_te
 ghost use Rattle.bsc_program.specs.Report.{list_text, mobile_text};
 
 use octets::{Memory, Octets};
-use program_base::{Failure, put};
+use program_base::{Failure, put_joined};
 use std::alloc::Global;
 use std::io::Write;
 use world::World;
@@ -142,7 +142,7 @@ fn write_message<W: Write>(alloc: Global, message: &Octets, output: &mut W) -> R
     Ok(())
 }
 
-/// Writes a short message as a line, all of it at once.
+/// Writes a short message as a line, all of it at once where the output takes it.
 fn write_short<W: Write>(message: &[u8], output: &mut W) -> Result<(), Failure>
     requires { length message.now ≤ SHORT }
     ensures ok { OnOk result (Appends (W.contents output.old) (W.contents output.new)
@@ -155,6 +155,6 @@ fn write_short<W: Write>(message: &[u8], output: &mut W) -> Result<(), Failure>
         unreachable!()
     };
     room[end] = b'\n';
-    put(output, &room[..end + 1])?;
+    put_joined(output, &room[..end + 1], &[end])?;
     Ok(())
 }

@@ -28,7 +28,8 @@ const MAIN_CHANNEL: u8 = 0;
 
 const SACCH: u8 = 1;
 
-/// What a station says in this body of a frame. Of a MEASUREMENT RESULT nothing is copied apart.
+/// What a station says in this body of a frame. The report of a MEASUREMENT RESULT of which
+/// `read_measurement` answers is read in place; of any other message what it carries is copied.
 pub(crate) fn station_word(alloc: Global, station: u16, body: &[u8]) -> Result<Word, Memory>
     requires { station ≢ SWITCH_LINK }
     ensures word { IfOk result

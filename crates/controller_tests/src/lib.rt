@@ -14,6 +14,8 @@ mod decision;
 #[cfg(test)]
 mod dtap;
 #[cfg(test)]
+mod ends;
+#[cfg(test)]
 mod exchanges;
 #[cfg(test)]
 mod false_octets;

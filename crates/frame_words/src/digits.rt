@@ -5,9 +5,9 @@ ghost use Rattle.std.specs.Io.KnownBytes.{Appends};
 ghost use Rattle.hex.specs.Hex.{encode_lower};
 ghost use Rattle.program_base.specs.Status.{status_of};
 
-use crate::joined::write_joined;
+use crate::joined::write_parted;
 use octets::Memory;
-use program_base::{Failure, put};
+use program_base::{Failure, put, put_joined};
 use std::alloc::Global;
 use std::io::Write;
 
@@ -29,7 +29,8 @@ pub fn write_digits<W: Write>(alloc: Global, octets: &[u8], output: &mut W) -> R
     Ok(())
 }
 
-/// Writes a word, behind it octets in hexadecimal digits, and the end of the line.
+/// Writes a word, behind it octets in hexadecimal digits, and the end of the line. The last octet
+/// of the word, which parts two columns, is a part of its own.
 pub fn write_digits_line<W: Write>(
     alloc: Global,
     word: &str,
@@ -40,12 +41,14 @@ pub fn write_digits_line<W: Write>(
         (word.now ++ encode_lower octets.now ++ codes "\n")) }
     ensures err { IfErr result (λ failure. status_of failure ≡ 3) }
 {
+    let front = word.len().saturating_sub(1);
     if octets.len() <= SHORT {
         let mut room = [0; 2 * SHORT];
         let digits = short_digits(octets, &mut room);
-        return write_joined(word.as_bytes(), digits, b"\n", output);
+        let sizes = [front, 1, digits.len()];
+        return write_parted(word.as_bytes(), digits, b"\n", &sizes, output);
     }
-    put(output, word.as_bytes())?;
+    put_joined(output, word.as_bytes(), &[front])?;
     write_digits(alloc, octets, output)?;
     put(output, b"\n")?;
     Ok(())

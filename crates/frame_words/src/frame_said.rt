@@ -15,7 +15,7 @@ use crate::number::write_found;
 use crate::said::{Fields, said_in};
 use dtap_codec::Modulus;
 use ipa_framing::Frame;
-use program_base::{Failure, put};
+use program_base::{Failure, put_joined};
 use std::alloc::Global;
 use std::io::Write;
 
@@ -36,7 +36,8 @@ pub fn write_said<W: Write>(
 {
     let said = said_in(alloc, modulus, frame)?;
     write_names(said.name, said.carried, output)?;
-    put(output, word.as_bytes())?;
+    // its first octet, which parts two columns, is a part of its own
+    put_joined(output, word.as_bytes(), &[1])?;
     write_found_fields(&said.fields, output)?;
     let number = if is_numbered { said.number } else { None };
     write_found(number, output)

@@ -5,14 +5,14 @@ ghost use Rattle.std.specs.Io.KnownBytes.{Appends};
 ghost use Rattle.program_base.specs.Status.{status_of};
 
 use arrayvec::{ArrayVec, CapacityError};
-use program_base::{Failure, put};
+use program_base::{Failure, put, put_joined};
 use std::io::Write;
 
 /// So many octets are put together without memory of their own.
 const ROOM: usize = 160;
 
 /// Writes three texts, one behind the other: in one piece where they have no more octets than the
-/// room, which is the case of nearly all lines.
+/// room, which is the case of nearly all lines, and the output takes it.
 pub fn write_joined<W: Write>(
     first: &[u8],
     second: &[u8],
@@ -23,10 +23,27 @@ pub fn write_joined<W: Write>(
         (first.now ++ second.now ++ third.now)) }
     ensures err { IfErr result (λ failure. status_of failure ≡ 3) }
 {
+    let sizes = [first.len(), second.len()];
+    write_parted(first, second, third, &sizes, output)
+}
+
+/// Writes three texts, one behind the other. Where they have no more octets than the room, and the
+/// output takes nothing of them in one piece, it gets parts of these sizes.
+pub(crate) fn write_parted<W: Write>(
+    first: &[u8],
+    second: &[u8],
+    third: &[u8],
+    sizes: &[usize],
+    output: &mut W,
+) -> Result<(), Failure>
+    ensures text { OnOk result (Appends (W.contents output.old) (W.contents output.new)
+        (first.now ++ second.now ++ third.now)) }
+    ensures err { IfErr result (λ failure. status_of failure ≡ 3) }
+{
     let mut room = ArrayVec::<u8, ROOM>::new();
     match gather(first, second, third, &mut room) {
         Ok(()) => {
-            put(output, room.as_slice())?;
+            put_joined(output, room.as_slice(), sizes)?;
             Ok(())
         }
         Err(_) => write_apart(first, second, third, output),

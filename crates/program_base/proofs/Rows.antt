@@ -1,6 +1,6 @@
 -- SPDX-License-Identifier: MIT OR Apache-2.0
 -- Definitions against literal faults, reads and writes.
-use Rattle.std.proofs.Common.{◌≡◌, ℕ, List, [], ◌∷◌, ◌++◌, map, Option, Some, Result, Ok, Err, refl, ap}
+use Rattle.std.proofs.Common.{◌≡◌, ℕ, List, [], ◌∷◌, ◌++◌, map, Option, Some, Result, Ok, Err, refl, ap, length, arith}
 use Rattle.std.specs.Prelude.{◌^◌, codes}
 use Rattle.std.specs.IoError.{error_kind}
 use Rattle.std.specs.declared.io.Error.{Error}
@@ -11,7 +11,9 @@ use Rattle.program_base.specs.declared.input.Unread.{Unread}
 use Rattle.program_base.specs.declared.input.Unread.TheVariants as unread
 use Rattle.program_base.specs.declared.input.Unread.TheVariants.{Endless, Refused}
 use Rattle.program_base.specs.Input.{ReadsInput}
-use Rattle.program_base.specs.Output.{AppendsBeginning, Puts}
+use Rattle.program_base.specs.Output.{AppendsBeginning, Puts, PutsAtOnce}
+use Rattle.program_base.specs.declared.output.Taken.{Taken}
+use Rattle.program_base.specs.declared.output.Taken.TheVariants.{All, Nothing}
 use Rattle.program_base.specs.declared.failure.Failure.TheVariants.{BadEvent, Memory, Device}
 use Rattle.program_base.specs.declared.fault.ProgramFault.TheVariants as program
 use Rattle.program_base.specs.declared.fault.ProgramFault.TheVariants.{UnreadSettings, Settings, BadBreak}
@@ -84,3 +86,19 @@ no_beginning some = absurd (cc (some.2, some.3))
 
 all_of_it_is_put : (Puts (let r : Result ℕ ℕ = Ok 0 in r) (Some (codes "f")) (Some (codes "fe ")) (codes "e ")) × ((Puts (let r : Result ℕ ℕ = Ok 0 in r) (Some (codes "f")) (Some (codes "fe")) (codes "e ")) → ⊥)
 all_of_it_is_put = (refl, λ is. absurd (cc is))
+
+-- behind an f: all of a text, nothing of it, or an octet before a failure
+abbrev at_once : Result Taken ℕ → List ℕ → Type 0
+at_once result new = PutsAtOnce result (Some (codes "f")) (Some new) (codes "e ")
+
+taken_at_once : at_once (Ok All) (codes "fe ") × at_once (Ok Nothing) (codes "f") × at_once (Err 0) (codes "fe")
+taken_at_once = (refl, refl, (codes "e", codes " ", refl, omega arith, refl))
+
+not_all_of_it : at_once (Ok All) (codes "fe") → ⊥
+not_all_of_it is = absurd (cc is)
+
+not_nothing_of_it : at_once (Ok Nothing) (codes "fe") → ⊥
+not_nothing_of_it is = absurd (cc is)
+
+failed_behind_nothing : at_once (Err 0) (codes "f") → ⊥
+failed_behind_nothing some = absurd (omega (arith, some.3, ap length some.4))

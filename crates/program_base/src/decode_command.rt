@@ -17,7 +17,7 @@ use crate::failure::Failure;
 use crate::frame_line::FrameLine;
 use crate::input::{Sink, Unread, read_all, room_for};
 use crate::names::frame_name;
-use crate::output::put;
+use crate::output::{put, put_joined};
 use arrayvec::ArrayVec;
 use ipa_framing::{Frame, FrameFault, Framer};
 use octets::Memory;
@@ -93,13 +93,14 @@ fn line_of(stream: u8, name: &str) -> ArrayVec<u8, LINE_LIMIT>
     line
 }
 
-/// Prints a frame's line, in one piece.
+/// Prints a frame's line, in one piece where the output takes it.
 #[tactic(auto, using(crate::proofs::NameSizes::name_short))]
 fn print_frame<W: Write>(alloc: Global, frame: &Frame, output: &mut W) -> Result<(), Failure>
     ensures { Puts result (W.contents output.old) (W.contents output.new) (frame_line frame.now) }
 {
     let name = frame_name(alloc, frame)?;
-    put(output, line_of(frame.stream, name).as_slice())?;
+    let line = line_of(frame.stream, name);
+    put_joined(output, line.as_slice(), &[2, 1, name.len()])?;
     Ok(())
 }
 

@@ -15,7 +15,7 @@ pub use input::{MOST_READS, Sink, Unread, read_all, room_for};
 pub use kept_script::{KeptScript, read_kept_script};
 pub use line_fault::LineFault;
 pub use names::{frame_name, rsl_fault_name, rsl_message_name, sccp_message_name};
-pub use output::put;
+pub use output::{Taken, put, put_at_once, put_joined};
 pub use parsing::task;
 pub use read_count::ReadCount;
 pub use script::read_line;

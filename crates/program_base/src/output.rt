@@ -1,6 +1,8 @@
 // SPDX-License-Identifier: MIT OR Apache-2.0
-ghost use Rattle.std.specs.Prelude.{◌≤◌, IfOk, OnErr, drop, length};
-ghost use Rattle.program_base.specs.Output.{Puts};
+ghost use Rattle.std.specs.Prelude.{◌≡◌, ◌≤◌, [], IfOk, Ok, OnErr, drop, length};
+ghost use Rattle.std.specs.Io.KnownBytes.{Appends};
+ghost use Rattle.program_base.specs.Output.{AppendsBeginning, Puts, PutsAtOnce};
+ghost use Rattle.program_base.specs.declared.output.Taken.TheVariants.{All};
 
 use std::io::{self, ErrorKind, Write};
 
@@ -34,6 +36,74 @@ fn put_rest<W: Write>(output: &mut W, octets: &[u8], first: io::Result<usize>) -
         Ok(0) => Err(io::Error::from(ErrorKind::WriteZero)),
         Ok(count) => put_all(output, &octets[count..]),
         Err(error) if error.kind() == ErrorKind::Interrupted => put_all(output, octets),
+        Err(error) => Err(error),
+    }
+}
+
+/// Writes a text that is joined of parts, in one piece. Where the first write takes nothing of it,
+/// as that of a vector whose growth is refused, the parts are put one by one, since there may still
+/// be room for the first of them: parts of these sizes, and what is left behind them.
+#[inline]
+pub fn put_joined<W: Write>(output: &mut W, octets: &[u8], sizes: &[usize]) -> io::Result<()>
+    ensures { Puts result (W.contents output.old) (W.contents output.new) octets.now }
+{
+    match put_at_once(output, octets) {
+        Ok(Taken::All) => Ok(()),
+        Ok(Taken::Nothing) => put_apart(output, octets, sizes),
+        Err(error) => Err(error),
+    }
+}
+
+/// Puts a text part by part: parts of these sizes, and what is left behind them.
+#[cold]
+fn put_apart<W: Write>(output: &mut W, octets: &[u8], sizes: &[usize]) -> io::Result<()>
+    ensures { Puts result (W.contents output.old) (W.contents output.new) octets.now }
+{
+    let mut rest = octets;
+    for size in sizes {
+        let (part, others) = rest.split_at((*size).min(rest.len()));
+        put(output, part)?;
+        rest = others;
+    }
+    put(output, rest)
+}
+
+/// What an output took of a text at the first try.
+#[derive(Clone, Copy)]
+pub enum Taken {
+    All,
+    Nothing,
+}
+
+/// Writes a text, unless the first write takes nothing of it: then what the output holds is as
+/// before, and the caller may put it in smaller pieces. It fails only behind a beginning that was
+/// taken.
+#[inline]
+pub fn put_at_once<W: Write>(output: &mut W, octets: &[u8]) -> io::Result<Taken>
+    ensures puts { PutsAtOnce result (W.contents output.old) (W.contents output.new) octets.now }
+    ensures empty { octets.now ≡ [] → result ≡ Ok All }
+{
+    if octets.is_empty() {
+        return Ok(Taken::All);
+    }
+    match output.write(octets) {
+        Ok(count) if count == octets.len() => Ok(Taken::All),
+        Ok(0) => Ok(Taken::Nothing),
+        Ok(count) => put_behind(output, &octets[count..]),
+        Err(_) => Ok(Taken::Nothing),
+    }
+}
+
+/// Writes the octets behind a beginning that was taken.
+#[cold]
+fn put_behind<W: Write>(output: &mut W, octets: &[u8]) -> io::Result<Taken>
+    ensures ok { IfOk result (λ taken. (taken ≡ All)
+        × Appends (W.contents output.old) (W.contents output.new) octets.now) }
+    ensures err { OnErr result
+        (AppendsBeginning (W.contents output.old) (W.contents output.new) octets.now) }
+{
+    match put_all(output, octets) {
+        Ok(()) => Ok(Taken::All),
         Err(error) => Err(error),
     }
 }

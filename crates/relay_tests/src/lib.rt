@@ -14,6 +14,8 @@ mod fixed_world;
 #[cfg(test)]
 mod mobile;
 #[cfg(test)]
+mod parts;
+#[cfg(test)]
 mod program;
 #[cfg(test)]
 mod puts;
@@ -23,5 +25,7 @@ mod reception;
 mod settled_worlds;
 #[cfg(test)]
 mod switch;
+#[cfg(test)]
+mod traces;
 #[cfg(test)]
 mod words;

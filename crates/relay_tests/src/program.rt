@@ -295,13 +295,19 @@ fn output_is_flushed_at_the_end_and_by_decode_after_each_read(rt: HostRuntime) {
     }
 }
 
-/// A command, an input, and the log of its output: the lines of breaks, the names of frames with
-/// those of faults, and the line of a frame that is too long.
-const LOGS: [(Command<'static>, &[u8], &str); 3] = [
+/// A command, an input, and the log of its output: the lines of breaks, the second row's without a
+/// world made anew for its second place; the names of frames with those of faults, and the line of
+/// a frame that is too long.
+const LOGS: [(Command<'static>, &[u8], &str); 4] = [
     (
         Command::Replay(Some(USUAL), Some("1")),
         b"connect 1 1 052471 y\nbasepush 1\n",
         "break 0 accepted 0 sent 0\n|break 1 accepted 0 sent 1\n|break 2 accepted 0 sent 1\n|",
+    ),
+    (
+        Command::Replay(Some(USUAL), Some("2")),
+        b"connect 1 1 052471 y\nbasepush 1\n",
+        "break 0 accepted 0 sent 1\n|break 1 accepted 0 sent 1\n|break 2 accepted 0 sent 1\n|",
     ),
     (
         Command::Decode,

@@ -9,7 +9,7 @@ pub(crate) const USUAL: &str =
     arfcn = 30\nbsic = 18\nchannels = [0x41, 0x0a]\n";
 
 /// The same, where each report decides.
-const EAGER: &str =
+pub(crate) const EAGER: &str =
     "[network]\nmcc = \"001\"\nmnc = \"01\"\n[switch]\naddress = \"127.0.0.1:5000\"\n\
     [handover1]\npower_budget_interval = 1\n[[cell]]\nlisten = \"127.0.0.1:3003\"\nlac = 1\n\
     ci = 1\narfcn = 20\nbsic = 9\nchannels = [0x41, 0x49, 0x0a]\n[[cell]]\n\
@@ -38,7 +38,7 @@ const ASSIGNED: &[u8] =
     basetakes 1\nbasepush 1\nhandle\nswitchtakes\nswitchtakes\nswitchtakes\n";
 
 /// It opens a connection, and is handed over: its last message on the old channel comes late.
-const HANDED_OVER: &[u8] =
+pub(crate) const HANDED_OVER: &[u8] =
     b"connect 1 1 052471 y\nbasepush 1\nhandle\nbasetakes 1\nbasepush 1\nhandle\nbasetakes 1\n\
     airup 1 0\nbasepush 1\nhandle\nswitchtakes\nairack 1 0\nbasepush 0\nhandle\n\
     report 1 14140057024000000000000000000000\nbasepush 1\nhandle\nbasetakes 2\nbasepush 2\n\

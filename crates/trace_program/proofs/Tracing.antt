@@ -69,13 +69,11 @@ notes_all number next xs old new some all = subst (λ (ys : List Note). Appends 
     (take_all next xs all) some
 
 -- the line of a frame, from its two parts
-pub line_written : (m number : ℕ) (fate : Option Fate) (crossing : Crossing) (head : List ℕ) (old mid new : Option (List ℕ))
-    → Appends old mid head → head ≡ decimal number ++ codes "\t" ++ ends_text crossing.from crossing.to
-    → Appends mid new (frame_text m fate crossing)
+pub line_written : (m number : ℕ) (fate : Option Fate) (crossing : Crossing) (old mid new : Option (List ℕ))
+    → Appends old mid (decimal number ++ codes "\t" ++ ends_text crossing.from crossing.to) → Appends mid new (frame_text m fate crossing)
     → Appends old new (crossing_line m number fate crossing)
-line_written m number fate crossing head old mid new first is frame =
-    let columns : List ℕ = decimal number ++ codes "\t" ++ ends_text crossing.from crossing.to in
-    Appends-trans old mid new columns (frame_text m fate crossing) (subst (Appends old mid) is first) frame
+line_written m number fate crossing old mid new first frame =
+    Appends-trans old mid new (decimal number ++ codes "\t" ++ ends_text crossing.from crossing.to) (frame_text m fate crossing) first frame
 
 -- the text of a frame, from what it says and its octets, each behind the words that are written with it
 pub frame_written : (name tab column fields number fate word digits read : List ℕ) (old mid new : Option (List ℕ))

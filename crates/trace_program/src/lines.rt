@@ -15,7 +15,7 @@ use arrayvec::ArrayVec;
 use dtap_codec::Modulus;
 use frame_words::{write_digits_line, write_joined, write_said};
 use itoa::Buffer;
-use program_base::{Failure, put};
+use program_base::{Failure, Taken, put, put_at_once};
 use std::alloc::Global;
 use std::io::Write;
 use world_trace::{Cause, Crossing, End, EventTrace, Fate};
@@ -108,9 +108,48 @@ fn write_crossing<W: Write>(
         (crossing_line (count_of modulus) number fate crossing.now)) }
     ensures err { IfErr result (λ failure. status_of failure ≡ 3) }
 {
-    let head = head_of(number, crossing.from, crossing.to);
-    put(output, head.as_slice())?;
+    write_head(number, crossing.from, crossing.to, output)?;
     write_frame(alloc, modulus, fate, crossing, output)
+}
+
+/// Writes the columns before the name of a frame, in one piece where the output takes it.
+fn write_head<W: Write>(number: u64, from: End, to: End, output: &mut W) -> Result<(), Failure>
+    ensures text { OnOk result (Appends (W.contents output.old) (W.contents output.new)
+        (decimal number ++ codes "\t" ++ ends_text from to)) }
+    ensures err { IfErr result (λ failure. status_of failure ≡ 3) }
+{
+    match put_at_once(output, head_of(number, from, to).as_slice())? {
+        Taken::All => Ok(()),
+        Taken::Nothing => write_columns(number, from, to, output),
+    }
+}
+
+/// Writes them part by part.
+#[cold]
+fn write_columns<W: Write>(number: u64, from: End, to: End, output: &mut W) -> Result<(), Failure>
+    ensures text { OnOk result (Appends (W.contents output.old) (W.contents output.new)
+        (decimal number ++ codes "\t" ++ ends_text from to)) }
+    ensures err { IfErr result (λ failure. status_of failure ≡ 3) }
+{
+    write!(output, "{number}\t")?;
+    write_end(from, output)?;
+    put(output, b"\t")?;
+    write_end(to, output)?;
+    put(output, b"\t")?;
+    Ok(())
+}
+
+fn write_end<W: Write>(end: End, output: &mut W) -> Result<(), Failure>
+    ensures text { OnOk result (Appends (W.contents output.old) (W.contents output.new)
+        (end_text end)) }
+    ensures err { IfErr result (λ failure. status_of failure ≡ 3) }
+{
+    match end {
+        End::Switch => write!(output, "switch")?,
+        End::Station(number) => write!(output, "station {number}")?,
+        End::Controller => write!(output, "bsc")?,
+    }
+    Ok(())
 }
 
 /// The columns before the name of a frame: the number of the event, and the ends of the link, from
