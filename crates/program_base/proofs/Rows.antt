@@ -1,6 +1,6 @@
 -- SPDX-License-Identifier: MIT OR Apache-2.0
 -- Definitions against literal faults, reads and writes.
-use Rattle.std.proofs.Common.{◌≡◌, ℕ, List, [], ◌∷◌, ◌++◌, map, Option, Some, Result, Ok, Err, refl, ap, length, arith}
+use Rattle.std.proofs.Common.{◌≡◌, ℕ, List, [], ◌∷◌, ◌++◌, map, Option, Some, None, Result, Ok, Err, refl, ap, length, arith}
 use Rattle.std.specs.Prelude.{◌^◌, codes}
 use Rattle.std.specs.IoError.{error_kind}
 use Rattle.std.specs.declared.io.Error.{Error}
@@ -91,13 +91,13 @@ all_of_it_is_put = (refl, λ is. absurd (cc is))
 abbrev at_once : Result Taken ℕ → List ℕ → Type 0
 at_once result new = PutsAtOnce result (Some (codes "f")) (Some new) (codes "e ")
 
-taken_at_once : at_once (Ok All) (codes "fe ") × at_once (Ok Nothing) (codes "f") × at_once (Err 0) (codes "fe")
+taken_at_once : at_once (Ok All) (codes "fe ") × at_once (Ok (Nothing None)) (codes "f") × at_once (Err 0) (codes "fe")
 taken_at_once = (refl, refl, (codes "e", codes " ", refl, omega arith, refl))
 
 not_all_of_it : at_once (Ok All) (codes "fe") → ⊥
 not_all_of_it is = absurd (cc is)
 
-not_nothing_of_it : at_once (Ok Nothing) (codes "fe") → ⊥
+not_nothing_of_it : at_once (Ok (Nothing None)) (codes "fe") → ⊥
 not_nothing_of_it is = absurd (cc is)
 
 failed_behind_nothing : at_once (Err 0) (codes "f") → ⊥

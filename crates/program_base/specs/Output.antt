@@ -23,7 +23,7 @@ AppendsSome old new text = (written : List ℕ) × (unwritten : List ℕ)
 -- what was taken of the text
 abbrev pub taken_of : Taken → List ℕ → List ℕ
 taken_of All text = text
-taken_of Nothing text = []
+taken_of (Nothing failure) text = []
 
 -- the text was written, or nothing of it; where that failed, a beginning of it that has an octet
 abbrev pub PutsAtOnce : {E : Type 0} → Result Taken E → Option (List ℕ) → Option (List ℕ)

@@ -42,15 +42,21 @@ fn put_rest<W: Write>(output: &mut W, octets: &[u8], first: io::Result<usize>) -
 
 /// Writes a text that is joined of parts, in one piece. Where the first write takes nothing of it,
 /// as that of a vector whose growth is refused, the parts are put one by one, since there may still
-/// be room for the first of them: parts of these sizes, and what is left behind them.
+/// be room for the first of them: parts of these sizes, and what is left behind them. It fails then
+/// also where all parts are taken, by the failure of the first write, unless that was interrupted.
 #[inline]
 pub fn put_joined<W: Write>(output: &mut W, octets: &[u8], sizes: &[usize]) -> io::Result<()>
     ensures { Puts result (W.contents output.old) (W.contents output.new) octets.now }
 {
-    match put_at_once(output, octets) {
-        Ok(Taken::All) => Ok(()),
-        Ok(Taken::Nothing) => put_apart(output, octets, sizes),
-        Err(error) => Err(error),
+    match put_at_once(output, octets)? {
+        Taken::All => Ok(()),
+        Taken::Nothing(failure) => {
+            put_apart(output, octets, sizes)?;
+            match failure {
+                None => Ok(()),
+                Some(error) => Err(error),
+            }
+        }
     }
 }
 
@@ -68,11 +74,12 @@ fn put_apart<W: Write>(output: &mut W, octets: &[u8], sizes: &[usize]) -> io::Re
     put(output, rest)
 }
 
-/// What an output took of a text at the first try.
-#[derive(Clone, Copy)]
+/// What an output took of a text at the first try: all of it, or nothing, with the failure of the
+/// write, none where that was interrupted.
+#[derive(Drop)]
 pub enum Taken {
     All,
-    Nothing,
+    Nothing(Option<io::Error>),
 }
 
 /// Writes a text, unless the first write takes nothing of it: then what the output holds is as
@@ -88,9 +95,18 @@ pub fn put_at_once<W: Write>(output: &mut W, octets: &[u8]) -> io::Result<Taken>
     }
     match output.write(octets) {
         Ok(count) if count == octets.len() => Ok(Taken::All),
-        Ok(0) => Ok(Taken::Nothing),
+        Ok(0) => Ok(Taken::Nothing(Some(io::Error::from(ErrorKind::WriteZero)))),
         Ok(count) => put_behind(output, &octets[count..]),
-        Err(_) => Ok(Taken::Nothing),
+        Err(error) => Ok(Taken::Nothing(failure_of(error))),
+    }
+}
+
+/// The error of a write, unless it was interrupted.
+#[cold]
+fn failure_of(error: io::Error) -> Option<io::Error> {
+    match error.kind() {
+        ErrorKind::Interrupted => None,
+        _ => Some(error),
     }
 }
 

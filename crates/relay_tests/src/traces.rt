@@ -106,8 +106,8 @@ fn put_note(note: Note, octets: &mut Vec<u8>) -> Result<(), Memory> {
             sapi,
         } => {
             octets.extend_from_slice(&number.to_be_bytes())?;
-            octets.extend_from_slice(&count.to_be_bytes())?;
             octets.extend_from_slice(&[2, holding as u8, way as u8, sapi as u8])?;
+            octets.extend_from_slice(&count.to_be_bytes())?;
         }
     }
     Ok(())

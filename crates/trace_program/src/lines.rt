@@ -120,7 +120,13 @@ fn write_head<W: Write>(number: u64, from: End, to: End, output: &mut W) -> Resu
 {
     match put_at_once(output, head_of(number, from, to).as_slice())? {
         Taken::All => Ok(()),
-        Taken::Nothing => write_columns(number, from, to, output),
+        Taken::Nothing(failure) => {
+            write_columns(number, from, to, output)?;
+            match failure {
+                None => Ok(()),
+                Some(error) => Err(error.into()),
+            }
+        }
     }
 }
 

@@ -181,7 +181,7 @@ fn are_put<R: Wait>(rt: &R, pass: &mut SourcePass, count: u32) -> bool {
 
 /// Whether all items of a source are taken, before long.
 fn is_emptied<R: Wait>(rt: &R, pass: &mut SourcePass) -> bool {
-    for look in 0..LOOKS {
+    for look in 0..64 * LOOKS {
         if pass.waiting(rt) == 0 {
             return true;
         }
@@ -226,8 +226,8 @@ fn gives_beside<R: Clock + Wait>(rt: &R, desk: &mut Desk, busy: &mut SourcePass)
 }
 
 /// Beside a source that always has an item no look of the desk is in vain, so it never asks all
-/// sources: signs and earlier looks alone lead to the others' items. None is put off, whenever it
-/// comes. A look that lowers the sign too late, behind its queue, is found out only where threads run
+/// sources: signs and earlier looks alone lead to the others' items. None is put off once its sign
+/// is raised. A look that lowers the sign too late, behind its queue, is found out only where threads run
 /// at once, on two processors.
 #[test]
 fn items_that_are_put_while_a_queue_is_found_empty_are_not_put_off(rt: HostRuntime) {
