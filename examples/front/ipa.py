@@ -4,6 +4,7 @@
 A frame is the body's length in two octets, a stream, and the body. CCM messages go over a stream of their own.
 """
 import asyncio
+import errno
 import os
 import socket
 from collections.abc import Awaitable, Callable
@@ -185,5 +186,9 @@ def reason(fault: OSError) -> str:
 
 
 async def connect(address: tuple[str, int]) -> Link:
-    """Connects to an address."""
-    return Link(*await asyncio.open_connection(*address))
+    """Connects to an address. Where nobody listens, the system may connect a port to itself; that is no link."""
+    link = Link(*await asyncio.open_connection(*address))
+    if link.writer.get_extra_info("sockname") == link.writer.get_extra_info("peername"):
+        link.close()
+        raise OSError(errno.ECONNREFUSED, os.strerror(errno.ECONNREFUSED))
+    return link

@@ -23,7 +23,7 @@ class Outages(Acts):
         return "calls behind an outage of a station, of the switch and of bsc"
 
     def station_is_killed(self) -> None:
-        """The caller's station is killed amid the call: the called one is released, and the station's cell serves again later."""
+        """The caller's station is killed amid the call: the called one is released; later the cell serves again."""
         print("== station 1 is killed amid a call, and started again", flush=True)
         self.call()
         idle = len(self.called.saying("idle:"))
@@ -33,7 +33,7 @@ class Outages(Acts):
         finally:
             self.show(self.called)
         lines = self.network.front_station.saying("station 1/0: away")
-        self.result("the front knew of the caller's channel", len(lines) == 1 and "channels in use: 1" in lines[0])
+        self.result("bsc heard of the caller's channel", len(lines) == 1 and not lines[0].endswith(" 0"))
         self.network.start_station(1)
         self.network.wait_for_station(1)
         self.restart_mobiles("caller")

@@ -1,5 +1,5 @@
 # SPDX-License-Identifier: MIT OR Apache-2.0
-"""Who is there and since when, what was answered in whose place, and what was dropped: for log and 'front status'. Not proved."""
+"""Who is there since when, what was answered in whose place, what was dropped: for log and 'front status'. Not proved."""
 import time
 from collections import Counter
 from datetime import UTC, datetime

@@ -105,7 +105,7 @@ class Switch:
             self.send(self.connections.bsc_left())
 
     def send(self, messages: Messages, asker: Side | None = None) -> None:
-        """Sends messages to whom they are for. What isn't passed on, but answers the asker, is said in the other side's place."""
+        """Sends messages to whom they are for. What answers the asker, and isn't passed on, is said in the other side's place."""
         for side, body in messages:
             if asker in (None, side):
                 self.record.answered[f"{sccp.NAMES[body[0]]} to {side.value}"] += 1
