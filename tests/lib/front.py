@@ -5,6 +5,7 @@ import os
 import socket
 import subprocess
 import sys
+import tempfile
 
 from lib.common import TOP, proved_program
 from lib.peers import PATIENCE, Peers, Station, Switch, Wrong
@@ -92,12 +93,16 @@ class Front:
 
     def kill(self, name):
         """Kills a process, by its id."""
-        self.running[name].kill()
-        self.running[name].wait()
+        process = self.running.pop(name)
+        process.kill()
+        process.wait()
 
     def log(self, name):
-        """What a process has said."""
-        with open(os.path.join(self.work, f"{name}.log")) as log:
+        """What a process has said, in all its lives."""
+        path = os.path.join(self.work, f"{name}.log")
+        if not os.path.exists(path):
+            return []
+        with open(path) as log:
             return log.read().splitlines()
 
     def begin(self, *stations):
@@ -161,12 +166,17 @@ class Front:
         """No channel is in use, and no connection is there."""
         return not any(self.cell(number)["channels"] for number in (1, 2)) and not self.half()["connections"]
 
+    def links_lasted(self, process):
+        """bsc is this process, and no link of it has ended."""
+        if process.poll() is not None or self.running["bsc"] is not process:
+            raise Wrong("bsc isn't the process that was started first")
+        if ended := [line for line in self.log("bsc") if "link closed" in line or "failed" in line or "shut" in line]:
+            raise Wrong(f"bsc tells of links that ended: {ended}")
+
     def end(self):
-        """Ends all processes, by their ids."""
-        for process in self.running.values():
-            if process.poll() is None:
-                process.kill()
-                process.wait()
+        """Ends all processes."""
+        for name in list(self.running):
+            self.kill(name)
 
 
 class Call:
@@ -237,3 +247,19 @@ class Call:
         """A message each way."""
         self.front.switch.wants(self.sends_up(cell, channel, number, data), "a message of the mobile")
         self.front.stations[cell].wants(self.sends_down(channel, data).hex(" "), "a message of the switch")
+
+
+def played(name, script):
+    """Plays a script, which gives a line to print, with all that it wants; gives the status."""
+    with tempfile.TemporaryDirectory() as work:
+        front = Front(work)
+        try:
+            print(f"{name}: {script(front)}")
+        except (Wrong, OSError) as fault:
+            for half in ("bsc", "station", "switch"):
+                print(f"-- {half}", *front.log(half)[-30:], sep="\n")
+            print(front.ask("stations"), front.ask("switch"), f"{name}: {fault}", sep="\n")
+            return 1
+        finally:
+            front.end()
+    return 0
