@@ -20,8 +20,9 @@ IPACCESS_HEADER = 18  # octets
 SYSTEM_INFORMATION = (0x0C11, 0x101A)  # BCCH INFORMATION, SACCH FILLING
 
 CHANNEL_ACTIVATION_ACK, RF_CHANNEL_RELEASE_ACK = "08 22", "08 33"
-ACKNOWLEDGED = {b"\x08\x21": CHANNEL_ACTIVATION_ACK + " 01 {channel:02x} 08 00 00",  # CHANNEL ACTIVATION
-                b"\x08\x2e": RF_CHANNEL_RELEASE_ACK + " 01 {channel:02x}"}  # RF CHANNEL RELEASE
+CHANNEL_ACTIVATION, RF_CHANNEL_RELEASE = b"\x08\x21", b"\x08\x2e"
+ACKNOWLEDGED = {CHANNEL_ACTIVATION: CHANNEL_ACTIVATION_ACK + " 01 {channel:02x} 08 00 00",
+                RF_CHANNEL_RELEASE: RF_CHANNEL_RELEASE_ACK + " 01 {channel:02x}"}
 IMMEDIATE_ASSIGN_COMMAND, ESTABLISH_INDICATION, CONNECTION_FAILURE = b"\x0c\x16", "02 06", "08 24 01 {channel:02x} 1a 01 01"
 CR, CC, RLSD, RLC, DT1, UDT = 0x01, 0x02, 0x04, 0x05, 0x06, 0x09
 RESET_ACKNOWLEDGE = bytes.fromhex("09 00 03 05 07 02 42 fe 02 42 fe 03 00 01 31")
@@ -123,11 +124,13 @@ class Station:
         self.configured = 0  # OML messages that it has acknowledged in this life
         self.informed = 0  # messages with system information
         self.frames = collections.deque()
+        self.history = []  # all messages of RSL that this life has got, but for system information
         self.owed = {}  # by channel: what the script has taken and not acknowledged
 
     def start(self):
         """Begins a life; the front configures it meanwhile."""
         self.frames.clear()
+        self.history.clear()
         self.owed.clear()
         self.is_automatic = False
         self.configured = self.informed = 0
@@ -162,10 +165,9 @@ class Station:
             self.identify(self.rsl, body)
         elif (body[0] & 0xFE) << 8 | body[1] in SYSTEM_INFORMATION:
             self.informed += 1
-        elif self.is_automatic:
-            self.acknowledge(body)
         else:
-            self.frames.append(body)
+            self.history.append(body)
+            self.acknowledge(body) if self.is_automatic else self.frames.append(body)
 
     def acknowledge(self, body):
         """Acknowledges an activation and a release. A mobile that is assigned a channel never comes; all else wants no answer."""
@@ -187,6 +189,19 @@ class Station:
         if text.startswith((CHANNEL_ACTIVATION_ACK, RF_CHANNEL_RELEASE_ACK, ESTABLISH_INDICATION)):
             self.owed.pop(body[3], None)
         self.rsl.send(RSL, body)
+
+    def strays(self):
+        """What this life has got on a channel that it hasn't been asked to activate."""
+        active, found = set(), []
+        for body in self.history:
+            channel = body[10] if body[:2] == IMMEDIATE_ASSIGN_COMMAND else body[3]
+            if body[:2] == CHANNEL_ACTIVATION:
+                active.add(channel)
+            elif channel not in active:
+                found.append(body.hex(" "))
+            elif body[:2] == RF_CHANNEL_RELEASE:
+                active.remove(channel)
+        return found
 
     def look(self, what):
         """The next message of RSL, which stays the next one."""
