@@ -58,7 +58,7 @@ class Connections:
         return self.by_number.get(body[sccp.REFERENCE])
 
     def open(self, body: bytes) -> Connection:
-        """A connection that bsc asks for by CR; CR for the switch is this message with the connection's number."""
+        """Takes CR of bsc: a new connection. What the switch gets is this message with the connection's number."""
         while True:
             self.last = self.last % (REFERENCES - 1) + 1
             number = self.last.to_bytes(3, "big")
@@ -73,7 +73,7 @@ class Connections:
         return []
 
     def from_bsc(self, body: bytes) -> Messages:
-        """Takes a message of bsc of a connection that was asked for."""
+        """Takes any other message of bsc."""
         kind, one = body[0], self.find(body)
         if kind == sccp.RELEASED:
             answer = (Side.BSC, sccp.release_complete(body[sccp.SECOND_REFERENCE], body[sccp.REFERENCE]))
@@ -120,9 +120,9 @@ class Connections:
         if one and one.stage in (Stage.ASKED, Stage.OPEN):
             one.switch, one.stage = body[sccp.SECOND_REFERENCE], Stage.RELEASED
             return [(Side.BSC, sccp.addressed(body, one.bsc, one.number))]
-        if one and one.stage in (Stage.RELEASED, Stage.LEFT_BY_SWITCH):
+        if one and one.stage == Stage.RELEASED:
             return self.drop(Side.SWITCH, body)
-        if one:
+        if one and one.stage != Stage.LEFT_BY_SWITCH:  # of such a one bsc still owes RLC
             del self.by_number[one.number]
         return [(Side.SWITCH, sccp.release_complete(body[sccp.SECOND_REFERENCE], body[sccp.REFERENCE]))]
 
