@@ -14,7 +14,7 @@ from lib.ports import free_ports
 
 FRONT = TOP / "examples/front"
 TIMER = 10000  # T3101, T3103 and T3107 of the settings, in milliseconds: no script waits for them
-SILENCE = 4.0  # seconds after which the front takes a silent peer for gone
+SILENCE = 10.0  # seconds after which the front takes a silent peer for gone
 
 SETTINGS = """[network]
 mcc = "001"
