@@ -3,6 +3,7 @@
 
   station --config FILE [--front FILE]   configures base stations and joins each to its cell of bsc
   switch --config FILE [--front FILE]    joins bsc to a switch
+  status --config FILE [--front FILE]    asks these two who is there, and what was answered in whose place
   mobile ..                              a mobile on a virtual radio; 'mobile --help' tells its words
 
 Nothing here is proved. docs/NETWORK.md tells what each command does.
@@ -10,7 +11,7 @@ Nothing here is proved. docs/NETWORK.md tells what each command does.
 import importlib
 import sys
 
-COMMANDS = ("station", "switch", "mobile")
+COMMANDS = ("station", "switch", "status", "mobile")
 
 
 def main(words: list[str]) -> int:

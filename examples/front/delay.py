@@ -39,7 +39,10 @@ async def pass_on(source: Link, target: Link) -> None:
 
 async def take(source: Link, address: tuple[str, int]) -> None:
     """Serves a connection until a side ends."""
-    target = await connect(address)
+    try:
+        target = await connect(address)
+    except OSError:
+        return  # nobody listens there: this side's connection ends, too
     tasks = [asyncio.create_task(pass_on(source, target)), asyncio.create_task(pass_back(target, source))]
     _, left = await asyncio.wait(tasks, return_when=asyncio.FIRST_COMPLETED)
     for task in left:

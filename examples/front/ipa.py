@@ -4,7 +4,9 @@
 A frame is the body's length in two octets, a stream, and the body. CCM messages go over a stream of their own.
 """
 import asyncio
+import errno
 import os
+import socket
 from collections.abc import Awaitable, Callable
 
 RSL = 0x00
@@ -26,6 +28,13 @@ ASKED = bytes((ID_GET, 0x01, TAG_UNIT_ID, 0x01, 0x07, 0x01, 0x02, 0x01, 0x03, 0x
                0x01, 0x00))
 
 PATIENCE = 30.0  # seconds for the other side's identification
+PINGS = 3  # parts of the silence after which a link is ended; a PING goes after each
+MOST_WAITING = 1 << 20  # octets that may wait for a station or a switch that doesn't read
+MOST_OCTETS = 2048  # in a frame that bsc takes
+READ = 65536  # octets that are read at once
+LINGER = 2.0  # seconds for what was written, where a link is closed
+# seconds after which the system asks a silent peer whether it is there, and until it asks again; how often
+KEEPALIVE = ((socket.TCP_KEEPIDLE, 30), (socket.TCP_KEEPINTVL, 10), (socket.TCP_KEEPCNT, 3))
 
 
 class LinkFault(Exception):
@@ -38,23 +47,54 @@ class Link:
     def __init__(self, reader: asyncio.StreamReader, writer: asyncio.StreamWriter) -> None:
         self.reader = reader
         self.writer = writer
+        self.octets = bytearray()  # read, and not yet a whole frame
+        self.silence = 0.0  # seconds without an octet after which the link is given up; 0: it isn't watched
+        self.most_waiting = MOST_WAITING  # octets; 0: any number
+        self.why = ""  # why this side has ended it
         host, port = (writer.get_extra_info("peername") or ("unknown", 0))[:2]
         self.peer = f"{host}:{port}"
 
     async def read(self) -> tuple[int, bytes]:
-        """The next frame: its stream and its body."""
+        """The next frame: its stream and its body. Nothing is lost where this is cancelled."""
+        while True:
+            if self.why:
+                raise LinkFault(self.why)
+            length = 3 + int.from_bytes(self.octets[:2], "big")
+            if len(self.octets) >= length:
+                frame = self.octets[2], bytes(self.octets[3:length])
+                del self.octets[:length]
+                return frame
+            await self.receive()
+
+    async def receive(self) -> None:
+        """Waits for octets. A side from which none come for too long is asked by PING, and then given up."""
         try:
-            head = await self.reader.readexactly(3)
-            return head[2], await self.reader.readexactly(int.from_bytes(head[:2], "big"))
-        except asyncio.IncompleteReadError as fault:
-            raise LinkFault("closed within a frame" if fault.partial else "closed") from fault
+            octets = await self.some()
         except OSError as fault:
             raise LinkFault(f"read failed: {reason(fault)}") from fault
+        if not octets:
+            raise LinkFault(self.why or ("closed within a frame" if self.octets else "closed"))
+        self.octets += octets
+
+    async def some(self) -> bytes:
+        """The next octets, or none at the link's end."""
+        if not self.silence:
+            return await self.reader.read(READ)
+        for _ in range(PINGS):
+            try:
+                async with asyncio.timeout(self.silence / PINGS):
+                    return await self.reader.read(READ)
+            except TimeoutError:
+                self.write(CCM, bytes((PING,)))
+        raise LinkFault(f"silent for {self.silence:g} s")
 
     def write(self, stream: int, body: bytes) -> None:
-        """Sends a frame."""
-        if not self.writer.is_closing():
-            self.writer.write(len(body).to_bytes(2, "big") + bytes((stream,)) + body)
+        """Sends a frame. A side that reads too slowly loses its link, so that nothing else waits for it."""
+        if self.writer.is_closing():
+            return
+        self.writer.write(len(body).to_bytes(2, "big") + bytes((stream,)) + body)
+        if 0 < self.most_waiting < self.writer.transport.get_write_buffer_size():
+            self.end("it doesn't read")
 
     async def drain(self) -> None:
         """Waits until the other side has taken enough."""
@@ -63,9 +103,15 @@ class Link:
         except OSError as fault:
             raise LinkFault(f"write failed: {reason(fault)}") from fault
 
+    def end(self, why: str) -> None:
+        """Ends the link at once: nothing more is read or written, and the reader hears why."""
+        self.why = self.why or why
+        self.writer.transport.abort()
+
     def close(self) -> None:
-        """Closes the connection."""
+        """Closes the connection, once what was written is taken, or a little later."""
         self.writer.close()
+        asyncio.get_running_loop().call_later(LINGER, self.writer.transport.abort)
 
     def answer_ccm(self, body: bytes) -> None:
         """Answers a PING; no other message of CCM wants an answer once the sides are identified."""
@@ -116,11 +162,33 @@ async def serve(address: tuple[str, int], taken: Callable[[Link], Awaitable[None
     return await asyncio.start_server(take, *address, reuse_address=True)
 
 
+def join_bsc(link: Link) -> None:
+    """Readies a link to bsc, which is never ended from this side. The system asks bsc whether it is there: it knows no PING."""
+    link.most_waiting = 0
+    own = link.writer.get_extra_info("socket")
+    own.setsockopt(socket.SOL_SOCKET, socket.SO_KEEPALIVE, 1)
+    for kind, value in KEEPALIVE:
+        own.setsockopt(socket.IPPROTO_TCP, kind, value)
+
+
+async def drain(link: Link | None) -> None:
+    """Waits for a link that may be absent; its own reader finds that it has broken."""
+    if link:
+        try:
+            await link.drain()
+        except LinkFault:
+            pass
+
+
 def reason(fault: OSError) -> str:
     """Why something of the system failed, in words."""
     return os.strerror(fault.errno) if fault.errno else str(fault)
 
 
 async def connect(address: tuple[str, int]) -> Link:
-    """Connects to an address."""
-    return Link(*await asyncio.open_connection(*address))
+    """Connects to an address. Where nobody listens, the system may connect a port to itself; that is no link."""
+    link = Link(*await asyncio.open_connection(*address))
+    if link.writer.get_extra_info("sockname") == link.writer.get_extra_info("peername"):
+        link.close()
+        raise OSError(errno.ECONNREFUSED, os.strerror(errno.ECONNREFUSED))
+    return link

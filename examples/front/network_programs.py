@@ -21,6 +21,8 @@ class Network:
         self.preload = preload
         self.front_switch: Process | None = None
         self.front_station: Process | None = None
+        self.stations: dict[int, Process] = {}
+        self.lives: dict[str, int] = {}  # of each program that may be started again
         folder = processes.folder
         for name, text in (("register.cfg", osmocom.REGISTER), ("gateway.cfg", osmocom.GATEWAY),
                            ("switch.cfg", osmocom.SWITCH.format(folder=folder)),
@@ -47,18 +49,49 @@ class Network:
             terminal(osmocom.REGISTER_TERMINAL, f"subscriber imsi {imsi} create",
                      f"subscriber imsi {imsi} update msisdn {number}")
         self.front_switch = self.start_front("switch")
-        self.switch = start("switch", ["osmo-msc", "-c", "switch.cfg"], self.preload)
-        self.front_switch.wait_for("acknowledged RESET", 30)
-        self.relay = start("relay", [*self.relay_words, "--config", "bsc.toml"])
-        self.relay.wait_for("switch: connected", 20)
+        self.start_switch()
+        self.start_relay()
         self.delay = start("delay", [sys.executable, os.path.join(self.front, "delay.py"), "127.0.0.3:3003",
                                      "127.0.0.1:3003"])
         self.delay.wait_for("listens", 20)
         self.front_station = self.start_front("station")
+        self.front_station.wait_for("joined to bsc", 30, times=2)
         for number in (1, 2):
-            start(f"station-{number}", ["osmo-bts-virtual", "-c", f"station-{number}.cfg"])
-        self.front_station.wait_for("configured as cell", 30, times=2)
-        self.front_station.wait_for("joined to cell", 30, times=2)
+            self.start_station(number)
+        for number in (1, 2):
+            self.wait_for_station(number)
+
+    def start_switch(self) -> None:
+        """Starts the switch, in its first life or a later one, and waits until the front has reset it."""
+        lives = self.begin("switch")
+        self.switch = self.processes.start(self.name("switch"), ["osmo-msc", "-c", "switch.cfg"], self.preload)
+        self.front_switch.wait_for("acknowledged RESET", 30, times=lives)
+
+    def start_relay(self) -> None:
+        """Starts the relay, in its first life or a later one."""
+        self.begin("relay")
+        self.relay = self.processes.start(self.name("relay"), [*self.relay_words, "--config", "bsc.toml"])
+        self.relay.wait_for("switch: connected", 20)
+
+    def start_station(self, number: int) -> None:
+        """Starts a base station, in its first life or a later one."""
+        name = f"station-{number}"
+        self.begin(name)
+        self.stations[number] = self.processes.start(self.name(name), ["osmo-bts-virtual", "-c", f"{name}.cfg"])
+
+    def wait_for_station(self, number: int) -> None:
+        """Waits until a station is configured and joined, in this life."""
+        for text in (f"configured as cell {number}", f"there, in cell {number}"):
+            self.front_station.wait_for(text, 30, times=self.lives[f"station-{number}"])
+
+    def begin(self, name: str) -> int:
+        """Counts a life of a program; gives which one it is."""
+        self.lives[name] = self.lives.get(name, 0) + 1
+        return self.lives[name]
+
+    def name(self, name: str) -> str:
+        """The name of a program in this life, and of its log."""
+        return name if self.lives[name] == 1 else f"{name}-life-{self.lives[name]}"
 
     def mobile(self, name: str, imsi: str, arfcn: int) -> Process:
         """Starts a mobile."""

@@ -20,6 +20,7 @@ CHANNEL_NEEDED = 0x24
 WHOLE_CELL, LAC_AND_CELL, CELL_ONLY, _, AREA, LAC_ONLY, ALL = range(7)
 OCTETS = {WHOLE_CELL: 7, LAC_AND_CELL: 4, CELL_ONLY: 2, AREA: 5, LAC_ONLY: 2}
 
+MOST_OCTETS = 8  # of an identity: an IMSI of 15 digits
 TMSI_TYPE = 0xF4  # mobile identity (TS 24.008 clause 10.5.1.4): a TMSI
 
 
@@ -84,6 +85,8 @@ def read(text: bytes) -> Request:
     found = elements(text)
     if not found.get(IMSI) or not found.get(CELL_IDENTIFIER_LIST):
         raise PagingFault(f"an element is missing: {text.hex()}")
+    if len(found[IMSI]) > MOST_OCTETS or len(found.get(TMSI, b"")) > MOST_OCTETS:
+        raise PagingFault(f"an identity is too long: {text.hex()}")
     discriminator, entries = found[CELL_IDENTIFIER_LIST][0] & 15, found[CELL_IDENTIFIER_LIST][1:]
     octets = OCTETS.get(discriminator, len(entries) or 1)
     cells = tuple(entries[at:at + octets] for at in range(0, len(entries), octets))

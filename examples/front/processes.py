@@ -49,6 +49,11 @@ class Process:
         lines = [line for line in self.said() if line.strip()]
         return lines[-1] if lines else "nothing"
 
+    def kill(self) -> None:
+        """Kills it, by its process id."""
+        self.run.kill()
+        self.run.wait()
+
     def tell(self, *lines: str) -> None:
         """Writes lines to its standard input."""
         try:

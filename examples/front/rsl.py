@@ -11,15 +11,28 @@ DATA_REQUEST = 0x0201
 ERROR_INDICATION = 0x0203
 BCCH_INFORMATION = 0x0C11
 CCCH_LOAD_INDICATION = 0x0C12
-PAGING_COMMAND = 0x0C15
+CHANNEL_REQUIRED = 0x0C13
 DELETE_INDICATION = 0x0C14
+PAGING_COMMAND = 0x0C15
+IMMEDIATE_ASSIGN_COMMAND = 0x0C16
+CHANNEL_ACTIVATION = 0x0821
+CHANNEL_ACTIVATION_ACK = 0x0822
+CHANNEL_ACTIVATION_NACK = 0x0823
+CONNECTION_FAILURE = 0x0824
 RF_CHANNEL_RELEASE = 0x082E
+RF_CHANNEL_RELEASE_ACK = 0x0833
 RF_RESOURCE_INDICATION = 0x1019
 SACCH_FILLING = 0x101A
 OVERLOAD = 0x101B
 ERROR_REPORT = 0x101C
 
-# what bsc doesn't know, by name
+# what bsc knows of what a station sends: CHANNEL REQUIRED, and these on a dedicated channel: DATA, ERROR, ESTABLISH and RELEASE
+# INDICATION, ESTABLISH and RELEASE CONFIRM; CHANNEL ACTIVATION ACK and NACK, CONNECTION FAILURE, HANDOVER DETECTION,
+# MEASUREMENT RESULT, RF CHANNEL RELEASE ACK
+OF_DEDICATED_CHANNEL = frozenset((0x0202, ERROR_INDICATION, 0x0205, 0x0206, 0x0208, 0x0209, CHANNEL_ACTIVATION_ACK,
+                                  CHANNEL_ACTIVATION_NACK, CONNECTION_FAILURE, 0x0827, 0x0828, RF_CHANNEL_RELEASE_ACK))
+
+# what a station tells of itself and bsc doesn't know, by name
 FILTERED = {
     CCCH_LOAD_INDICATION: "CCCH LOAD INDICATION", DELETE_INDICATION: "DELETE INDICATION",
     RF_RESOURCE_INDICATION: "RF RESOURCE INDICATION", OVERLOAD: "OVERLOAD", ERROR_REPORT: "ERROR REPORT",
@@ -32,9 +45,21 @@ L3_INFORMATION = 0x0B
 PAGING_GROUP = 0x0E
 MS_IDENTITY = 0x0C
 RLM_CAUSE = 0x16
+CAUSE = 0x1A
 SYSTEM_INFORMATION_TYPE = 0x1E
 FULL_BCCH_INFORMATION = 0x27
 CHANNEL_NEEDED = 0x28
+
+# clause 9.3.26: causes
+RADIO_LINK_FAILURE = 0x01
+RADIO_RESOURCE_NOT_AVAILABLE = 0x21
+
+# what is said in a station's place: message, its name, and its cause, if it has one
+IN_ITS_PLACE = {
+    CHANNEL_ACTIVATION_NACK: ("CHANNEL ACTIVATION NACK", RADIO_RESOURCE_NOT_AVAILABLE),
+    CONNECTION_FAILURE: ("CONNECTION FAILURE INDICATION", RADIO_LINK_FAILURE),
+    RF_CHANNEL_RELEASE_ACK: ("RF CHANNEL RELEASE ACKNOWLEDGE", None),
+}
 
 BCCH = 0x80
 PCH = 0x90
@@ -54,6 +79,18 @@ def message_of(body: bytes) -> int:
 def channel_of(body: bytes) -> int:
     """The channel number of a message that begins with it."""
     return body[3] if len(body) > 3 and body[2] == CHANNEL_NUMBER else 0
+
+
+def on_channel(message: int, number: int) -> bytes:
+    """A message that begins with a channel number, with its cause where it is said in a station's place."""
+    cause = IN_ITS_PLACE.get(message, ("", None))[1]
+    ending = b"" if cause is None else bytes((CAUSE, 1, cause))
+    return message.to_bytes(2, "big") + bytes((CHANNEL_NUMBER, number)) + ending
+
+
+def assigned_channel(body: bytes) -> int:
+    """The channel number of the channel description in an IMMEDIATE ASSIGN COMMAND (TS 44.018 clause 9.1.18)."""
+    return body[10] if len(body) > 10 else 0
 
 
 def is_channel_release(body: bytes) -> bool:

@@ -3,8 +3,12 @@
 import asyncio
 import signal
 import sys
-from collections import Counter
-from collections.abc import Coroutine
+import time
+from collections import Counter, deque
+from collections.abc import Callable, Coroutine
+
+LINES = 12  # of one subject in each period; what is over is counted, and its last line said when there is room again
+PERIOD = 60.0  # seconds
 
 
 def say(line: str) -> None:
@@ -15,6 +19,45 @@ def say(line: str) -> None:
 def in_words(counts: Counter[str]) -> str:
     """What was counted, in one line."""
     return ", ".join(f"{name} {count}" for name, count in sorted(counts.items())) or "nothing"
+
+
+class Subject:
+    """One of those of whom lines are said: who comes and goes all the time doesn't fill the log."""
+
+    def __init__(self, clock: Callable[[], float] = time.monotonic, sink: Callable[[str], None] = say) -> None:
+        self.clock = clock
+        self.sink = sink
+        self.said: deque[float] = deque(maxlen=LINES)  # when the last lines were said
+        self.last = ""  # the last line that had no room
+        self.left_out = 0
+
+    def say(self, line: str) -> None:
+        """Says a line, at once or, where there were too many, later, if no other one takes its place."""
+        if self.left_out or self.room_in() > 0:
+            self.last, self.left_out = line, self.left_out + 1
+            return
+        self.said.append(self.clock())
+        self.sink(line)
+
+    def room_in(self) -> float:
+        """In how many seconds there is room for a line."""
+        return self.said[0] + PERIOD - self.clock() if len(self.said) == LINES else 0.0
+
+    def catch_up(self) -> None:
+        """Says the last line that had no room, once there is some."""
+        if not self.left_out or self.room_in() > 0:
+            return
+        others = self.left_out - 1
+        line, self.left_out = self.last, 0
+        self.say(f"{line} ({others} lines before it left out)" if others else line)
+
+
+async def keep_saying(subjects: list[Subject]) -> None:
+    """Says what had no room, as soon as there is some."""
+    while True:
+        await asyncio.sleep(1.0)
+        for subject in subjects:
+            subject.catch_up()
 
 
 async def until_ended(serving: Coroutine[None, None, None]) -> None:

@@ -12,13 +12,19 @@ DATA_FORM_1 = 0x06
 UNITDATA = 0x09
 INACTIVITY_TEST = 0x10
 
-# what bsc reads of what the switch sends
-KNOWN_BY_BSC = (CONNECTION_CONFIRM, CONNECTION_REFUSED, RELEASED, RELEASE_COMPLETE, DATA_FORM_1)
+# octets of a message's part that is always there; a shorter one can't be read
+FIXED = {CONNECTION_REQUEST: 7, CONNECTION_CONFIRM: 9, CONNECTION_REFUSED: 6, RELEASED: 9, RELEASE_COMPLETE: 7, DATA_FORM_1: 7,
+         INACTIVITY_TEST: 10}
+NAMES = {CONNECTION_REQUEST: "CR", CONNECTION_CONFIRM: "CC", CONNECTION_REFUSED: "CREF", RELEASED: "RLSD",
+         RELEASE_COMPLETE: "RLC", DATA_FORM_1: "DT1", INACTIVITY_TEST: "IT"}
 
 # clause 3: parameters
 END_OF_OPTIONS = 0x00
 CALLING_ADDRESS = 0x04
 DATA = 0x0F
+
+DESTINATION_INACCESSIBLE = 0x05  # clause 3.15: refusal causes
+END_USER_FAILURE = 0x02  # clause 3.11: release causes
 
 BSSAP = 0xFE  # subsystem number
 ADDRESS = bytes((0x02, 0x42, BSSAP))  # length, routed on the subsystem number, no point code; subsystem number
@@ -79,11 +85,26 @@ def with_calling_address(body: bytes, point_code: int) -> bytes:
     return body[:at] + calling + body[at:]
 
 
+def is_whole(body: bytes) -> bool:
+    """Whether a message of a connection has all that the front reads of it."""
+    return len(body) >= FIXED.get(body[0] if body else 0, len(body) + 1)
+
+
+def addressed(body: bytes, to: bytes, sender: bytes = b"") -> bytes:
+    """A message with another reference in its first place and, where one is given, in its second one."""
+    return body[:1] + to + sender + body[4 + len(sender):]
+
+
+def refused(to: bytes) -> bytes:
+    """CREF (clause 4.4): the destination can't be reached."""
+    return bytes((CONNECTION_REFUSED,)) + to + bytes((DESTINATION_INACCESSIBLE, 0x00))
+
+
 def released(to: bytes, sender: bytes) -> bytes:
-    """RLSD, with the references of both sides, cause 00 and no data."""
-    return bytes((RELEASED,)) + to + sender + bytes((0x00, 0x00))
+    """RLSD (clause 4.5), with the references of both sides, and no data."""
+    return bytes((RELEASED,)) + to + sender + bytes((END_USER_FAILURE, 0x00))
 
 
-def answer_to_test(body: bytes) -> bytes:
-    """The answer to an inactivity test (clause 4.16): the same with the references swapped."""
-    return bytes((INACTIVITY_TEST,)) + body[SECOND_REFERENCE] + body[REFERENCE] + body[7:]
+def release_complete(to: bytes, sender: bytes) -> bytes:
+    """RLC (clause 4.6)."""
+    return bytes((RELEASE_COMPLETE,)) + to + sender

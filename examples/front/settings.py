@@ -33,6 +33,8 @@ class Station:
     oml: str = "127.0.0.1:3002"  # where base stations' OML is listened for
     rsl: str = "127.0.0.2:3003"  # where base stations' RSL is listened for: OML says so to them
     release_delay_ms: int = 1000  # how long RF CHANNEL RELEASE waits behind CHANNEL RELEASE
+    silence_ms: int = 15000  # a station from which nothing comes for so long, not even the answer to PING, is gone
+    status_socket: str = ""  # the path of a local socket that answers how it is with each cell; empty: none
     units: list[str] = field(default_factory=list)  # the unit id of each cell's station; 'N/0' for cell N where left out
 
 
@@ -41,6 +43,8 @@ class Switch:
     """[switch] of the front's settings."""
     listen: str = "127.0.0.1:5001"  # where the switch connects
     point_code: str = "0.23.3"  # of bsc: the calling address of its connections
+    silence_ms: int = 15000  # a switch from which nothing comes for so long, not even the answer to PING, is gone
+    status_socket: str = ""  # the path of a local socket that answers how it is with switch and bsc; empty: none
     # what ASSIGNMENT COMPLETE of a speech channel says in Speech Codec (Chosen), hexadecimal, and in AoIP Transport Layer
     # Address, as HOST:PORT; empty: nothing
     speech_codec: str = ""
