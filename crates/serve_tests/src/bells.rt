@@ -1,4 +1,5 @@
 // SPDX-License-Identifier: MIT OR Apache-2.0
+use crate::deadline::Deadline;
 use crate::devices::{Got, Held, Sink, Still};
 use crate::relay::settings;
 use controller::Controller;
@@ -33,7 +34,8 @@ fn octets_of_first(got: &Got) -> u64 {
     }
 }
 
-/// A device that gives so many messages, each once the one before was answered.
+/// A device that gives so many messages, each once the one before was answered, and is at its end
+/// then, or where one isn't.
 #[derive(Drop)]
 struct Asking<R> {
     rt: R,
@@ -44,21 +46,22 @@ struct Asking<R> {
 }
 
 impl<R: Clock> Asking<R> {
-    /// Whether the link of the first station has got an answer to each message.
+    /// Waits until the link of the first station has got an answer to each message, and not for
+    /// long. Says whether it has.
     fn is_answered(&self) -> bool {
-        octets_of_first(&self.got) >= self.asked
+        for _ in 0..LOOKS {
+            if octets_of_first(&self.got) >= self.asked {
+                return true;
+            }
+            thread::sleep(&self.rt, Duration::from_micros(50));
+        }
+        false
     }
 }
 
 impl<R: Clock> Read for Asking<R> {
     fn read(&mut self, buf: &mut [u8]) -> io::Result<usize> {
-        for _ in 0..LOOKS {
-            if self.is_answered() {
-                break;
-            }
-            thread::sleep(&self.rt, Duration::from_micros(50));
-        }
-        if self.left == 0 {
+        if !self.is_answered() || self.left == 0 {
             return Ok(0);
         }
         self.left -= 1;
@@ -126,7 +129,9 @@ fn one_message_at_a_time_waits_for_no_time(rt: HostRuntime) -> Result<(), Fail> 
     }
     let controller = Controller::new(alloc, settings(alloc)?)?;
     let begin = Instant::now(&rt)?;
+    let deadline = Deadline::new(rt, alloc, "one message at a time")?;
     let served = serve_links(rt, alloc, controller, links, Still, 1).is_ok();
+    deadline.meet(&rt);
     let took = begin.elapsed(&rt)?.as_secs();
     if !served || octets_of_first(&got) != 4 * MESSAGES {
         return Err(Fail::new("not each message was answered"));

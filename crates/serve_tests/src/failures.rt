@@ -15,14 +15,14 @@ const LIMIT: u32 = 20_000;
 /// All octets that a station sends.
 const ALL: usize = 42;
 
-#[derive(Clone, Copy)]
+#[derive(Clone, Copy, Debug)]
 enum Device {
     Reader,
     Writer,
 }
 
 /// A device that fails.
-#[derive(Clone, Copy)]
+#[derive(Clone, Copy, Debug)]
 struct Failure {
     link: usize,
     device: Device,
@@ -147,7 +147,7 @@ fn all_right<R>(rt: R, alloc: Global, failure: Failure) -> Result<bool, Fail>
 where
     R: Abort + Clock + Threads + Wait + Copy + Drop + Send + 'static,
 {
-    let ended = serve(rt, alloc, &failure.plays(), LIMIT)?;
+    let ended = serve(rt, alloc, &failure.plays(), LIMIT, failure)?;
     Ok(are_right(&rt, alloc, failure, ended.as_slice()))
 }
 

@@ -7,6 +7,8 @@
 #[cfg(test)]
 mod bells;
 #[cfg(test)]
+mod deadline;
+#[cfg(test)]
 mod devices;
 #[cfg(test)]
 mod failures;

@@ -1,9 +1,12 @@
 // SPDX-License-Identifier: MIT OR Apache-2.0
+use crate::deadline::Deadline;
 use crate::devices::{Got, Held, Sink, Source, Still};
 use controller::Controller;
 use settings::Settings;
 use station_io::{IoFault, Link, serve_links};
 use std::alloc::{AllocError, Global};
+use std::fmt::Debug;
+use std::process::Abort;
 use std::sync::atomic::AtomicU64;
 use std::sync::{Arc, Wait};
 use std::test::Fail;
@@ -100,19 +103,25 @@ pub(crate) fn settings(alloc: Global) -> Result<Settings, Fail> {
     Ok(Settings::read(alloc, TWO_CELLS)?)
 }
 
-/// Serves the links of the switch and of two stations, which do this.
-pub(crate) fn serve<R>(
+/// Serves the links of the switch and of two stations, which do this. The test ends where they don't
+/// end before long, and names the case.
+pub(crate) fn serve<R, C>(
     rt: R,
     alloc: Global,
     plays: &[Play; 3],
     limit: u32,
+    case: C,
 ) -> Result<Vec<Ended<R>>, Fail>
 where
-    R: Clock + Threads + Wait + Copy + Drop + Send + 'static,
+    R: Abort + Clock + Threads + Wait + Copy + Drop + Send + 'static,
+    C: Debug + Drop + Send + 'static,
 {
     let links = links_of(rt, alloc, plays)?;
     let controller = Controller::new(alloc, settings(alloc)?)?;
-    match serve_links(rt, alloc, controller, links, Still, limit) {
+    let deadline = Deadline::new(rt, alloc, case)?;
+    let served = serve_links(rt, alloc, controller, links, Still, limit);
+    deadline.meet(&rt);
+    match served {
         Ok(ended) => Ok(ended),
         Err(IoFault::Memory) => Err(Fail::new("the relay wanted memory")),
         Err(_) => Err(Fail::new("another fault of the relay")),

@@ -68,6 +68,6 @@ fn judge<R>(ended: &[Ended<R>], texts: &[Vec<u8>; 3]) -> Result<(), Fail> {
 fn refuses_workers_in_turn_and_faults_without_failure(rt: HostRuntime) -> Result<(), Fail> {
     let alloc = rt.alloc();
     let texts = texts(alloc)?;
-    let ended = serve(rt, alloc, &plays(), LIMIT)?;
+    let ended = serve(rt, alloc, &plays(), LIMIT, "two stations")?;
     judge(ended.as_slice(), &texts)
 }

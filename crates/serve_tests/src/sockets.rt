@@ -1,4 +1,5 @@
 // SPDX-License-Identifier: MIT OR Apache-2.0
+use crate::deadline::Deadline;
 use crate::texts::{CHANNEL_ACTIVATION, NACK_AND_REQUEST, answers, first, requests};
 use controller::Controller;
 use link_sockets::{open_links, relay_links, run_links};
@@ -10,6 +11,22 @@ use std::process::Abort;
 use std::thread;
 use std::time::{Clock, Duration};
 
+/// How many seconds a read waits at most.
+const PATIENCE: u64 = 20;
+
+/// The stream, whose reads fail where nothing comes for long.
+fn with_patience<R: Abort>(rt: &R, stream: TcpStream) -> TcpStream {
+    let patience = Some(Duration::from_secs(PATIENCE));
+    stream.set_read_timeout(patience).expect(rt, "a time");
+    stream
+}
+
+/// The stream of who connects next.
+fn accepted<R: Abort>(rt: &R, listener: &TcpListener) -> TcpStream {
+    let (stream, _) = listener.accept().expect(rt, "a connection");
+    with_patience(rt, stream)
+}
+
 /// Sends these octets and gets so many; then sends no more, and gets what else comes.
 fn play<R: Abort>(
     rt: &R,
@@ -20,7 +37,7 @@ fn play<R: Abort>(
 ) -> Vec<u8> {
     stream.write_all(octets).expect(rt, "a write");
     let mut got = vec![in alloc; 0; wanted].expect(rt, "room");
-    stream.read_exact(got.as_mut_slice()).expect(rt, "a read");
+    stream.read_exact(got.as_mut_slice()).expect(rt, "octets");
     stream.shutdown(Shutdown::Write).expect(rt, "an end");
     stream.read_to_end(&mut got).expect(rt, "a read to the end");
     got
@@ -33,7 +50,7 @@ where
 {
     for _ in 0..20_000 {
         if let Ok(stream) = TcpStream::connect(rt, ("127.0.0.1", port)) {
-            return stream;
+            return with_patience(rt, stream);
         }
         thread::sleep(rt, Duration::from_millis(1));
     }
@@ -58,8 +75,7 @@ fn are_requests<R: Abort>(rt: &R, alloc: Global, got: &[u8], mobiles: &[(u8, u8)
 
 /// Whether the switch gets a connection request of each cell, numbered 1 and 2.
 fn play_switch<R: Abort>(rt: &R, alloc: Global, listener: TcpListener) -> bool {
-    let (stream, _) = listener.accept().expect(rt, "a connection");
-    let got = play(rt, alloc, stream, &[], 68);
+    let got = play(rt, alloc, accepted(rt, &listener), &[], 68);
     let orders = [
         [(1, 1), (2, 2)],
         [(2, 2), (1, 1)],
@@ -83,7 +99,7 @@ fn got_to_end<R: Abort>(rt: &R, alloc: Global, mut stream: TcpStream) -> Vec<u8>
 fn play_last_access<R: Abort>(rt: &R, alloc: Global, mut stream: TcpStream) -> bool {
     let mut got = [0; 15];
     stream.write_all(first(13)).expect(rt, "a write");
-    stream.read_exact(&mut got).expect(rt, "a read");
+    stream.read_exact(&mut got).expect(rt, "octets");
     stream.write_all(&NACK_AND_REQUEST).expect(rt, "a write");
     got == CHANNEL_ACTIVATION && got_to_end(rt, alloc, stream).is_empty()
 }
@@ -112,6 +128,7 @@ fn settings<R: Abort>(rt: &R, alloc: Global, switch: u16, one: u16, second: u16)
 #[test]
 fn two_stations_reach_the_switch_over_tcp(rt: HostRuntime) {
     let alloc = rt.alloc();
+    let deadline = Deadline::new(rt, alloc, "two stations over TCP").expect(&rt, "a thread");
     let (switch_listener, switch_port) = listener(&rt);
     // ports that nobody has any more
     let (_, one) = listener(&rt);
@@ -130,12 +147,14 @@ fn two_stations_reach_the_switch_over_tcp(rt: HostRuntime) {
     assert!(rt; switch.join(&rt));
     assert!(rt; station.join(&rt));
     assert!(rt; other.join(&rt));
+    deadline.meet(&rt);
 }
 
 /// A controller with one number left gives it to an access, which fails: all links are ended.
 #[test]
 fn links_end_behind_the_last_number(rt: HostRuntime) {
     let alloc = rt.alloc();
+    let deadline = Deadline::new(rt, alloc, "the last number").expect(&rt, "a thread");
     let (switch_listener, switch_port) = listener(&rt);
     // ports that nobody has any more
     let (_, one) = listener(&rt);
@@ -155,8 +174,9 @@ fn links_end_behind_the_last_number(rt: HostRuntime) {
         panic!(rt; "no memory")
     };
     assert!(rt; relay_links(rt, alloc, opened, controller).is_ok());
-    let (switch, _) = switch_listener.accept().expect(&rt, "a connection");
+    let switch = accepted(&rt, &switch_listener);
     assert!(rt; got_to_end(&rt, alloc, switch).is_empty());
     assert!(rt; station.join(&rt));
     assert!(rt; other.join(&rt).is_empty());
+    deadline.meet(&rt);
 }

@@ -29,6 +29,8 @@ mod switches;
 #[cfg(test)]
 mod threads;
 #[cfg(test)]
+mod waits;
+#[cfg(test)]
 mod worker;
 #[cfg(test)]
 mod writers;

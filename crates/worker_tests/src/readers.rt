@@ -2,10 +2,12 @@
 ghost use Rattle.std.specs.Prelude.{◌<◌};
 
 use crate::devices::{Call, Counts, PING, Shut, Source, ended, is_fault};
+use crate::waits::is_over;
 use ipa_framing::CCM_STREAM;
 use link_workers::{Gate, IoFault, serve_link_reader, serve_reader};
 use ruled_relay::{Desk, Inbox, Item, SourcePass, What};
 use std::alloc::{AllocError, Global};
+use std::process::Abort;
 use std::sync::atomic::{AtomicU64, Ordering};
 use std::sync::{Arc, Wait};
 use std::test::Fail;
@@ -273,13 +275,11 @@ fn flood_with<R: Wait>(
 }
 
 /// How often a gate was asked, once that was more than 128 times and some time has passed.
-fn await_asked<R: Clock>(rt: &R, asked: &AtomicU64) -> u64 {
-    for _ in 0..20_000 {
-        if asked.load(Ordering::SeqCst) > 128 {
-            break;
-        }
-        thread::sleep(rt, Duration::from_millis(1));
-    }
+fn await_asked<R: Abort + Clock>(rt: &R, asked: &AtomicU64) -> u64 {
+    assert!(rt;
+        is_over(rt, asked, 128, 20_000),
+        "an item for the gate is missing"
+    );
     thread::sleep(rt, Duration::from_millis(50));
     asked.load(Ordering::SeqCst)
 }

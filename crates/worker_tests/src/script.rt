@@ -5,8 +5,11 @@ use std::process::Abort;
 use std::sync::Arc;
 use std::sync::atomic::{AtomicU64, Ordering};
 
-/// How often a clock was asked.
+/// How often a clock was asked; more than `ENDED`, once its worker has ended.
 pub(crate) type Asked = Arc<AtomicU64, Global>;
+
+/// More often no clock is asked.
+pub(crate) const ENDED: u64 = 1 << 32;
 
 /// A clock that answers 0 each time but once, and counts how often it was asked.
 #[derive(Drop)]
@@ -31,6 +34,11 @@ impl Script {
             told,
         };
         (clock, asked)
+    }
+
+    /// The worker that asked has ended.
+    pub fn end(&self) {
+        self.asked.fetch_add(ENDED + 1, Ordering::SeqCst);
     }
 }
 

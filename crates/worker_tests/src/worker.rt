@@ -2,7 +2,8 @@
 ghost use Rattle.std.specs.Prelude.{◌≡◌, ◌<◌, length, vec_len};
 ghost use Rattle.controller_worker.specs.Call.{AreNew, AreUnmarked};
 
-use crate::script::Script;
+use crate::script::{ENDED, Script};
+use crate::waits::is_over;
 use controller::Controller;
 use controller_worker::{Marks, call_worker};
 use ipa_framing::{CCM_STREAM, Frame, RSL_STREAM};
@@ -127,6 +128,7 @@ fn run<R: Abort + Wait>(rt: &R, alloc: Global, ends: Ends, clock: Script) -> End
     } = ends;
     let controller = controller(rt, alloc);
     let relayed = call_worker(rt, alloc, controller, desk, putters, marks, clock);
+    relayed.clock.end();
     Ended {
         fault: relayed.fault,
         ignored: relayed.controller.ignored(),
@@ -159,14 +161,23 @@ fn put_all<R: Abort + Wait>(rt: &R, alloc: Global, pass: &mut SourcePass, texts:
     pass.ring();
 }
 
-/// Waits until the clock was asked more than so often.
-fn await_asked<R: Clock>(rt: &R, asked: &AtomicU64, often: u64) {
-    for _ in 0..u64::MAX {
-        if asked.load(Ordering::SeqCst) > often {
-            return;
-        }
-        thread::sleep(rt, Duration::from_millis(1));
-    }
+/// How often it is looked, a thousandth of a second each, whether the clock was asked.
+const LOOKS: u32 = 20_000;
+
+/// Waits until the clock was asked more than so often, and not for long: else the test ends.
+fn await_asked<R: Abort + Clock>(rt: &R, asked: &AtomicU64, often: u64) {
+    assert!(rt;
+        is_over(rt, asked, often, LOOKS),
+        "the clock was asked {often} times at most"
+    );
+}
+
+/// Waits until the call worker has ended, and not for long: else the test ends.
+fn await_end<R: Abort + Clock>(rt: &R, asked: &AtomicU64) {
+    assert!(rt;
+        is_over(rt, asked, ENDED, LOOKS),
+        "the call worker doesn't end"
+    );
 }
 
 /// How many waits of a hundredth of a second in a row may end with nothing. Who waits for longer
@@ -205,13 +216,20 @@ fn a_timer_expires_between_two_items(rt: HostRuntime) {
     let ender = thread::spawn(&rt, move || {
         await_asked(&rt, &asked, 3);
         put_all(&rt, alloc, &mut switch.pass, &[]);
-        gives(&rt, &mut switch.taker, &[])
+        assert!(rt;
+            gives(&rt, &mut switch.taker, &[]),
+            "a line of the switch is missing"
+        );
+        await_end(&rt, &asked);
     })
     .expect(&rt, "a thread");
     let ended = run(&rt, alloc, ends, clock);
     assert!(rt; ended.fault.is_none());
-    assert!(rt; gives(&rt, &mut station.taker, &[ACTIVATION, RELEASE]));
-    assert!(rt; ender.join(&rt));
+    assert!(rt;
+        gives(&rt, &mut station.taker, &[ACTIVATION, RELEASE]),
+        "a line of the station is missing"
+    );
+    ender.join(&rt);
 }
 
 /// A link whose outbox nobody empties until it was given up.
@@ -292,7 +310,15 @@ where
         await_asked(&rt, &asked, 5);
         put_all(&rt, alloc, &mut other.pass, &[PING]);
         await_asked(&rt, &asked, 10);
-        gives_first(&rt, &mut full.taker, number) && gives(&rt, &mut other.taker, &[PONG])
+        assert!(rt;
+            gives_first(&rt, &mut full.taker, number),
+            "row {number}: a line is missing, or that the outbox was given up"
+        );
+        assert!(rt;
+            gives(&rt, &mut other.taker, &[PONG]),
+            "row {number}: a line of the other link is missing"
+        );
+        await_end(&rt, &asked);
     })
     .expect(&rt, "a thread");
     let ended = run(&rt, alloc, ends, clock);
@@ -301,7 +327,8 @@ where
     } else {
         (0, 1_000)
     };
-    ended.fault.is_none() && ended.ignored == 1 && ended.refusals == refusals && others.join(&rt)
+    others.join(&rt);
+    ended.fault.is_none() && ended.ignored == 1 && ended.refusals == refusals
 }
 
 #[test]

@@ -1,15 +1,15 @@
 // SPDX-License-Identifier: MIT OR Apache-2.0
 use crate::devices::{Flushed, PING, Sink, ended, is_fault};
+use crate::waits::is_over;
 use ipa_framing::{CCM_STREAM, Frame};
 use link_workers::{HasWritten, IoFault, serve_writer};
 use octets::{Memory, Octets};
 use ruled_relay::{Line, Outbox, Putter, Taker};
 use std::alloc::Global;
-use std::sync::atomic::{AtomicU64, Ordering};
+use std::sync::atomic::AtomicU64;
 use std::sync::{Arc, Wait};
 use std::test::Fail;
 use std::thread;
-use std::time::{Clock, Duration};
 
 /// The frame PING, twice.
 const TWO_PINGS: &[u8] = &[0x00, 0x01, 0xfe, 0x00, 0x00, 0x01, 0xfe, 0x00];
@@ -122,17 +122,6 @@ fn a_device_that_takes_an_octet_at_a_time_gets_all_until_it_fails(
     Ok(())
 }
 
-/// Waits until the device was flushed, for some seconds.
-fn await_flush<R: Clock>(rt: &R, flushes: &AtomicU64) -> bool {
-    for _ in 0..5_000 {
-        if flushes.load(Ordering::SeqCst) > 0 {
-            return true;
-        }
-        thread::sleep(rt, Duration::from_millis(1));
-    }
-    false
-}
-
 /// Writes to a device. Whether there was no fault, and it got the frame PING.
 fn write_ping<R: Wait>(rt: &R, alloc: Global, sink: Flushed, taker: Taker) -> bool {
     let written = serve_writer(rt, alloc, sink, taker);
@@ -154,9 +143,13 @@ fn a_device_is_flushed_once_an_outbox_that_was_given_up_is_empty(rt: HostRuntime
     let writer = thread::spawn(&rt, move || write_ping(&rt, alloc, sink, taker)).expect(
         &rt, "a thread",
     );
-    assert!(rt; await_flush(&rt, &flushes));
+    assert!(rt; is_over(&rt, &flushes, 0, 5_000), "a flush is missing");
     assert!(rt; putter.put(&rt, Line::End).is_ok());
     putter.ring();
+    assert!(rt;
+        is_over(&rt, &flushes, 1, 5_000),
+        "the flush at the end is missing"
+    );
     assert!(rt; writer.join(&rt));
 }
 
