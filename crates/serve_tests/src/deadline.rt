@@ -8,8 +8,8 @@ use std::sync::atomic::{AtomicU64, Ordering};
 use std::thread::{self, JoinHandle, Threads};
 use std::time::{Clock, Duration};
 
-/// How often it is looked, a thousandth of a second each, whether something has ended. Who waits for
-/// a part of it waits for less, and says more.
+/// How often it is looked, a thousandth of a second each, whether something has ended: not as long
+/// as a test may last.
 const LOOKS: u32 = 30_000;
 
 /// A thread that ends the test where something doesn't end before long, and names it.
