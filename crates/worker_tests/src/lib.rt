@@ -7,6 +7,8 @@
 #![tactic(auto)]
 
 #[cfg(test)]
+mod added_down;
+#[cfg(test)]
 mod bells;
 #[cfg(test)]
 mod devices;

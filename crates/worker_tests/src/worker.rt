@@ -23,14 +23,14 @@ const ONE_CELL: &str =
 [[cell]]\nlisten = \"127.0.0.1:3003\"\nlac = 1\nci = 1\narfcn = 20\nbsic = 9\nchannels = [0x41, 0x49, 0x0a]\n";
 
 /// A body, and the stream that its frame is of.
-type Text<'a> = (u8, &'a [u8]);
+pub(crate) type Text<'a> = (u8, &'a [u8]);
 
-const CHANNEL_REQUIRED: Text<'_> = (
+pub(crate) const CHANNEL_REQUIRED: Text<'_> = (
     RSL_STREAM,
     &[0x0c, 0x13, 0x01, 0x88, 0x13, 0x7f, 0x01, 0x02, 0x11, 0x05],
 );
 
-const ACTIVATION: Text<'_> = (
+pub(crate) const ACTIVATION: Text<'_> = (
     RSL_STREAM,
     &[
         0x08, 0x21, 0x01, 0x41, 0x03, 0x00, 0x06, 0x04, 0x00, 0x03, 0x01, 0x00,
@@ -44,7 +44,7 @@ const SECOND_ACTIVATION: Text<'_> = (
     ],
 );
 
-const ACTIVATION_ACK: Text<'_> = (RSL_STREAM, &[0x08, 0x22, 0x01, 0x41, 0x08, 0x00, 0x00]);
+pub(crate) const ACTIVATION_ACK: Text<'_> = (RSL_STREAM, &[0x08, 0x22, 0x01, 0x41, 0x08, 0x00, 0x00]);
 
 const RELEASE: Text<'_> = (RSL_STREAM, &[0x08, 0x2e, 0x01, 0x41]);
 
@@ -54,22 +54,22 @@ const PONG: Text<'_> = (CCM_STREAM, &[0x01]);
 
 /// The call worker's ends of the queues of a switch and of one station.
 #[derive(Drop)]
-struct Ends {
-    desk: Desk,
-    putters: Vec<Putter>,
-    marks: Marks,
+pub(crate) struct Ends {
+    pub(crate) desk: Desk,
+    pub(crate) putters: Vec<Putter>,
+    pub(crate) marks: Marks,
 }
 
 /// The other ends of a link's queues.
 #[derive(Drop)]
-struct Link {
-    pass: SourcePass,
-    taker: Taker,
+pub(crate) struct Link {
+    pub(crate) pass: SourcePass,
+    pub(crate) taker: Taker,
 }
 
 /// New queues, whose outboxes have room for so many lines, the switch's and the station's; with the
 /// link of the switch, and the station's.
-fn queues<R: Abort>(rt: &R, alloc: Global, rooms: (usize, usize)) -> (Ends, Link, Link)
+pub(crate) fn queues<R: Abort>(rt: &R, alloc: Global, rooms: (usize, usize)) -> (Ends, Link, Link)
     requires { (0 < rooms.0) × (0 < rooms.1) }
     ensures new { AreNew result.0.putters.items }
     ensures sources { length result.0.desk ≡ vec_len result.0.putters }
@@ -102,11 +102,11 @@ fn queues<R: Abort>(rt: &R, alloc: Global, rooms: (usize, usize)) -> (Ends, Link
 
 /// How a run of the call worker ended.
 #[derive(Clone, Copy)]
-struct Ended {
-    fault: Option<IoFault>,
-    ignored: u64,
+pub(crate) struct Ended {
+    pub(crate) fault: Option<IoFault>,
+    pub(crate) ignored: u64,
     /// Of the switch's outbox, and of the station's.
-    refusals: (u32, u32),
+    pub(crate) refusals: (u32, u32),
 }
 
 /// A controller of one cell.
@@ -116,7 +116,7 @@ fn controller<R: Abort>(rt: &R, alloc: Global) -> Controller {
 }
 
 /// Runs the call worker of a controller of one cell.
-fn run<R: Abort + Wait>(rt: &R, alloc: Global, ends: Ends, clock: Script) -> Ended
+pub(crate) fn run<R: Abort + Wait>(rt: &R, alloc: Global, ends: Ends, clock: Script) -> Ended
     requires new { AreNew ends.putters.items }
     requires sources { length ends.desk ≡ vec_len ends.putters }
     requires marks { AreUnmarked (vec_len ends.putters) ends.marks }
@@ -150,13 +150,24 @@ fn put<R: Abort + Wait>(rt: &R, pass: &mut SourcePass, what: What) {
     assert!(rt; pass.put(rt, Item { source, what }).is_ok());
 }
 
-/// Puts these frames, and then that the link is down.
-fn put_all<R: Abort + Wait>(rt: &R, alloc: Global, pass: &mut SourcePass, texts: &[Text]) {
+/// Puts these frames.
+pub(crate) fn put_frames<R>(rt: &R, alloc: Global, pass: &mut SourcePass, texts: &[Text])
+where
+    R: Abort + Wait,
+{
     for (stream, body) in texts {
         let body = Octets::copy(alloc, *body).expect(rt, "a body");
         let stream = *stream;
         put(rt, pass, What::Frame(Frame { stream, body }));
     }
+}
+
+/// Puts these frames, and then that the link is down.
+pub(crate) fn put_all<R>(rt: &R, alloc: Global, pass: &mut SourcePass, texts: &[Text])
+where
+    R: Abort + Wait,
+{
+    put_frames(rt, alloc, pass, texts);
     put(rt, pass, What::Down);
     pass.ring();
 }
@@ -165,7 +176,7 @@ fn put_all<R: Abort + Wait>(rt: &R, alloc: Global, pass: &mut SourcePass, texts:
 const LOOKS: u32 = 20_000;
 
 /// Waits until the clock was asked more than so often, and not for long: else the test ends.
-fn await_asked<R: Abort + Clock>(rt: &R, asked: &AtomicU64, often: u64) {
+pub(crate) fn await_asked<R: Abort + Clock>(rt: &R, asked: &AtomicU64, often: u64) {
     assert!(rt;
         is_over(rt, asked, often, LOOKS),
         "the clock was asked {often} times at most"
@@ -173,7 +184,7 @@ fn await_asked<R: Abort + Clock>(rt: &R, asked: &AtomicU64, often: u64) {
 }
 
 /// Waits until the call worker has ended, and not for long: else the test ends.
-fn await_end<R: Abort + Clock>(rt: &R, asked: &AtomicU64) {
+pub(crate) fn await_end<R: Abort + Clock>(rt: &R, asked: &AtomicU64) {
     assert!(rt;
         is_over(rt, asked, ENDED, LOOKS),
         "the call worker doesn't end"
@@ -196,7 +207,7 @@ fn next<R: Wait>(rt: &R, taker: &mut Taker) -> Option<Line> {
 }
 
 /// Whether an outbox gives these frames, then the mark behind the last, and no more.
-fn gives<R: Wait>(rt: &R, taker: &mut Taker, texts: &[Text]) -> bool {
+pub(crate) fn gives<R: Wait>(rt: &R, taker: &mut Taker, texts: &[Text]) -> bool {
     for (stream, body) in texts {
         match next(rt, taker) {
             Some(Line::Frame(frame)) if frame.stream == *stream && frame.body.as_slice() == *body =>
