@@ -16,8 +16,9 @@ use tracing::{pictures_of, traced};
 
 mod tracing;
 
-/// The toolchain that the program is made with, as README has it.
-const TOOLCHAIN: &str = "rattle-kit-13f logic dac8208d650f15bf";
+/// The sum of the logic by which the proofs of this version hold. It is the same whichever kit of
+/// the toolchain has built the program.
+const LOGIC: &str = "dac8208d650f15bf";
 
 fn main(rt: HostRuntime) -> ExitCode {
     let ended = match asked(&rt) {
@@ -41,7 +42,7 @@ fn main(rt: HostRuntime) -> ExitCode {
 
 /// Prints the version, and gives the status that the program ends with.
 fn versioned(rt: &HostRuntime) -> Result<u8, ProgramFault> {
-    match println!(rt; "bsc {VERSION} ({TOOLCHAIN})") {
+    match println!(rt; "bsc {VERSION} (logic {LOGIC})") {
         Ok(()) => Ok(0),
         Err(error) => Err(ProgramFault::Failed(Failure::from(error))),
     }
