@@ -1,6 +1,6 @@
 // SPDX-License-Identifier: MIT OR Apache-2.0
-/* Preloaded before a program: refuses the call of malloc, realloc or their kin whose number, from 1, is REFUSE, and writes
-   how many blocks were not given back to the file LIVE, if one is named, as the program ends, and how many calls there were
+/* Preloaded before a program: refuses the call of malloc, realloc or their kin whose number, from 1, is REFUSE, ends the program
+   at once, with status 99, at the one whose number is STOP, and writes how many blocks were not given back to the file LIVE, if one is named, as the program ends, and how many calls there were
    to the file CALLS. */
 #define _GNU_SOURCE
 #include <dlfcn.h>
@@ -8,19 +8,27 @@
 #include <stddef.h>
 #include <stdio.h>
 #include <stdlib.h>
+#include <unistd.h>
 
 static long calls;
 static long live;
 static long refused;
+static long stopped;
 static int has_ended; /* what is written of the program at its end wants memory too, and isn't refused it */
 
+static long number_in(const char *variable) {
+  const char *text = getenv(variable);
+  return text ? atol(text) : -1;
+}
 static int refuses(void) {
   if (has_ended) return 0;
   if (refused == 0) {
-    const char *text = getenv("REFUSE");
-    refused = text ? atol(text) : -1;
+    refused = number_in("REFUSE");
+    stopped = number_in("STOP");
   }
-  if (__atomic_add_fetch(&calls, 1, __ATOMIC_SEQ_CST) != refused) return 0;
+  long call = __atomic_add_fetch(&calls, 1, __ATOMIC_SEQ_CST);
+  if (call == stopped) _exit(99);
+  if (call != refused) return 0;
   errno = ENOMEM;
   return 1;
 }

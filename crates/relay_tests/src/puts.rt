@@ -1,7 +1,8 @@
 // SPDX-License-Identifier: MIT OR Apache-2.0
 //! `put` beside the loop that it was before one write that takes all ended it at once: which fault
-//! comes, and how often a device is asked, has no clause.
-use program_base::put;
+//! comes, and how often a device is asked, has no clause. And `put_joined` beside the puts of its
+//! parts, where the first write is interrupted: it ends as they do.
+use program_base::{put, put_joined};
 use std::io::{self, ErrorKind, Write};
 use std::test::Fail;
 
@@ -22,6 +23,9 @@ const ANSWERS: [Answer; 5] = [
     Answer::IsInterrupted,
     Answer::Fails,
 ];
+
+/// The place of the interrupted write in that list.
+const INTERRUPTED: usize = 3;
 
 /// The lists of up to five answers, by number.
 const LISTS: usize = 3125;
@@ -109,6 +113,31 @@ fn put_ends_as_its_loop_did(rt: HostRuntime) -> Result<(), Fail> {
             let got = put(&mut other, text);
             assert_eq!(rt; outcome(got, &other), outcome(wanted, &one));
         }
+    }
+    Ok(())
+}
+
+/// Puts the text in parts of 1, 2 and 1 octets.
+fn put_parts_in_a_loop<W: Write>(output: &mut W) -> io::Result<()> {
+    for part in [&TEXT[..1], &TEXT[1..3], &TEXT[3..]] {
+        put_in_a_loop(output, part)?;
+    }
+    Ok(())
+}
+
+#[test]
+fn a_joined_text_is_put_in_parts_behind_an_interrupted_first_write(
+    rt: HostRuntime,
+) -> Result<(), Fail> {
+    for answers in 0..LISTS {
+        if answers % ANSWERS.len() != INTERRUPTED {
+            continue;
+        }
+        let (mut one, mut other) = (answering(answers / ANSWERS.len()), answering(answers));
+        let wanted = put_parts_in_a_loop(&mut one);
+        one.tries = one.tries.saturating_add(1);
+        let got = put_joined(&mut other, TEXT, &[1, 2]);
+        assert_eq!(rt; outcome(got, &other), outcome(wanted, &one));
     }
     Ok(())
 }
