@@ -15,6 +15,7 @@ from presence import Presence, Record
 from say import Subject
 
 ATTEMPT_EVERY = 1.0  # seconds between two attempts to connect to bsc
+ATTEMPT_REFUSED = 10.0  # seconds, at most, where bsc refuses links: each time it is twice as long, since bsc logs each of them
 SETTLED = 1.0  # seconds: a link that bsc shuts before that, and over which nothing came, was refused
 RELEASE_PATIENCE = 10.0  # seconds for the station's acknowledgements once bsc has ended
 
@@ -78,6 +79,7 @@ class Cell:
         host, port = self.cell.listen
         loop = asyncio.get_running_loop()
         is_refused = False
+        pause = ATTEMPT_EVERY
         while True:
             begin = loop.time()
             try:
@@ -89,7 +91,8 @@ class Cell:
             else:
                 is_refused = await self.serve_bsc(link, is_refused)
                 await self.release_all()
-            await asyncio.sleep(begin + ATTEMPT_EVERY - loop.time())
+            pause = min(2 * pause, ATTEMPT_REFUSED) if is_refused else ATTEMPT_EVERY
+            await asyncio.sleep(begin + pause - loop.time())
 
     async def serve_bsc(self, link: ipa.Link, was_refused: bool) -> bool:
         """Takes what bsc sends until its link ends; gives whether bsc has refused it.

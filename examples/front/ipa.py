@@ -133,11 +133,17 @@ def read_identity(body: bytes) -> dict[int, str]:
 async def identify(link: Link) -> dict[int, str]:
     """Asks the side that has connected to us who it is, and acknowledges its answer."""
     link.write(CCM, ASKED)
+    try:
+        async with asyncio.timeout(PATIENCE):
+            return await identity(link)
+    except TimeoutError as fault:
+        raise LinkFault("it didn't identify itself") from fault
+
+
+async def identity(link: Link) -> dict[int, str]:
+    """The answer of a side that was asked who it is; it may say PING before."""
     while True:
-        try:
-            stream, body = await asyncio.wait_for(link.read(), PATIENCE)
-        except asyncio.TimeoutError as fault:
-            raise LinkFault("it didn't identify itself") from fault
+        stream, body = await link.read()
         if stream != CCM:
             raise LinkFault("it didn't identify itself before it sent anything else")
         if body[:1] == bytes((ID_RESPONSE,)):
@@ -182,7 +188,7 @@ async def drain(link: Link | None) -> None:
 
 def reason(fault: OSError) -> str:
     """Why something of the system failed, in words."""
-    return os.strerror(fault.errno) if fault.errno else str(fault)
+    return os.strerror(fault.errno) if (fault.errno or 0) > 0 else fault.strerror or str(fault)
 
 
 async def connect(address: tuple[str, int]) -> Link:

@@ -87,7 +87,8 @@ class Station:
 
     def __init__(self, link: ipa.Link) -> None:
         self.link = link
-        self.availability: dict[Object, int] = {}
+        own = CARRIER, STATION, TRANSCEIVER, *((CHANNEL, 0, 0, timeslot) for timeslot in range(8))
+        self.availability = dict.fromkeys(own, 0)  # of the objects whose operation is started; of others nothing is kept
         self.counts: Counter[str] = Counter()
 
     async def read(self) -> tuple[int, Object, bytes]:
@@ -109,7 +110,7 @@ class Station:
 
     def take_state(self, which: Object, attributes: bytes) -> None:
         """Notes an object's availability: attribute 07 follows the operational state (24)."""
-        if len(attributes) > 5 and attributes[2] == AVAILABILITY_STATUS:
+        if which in self.availability and len(attributes) > 5 and attributes[2] == AVAILABILITY_STATUS:
             self.availability[which] = attributes[5]
 
     async def command(self, kind: int, which: Object, attributes: bytes = b"") -> None:

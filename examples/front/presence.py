@@ -9,11 +9,11 @@ from say import Subject, in_words
 
 
 class Presence:
-    """Whether a side is there, and since when that is so. Each change is a line of the log, and nothing else is."""
+    """Whether a side is there, and since when that is so. Each change is a line of the log; so is why it isn't there at first."""
 
     def __init__(self, subject: Subject) -> None:
         self.subject = subject
-        self.is_there = False
+        self.is_there = self.is_known = False
         self.since = time.time()
 
     def come(self, line: str) -> None:
@@ -28,7 +28,10 @@ class Presence:
         """Notes a change, if it is one."""
         if is_there != self.is_there:
             self.is_there, self.since = is_there, time.time()
-            self.subject.say(line)
+        elif self.is_known:
+            return
+        self.is_known = True
+        self.subject.say(line)
 
     def status(self) -> dict[str, Any]:
         """For 'front status'."""

@@ -12,8 +12,11 @@ PERIOD = 60.0  # seconds
 
 
 def say(line: str) -> None:
-    """Prints a line."""
-    print(line, file=sys.stderr, flush=True)
+    """Prints a line. Where it can't be taken, as by a full disk, the front goes on without it."""
+    try:
+        print(line, file=sys.stderr, flush=True)
+    except OSError:
+        pass
 
 
 def in_words(counts: Counter[str]) -> str:

@@ -5,7 +5,6 @@ A base station opens its OML link first. The front configures it there and tells
 life of the station. Each cell's link to bsc is there whether its station is or not (cell.py).
 """
 import asyncio
-import os
 import socket
 import sys
 from collections import Counter
@@ -110,8 +109,7 @@ class Stations:
 
 def open_paging(path: str) -> socket.socket:
     """The local socket over which the switch's half tells of PAGING."""
-    if os.path.exists(path):
-        os.unlink(path)
+    status.clear_socket(path)
     own = socket.socket(socket.AF_UNIX, socket.SOCK_DGRAM)
     own.bind(path)
     own.setblocking(False)

@@ -8,6 +8,7 @@ import asyncio
 import json
 import os
 import socket
+import stat
 import sys
 from collections.abc import Callable
 from typing import Any
@@ -25,9 +26,14 @@ async def serve(path: str, lines: Callable[[], list[dict[str, Any]]]) -> asyncio
         writer.write("".join(f"{json.dumps(line)}\n" for line in lines()).encode())
         writer.close()
 
-    if os.path.exists(path):
-        os.unlink(path)
+    clear_socket(path)
     return await asyncio.start_unix_server(take, path)
+
+
+def clear_socket(path: str) -> None:
+    """Takes away the local socket that a former life has left; what is no socket stays, and then nobody can listen there."""
+    if os.path.exists(path) and stat.S_ISSOCK(os.stat(path).st_mode):
+        os.unlink(path)
 
 
 def ask(path: str) -> list[dict[str, Any]]:

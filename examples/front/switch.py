@@ -43,16 +43,20 @@ class Switch:
         self.paging.setblocking(False)
 
     async def take_switch(self, link: ipa.Link) -> None:
-        """Serves the switch's link. While there is one, no other is taken."""
+        """Serves the switch's link, once it has said who it is. While there is one, no other is taken."""
+        link.silence = self.front.switch.silence_ms / 1000
+        try:
+            name = (await ipa.identify(link)).get(ipa.TAG_UNIT_NAME, "")
+        except ipa.LinkFault:
+            self.record.dropped["link to the switch's port without identification"] += 1
+            return
         if self.switch is not None:
             self.subject.say(f"switch {link.peer}: refused: another one is connected")
             return
         self.switch = link
-        link.silence = self.front.switch.silence_ms / 1000
+        self.subject.say(f"switch {link.peer}: connected{f', it is {name[:40]!r}' if name else ''}")
         why = "the front has ended its link"
         try:
-            name = (await ipa.identify(link)).get(ipa.TAG_UNIT_NAME, "")
-            self.subject.say(f"switch {link.peer}: connected{f', it is {name[:40]!r}' if name else ''}")
             self.reset()
             while True:
                 self.from_switch(link, *await link.read())
