@@ -71,6 +71,7 @@ class Cell:
         self.record = Record()
         self.bsc: ipa.Link | None = None
         self.oml: ipa.Link | None = None
+        self.is_configured = False  # by its OML link; before that no channel of it can be activated
         self.station: StationLink | None = None
         self.changed = asyncio.Event()  # the channels may have changed
 
@@ -128,7 +129,7 @@ class Cell:
         elif message == rsl.IMMEDIATE_ASSIGN_COMMAND:
             self.obey(Verdict.PASS if self.channels.assigns(rsl.assigned_channel(body)) else Verdict.DROP, body)
         else:
-            self.obey(self.channels.from_bsc(message, number, self.station is not None), body)
+            self.obey(self.channels.from_bsc(message, number, self.is_ready()), body)
 
     def obey(self, verdict: Verdict, body: bytes) -> None:
         """Does with a message of bsc what the table says."""
@@ -159,12 +160,22 @@ class Cell:
             await self.changed.wait()
         giving_up.cancel()
 
+    def is_ready(self) -> bool:
+        """Whether a station is there that can activate channels: it is configured, and has its RSL link."""
+        return self.station is not None and self.is_configured
+
+    def look(self) -> None:
+        """Notes whether the station has become ready."""
+        if self.is_ready():
+            self.station_presence.come(f"station {self.cell.unit}: there, in cell {self.cell.number}, "
+                                       f"by RSL from {self.station.link.peer}")
+
     async def serve_station(self, link: ipa.Link, name: str) -> None:
         """Gives a station its system information, and takes what it sends until its link ends."""
         for text in self.system_information:
             link.write(ipa.RSL, text)
         self.station = StationLink(link, self.front.station.release_delay_ms / 1000, self.record)
-        self.station_presence.come(f"{name}: there, in cell {self.cell.number}, by RSL from {link.peer}")
+        self.look()
         why = "the front has ended its link"
         try:
             while True:

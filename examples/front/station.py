@@ -56,11 +56,13 @@ class Stations:
             await station.configure(cell.cell, self.front.mcc, self.front.mnc, self.rsl)
             cell.subject.say(f"{name}: configured as cell {cell.cell.number}, ARFCN {cell.cell.arfcn}; "
                              f"RSL is at {self.front.station.rsl}")
+            cell.is_configured = True
+            cell.look()
             await station.watch()
         except ipa.LinkFault as fault:
             why = str(fault)
         finally:
-            cell.oml = None
+            cell.oml, cell.is_configured = None, False
             cell.end_station(f"its OML link ended: {why}")
             cell.subject.say(f"{name}: OML link ended: {why}; not passed on: {in_words(station.counts)}")
 

@@ -20,6 +20,7 @@ from presence import Presence, Record
 from say import Subject, keep_saying, say, until_ended
 
 RESET_EVERY = 10.0  # seconds until RESET is sent again where nobody acknowledges it
+UNNOTICED = 1.0  # seconds for which the end of bsc's former life may not be noticed yet, where bsc is started again at once
 
 
 class Switch:
@@ -89,6 +90,8 @@ class Switch:
 
     async def take_bsc(self, link: ipa.Link) -> None:
         """Serves the link of bsc, and never has it wait for the switch."""
+        if self.bsc is not None:
+            await asyncio.sleep(UNNOTICED)
         if self.bsc is not None:
             self.subject.say(f"bsc {link.peer}: refused: another one is connected")
             return

@@ -121,7 +121,9 @@ class Station:
         self.oml = self.rsl = None
         self.is_automatic = False
         self.is_alone = False  # doesn't go on to RSL
-        self.configured = 0  # OML messages that it has acknowledged in this life
+        self.is_slow = False  # doesn't answer OML behind that, until it is told to
+        self.configured = 0  # OML messages that it has got in this life
+        self.late = b""  # the answer to the last one
         self.informed = 0  # messages with system information
         self.frames = collections.deque()
         self.history = []  # all messages of RSL that this life has got, but for system information
@@ -153,11 +155,18 @@ class Station:
             return
         at = IPACCESS_HEADER if body[0] == 0x10 else 4
         self.configured += 1
-        self.oml.send(OML, body[:at] + bytes([body[at] + 1]) + body[at + 1:])
+        self.late = body[:at] + bytes([body[at] + 1]) + body[at + 1:]
+        if not (self.is_slow and self.rsl):
+            self.oml.send(OML, self.late)
         if body[at] == RSL_CONNECT and not self.is_alone:
             attributes = body[at + 5:]
             host = socket.inet_ntoa(attributes[-4:])
             self.rsl = self.peers.connect((host, int.from_bytes(attributes[3:5], "big")), self.take_rsl)
+
+    def finish(self):
+        """Answers the message of OML that is left, and all others at once."""
+        self.is_slow = False
+        self.oml.send(OML, self.late)
 
     def take_rsl(self, stream, body):
         """Keeps a frame for the script, or answers it."""
