@@ -44,7 +44,10 @@ const SECOND_ACTIVATION: Text<'_> = (
     ],
 );
 
-pub(crate) const ACTIVATION_ACK: Text<'_> = (RSL_STREAM, &[0x08, 0x22, 0x01, 0x41, 0x08, 0x00, 0x00]);
+pub(crate) const ACTIVATION_ACK: Text<'_> = (
+    RSL_STREAM,
+    &[0x08, 0x22, 0x01, 0x41, 0x08, 0x00, 0x00],
+);
 
 const RELEASE: Text<'_> = (RSL_STREAM, &[0x08, 0x2e, 0x01, 0x41]);
 
