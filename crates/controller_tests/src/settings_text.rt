@@ -46,7 +46,34 @@ const FAULTS: &[(&str, &str)] = &[
     ("x = 1", "unknown key x"),
     ("network = 1", "bad type network"),
     ("[network]\nmcc = \"1\"", "bad value network.mcc"),
+    (
+        "[network]\nmcc = \"001\"\nmnc = \"01\"\n[switch]\naddress = \"a\"\n\
+[handover1]\npower_budget_interval = 100\n",
+        "bad value handover1.power_budget_interval",
+    ),
 ];
+
+/// What is said of a text's fault, and whether memory was refused: then the text is read again.
+fn said_of(alloc: Global, text: &str) -> Result<(String, bool), Fail> {
+    match Settings::read(alloc, text) {
+        Err(SettingsFault::Memory) => Ok((fault_of(alloc, text)?, true)),
+        Err(fault) => Ok((format!(in alloc; "{fault}")?, false)),
+        Ok(_) => Ok((String::new(alloc), false)),
+    }
+}
+
+/// Where memory is refused that is told, with no other answer.
+#[test]
+fn settings_that_want_memory_are_read_again(rt: HostRuntime) -> Result<(), Fail> {
+    for (text, expected) in FAULTS {
+        let (said, is_refused) = said_of(rt.alloc(), text)?;
+        assert!(rt; said.as_str() == *expected);
+        if is_refused {
+            return Err(Fail::new("the settings wanted memory, and were read again"));
+        }
+    }
+    Ok(())
+}
 
 #[test]
 fn faults_of_settings_are_told(rt: HostRuntime) -> Result<(), Fail> {
