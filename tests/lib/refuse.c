@@ -1,7 +1,7 @@
 // SPDX-License-Identifier: MIT OR Apache-2.0
-/* Preloaded before a program: refuses the call of malloc, realloc or their kin whose number, from 1, is REFUSE, ends the program
-   at once, with status 99, at the one whose number is STOP, and writes how many blocks were not given back to the file LIVE, if one is named, as the program ends, and how many calls there were
-   to the file CALLS. */
+/* Preloaded before a program: refuses the call of malloc, realloc or their kin whose number, from 1, is REFUSE, and ends the
+   program at once, with status 99, at the one whose number is STOP. As the program ends it writes how many blocks were not given
+   back to the file LIVE, if one is named, and how many calls there were to the file CALLS. */
 #define _GNU_SOURCE
 #include <dlfcn.h>
 #include <errno.h>
