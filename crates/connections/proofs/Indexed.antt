@@ -83,7 +83,7 @@ index_others old new key (p ∷ ps) same none index = (
 )
 
 -- what a key has that is of the index
-is_listed : (ps : List (ℕ × ℕ)) (n key : ℕ) → lookup (λ k. n == k) ps ≡ Some key → is_key key ps ≡ true
+pub is_listed : (ps : List (ℕ × ℕ)) (n key : ℕ) → lookup (λ k. n == k) ps ≡ Some key → is_key key ps ≡ true
 is_listed [] n key found = absurd cc
 is_listed (p ∷ ps) n key found =
     elim (cases_Bool (n == p.0)) [
@@ -113,12 +113,12 @@ back_here e (Some x) xs number has hit =
 back_here e None xs number has hit = absurd has
 
 -- the look-up finds the first, or one behind it
-found_here : (p : ℕ × ℕ) (ps : List (ℕ × ℕ)) (n key : ℕ) → (n == p.0) ≡ true → lookup (λ k. n == k) (p ∷ ps) ≡ Some key → p.1 ≡ key
+pub found_here : (p : ℕ × ℕ) (ps : List (ℕ × ℕ)) (n key : ℕ) → (n == p.0) ≡ true → lookup (λ k. n == k) (p ∷ ps) ≡ Some key → p.1 ≡ key
 found_here p ps n key hit found =
     let same : Some p.1 ≡ Some key = sym (ap (λ b. if b then Some p.1 else lookup (λ k. n == k) ps) hit) ∙ found in
     cc
 
-found_behind : (p : ℕ × ℕ) (ps : List (ℕ × ℕ)) (n key : ℕ) → (n == p.0) ≡ false → lookup (λ k. n == k) (p ∷ ps) ≡ Some key → lookup (λ k. n == k) ps ≡ Some key
+pub found_behind : (p : ℕ × ℕ) (ps : List (ℕ × ℕ)) (n key : ℕ) → (n == p.0) ≡ false → lookup (λ k. n == k) (p ∷ ps) ≡ Some key → lookup (λ k. n == k) ps ≡ Some key
 found_behind p ps n key miss found = sym (ap (λ b. if b then Some p.1 else lookup (λ k. n == k) ps) miss) ∙ found
 
 other_than_found : (p : ℕ × ℕ) (ps : List (ℕ × ℕ)) (n key : ℕ) → is_key p.1 ps ≡ false → lookup (λ k. n == k) ps ≡ Some key → p.1 ≢ key

@@ -6,3 +6,4 @@ mod Numbers
 pub mod Rising
 mod Rows
 pub mod Settled
+pub mod Vacant

@@ -54,8 +54,8 @@ settled_as : (gone : Bool) (old mid new : List (Option Entry)) (ps ps_after : Li
     SameBut key old mid → at mid key ≡ Some e → e.connection.number ≡ number → is_removed e.connection.state ≡ gone → Settles gone number key mid new ps ps_after →
     (listed new ps_after ≡ put_back e (listed old ps)) × IsIndex new ps_after
 settled_as true old mid new ps ps_after number key e index found same is has gone settles = (
-  ap (λ qs. listed new qs) settles.1 ∙ listed_removed old new key number e ps index found (both_same key old mid new same settles.0) has (remaining_gone e.connection.state e gone),
-  subst (λ qs. IsIndex new qs) (sym settles.1) (index_removed old new key number ps index found (both_same key old mid new same settles.0)),
+  ap (λ qs. listed new qs) settles.numbers ∙ listed_removed old new key number e ps index found (both_same key old mid new same settles.others) has (remaining_gone e.connection.state e gone),
+  subst (λ qs. IsIndex new qs) (sym settles.numbers) (index_removed old new key number ps index found (both_same key old mid new same settles.others)),
 )
 settled_as false old mid new ps ps_after number key e index found same is has gone settles = (
   ap (λ slots. listed slots ps_after) settles.0 ∙ ap (λ qs. listed mid qs) settles.1

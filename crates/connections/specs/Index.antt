@@ -66,11 +66,17 @@ abbrev pub is_gone : Option Entry → Bool
 is_gone None = false
 is_gone (Some e) = is_removed e.connection.state
 
+-- a slot is empty, its number has left the index, and all else is as it was
+pub record IsVacated (number key : ℕ) (old new : List (Option Entry)) (ps ps_after : List (ℕ × ℕ))
+    : Type 0 where
+  pub others : SameBut key old new
+  pub vacant : at new key ≡ None
+  pub numbers : ps_after ≡ remove_entry (λ k. number == k) ps
+
 -- an entry that is removed leaves its slot, and its number the index
 abbrev pub Settles : Bool → ℕ → ℕ → List (Option Entry) → List (Option Entry) →
     List (ℕ × ℕ) → List (ℕ × ℕ) → Type 0
-Settles true number key old new ps ps_after =
-    SameBut key old new × (ps_after ≡ remove_entry (λ k. number == k) ps)
+Settles true number key old new ps ps_after = IsVacated number key old new ps ps_after
 Settles false number key old new ps ps_after = (new ≡ old) × (ps_after ≡ ps)
 
 -- each number stands beside the key of its entry, and no key stands twice
@@ -78,3 +84,12 @@ abbrev pub IsIndex : List (Option Entry) → List (ℕ × ℕ) → Type 0
 IsIndex slots [] = Unit {0}
 IsIndex slots (p ∷ ps) =
     HasNumber p.0 (at slots p.1) × (is_key p.1 ps ≡ false) × IsIndex slots ps
+
+-- a slot whose key isn't in the index is empty
+abbrev pub OthersAreVacant : List (Option Entry) → List (ℕ × ℕ) → Type 0
+OthersAreVacant slots ps = (key : ℕ) → is_key key ps ≡ false → at slots key ≡ None
+
+-- each number has a slot of its own with its entry, and no other slot has one
+pub record IsTable (slots : List (Option Entry)) (ps : List (ℕ × ℕ)) : Type 0 where
+  pub index : IsIndex slots ps
+  pub others : OthersAreVacant slots ps

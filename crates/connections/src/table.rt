@@ -29,13 +29,13 @@ pub(crate) struct Table {
 impl Model for Table {
     ghost use Rattle.std.specs.Prelude.{List};
     ghost use Rattle.controller_model.specs.Controller.{Entry as EntryState};
-    ghost use Rattle.connections.specs.Index.{listed, IsIndex};
+    ghost use Rattle.connections.specs.Index.{listed, IsTable};
 
     ghost Value = { List EntryState };
 
     ghost view = { λ t. listed t.slots.slots t.index.entries };
 
-    ghost invariant = { λ t. IsIndex t.slots.slots t.index.entries };
+    ghost invariant = { λ t. IsTable t.slots.slots t.index.entries };
 }
 
 impl Table {

@@ -11,12 +11,12 @@ returns-in-Some c =
     c.get.ensures
     ∙ ap (option_and_then (at c.self.inside.slots.slots)) c.in-Some.ensures
     ∙ behind_key c.self.inside.slots.slots (slice_get c.self.inside.index.entries c.args.place)
-    ∙ sym (get_listed c.self.inside.slots.slots c.self.inside.index.entries c.args.place c.self.invariant)
+    ∙ sym (get_listed c.self.inside.slots.slots c.self.inside.index.entries c.args.place c.self.invariant.index)
     ∙ ap (λ (es : List Entry). slice_get es c.args.place) c.self.view_is
 
 pub returns-in-None : goal.returns-in-None
 returns-in-None c =
     ap (option_and_then (at c.self.inside.slots.slots)) c.in-None.ensures
     ∙ behind_key c.self.inside.slots.slots (slice_get c.self.inside.index.entries c.args.place)
-    ∙ sym (get_listed c.self.inside.slots.slots c.self.inside.index.entries c.args.place c.self.invariant)
+    ∙ sym (get_listed c.self.inside.slots.slots c.self.inside.index.entries c.args.place c.self.invariant.index)
     ∙ ap (λ (es : List Entry). slice_get es c.args.place) c.self.view_is

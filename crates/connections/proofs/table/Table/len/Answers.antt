@@ -7,5 +7,5 @@ use Rattle.connections.proofs.table.Table.len.Goals as goal
 pub returns : goal.returns
 returns c =
     c.len.ensures
-    ∙ sym (length-listed c.self.inside.slots.slots c.self.inside.index.entries c.self.invariant)
+    ∙ sym (length-listed c.self.inside.slots.slots c.self.inside.index.entries c.self.invariant.index)
     ∙ ap (λ (es : List Entry). length es) c.self.view_is
