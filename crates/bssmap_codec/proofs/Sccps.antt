@@ -252,7 +252,7 @@ pub ok_or_ok : {A : Type 0} (found : Option A) (fault : InterfaceFault) (x : A) 
 ok_or_ok None fault x e = absurd cc
 ok_or_ok {A} (Some y) fault x e = ap (λ (z : A). Some z) (ok_is {A = A} {F = InterfaceFault} y x e)
 
-octet_is : (octet : ℕ) (kind : SccpType) → sccp_type octet ≡ Some kind → octet ≡ sccp_octet kind
+pub octet_is : (octet : ℕ) (kind : SccpType) → sccp_type octet ≡ Some kind → octet ≡ sccp_octet kind
 unfolding sccp_type
 octet_is octet kind e = sym (eqb-true (sccp_octet kind) octet (found_is (λ k. eqb (sccp_octet k) octet) SCCP_TYPES kind e))
 
@@ -268,3 +268,16 @@ sccp_ok octets message fits e =
       is = is ∙ ap (λ (n : ℕ). n ∷ a.0.1) (octet_is a.0.0 b.0 (ok_or_ok (sccp_type a.0.0) UnknownType b.0 b.1) ∙ ap sccp_octet of.kind_is);
       content = of.content;
     }
+
+-- ---- octets that are read as DT1 begin with its type
+
+pub is_form_type : (octet : ℕ) → octet ≡ sccp_octet kinds.DataForm1 → sccp_type octet ≡ Some kinds.DataForm1
+is_form_type octet e = ap sccp_type e ∙ type_again kinds.DataForm1
+
+pub form_first : (octets : List ℕ) (destination : ℕ) (user : List ℕ) (first : ℕ) (rest : List ℕ) → AreOctets octets → octets ≡ first ∷ rest
+    → sccp_reading octets ≡ Ok (DataForm1 destination user) → sccp_type first ≡ Some kinds.DataForm1
+form_first octets destination user first rest fits is e =
+    let s = sccp_ok octets (DataForm1 destination user) fits e in
+    let begins : octets ≡ sccp_octet kinds.DataForm1 ∷ s.rest = s.is in
+    let same : first ≡ sccp_octet kinds.DataForm1 = cc (is, begins) in
+    is_form_type first same

@@ -1,13 +1,16 @@
 // SPDX-License-Identifier: MIT OR Apache-2.0
 //! DT1, which carries nearly all that is relayed, without copies: DTAP is written into it in one
 //! piece, and a reader is lent its data.
-ghost use Rattle.std.specs.Prelude.{◌≡◌, IfOk, IfSome, None, Ok};
+ghost use Rattle.std.specs.Prelude.{◌≡◌, ◌↔◌, ℕ, List, IfNone, IfOk, IfSome, IsTrue};
+ghost use Rattle.std.specs.Prelude.{Some, None, Ok};
 ghost use Rattle.bssmap_codec.specs.declared.bssap.Bssap.TheVariants.{Transfer};
 ghost use Rattle.bssmap_codec.specs.declared.sccp.Sccp.TheVariants.{DataForm1};
+ghost use Rattle.bssmap_codec.specs.declared.sccp_type.SccpType.TheVariants as types;
 ghost use Rattle.bssmap_codec.specs.BssapText.{bssap_text};
 ghost use Rattle.bssmap_codec.specs.Layer3.{layer3_fault};
 ghost use Rattle.bssmap_codec.specs.SccpReading.{sccp_reading};
 ghost use Rattle.bssmap_codec.specs.SccpText.{sccp_text};
+ghost use Rattle.bssmap_codec.specs.SccpType.{sccp_type};
 
 use crate::bssap::TRANSFER;
 use crate::sccp::data_parts;
@@ -58,19 +61,28 @@ pub fn transfer_text(
 }
 
 /// The number of the reference, and the data, of octets that `read_sccp` reads as DT1; it copies
-/// nothing. There is none where `read_sccp` refuses them, or reads another message.
+/// nothing. There is none exactly where `read_sccp` refuses them, or reads another message.
 #[tactic(auto, unfolding(crate::specs::SccpReading::sccp_reading))]
 pub fn read_data_form(octets: &[u8]) -> Option<(u32, &[u8])>
-    ensures { IfSome result (λ d. sccp_reading octets.now ≡ Ok (DataForm1 d.0 d.1.now)) }
+    ensures reads { IfSome result (λ d. sccp_reading octets.now ≡ Ok (DataForm1 d.0 d.1.now)) }
+    ensures none { IfNone result ((destination : ℕ) (user : List ℕ) →
+        sccp_reading octets.now ≡ Ok (DataForm1 destination user) → ⊥) }
 {
     let Ok((first, content)) = octet(octets, InterfaceFault::Short) else {
         return None;
     };
-    let Some(SccpType::DataForm1) = SccpType::of_octet(first) else {
+    if !is_data_form(first) {
         return None;
-    };
+    }
     match data_parts(content) {
         Ok((destination, data)) => Some((destination, data)),
         Err(_) => None,
     }
+}
+
+// Whether it is the type of DT1.
+fn is_data_form(octet: u8) -> bool
+    ensures { IsTrue result ↔ (sccp_type octet ≡ Some types.DataForm1) }
+{
+    octet == SccpType::DataForm1.octet()
 }
