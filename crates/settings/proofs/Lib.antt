@@ -5,6 +5,7 @@ mod FaultRows
 mod Least
 pub mod Lists
 mod ParameterRows
+mod Parsed
 mod Rows
 mod SettingsRows
 mod Turns

@@ -4,6 +4,7 @@ pub mod Faults
 pub mod Found
 pub mod Keys
 pub mod Parameters
+pub mod Parsed
 pub mod Reading
 pub mod Rules
 pub mod Tables

@@ -5,6 +5,7 @@ ghost use Rattle.toml.specs.Errors.{IsBlank};
 ghost use Rattle.toml.specs.Parse.{parse_document};
 ghost use Rattle.toml.specs.View.{table_view};
 ghost use Rattle.settings.specs.Answer.{Reads};
+ghost use Rattle.settings.specs.Parsed.{IsAnswered};
 ghost use Rattle.settings.specs.Found.{settings_found, AreFound};
 ghost use Rattle.settings.specs.Parameters.{AreAllowed, AreDigits, IsTimer, IsWindow, IsInterval};
 ghost use Rattle.settings.specs.Parameters.{IsCell, channels_differ, air_of, handover_settings_of};
@@ -20,6 +21,7 @@ use octets::Memory;
 use std::alloc::Global;
 use std::marker::Model;
 use toml::Table;
+use toml::de::Error;
 
 /// The settings of the controller. Contracts see them as `Parameters`; `AreAllowed` holds of them.
 #[derive(Drop)]
@@ -45,22 +47,13 @@ impl Model for Settings {
 impl Settings {
     /// The settings in a text in TOML, or its first fault. `Memory` is answered where `toml` has
     /// none for its table, which can be so for any text that isn't blank, and where `from_table`
-    /// answers it.
+    /// answers it: where `toml` gives a table, this is what `from_table` says of it.
     pub fn read(alloc: Global, text: &str) -> Result<Settings, SettingsFault>
         ensures reads { result ≢ Err SettingsFault.Memory
             → result ≡ settings_in (parse_document text.now) }
         ensures blank { IsBlank text.now → result ≡ settings_in (parse_document text.now) }
     {
-        match toml::table_from_str(alloc, text) {
-            Ok(table) => Settings::from_table(alloc, &table),
-            Err(error) => {
-                if error.is_memory() {
-                    Err(SettingsFault::Memory)
-                } else {
-                    Err(SettingsFault::NotToml)
-                }
-            }
-        }
+        answered(alloc, toml::table_from_str(alloc, text))
     }
 
     /// The settings in a table of TOML, or its first fault. The whole table is looked at before
@@ -224,6 +217,23 @@ impl Settings {
         ensures { IfOk result (λ settings. settings ≡ handover_settings_of self.now serving) }
     {
         HoSettings::new(alloc, self.handover, airs(alloc, &self.cells)?, serving)
+    }
+}
+
+// The answer to what `toml` makes of a text: what `from_table` says of its table. Without a table
+// it is `Memory` where `toml` had none, and else `NotToml`.
+fn answered(alloc: Global, parsed: Result<Table, Error>) -> Result<Settings, SettingsFault>
+    ensures { IsAnswered parsed result }
+{
+    match parsed {
+        Ok(table) => Settings::from_table(alloc, &table),
+        Err(error) => {
+            if error.is_memory() {
+                Err(SettingsFault::Memory)
+            } else {
+                Err(SettingsFault::NotToml)
+            }
+        }
     }
 }
 
