@@ -4,10 +4,16 @@ use Rattle.std.proofs.Common.{◌≡◌, ◌≢◌, ℕ, true, Option, Some, Non
 use Rattle.std.specs.Cmp.{first_so}
 use Rattle.clap.specs.Words.{App, Text, Row, HasMatchesOf, HasKind, Kinds, is_simple_and_free, fault_of, first_of, found_of, kind_of, matches_of, rows_of, subcommand_of, subcommand_rows_of, subcommand_name_of}
 use Rattle.std.specs.Borrow.{Bor}
-use Rattle.std.specs.Prelude.{Bool, String, codes, string_bytes}
+use Rattle.std.specs.Prelude.{Bool, IfOk, Result, Ok, Err, String, codes, string_bytes}
 use Rattle.std.specs.declared.alloc.Global.{Global}
 use Rattle.program_base.specs.CommandLine.{IsTask}
 use Rattle.program_base.specs.ToolLine.{IsTrace}
+use Rattle.program_base.specs.WordStatus.{answer_to}
+use Rattle.program_base.specs.declared.no_task.NoTask.{NoTask}
+use Rattle.program_base.specs.declared.no_task.NoTask.TheVariants.{Refused}
+use Rattle.program_base.specs.declared.no_task.NoTask.TheVariants.{Memory as NoMemory}
+use Rattle.program_base.specs.declared.words.TaskFault.{TaskFault}
+use Rattle.program_base.specs.declared.words.TaskFault.TheVariants.{Words}
 use Rattle.program_base.specs.declared.words.Tool.TheVariants.{Trace}
 use Rattle.program_base.specs.declared.words.Task.{Task}
 use Rattle.program_base.specs.declared.words.Task.TheVariants.{Run, Replay, Decode}
@@ -37,6 +43,18 @@ some_kind (k ∷ kinds) e (inr among) other none = absurd cc
 pub refused_by : (a b : App) (words : List Text) (e : Error) → a ≡ b → is_simple_and_free b ≡ true → (is_simple_and_free a ≡ true → HasKind (fault_of a words) e) → kind_of e ≢ OutOfMemory → fault_of b words ≢ []
 refused_by a b words e same simple fails other none =
     some_kind (fault_of a words) e (fails (ap is_simple_and_free same ∙ simple)) other (ap (λ (app : App). fault_of app words) same ∙ none)
+
+-- what is said of what was found is said of the answer
+pub answer_ok : {X : Type 0} (found : Result X NoTask) (answer : Result X TaskFault) (Is : X → Type 0) → answer ≡ answer_to found → IfOk found Is → IfOk answer Is
+answer_ok (Ok x) answer Is same is = subst (λ (a : _). IfOk a Is) (sym same) is
+answer_ok (Err none) answer Is same is = subst (λ (a : _). IfOk a Is) (sym same) tt
+
+-- an answer that the words are no command is one to a complaint
+pub answer_words : {X P : Type 0} (found : Result X NoTask) (answer : Result X TaskFault) → answer ≡ answer_to found → answer ≡ Err Words
+    → ((complaint : Error) → found ≡ Err (Refused complaint) → P) → P
+answer_words (Ok x) answer same words refused = absurd (cc (same, words))
+answer_words (Err (Refused complaint)) answer same words refused = refused complaint refl
+answer_words (Err NoMemory) answer same words refused = absurd (cc (same, words))
 
 -- a pair is both of its parts
 pub some_pair : {A B : Type 0} (o : Option (A × B)) (x : A) (y : B) → option_map (λ (p : A × B). p.0) o ≡ Some x → option_map (λ (p : A × B). p.1) o ≡ Some y → o ≡ Some (x, y)

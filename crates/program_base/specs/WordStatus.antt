@@ -1,6 +1,6 @@
 -- SPDX-License-Identifier: MIT OR Apache-2.0
 -- Why words ask for no task, and the status that the program ends with then.
-use Rattle.std.specs.Prelude.{ℕ}
+use Rattle.std.specs.Prelude.{ℕ, Result, Ok, Err}
 use Rattle.program_base.specs.declared.no_task.NoTask.{NoTask}
 use Rattle.program_base.specs.declared.no_task.NoTask.TheVariants.{Refused}
 use Rattle.program_base.specs.declared.no_task.NoTask.TheVariants.{Memory as NoMemory}
@@ -11,6 +11,11 @@ use Rattle.program_base.specs.declared.words.TaskFault.TheVariants.{Words, Memor
 abbrev pub task_fault : NoTask → TaskFault
 task_fault (Refused complaint) = Words
 task_fault NoMemory = Memory
+
+-- what is answered to what is found in the words, or to why nothing is
+abbrev pub answer_to : {X : Type 0} → Result X NoTask → Result X TaskFault
+answer_to (Ok found) = Ok found
+answer_to (Err none) = Err (task_fault none)
 
 -- 2 for words that are no command, 3 for memory
 abbrev pub status_of_words : TaskFault → ℕ

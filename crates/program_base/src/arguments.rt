@@ -1,5 +1,5 @@
 // SPDX-License-Identifier: MIT OR Apache-2.0
-use crate::no_task::NoTask;
+use crate::no_task::{NoTask, answered};
 use crate::parsing::found_task;
 use crate::tools::{behind_decode, behind_trace, found_long, found_trace};
 use crate::usage::{Page, asks_of_trace, is_version};
@@ -27,15 +27,11 @@ pub fn asked<R: Runtime + AllocGlobal>(rt: &R) -> Result<Asked, TaskFault> {
     if is_version(&texts) {
         return Ok(Asked::Version);
     }
-    match found(rt.alloc(), &texts) {
-        Ok(asked) => Ok(asked),
-        Err(none) => {
-            if let NoTask::Refused(complaint) = &none {
-                complain(rt, complaint, &texts);
-            }
-            Err(none.fault())
-        }
+    let found = found(rt.alloc(), &texts);
+    if let Err(NoTask::Refused(complaint)) = &found {
+        complain(rt, complaint, &texts);
     }
+    answered(found)
 }
 
 /// The tool or the task that the words ask for.

@@ -3,7 +3,7 @@ ghost use Rattle.std.specs.Prelude.{◌≡◌, ◌≢◌};
 ghost use Rattle.clap.specs.Words.{kind_of};
 ghost use Rattle.clap.specs.declared.error.Error.{Error as Complaint};
 ghost use Rattle.clap.specs.declared.error.kind.ErrorKind.TheVariants.{OutOfMemory};
-ghost use Rattle.program_base.specs.WordStatus.{task_fault};
+ghost use Rattle.program_base.specs.WordStatus.{answer_to, task_fault};
 ghost use Rattle.program_base.specs.declared.no_task.NoTask.TheVariants.{Refused};
 ghost use Rattle.program_base.specs.declared.no_task.NoTask.TheVariants.{Memory as NoMemory};
 
@@ -29,6 +29,16 @@ impl NoTask {
             NoTask::Refused(_) => TaskFault::Words,
             NoTask::Memory => TaskFault::Memory,
         }
+    }
+}
+
+/// The answer to what is found in the words: `Words` exactly where `clap` refuses them.
+pub(crate) fn answered<T>(found: Result<T, NoTask>) -> Result<T, TaskFault>
+    ensures { result ≡ answer_to found }
+{
+    match found {
+        Ok(found) => Ok(found),
+        Err(none) => Err(none.fault()),
     }
 }
 

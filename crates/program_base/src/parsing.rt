@@ -10,7 +10,7 @@ ghost use Rattle.program_base.specs.CommandLine.{texts};
 ghost use Rattle.program_base.specs.declared.no_task.NoTask.TheVariants.{Refused};
 ghost use Rattle.program_base.specs.declared.words.TaskFault.TheVariants.{Words};
 
-use crate::no_task::NoTask;
+use crate::no_task::{NoTask, answered};
 use crate::words::{Task, TaskFault};
 use clap::{Arg, ArgMatches, Command};
 use std::alloc::{AllocError, Global};
@@ -91,10 +91,7 @@ pub fn task<'a>(alloc: Global, words: &'a [&'a str]) -> Result<Task, TaskFault>
     ensures found { IfOk result (λ task. IsTask task (subcommand_of bsc (texts words.entry.now))) }
     ensures words { result ≡ Err Words → AreRefused (texts words.entry.now) }
 {
-    match found_task(alloc, words) {
-        Ok(task) => Ok(task),
-        Err(none) => Err(none.fault()),
-    }
+    answered(found_task(alloc, words))
 }
 
 /// The task that the words behind the program's name ask for, or `clap`'s complaint.

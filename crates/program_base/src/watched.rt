@@ -12,6 +12,8 @@ use std::io::{self, ErrorKind, Read, Write};
 pub struct WatchedInput<'a, R> {
     input: &'a mut R,
     octets: Vec<u8>,
+    /// How many of these octets, at their end, are of a line that hasn't ended.
+    started: usize,
     /// How many lines are before these octets; none where memory ran out.
     lines: Option<u64>,
     has_failed: bool,
@@ -22,6 +24,7 @@ impl<'a, R: Read> WatchedInput<'a, R> {
         WatchedInput {
             input,
             octets: Vec::new(alloc),
+            started: 0,
             lines: Some(0),
             has_failed: false,
         }
@@ -51,20 +54,32 @@ impl<'a, R: Read> WatchedInput<'a, R> {
         Some((number.saturating_add(1), complaint))
     }
 
-    /// Remembers a block of octets, and forgets the lines that ended before it.
+    /// Remembers a block of octets, and forgets the lines that ended before it. Of a line that goes
+    /// on from block to block it looks through the new octets alone.
     fn remember(&mut self, block: &[u8]) {
-        let end = match memrchr(b'\n', self.octets.as_slice()) {
-            Some(place) => place + 1,
-            None => 0,
-        };
-        let ended = lines_in(&self.octets[..end]);
-        let lines = self.lines.map(|lines| lines.saturating_add(ended));
-        self.octets.drain(..end);
-        self.lines = match self.octets.extend_from_slice(block) {
-            Ok(()) => lines,
-            Err(_) => None,
-        };
+        self.forget_ended();
+        match self.octets.extend_from_slice(block) {
+            Ok(()) => self.started = behind_feed(block).unwrap_or(self.octets.len()),
+            Err(_) => self.lines = None,
+        }
     }
+
+    /// Forgets the lines that have ended.
+    fn forget_ended(&mut self) {
+        let ended = self.octets.len().saturating_sub(self.started);
+        if ended == 0 {
+            return;
+        }
+        let count = lines_in(&self.octets[..ended]);
+        self.lines = self.lines.map(|lines| lines.saturating_add(count));
+        self.octets.drain(..ended);
+    }
+}
+
+/// How many octets are behind the last line feed; none where no line ends in them.
+fn behind_feed(octets: &[u8]) -> Option<usize> {
+    let place = memrchr(b'\n', octets)?;
+    Some(octets.len() - (place + 1))
 }
 
 /// The first line of these octets, and those behind it; none where no line ends in them.
