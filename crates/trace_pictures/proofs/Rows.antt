@@ -1,5 +1,5 @@
 -- SPDX-License-Identifier: MIT OR Apache-2.0
--- The frames that the first events of a mobile put on links, each with its time, and the times behind events.
+-- The frames that the first events of a mobile put on links, each with its time, the times behind events, and the numbers of lines.
 use Rattle.std.proofs.Common.{◌≡◌, [], ◌∷◌, true, refl}
 use Rattle.octets.proofs.Hex.{hex}
 use Rattle.controller_model.proofs.Lives.{usual_settings}
@@ -9,6 +9,7 @@ use Rattle.world_model.specs.World.{new_world}
 use Rattle.world_model.proofs.Worlds.{on_literals}
 use Rattle.world_trace.specs.declared.crossing.End.TheVariants.{Switch, Station, Controller}
 use Rattle.trace_pictures.specs.FramesSent.{end_of, frames_sent, time_after}
+use Rattle.trace_pictures.specs.Numbered.{line_numbers}
 
 -- CHANNEL REQUIRED at 7 ms, CHANNEL ACTIVATION at 12; what is taken is no frame more
 access : frames_sent (new_world usual_settings).actors 0
@@ -37,3 +38,11 @@ station_end = refl
 
 controller_end : end_of Controller ≡ ends.Controller
 controller_end = refl
+
+no_lines : line_numbers 0 ≡ []
+unfolding line_numbers
+no_lines = refl
+
+three_lines : line_numbers 3 ≡ 1 ∷ 2 ∷ 3 ∷ []
+unfolding line_numbers
+three_lines = refl

@@ -1,6 +1,7 @@
 // SPDX-License-Identifier: MIT OR Apache-2.0
-ghost use Rattle.std.specs.Prelude.{◌≡◌, IfErr, OnOk};
+ghost use Rattle.std.specs.Prelude.{◌≡◌, IfErr, IfOk, OnOk, length, map};
 ghost use Rattle.program_base.specs.Status.{status_of};
+ghost use Rattle.trace_pictures.specs.Numbered.{line_numbers};
 ghost use Rattle.world_trace.specs.Sights.{sights_of};
 
 use crate::lifelines::Lifelines;
@@ -17,7 +18,7 @@ use world_model::Event;
 use world_trace::{Crossing, End, Holding, Note, Passage, Tracing};
 
 /// Lets these events happen in a world with so many cells, and gives the chart of them. `script`
-/// has their lines.
+/// has their lines, and each event has the number of its line.
 pub fn chart_of(
     alloc: Global,
     cells: u16,
@@ -25,6 +26,8 @@ pub fn chart_of(
     events: &[Event],
     script: &[u8],
 ) -> Result<Chart, Failure>
+    ensures numbers { IfOk result (λ chart.
+        map (λ event. event.number) chart.events.items ≡ line_numbers (length events.now)) }
     ensures err { IfErr result (λ failure. status_of failure ≡ 3) }
 {
     let lifelines = Lifelines::of(alloc, cells, events)?;
@@ -74,6 +77,7 @@ fn chart_event(
 ) -> Result<ChartEvent, Failure>
     requires { tracing.old ≡ sights_of network.old.controller.entries }
     ensures seen { OnOk result (tracing.new ≡ sights_of network.new.controller.entries) }
+    ensures number { IfOk result (λ drawn. drawn.number ≡ number) }
     ensures err { IfErr result (λ failure. status_of failure ≡ 3) }
 {
     let trace = tracing.step(network, event)?;

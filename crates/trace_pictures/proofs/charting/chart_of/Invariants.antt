@@ -1,8 +1,15 @@
 -- SPDX-License-Identifier: MIT OR Apache-2.0
 use Rattle.std.proofs.Common.{◌≡◌}
+use Rattle.program_base.specs.WholeScript.{line_count}
 use Rattle.world_trace.specs.Sights.{sights_of}
+use Rattle.trace_pictures.specs.Numbered.{line_numbers}
+use Rattle.trace_pictures.proofs.Numbering.{numbers_of}
 use Rattle.trace_pictures.proofs.charting.chart_of.Given as goal
 
--- what was seen last is what is there
+-- what was seen last is what is there, and so far each event has the number of its line
 abbrev pub invariant-loop-event : goal.invariant-loop-event
-invariant-loop-event l = l.tracing ≡ sights_of l.network.controller.entries
+invariant-loop-event l = record {
+  seen : l.tracing ≡ sights_of l.network.controller.entries;
+  count : l.number ≡ line_count l.event-index;
+  numbers : numbers_of l.charted.items ≡ line_numbers l.event-index;
+}
