@@ -4,8 +4,8 @@
 #![tactic(auto)]
 
 pub use conn::Conn;
-pub use conn_messages::{Channel, Out, Outputs};
-pub use conn_rules::Input;
+pub use conn_messages::{Change, Channel, Out, Outputs, Place};
+pub use conn_rules::{Input, State};
 pub use places::is_at;
 pub use plan::Plan;
 

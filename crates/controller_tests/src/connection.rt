@@ -3,7 +3,7 @@ ghost use Rattle.std.specs.Prelude.{IfOk};
 ghost use Rattle.conn_rules.specs.Validity.{IsCarried};
 
 use crate::frames::{Line, are, frame};
-use conn_fsm::{Channel, Conn, Input, Outputs};
+use conn_fsm::{Channel, Conn, Input, Outputs, State};
 use controller_model::Word;
 use controller_parts::read_word;
 use dtap_codec::{Arfcn, CellDescription, ColourCode, Sapi};
@@ -217,5 +217,7 @@ fn a_handover_holds_what_overtakes_and_a_break_is_planned(rt: HostRuntime) -> Re
     plays(&rt, &mut conn, HANDED_OVER)?;
     is_held(&rt, conn.held_up(Sapi::Zero)?.as_slice(), &[0x03, 0x8f]);
     let plan = conn.plan(Input::StationDown { station: 1 })?;
-    are(&rt, &conn.commit(plan), BROKEN)
+    are(&rt, &conn.commit(plan), BROKEN)?;
+    assert!(rt; matches!(conn.state(), State::Closed(_)));
+    Ok(())
 }
