@@ -1,6 +1,7 @@
 // SPDX-License-Identifier: MIT OR Apache-2.0
 /* Preloaded before a program: refuses the call of malloc, realloc or their kin whose number, from 1, is REFUSE, and ends the
-   program at once, with status 99, at the one whose number is STOP. As the program ends it writes how many blocks were not given
+   program at once, with status 99, at the one whose number is STOP. The write to standard output whose number, from 1, is FAIL
+   fails, and those behind it work again. As the program ends it writes how many blocks were not given
    back to the file LIVE, if one is named, and how many calls there were to the file CALLS. */
 #define _GNU_SOURCE
 #include <dlfcn.h>
@@ -74,6 +75,16 @@ static void tell(const char *variable, long count) {
     fprintf(file, "%ld\n", count);
     fclose(file);
   }
+}
+ssize_t write(int to, const void *octets, size_t size) {
+  static ssize_t (*real)(int, const void *, size_t);
+  static long writes;
+  if (!real) real = dlsym(RTLD_NEXT, "write");
+  if (to == STDOUT_FILENO && ++writes == number_in("FAIL")) {
+    errno = EIO;
+    return -1;
+  }
+  return real(to, octets, size);
 }
 /* A program with threads ends by `_exit`; one without returns from `main`, and then the C library runs this and calls an
    `_exit` of its own. */
