@@ -6,6 +6,7 @@ does it. At last the baseband transceiver learns where to open the RSL link.
 """
 import asyncio
 from collections import Counter
+from collections.abc import Awaitable
 
 import ipa
 from settings import Cell, SettingsFault
@@ -44,7 +45,7 @@ FORMATTED = 0x80  # clause 8.1: a message of the standard
 MANUFACTURER = 0x10  # one of the manufacturer, with the identifier below
 IPACCESS = b"\x0dcom.ipaccess\0"
 
-PATIENCE = 30.0  # seconds for each answer
+PATIENCE = 30.0  # seconds for each answer, and until an object no longer waits for another one
 
 Object = tuple[int, int, int, int]  # class, and the numbers of BTS, transceiver and timeslot
 SITE: Object = (SITE_MANAGER, 0xFF, 0xFF, 0xFF)
@@ -120,19 +121,30 @@ class Station:
         if kind == RSL_CONNECT:
             head = bytes((MANUFACTURER, 0x80, 0x00, len(text))) + IPACCESS
         self.link.write(ipa.OML, head + text)
+        await self.in_time(self.answer(kind, which))
+
+    async def answer(self, kind: int, which: Object) -> None:
+        """Waits for the answer to a message. Others may come before it."""
         while True:
-            kind_back, other, _ = await self.answer()
+            kind_back, other, _ = await self.read()
             if other == which and kind_back == kind + 2:
                 raise ipa.LinkFault(f"it refused OML message {kind:#04x} to object {bytes(which).hex()}")
             if other == which and kind_back == kind + 1:
                 return
             self.count(kind_back)
 
-    async def answer(self) -> tuple[int, Object, bytes]:
-        """The next message, which has to come in time."""
+    async def independence(self, which: Object) -> None:
+        """Waits until an object no longer waits for another one."""
+        while self.availability.get(which) == DEPENDENCY:
+            self.count((await self.read())[0])
+
+    @staticmethod
+    async def in_time(waiting: Awaitable[None]) -> None:
+        """Waits, though not for longer than for an answer, whatever else comes meanwhile."""
         try:
-            return await asyncio.wait_for(self.read(), PATIENCE)
-        except asyncio.TimeoutError as fault:
+            async with asyncio.timeout(PATIENCE):
+                await waiting
+        except TimeoutError as fault:
             raise ipa.LinkFault("it didn't answer an OML message") from fault
 
     def count(self, kind: int) -> None:
@@ -141,8 +153,7 @@ class Station:
 
     async def opstart(self, which: Object) -> None:
         """Starts an object's operation, once it no longer waits for another object."""
-        while self.availability.get(which) == DEPENDENCY:
-            self.count((await self.answer())[0])
+        await self.in_time(self.independence(which))
         await self.command(OPSTART, which)
 
     async def unlock(self, which: Object) -> None:

@@ -2,6 +2,7 @@
 """Who is there since when, what was answered in whose place, what was dropped: for log and 'front status'. Not proved."""
 import time
 from collections import Counter
+from collections.abc import Callable
 from datetime import UTC, datetime
 from typing import Any
 
@@ -11,10 +12,11 @@ from say import Subject, in_words
 class Presence:
     """Whether a side is there, and since when that is so. Each change is a line of the log; so is why it isn't there at first."""
 
-    def __init__(self, subject: Subject) -> None:
+    def __init__(self, subject: Subject, clock: Callable[[], float] = time.time) -> None:
         self.subject = subject
+        self.clock = clock
         self.is_there = self.is_known = False
-        self.since = time.time()
+        self.since = clock()
 
     def come(self, line: str) -> None:
         """It is there."""
@@ -27,7 +29,7 @@ class Presence:
     def change(self, is_there: bool, line: str) -> None:
         """Notes a change, if it is one."""
         if is_there != self.is_there:
-            self.is_there, self.since = is_there, time.time()
+            self.is_there, self.since = is_there, self.clock()
         elif self.is_known:
             return
         self.is_known = True

@@ -1,22 +1,61 @@
 # SPDX-License-Identifier: MIT OR Apache-2.0
 """Tells on standard error what happens to the links, a line each, and counts what is dropped. Not proved."""
 import asyncio
+import atexit
+import contextlib
+import functools
+import os
+import queue
 import signal
 import sys
+import threading
 import time
 from collections import Counter, deque
 from collections.abc import Callable, Coroutine
 
+MOST_WAITING = 1000  # lines that wait for whoever reads standard error
+LINGER = 1.0  # seconds for them at the end
 LINES = 12  # of one subject in each period; what is over is counted, and its last line said when there is room again
 PERIOD = 60.0  # seconds
 
 
+class Printer:
+    """Prints lines from a thread of its own, so that nothing waits for a pipe that nobody reads."""
+
+    def __init__(self) -> None:
+        self.lines: queue.Queue[str] = queue.Queue(MOST_WAITING)
+        threading.Thread(target=self.print_all, daemon=True).start()
+        atexit.register(self.linger)
+
+    def take(self, line: str) -> None:
+        """Takes a line. It is left out where too many wait."""
+        with contextlib.suppress(queue.Full):
+            self.lines.put_nowait(line)
+
+    def print_all(self) -> None:
+        """Prints what is taken, a line behind the other. One that can't be written, as on a full disk, is left out."""
+        while True:
+            octets = f"{self.lines.get()}\n".encode()
+            with contextlib.suppress(OSError):
+                while octets:
+                    octets = octets[os.write(sys.stderr.fileno(), octets):]
+            self.lines.task_done()
+
+    def linger(self) -> None:
+        """Waits a little until all that was taken is printed."""
+        with self.lines.all_tasks_done:
+            self.lines.all_tasks_done.wait_for(lambda: not self.lines.unfinished_tasks, LINGER)
+
+
+@functools.cache
+def printer() -> Printer:
+    """The one that prints."""
+    return Printer()
+
+
 def say(line: str) -> None:
-    """Prints a line. Where it can't be taken, as by a full disk, the front goes on without it."""
-    try:
-        print(line, file=sys.stderr, flush=True)
-    except OSError:
-        pass
+    """Prints a line, soon. Where it can't be taken the front goes on without it."""
+    printer().take(line)
 
 
 def in_words(counts: Counter[str]) -> str:

@@ -219,6 +219,6 @@ def main(words: list[str]) -> int:
         print(f"front: settings: {fault}", file=sys.stderr)
         return 1
     except OSError as fault:
-        print(f"front: {fault}", file=sys.stderr)
+        say(f"front: {fault}")
         return 3
     return 0
