@@ -18,11 +18,11 @@ class Wrong(Exception):
     pass
 
 
-def settings(switch, cells):
+def settings(switch, cells, channels):
     lines = ['[network]', 'mcc = "001"', 'mnc = "01"', '[switch]', f'address = "127.0.0.1:{switch}"']
     for number, port in enumerate(cells, 1):
         lines += ['[[cell]]', f'listen = "127.0.0.1:{port}"', 'lac = 1', f'ci = {number}', f'arfcn = {10 + 10 * number}',
-                  'bsic = 9', 'channels = [0x41]']
+                  'bsic = 9', f'channels = {list(channels)}']
     return "\n".join(lines) + "\n"
 
 
@@ -44,9 +44,9 @@ def connect(port, is_small):
 
 
 class Run:
-    """The program, with the links of a switch and of so many stations; these are slow."""
+    """The program, with the links of a switch and of so many stations, each with these channels; these stations are slow."""
 
-    def __init__(self, work, cells, slow):
+    def __init__(self, work, cells, slow, channels=(0x41,)):
         self.log = os.path.join(work, "log")
         self.began = time.monotonic()
         server = socket.create_server(("127.0.0.1", 0))
@@ -54,7 +54,7 @@ class Run:
         ports = free_ports(cells)
         file = os.path.join(work, "settings.toml")
         with open(file, "w") as text:
-            text.write(settings(server.getsockname()[1], ports))
+            text.write(settings(server.getsockname()[1], ports, channels))
         with open(self.log, "w") as log:
             self.process = subprocess.Popen([proved_program(), "run", "--config", file], stderr=log)
         self.switch = server.accept()[0]
