@@ -7,6 +7,7 @@ use mathlib.Core.Option.{some}
 use lib.ListN.{get_elem?}
 use Rattle.controller_worker.specs.declared.mark.Mark.{Mark}
 use Rattle.controller_worker.specs.Call.{AreNew, IsNew, Parts, Runs, Serves}
+use Rattle.controller_worker.specs.Stopping.{StopsAt}
 use Rattle.controller_worker.specs.Advancing.{Finishes, Fits, Advances, AdvancesAlone, Extends, AdvancesPartly, IsSettled, State, ended_of, mark_at, unmarked}
 use Rattle.controller_worker.specs.Links.{HasDown, is_given_up}
 use Rattle.controller_worker.specs.Moves.{IsSent, Move, Part, parts_of, taken_of}
@@ -83,14 +84,16 @@ serves fault old new link moves p q is_new none unended here ended finishes goes
     }
 
 pub runs : (fault : Option IoFault) (last : List Item) (old new : State) (n : ℕ) → AreNew old.putters → old.marks ≡ replicate n unmarked → old.ended ≡ 0 → old.gathered ≡ 0 → Advances last old new
-    → new.ended ≡ length new.putters → length last ≤ 1 → (fault ≡ None → last ≡ []) → (fault ≡ None → Finishes new) → Runs fault (parts_given old) (parts_given new)
-runs fault last old new n fresh none unended start goes ended one no_last finishes = record {
+    → new.ended ≡ length new.putters → length last ≤ 1 → (fault ≡ None → last ≡ []) → ((fault ≡ None → ⊥) → StopsAt last new.controller) → (fault ≡ None → Finishes new)
+    → Runs fault (parts_given old) (parts_given new)
+runs fault last old new n fresh none unended start goes ended one no_last stops finishes = record {
   moves = goes.moves;
   controller = goes.controller;
   last = last;
   desk = goes.desk;
   one = one;
   none = no_last;
+  stops = stops;
   gathered = new.gathered;
   told = let t = goes.time in omega arith;
   tick = λ no. (finishes no).gathered;
@@ -107,7 +110,7 @@ runs fault last old new n fresh none unended start goes ended one no_last finish
 pub runs_whole : (old new : State) (n : ℕ) → AreNew old.putters → old.marks ≡ replicate n unmarked → old.ended ≡ 0 → old.gathered ≡ 0 → Advances [] old new → Finishes new → new.ended ≡ length new.putters
     → Runs None (parts_given old) (parts_given new)
 runs_whole old new n fresh none unended start goes finishes ended =
-    runs None [] old new n fresh none unended start goes ended (omega arith) (λ no. refl) (λ no. finishes)
+    runs None [] old new n fresh none unended start goes ended (omega arith) (λ no. refl) (λ some. absurd (some refl)) (λ no. finishes)
 
 no_fault : (fault : IoFault) → Some fault ≡ None → ⊥
 no_fault fault e = cc
@@ -116,4 +119,4 @@ pub runs_part : (fault : IoFault) (old mid new : State) (n : ℕ) → AreNew old
     → new.ended ≡ length new.putters → Runs (Some fault) (parts_given old) (parts_given new)
 runs_part fault old mid new n fresh none unended start goes ends ended =
     let p = part_both_alone old mid new goes ends in
-    runs (Some fault) p.0 old new n fresh none unended start p.2 ended p.1 (λ no. absurd (no_fault fault no)) (λ no. absurd (no_fault fault no))
+    runs (Some fault) p.0 old new n fresh none unended start p.2 ended p.1 (λ no. absurd (no_fault fault no)) (λ some. p.3) (λ no. absurd (no_fault fault no))

@@ -9,6 +9,7 @@ use lib.ListN.{get_elem?}
 use Rattle.atomic_table.proofs.Lists.{at_index, at_set}
 use Rattle.controller_worker.specs.declared.limits.TheConstants.{MAX_REFUSALS}
 use Rattle.controller_worker.specs.declared.mark.Mark.{Mark}
+use Rattle.controller.specs.Wanting.{MayWantMemory}
 use Rattle.controller_worker.specs.Advancing.{AreSent, DoesStep, Fits, Advances, AdvancesAlone, AdvancesPartly, IsCounted, IsPending, IsSettled, Sends, SendsAll, State, StayOpen, IsValid, end_mark, ended_of, mark_at, noted, unmarked, with_added}
 use Rattle.controller_worker.specs.Links.{HasDown, is_given_up, lines}
 use Rattle.controller_worker.specs.Moves.{AreElsewhere, AreOther, IsElsewhere, IsOther, IsRefused, IsSent, Part, takes, ticks, adds, refuses, down_of, frames_in, refusals_in, steps_of, taken_in, times}
@@ -296,7 +297,7 @@ goes_tried old putters ms tries sent =
                   (λ h. down_more (taken_in link past) (taken_in link more) (f.down (sym (ap (λ y. y.down) (sent.kept link)) ∙ h))));
             },
           );
-    } in (goes, taken_tried tries)
+    } in (goes, steps_tried tries)
 
 -- ---- steps
 
@@ -531,9 +532,18 @@ step_taken old desk mid item b settled queues taken does is_down room known =
     (goes_taken old desk mid.controller mid.putters mid.marks does.tries item b settled queues taken does.controller does.sent does.quiet is_down room known)
 
 -- an item was taken whose step ran out of memory
-pub goes_lost : (old : State) (desk : Row) (item : Item) → queues_of desk ≡ queues_of old.desk → TakesItem old.desk item desk → AdvancesPartly old (record old { desk = desk })
-goes_lost old desk item queues taken =
-    (item ∷ [], omega arith, goes_still (item ∷ []) old (record old { desk = desk }) refl refl refl (λ link. refl) (took_one old.desk desk item queues taken) refl)
+pub goes_lost : (old : State) (desk : Row) (item : Item) → queues_of desk ≡ queues_of old.desk → TakesItem old.desk item desk → MayWantMemory (Take item) old.controller
+    → AdvancesPartly old (record old { desk = desk })
+goes_lost old desk item queues taken wants = (
+  item ∷ [],
+  omega arith,
+  goes_still (item ∷ []) old (record old { desk = desk }) refl refl refl (λ link. refl) (took_one old.desk desk item queues taken) refl,
+  record {
+    step = Take item;
+    wants = wants;
+    which = refl;
+  },
+)
 
 -- No outbox was given up at an item's step: what was settled is so.
 pub settled_taken : (s : Step) (old : State) (desk : Row) (mid : State) (b : Bool) (at : ℕ) (ms : List Mark) → IsSettled old → DoesStep s (record old { desk = desk }) mid

@@ -3,7 +3,8 @@
 //! that was given up.
 ghost use Rattle.std.specs.Prelude.{◌≡◌, ℕ, ◌+◌, ◌<◌, ◌^◌, ◌↔◌, List, [], length, min};
 ghost use Rattle.std.specs.Prelude.{IsTrue, MatchOption, false};
-ghost use Rattle.std.specs.Prelude.{IfOk, OnOk, OnErr, vec_len};
+ghost use Rattle.std.specs.Prelude.{IfErr, IfOk, OnOk, OnErr, vec_len};
+ghost use Rattle.controller.specs.Wanting.{MayWantMemory};
 ghost use Rattle.controller_worker.specs.Advancing.{DoesStep, Advances, GoesOrStops, IsPending};
 ghost use Rattle.controller_worker.specs.Advancing.{IsSettled};
 ghost use Rattle.controller_worker.specs.Advancing.{SendsAll, StayOpen, IsValid, noted, pends};
@@ -68,6 +69,7 @@ impl<K: Clock> CallWorker<K> {
           gathered = self.new.gathered;
         } }
         ensures gathered { self.new.gathered < TICK_MS + 2 ^ 32 }
+        ensures napped { self.new.has_napped ≡ false }
     {
         let ms = self.clock.elapsed();
         self.gathered += u64::from(ms);
@@ -173,6 +175,7 @@ impl<K: Clock> CallWorker<K> {
         ensures stay { IfOk result (λ gives_up. gives_up ≡ false
             → StayOpen self.old.putters.items self.new.putters.items) }
         ensures err { OnErr result (seen K.told self.new ≡ seen K.told self.old) }
+        ensures memory { IfErr result (λ _. MayWantMemory step self.old.controller) }
         ensures stands { IsValid (seen K.told self.new) }
     {
         self.step_shown(step)?;

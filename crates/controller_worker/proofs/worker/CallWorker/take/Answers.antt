@@ -17,7 +17,7 @@ pub returns-in_err-gives_up-clause-goes : goal.returns-in_err-gives_up-clause-go
 returns-in_err-gives_up-clause-goes g c =
     by_err c.from_residual.result (seen g.K.Clock.told c.args.self.now) (seen g.K.Clock.told c.do_step.new.self) c.from_residual.ensures.0
     (subst (λ y. AdvancesPartly (seen g.K.Clock.told c.args.self.now) y) (sym c.in_err-gives_up.ensures.err)
-    (goes_lost (seen g.K.Clock.told c.args.self.now) c.next_item.new.desk c.in-Some.item c.in-Some.ensures.same c.in-Some.ensures.takes))
+    (goes_lost (seen g.K.Clock.told c.args.self.now) c.next_item.new.desk c.in-Some.item c.in-Some.ensures.same c.in-Some.ensures.takes c.in_err-gives_up.ensures.memory))
 
 pub note-requires : goal.note-requires
 note-requires g c =
