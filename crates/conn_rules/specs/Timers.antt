@@ -4,7 +4,7 @@ use Rattle.std.specs.Prelude.{ℕ, ◌+◌, ◌-◌, ◌^◌, min, List, [], ◌
 use Rattle.conn_rules.specs.declared.state.Drain.{Drain}
 use Rattle.conn_rules.specs.Connection.{Connection}
 
--- a timer stands still at the greatest number of 64 bits
+-- a timer stops at the greatest number of 64 bits
 abbrev pub saturated : ℕ → ℕ
 saturated ms = min ms (2 ^ 64 - 1)
 

@@ -1,6 +1,6 @@
 // SPDX-License-Identifier: MIT OR Apache-2.0
 //! The table of a connection: its states and inputs, and what each input makes of it. The table
-//! stands in `specs`.
+//! is in `specs`.
 #![tactic(auto)]
 
 pub use input::Input;

@@ -15,6 +15,7 @@ use Rattle.dtap_codec.specs.declared.report.Report.{Report}
 use Rattle.ho_decision.specs.declared.decision.Decision.{Decision}
 use Rattle.ho_decision.specs.declared.decision.Decision.TheVariants.{Stay}
 use Rattle.ho_decision.specs.Settings.{Settings as HandoverSettings}
+use Rattle.ho_decision.specs.State.{IsCompared}
 use Rattle.settings.specs.Parameters.{Parameters, handover_settings_of}
 
 -- by rising number
@@ -47,7 +48,7 @@ IsBelow number e = e.connection.number < number
 abbrev pub IsAbove : ℕ → Entry → Type 0
 IsAbove number e = number < e.connection.number
 
--- no number stands twice, and they rise
+-- no number is there twice, and they rise
 abbrev pub AreRising : List Entry → Type 0
 AreRising [] = Unit {0}
 AreRising (e ∷ es) = AllByRecursion (IsAbove e.connection.number) es × AreRising es
@@ -84,3 +85,8 @@ decision_over_all e = decision_over e.averages.settings e.averages.reports e.ave
 abbrev pub decision_with : ℕ → Report → Option Entry → Decision
 decision_with number report None = Stay
 decision_with number report (Some e) = decision_over_all (with_report number report e)
+
+-- the connection is there, and with this report its levels are compared
+abbrev pub ComparesWith : ℕ → Report → Option Entry → Type 0
+ComparesWith number report None = ⊥
+ComparesWith number report (Some e) = IsCompared e.averages report number

@@ -79,7 +79,7 @@ abbrev pub Settles : Bool → ℕ → ℕ → List (Option Entry) → List (Opti
 Settles true number key old new ps ps_after = IsVacated number key old new ps ps_after
 Settles false number key old new ps ps_after = (new ≡ old) × (ps_after ≡ ps)
 
--- each number stands beside the key of its entry, and no key stands twice
+-- each number is beside the key of its entry, and no key is there twice
 abbrev pub IsIndex : List (Option Entry) → List (ℕ × ℕ) → Type 0
 IsIndex slots [] = Unit {0}
 IsIndex slots (p ∷ ps) =

@@ -1,12 +1,12 @@
 // SPDX-License-Identifier: MIT OR Apache-2.0
 ghost use Rattle.std.specs.Prelude.{◌≡◌, ◌<◌, ◌^◌, ◌↔◌, [], ◌∷◌};
-ghost use Rattle.std.specs.Prelude.{◌++◌, IsTrue, IfOk, OnOk, OnErr, length, map, slice_get};
+ghost use Rattle.std.specs.Prelude.{◌++◌, IsTrue, IfErr, IfOk, OnOk, OnErr, length, map, slice_get};
 ghost use Rattle.std.specs.List.{AllByRecursion};
 ghost use Rattle.std.specs.Option.{ForSome, option_copied};
 ghost use Rattle.conn_rules.specs.Validity.{IsCarried};
 ghost use Rattle.controller_model.specs.Life.{aged, new_entry};
 ghost use Rattle.connections.specs.Entries.{AreKept, IsBelow, IsKept, IsOfCell, IsOffer};
-ghost use Rattle.connections.specs.Entries.{decision_with, entry_in};
+ghost use Rattle.connections.specs.Entries.{ComparesWith, decision_with, entry_in};
 ghost use Rattle.connections.specs.Steps.{CommitsFor, IsLeft, IsPlanFor, StepsFor, all_with_report};
 
 use crate::Entry;
@@ -161,14 +161,16 @@ impl Connections {
 
     /// What is decided over the reports of the connection with this number once it has this one of
     /// its serving channel too, with the report's number. Where it isn't there, it stays. Nothing
-    /// changes; a refusal is for lack of memory.
+    /// changes; a refusal is for lack of memory, which is taken only where the levels are compared.
     pub fn decide_with(
         &self,
         number: u32,
         report: &Report,
         report_number: u8,
     ) -> Result<Decision, Memory>
-        ensures { IfOk result (λ d. d ≡ decision_with
+        ensures decision { IfOk result (λ d. d ≡ decision_with
+            report_number report.now (entry_in number self.now.entries)) }
+        ensures memory { IfErr result (λ _. ComparesWith
             report_number report.now (entry_in number self.now.entries)) }
     {
         match self.table.get(number) {

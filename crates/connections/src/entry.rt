@@ -1,11 +1,12 @@
 // SPDX-License-Identifier: MIT OR Apache-2.0
-ghost use Rattle.std.specs.Prelude.{◌≡◌, ◌<◌, ◌^◌, ◌++◌, None, IfOk, OnOk, OnErr};
+ghost use Rattle.std.specs.Prelude.{◌≡◌, ◌<◌, ◌^◌, ◌++◌, None, IfErr, IfOk, OnOk, OnErr};
 ghost use Rattle.std.specs.Prelude.{length};
 ghost use Rattle.std.specs.Option.{is_some};
 ghost use Rattle.conn_fsm.specs.Doing.{AreSound, IsAsPlanned, outs_in};
 ghost use Rattle.conn_rules.specs.Validity.{IsCarried};
 ghost use Rattle.conn_rules.specs.Table.{row_of};
 ghost use Rattle.controller_model.specs.Life.{aged, averages_after, new_entry, with_report};
+ghost use Rattle.ho_decision.specs.State.{IsCompared};
 ghost use Rattle.connections.specs.Entries.{IsKept, IsOfCell, IsOffer, decision_over_all};
 ghost use Rattle.connections.specs.Entries.{is_removed};
 ghost use Rattle.connections.specs.Steps.{after_row};
@@ -158,8 +159,9 @@ impl Entry {
         number: u8,
     ) -> Result<Decision, Memory>
         requires { IsKept cells.now self.now }
-        ensures { IfOk result
+        ensures decision { IfOk result
             (λ d. d ≡ decision_over_all (with_report number report.now self.now)) }
+        ensures memory { IfErr result (λ _. IsCompared self.now.averages report.now number) }
     {
         let settings = cells.handover(self.conn.serving().station);
         self.averages.decide_with(alloc, settings, report, number)

@@ -15,5 +15,6 @@ pub mod Planning
 mod Reporting
 mod Rows
 mod Stepping
+pub mod Wanting
 pub mod InOctets
 pub mod LifeLaws

@@ -4,14 +4,14 @@
 use Rattle.controller.proofs.Prelude.{◌≡◌, ℕ, Bool, true, false, List, [], ◌∷◌, map, Some, None, refl, sym, ap, arith, Channel, Out}
 use Rattle.controller.proofs.Prelude.{WaitActivation, WaitEstablish, WaitConfirm, Live, Connection, ConnectionsState, Controller, Entry}
 use Rattle.controller.proofs.Prelude.{turn}
-use Rattle.std.proofs.Common.{replicate}
+use Rattle.std.proofs.Common.{replicate, true≢false, inl, inr}
 use Rattle.octets.proofs.Hex.{hex}
 use Rattle.conn_messages.specs.declared.channel.Change.TheVariants.{Assignment, Handover}
 use Rattle.conn_rules.specs.declared.input.Input.TheVariants as inputs
 use Rattle.conn_rules.specs.declared.state.Stage.TheVariants.{Preparing, Changing, Draining}
 use Rattle.controller_model.specs.Controller.{new_controller, place_at}
 use Rattle.controller_model.specs.Life.{may_open, new_entry, pong, step}
-use Rattle.controller_model.proofs.Lives.{on_stream, usual_settings}
+use Rattle.controller_model.proofs.Lives.{down, on_stream, usual_settings}
 use Rattle.controller_model.proofs.OnLiterals.{on_literals}
 use Rattle.controller.specs.declared.many.Cause.TheVariants.{Time, Break}
 use Rattle.controller.specs.Doing.{IsUnchanged, Turns, by_offer, fits_in, fits_with}
@@ -19,7 +19,11 @@ use Rattle.controller.specs.Many.{AreReady, Due, IsReadyFor, all_due, due, due_o
 use Rattle.controller.specs.Offers.{HasCell, awaits, may_begin}
 use Rattle.controller.specs.Rest.{is_at_rest, left_without_number, new_from}
 use Rattle.controller.specs.Standing.{IsStanding}
+use Rattle.controller.specs.Wanting.{MayWantFrame, MayWantMemory}
 use Rattle.dtap_codec.specs.declared.sapi.Sapi.TheVariants.{Zero}
+use Rattle.controller_model.specs.declared.step.Step.TheVariants.{Tick}
+use Rattle.controller_model.specs.declared.word.Word.TheVariants.{Nothing, Ping}
+use Rattle.rsl_codec.specs.declared.fault.RslFault.TheVariants as radio
 use Rattle.ho_decision.specs.declared.decision.Decision.TheVariants.{Stay, Move}
 
 abbrev fresh : Controller
@@ -259,6 +263,51 @@ not_while_one_is_up = refl
 
 not_with_a_connection : is_at_rest (record broken { entries = entry 7 ∷ [] }) ≡ false
 not_with_a_connection = refl
+
+-- ---- what may want memory
+
+abbrev holding : Controller
+holding = record fresh { entries = entry 7 ∷ [] }
+
+-- a link breaks while there is a connection
+break_with_one : MayWantMemory (down 0) holding
+break_with_one = (refl, λ none. let same : ◌≡◌ {A = List Due} (break_due 7 ∷ []) [] = none in absurd cc)
+
+break_with_none : MayWantMemory (down 0) fresh → ⊥
+break_with_none wants = wants.1 refl
+
+break_after_break : MayWantMemory (down 0) (record holding { links = false ∷ true ∷ true ∷ [] }) → ⊥
+break_after_break wants = true≢false (sym wants.0)
+
+-- T3101 expires, or not yet
+tick_at_its_time : MayWantMemory (Tick 3000) holding
+tick_at_its_time = λ none. let same : ◌≡◌ {A = List Due} (record { number = 7; was = connection 7; input = inputs.Expiry } ∷ []) [] = none in absurd cc
+
+tick_before_its_time : MayWantMemory (Tick 2999) holding → ⊥
+tick_before_its_time wants = wants refl
+
+-- PING, and RF CHANNEL RELEASE ACK of 41
+ping_wants : MayWantMemory (on_stream 1 0xfe (0x00 ∷ [])) fresh
+unfolding on_literals
+ping_wants = (refl, inl refl)
+
+message_wants : MayWantMemory (on_stream 1 0x00 (hex "08 33 01 41")) fresh
+unfolding on_literals
+message_wants = (refl, inr tt)
+
+of_no_link : MayWantMemory (on_stream 3 0x00 (hex "08 33 01 41")) fresh → ⊥
+of_no_link wants = true≢false (sym wants.0)
+
+-- the same without a channel number; PONG
+refused_wants : MayWantFrame 1 (record { stream = 0x00; body = hex "08 33" }) → ⊥
+unfolding on_literals
+refused_wants (inl said) = let same : Nothing ≡ Ping = said in absurd cc
+refused_wants (inr fault) = let same : radio.MissingElement 0x01 ≡ radio.Memory = fault in absurd cc
+
+pong_wants : MayWantFrame 1 (record { stream = 0xfe; body = 0x01 ∷ [] }) → ⊥
+unfolding on_literals
+pong_wants (inl said) = let same : Nothing ≡ Ping = said in absurd cc
+pong_wants (inr readable) = readable
 
 -- ---- the last number is 16,777,215
 

@@ -6,3 +6,4 @@ pub mod Offers
 pub mod Reporting
 pub mod Rest
 pub mod Standing
+pub mod Wanting

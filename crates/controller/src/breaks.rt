@@ -1,8 +1,10 @@
 // SPDX-License-Identifier: MIT OR Apache-2.0
-ghost use Rattle.std.specs.Prelude.{◌≡◌, ◌≤◌, OnOk};
+ghost use Rattle.std.specs.Prelude.{◌≡◌, ◌≤◌, IfErr, OnOk};
 ghost use Rattle.controller_model.specs.Controller.{with_down};
 ghost use Rattle.controller_model.specs.Life as words;
 ghost use Rattle.controller.specs.Doing.{Turns, UnchangedOnErr};
+ghost use Rattle.controller.specs.Wanting.{IsDue};
+ghost use Rattle.controller.specs.declared.many.Cause.TheVariants.{Break};
 
 use crate::controller::Controller;
 use crate::many::Cause;
@@ -18,6 +20,7 @@ impl Controller {
         ensures ok { OnOk result (Turns (words.on_break source self.old)
             self.old self.new outputs.old.outs outputs.new.outs) }
         ensures err { UnchangedOnErr result self.old self.new outputs.old.outs outputs.new.outs }
+        ensures memory { IfErr result (λ _. IsDue (Break source) self.old) }
     {
         let planned = self.plan_with_room(&Cause::Break(source), outputs)?;
         self.take_down(source);

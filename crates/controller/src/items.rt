@@ -3,7 +3,9 @@ ghost use Rattle.std.specs.Prelude.{◌≡◌, ◌++◌, ◌∷◌, [], OnOk, On
 ghost use Rattle.controller_model.specs.Life as words;
 ghost use Rattle.controller_model.specs.Reading.{word_of};
 ghost use Rattle.controller.specs.Doing.{Turns, UnchangedOnErr};
-ghost use Rattle.controller_parts.specs.Words.{IsFromSource, IsCarriedWord};
+ghost use Rattle.controller.specs.Wanting.{MayWantFrame, MayWantMemory};
+ghost use Rattle.controller_model.specs.declared.step.Step.TheVariants.{Take};
+ghost use Rattle.controller_parts.specs.Words.{IsFromSource, IsCarriedWord, SaysSomething};
 
 use crate::controller::Controller;
 use conn_fsm::Outputs;
@@ -18,12 +20,15 @@ use std::alloc::Global;
 impl Controller {
     /// Takes an item: a frame of a link, or that the link gives nothing more. What it puts is
     /// appended to the outputs. After the break of its link, and where there is no such link, an
-    /// item is ignored. A refusal, for lack of memory, changes nothing and hands the item back.
+    /// item is ignored. A refusal, for lack of memory, changes nothing and hands the item back; no
+    /// frame is refused for its octets.
     pub fn step(&mut self, item: Item, outputs: &mut Outputs) -> Result<(), Item>
         ensures ok { OnOk result (Turns (words.take item self.old)
             self.old self.new outputs.old.outs outputs.new.outs) }
         ensures err { UnchangedOnErr result self.old self.new outputs.old.outs outputs.new.outs }
         ensures back { IfErr result (λ refused. refused ≡ item) }
+        // Memory runs out only where some is wanted.
+        ensures memory { IfErr result (λ _. MayWantMemory (Take item) self.old) }
     {
         match self.take(&item, outputs) {
             Ok(()) => Ok(()),
@@ -32,11 +37,12 @@ impl Controller {
     }
 
     /// Does what `step` does, and leaves the item to the caller.
-    #[tactic(auto, unfolding(controller_model::specs::Life::take))]
+    #[tactic(auto, unfolding(controller_model::specs::Life::take), using(crate::proofs::Wanting::frame_wants, crate::proofs::Wanting::break_wants))]
     pub(crate) fn take(&mut self, item: &Item, outputs: &mut Outputs) -> Result<(), Memory>
         ensures ok { OnOk result (Turns (words.take item.now self.old)
             self.old self.new outputs.old.outs outputs.new.outs) }
         ensures err { UnchangedOnErr result self.old self.new outputs.old.outs outputs.new.outs }
+        ensures memory { IfErr result (λ _. MayWantMemory (Take item.now) self.old) }
     {
         if !self.is_up(item.source) {
             self.ignore();
@@ -48,21 +54,25 @@ impl Controller {
         }
     }
 
+    #[tactic(auto, using(crate::proofs::Wanting::read_wants, crate::proofs::Wanting::word_wants))]
     fn on_frame(&mut self, source: u16, frame: &Frame, outputs: &mut Outputs) -> Result<(), Memory>
         ensures ok { OnOk result (Turns (words.on_word source (word_of source frame.now) self.old)
             self.old self.new outputs.old.outs outputs.new.outs) }
         ensures err { UnchangedOnErr result self.old self.new outputs.old.outs outputs.new.outs }
+        ensures memory { IfErr result (λ _. MayWantFrame source frame.now) }
     {
         let word = read_word(self.alloc, source, frame)?;
         self.on_word(source, word, outputs)
     }
 
+    #[tactic(auto, using(crate::proofs::Wanting::says))]
     fn on_word(&mut self, source: u16, word: Word, outputs: &mut Outputs) -> Result<(), Memory>
         requires carried { IsCarriedWord word }
         requires comes { IsFromSource source word }
         ensures ok { OnOk result (Turns (words.on_word source word self.old)
             self.old self.new outputs.old.outs outputs.new.outs) }
         ensures err { UnchangedOnErr result self.old self.new outputs.old.outs outputs.new.outs }
+        ensures memory { IfErr result (λ _. SaysSomething word) }
     {
         match word {
             Word::Nothing => {

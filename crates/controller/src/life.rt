@@ -1,5 +1,5 @@
 // SPDX-License-Identifier: MIT OR Apache-2.0
-ghost use Rattle.std.specs.Prelude.{◌≡◌, IfOk, List, OnOk};
+ghost use Rattle.std.specs.Prelude.{◌≡◌, IfErr, IfOk, List, OnOk};
 ghost use Rattle.std.specs.List.{AllByRecursion};
 ghost use Rattle.controller_model.specs.LifeLaws.Sending.{IsOctetStep, IsSent};
 ghost use Rattle.controller_model.specs.declared.step.Step.{Step as StepValue};
@@ -7,6 +7,7 @@ ghost use Rattle.controller_model.specs.Controller.{Controller as ControllerValu
 ghost use Rattle.controller_model.specs.Life as words;
 ghost use Rattle.controller.specs.Doing.{Turns, UnchangedOnErr};
 ghost use Rattle.controller.specs.Laws.{IsNew, KeepsLaws};
+ghost use Rattle.controller.specs.Wanting.{MayWantMemory};
 ghost use Rattle.settings.specs.Parameters.{AreAllowed, Parameters};
 
 use crate::controller::Controller;
@@ -80,6 +81,7 @@ impl Controller {
         ensures ok { OnOk result (Turns (words.step self.old step)
             self.old self.new outputs.old.outs outputs.new.outs) }
         ensures err { UnchangedOnErr result self.old self.new outputs.old.outs outputs.new.outs }
+        ensures memory { IfErr result (λ _. MayWantMemory step self.old) }
     {
         self.run_shown(&step, outputs)
     }
@@ -89,6 +91,7 @@ impl Controller {
         ensures ok { OnOk result (Turns (words.step self.old step.now)
             self.old self.new outputs.old.outs outputs.new.outs) }
         ensures err { UnchangedOnErr result self.old self.new outputs.old.outs outputs.new.outs }
+        ensures memory { IfErr result (λ _. MayWantMemory step.now self.old) }
     {
         match step {
             Step::Take(item) => self.take(item, outputs),

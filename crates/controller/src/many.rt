@@ -1,5 +1,5 @@
 // SPDX-License-Identifier: MIT OR Apache-2.0
-ghost use Rattle.std.specs.Prelude.{◌≡◌, ◌+◌, ◌≤◌, ◌++◌, map, sum_by, IfOk};
+ghost use Rattle.std.specs.Prelude.{◌≡◌, ◌≢◌, ◌+◌, ◌≤◌, ◌++◌, [], map, sum_by, IfErr, IfOk};
 ghost use Rattle.std.specs.Prelude.{IfSome, OnOk};
 ghost use Rattle.conn_fsm.specs.Doing.{IsPlanned};
 ghost use Rattle.connections.specs.Entries.{AreRising};
@@ -7,6 +7,7 @@ ghost use Rattle.controller_model.specs.Controller.{each, entry_of};
 ghost use Rattle.controller.specs.Doing.{Turns};
 ghost use Rattle.controller.specs.Many.{AreReady, IsReadyFor, all_due, due as due_input, due_of};
 ghost use Rattle.controller.specs.Many.{carried_out, frames_of, planned_for};
+ghost use Rattle.controller.specs.Wanting.{IsDue};
 
 use crate::breaks::break_of;
 use crate::controller::Controller;
@@ -49,6 +50,7 @@ impl Controller {
         ensures planned { IfOk result (λ planned. map planned_for planned.items
             ≡ all_due cause.now self.now.settings.timers self.now.entries) }
         ensures rising { AreRising self.now.entries }
+        ensures memory { IfErr result (λ _. IsDue cause.now self.now) }
     {
         let mut planned = Vec::new(self.alloc);
         for place in 0..self.connections.len() {
@@ -61,6 +63,7 @@ impl Controller {
     }
 
     /// The same, and makes room in the outputs for the frames of all.
+    #[tactic(auto, using(crate::proofs::Planning::some_due))]
     pub(crate) fn plan_with_room(
         &self,
         cause: &Cause,
@@ -72,6 +75,7 @@ impl Controller {
         ensures room { IfOk result
             (λ planned. sum_by frames_of planned.items ≤ outputs.new.spare) }
         ensures outs { outputs.new.outs ≡ outputs.old.outs }
+        ensures memory { IfErr result (λ _. IsDue cause.now self.now) }
     {
         let planned = self.plan_all(cause)?;
         match make_room(planned.as_slice(), outputs) {
@@ -80,10 +84,13 @@ impl Controller {
         }
     }
 
+    #[tactic(auto, using(crate::proofs::Planning::is_due))]
     fn plan_one(&self, conn: &Conn, cause: &Cause, planned: &mut Vec<Planned>) -> Result<(), Memory>
-        ensures { OnOk result (map planned_for planned.new.items
+        ensures planned { OnOk result (map planned_for planned.new.items
             ≡ map planned_for planned.old.items
             ++ due_of cause.now self.now.settings.timers conn.now) }
+        ensures memory { IfErr result
+            (λ _. due_of cause.now self.now.settings.timers conn.now ≢ []) }
     {
         if let Some(input) = self.due(cause, conn) {
             let plan = conn.plan(input)?;
@@ -130,11 +137,15 @@ impl Controller {
     }
 }
 
-// Makes room for the frames of the steps.
+// Makes room for the frames of the steps; none is wanted where there are none.
 fn make_room(planned: &[Planned], outputs: &mut Outputs) -> Result<(), Memory>
     ensures room { OnOk result (sum_by frames_of planned.now ≤ outputs.new.spare) }
     ensures outs { outputs.new.outs ≡ outputs.old.outs }
+    ensures memory { IfErr result (λ _. planned.now ≢ []) }
 {
+    if planned.is_empty() {
+        return Ok(());
+    }
     let count = frames(planned)?;
     outputs.reserve(count)
 }

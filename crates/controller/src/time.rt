@@ -1,8 +1,10 @@
 // SPDX-License-Identifier: MIT OR Apache-2.0
-ghost use Rattle.std.specs.Prelude.{◌≡◌, OnOk};
+ghost use Rattle.std.specs.Prelude.{◌≡◌, IfErr, OnOk};
 ghost use Rattle.conn_rules.specs.Timers.{after_pass};
+ghost use Rattle.controller_model.specs.declared.step.Step.TheVariants.{Tick};
 ghost use Rattle.controller_model.specs.Life as words;
 ghost use Rattle.controller.specs.Doing.{Turns, UnchangedOnErr};
+ghost use Rattle.controller.specs.Wanting.{MayWantMemory};
 
 use crate::controller::Controller;
 use crate::many::Cause;
@@ -19,6 +21,8 @@ impl Controller {
         ensures ok { OnOk result (Turns (words.tick ms self.old)
             self.old self.new outputs.old.outs outputs.new.outs) }
         ensures err { UnchangedOnErr result self.old self.new outputs.old.outs outputs.new.outs }
+        // Memory runs out only where something expires.
+        ensures memory { IfErr result (λ _. MayWantMemory (Tick ms) self.old) }
     {
         let planned = self.plan_with_room(&Cause::Time(ms), outputs)?;
         self.connections.age(ms);

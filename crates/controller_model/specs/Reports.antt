@@ -14,7 +14,7 @@ use Rattle.ho_decision.specs.Settings.{Settings}
 
 -- ---- the report in 16 octets (TS 44.018 clause 10.5.2.20)
 
--- so many bits, behind which so many others stand
+-- so many bits, with so many others behind them
 abbrev pub bits : ℕ → ℕ → ℕ → ℕ
 bits width behind number = (number / 2 ^ behind) % 2 ^ width
 

@@ -1,7 +1,7 @@
 // SPDX-License-Identifier: MIT OR Apache-2.0
 //! What the controller of base stations makes of what comes: its connections, channels and links,
 //! item by item and tick by tick; and the laws of its whole life, whatever comes. The definitions
-//! stand in `specs`.
+//! are in `specs`.
 #![tactic(auto)]
 
 pub use channel_kind::ChannelKind;

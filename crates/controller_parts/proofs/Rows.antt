@@ -8,7 +8,11 @@ use Rattle.controller_model.specs.declared.channel_state.ChannelState.{ChannelSt
 use Rattle.controller_model.specs.declared.channel_state.ChannelState.TheVariants.{Free, InUse, Releasing}
 use Rattle.controller_model.specs.declared.word.Word.TheVariants.{Ping, Asks, OnChannel, Reports, OnConnection}
 use Rattle.controller_parts.specs.Following.{channels_by, handovers_by}
-use Rattle.controller_parts.specs.Words.{IsFromSource, IsCarriedWord}
+use Rattle.controller_parts.specs.Words.{IsFromSource, IsCarriedWord, IsReadableFrame}
+use Rattle.controller_model.proofs.OnLiterals.{on_literals}
+use Rattle.bssmap_codec.specs.declared.fault.InterfaceFault.TheVariants as interface
+use Rattle.ipa_framing.specs.declared.frame.Frame.{Frame}
+use Rattle.rsl_codec.specs.declared.fault.RslFault.TheVariants as radio
 use Rattle.dtap_codec.specs.declared.report.Report.{Report}
 use Rattle.dtap_codec.specs.declared.sapi.Sapi.TheVariants.{Zero}
 use Rattle.conn_rules.specs.declared.input.Input.TheVariants as inputs
@@ -80,6 +84,58 @@ report_of_the_switch h = h.1 refl
 -- whoever asks whether this end is there
 asked_by_either : IsFromSource 0 Ping × IsFromSource 1 Ping
 asked_by_either = (tt, tt)
+
+-- ---- frames that may want memory
+
+abbrev frame : ℕ → List ℕ → Frame
+frame stream body = record { stream = stream; body = body }
+
+-- RF CHANNEL RELEASE ACK of 41
+readable_rsl : IsReadableFrame 1 (frame 0x00 (hex "08 33 01 41"))
+unfolding on_literals
+readable_rsl = tt
+
+-- without a channel number
+refused_rsl : IsReadableFrame 1 (frame 0x00 (hex "08 33")) → ⊥
+unfolding on_literals
+refused_rsl h = let same : radio.MissingElement 0x01 ≡ radio.Memory = h in cc
+
+-- the type alone
+short_rsl : IsReadableFrame 1 (frame 0x00 (hex "08")) → ⊥
+unfolding on_literals
+short_rsl h = let same : radio.Short ≡ radio.Memory = h in cc
+
+rsl_of_the_switch : IsReadableFrame 0 (frame 0x00 (hex "08 33 01 41")) → ⊥
+rsl_of_the_switch h = h
+
+-- CREF
+readable_sccp : IsReadableFrame 0 (frame 0xfd (hex "03 00 00 01 00 00"))
+unfolding on_literals
+readable_sccp = tt
+
+refused_sccp : IsReadableFrame 0 (frame 0xfd (hex "03 00 00")) → ⊥
+unfolding on_literals
+refused_sccp h = let same : interface.Short ≡ interface.Memory = h in cc
+
+sccp_of_a_station : IsReadableFrame 1 (frame 0xfd (hex "03 00 00 01 00 00")) → ⊥
+sccp_of_a_station h = h
+
+-- DT1 with CLEAR COMMAND, whose cause is 09
+readable_data : IsReadableFrame 0 (frame 0xfd (hex "06 00 00 01 00 01 06 00 04 20 04 01 09"))
+unfolding on_literals
+readable_data = tt
+
+-- the same without its cause
+refused_data : IsReadableFrame 0 (frame 0xfd (hex "06 00 00 01 00 01 03 00 01 20")) → ⊥
+unfolding on_literals
+refused_data h = let same : interface.MissingElement 0x04 ≡ interface.Memory = h in cc
+
+-- what a link's own management says is looked at without memory
+ping_is_other : IsReadableFrame 1 (frame 0xfe (hex "00")) → ⊥
+ping_is_other h = h
+
+other_stream : IsReadableFrame 1 (frame 0x01 (hex "08 33 01 41")) → ⊥
+other_stream h = h
 
 -- ---- channels: two links of stations behind the switch's, which has no channels
 

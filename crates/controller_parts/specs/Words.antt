@@ -1,13 +1,27 @@
 -- SPDX-License-Identifier: MIT OR Apache-2.0
--- What holds of each word that a frame is read as.
-use Rattle.std.specs.Prelude.{◌≡◌, ◌≢◌, ℕ, true}
+-- What holds of each word that a frame is read as, and which frames may want memory.
+use Rattle.std.specs.Prelude.{◌≡◌, ◌≢◌, ℕ, List, true, Option, Some, None, Result, Ok, Err, IfErr}
+use Rattle.bssmap_codec.specs.declared.fault.InterfaceFault.{InterfaceFault}
+use Rattle.bssmap_codec.specs.declared.fault.InterfaceFault.TheVariants as interface
+use Rattle.bssmap_codec.specs.declared.sccp.Sccp.{Sccp}
+use Rattle.bssmap_codec.specs.declared.sccp.Sccp.TheVariants.{DataForm1}
+use Rattle.bssmap_codec.specs.BssapReading.{bssap_reading}
+use Rattle.bssmap_codec.specs.SccpReading.{sccp_reading}
 use Rattle.conn_messages.specs.declared.parameters.TheConstants.{SWITCH_LINK}
 use Rattle.conn_rules.specs.Validity.{IsCarried}
 use Rattle.controller_model.specs.declared.word.Word.{Word}
 use Rattle.controller_model.specs.declared.word.Word.TheVariants.{Asks, OnChannel, Reports}
-use Rattle.controller_model.specs.declared.word.Word.TheVariants.{OnConnection}
+use Rattle.controller_model.specs.declared.word.Word.TheVariants.{OnConnection, Nothing}
+use Rattle.controller_model.specs.Reading.{Carried, carried}
+use Rattle.controller_model.specs.Reading.Carried.{radio_signalling, connection_control}
+use Rattle.dtap_codec.specs.declared.rr_fault.RrFault.TheVariants as layer3
+use Rattle.dtap_codec.specs.RrReading.{rr_reading}
+use Rattle.ipa_framing.specs.declared.frame.Frame.{Frame}
+use Rattle.rsl_codec.specs.declared.fault.RslFault.TheVariants as radio
 use Rattle.rsl_codec.specs.declared.rsl.Rsl.{Rsl}
 use Rattle.rsl_codec.specs.declared.rsl.Rsl.TheVariants.{EstablishIndication, DataIndication}
+use Rattle.rsl_codec.specs.declared.rsl.Rsl.TheVariants.{MeasurementResult}
+use Rattle.rsl_codec.specs.RslReading.{rsl_reading}
 
 -- a message in it has 1 to 251 octets, and a report is valid
 abbrev pub IsCarriedWord : Word → Type 0
@@ -29,3 +43,40 @@ abbrev pub CarriesNoLayer3 : Rsl → Type 0
 CarriesNoLayer3 (EstablishIndication e) = ⊥
 CarriesNoLayer3 (DataIndication d) = ⊥
 CarriesNoLayer3 _ = Unit {0}
+
+-- ---- want of memory, the last fault of all
+
+-- octets are read, or would be but for want of memory: no fault of theirs keeps them from it
+abbrev pub IsReadable : {X F : Type 0} → F → Result X F → Type 0
+IsReadable memory read = IfErr read (λ fault. fault ≡ memory)
+
+-- a message of SCCP; the data of DT1 are lent, and wait for what is in them
+abbrev pub IsReadableSccp : Result Sccp InterfaceFault → Type 0
+IsReadableSccp (Ok (DataForm1 destination user)) = IsReadable interface.Memory (bssap_reading user)
+IsReadableSccp (Err fault) = fault ≡ interface.Memory
+IsReadableSccp _ = Unit {0}
+
+abbrev pub IsReadableBody : Carried → List ℕ → Type 0
+IsReadableBody radio_signalling body = IsReadable radio.Memory (rsl_reading body)
+IsReadableBody connection_control body = IsReadableSccp (sccp_reading body)
+IsReadableBody _ body = ⊥
+
+-- A frame of RSL of a station, or of SCCP of the switch, that its codec doesn't refuse.
+abbrev pub IsReadableFrame : ℕ → Frame → Type 0
+IsReadableFrame source frame = IsReadableBody (carried source frame.stream) frame.body
+
+-- a report of the mobile that isn't refused
+abbrev pub IsReadableReport : Option (List ℕ) → Type 0
+IsReadableReport None = ⊥
+IsReadableReport (Some l3) = IsReadable layer3.Memory (rr_reading l3)
+
+-- what is in it is read too, and isn't refused
+abbrev pub HasReadableLayer3 : Rsl → Type 0
+HasReadableLayer3 (DataIndication d) = IsReadable layer3.Memory (rr_reading d.l3)
+HasReadableLayer3 (MeasurementResult m) = IsReadableReport m.l3
+HasReadableLayer3 _ = ⊥
+
+-- something is said
+abbrev pub SaysSomething : Word → Type 0
+SaysSomething Nothing = ⊥
+SaysSomething _ = Unit {0}

@@ -1,7 +1,7 @@
 // SPDX-License-Identifier: MIT OR Apache-2.0
 //! What the controller is made of beside its connections: what a frame says to it, each frame being
 //! read once, through the codecs of its link; and the radio channels of its cells, which are free,
-//! which a connection has, and which is given next. The definitions stand in `controller_model`.
+//! which a connection has, and which is given next. The definitions are in `controller_model`.
 #![tactic(auto)]
 
 pub use channels::Channels;

@@ -1,7 +1,7 @@
 // SPDX-License-Identifier: MIT OR Apache-2.0
-ghost use Rattle.std.specs.Prelude.{◌≡◌, IfOk};
+ghost use Rattle.std.specs.Prelude.{◌≡◌, IfErr, IfOk};
 ghost use Rattle.controller_model.specs.Reading.{management_of_link, word_of};
-ghost use Rattle.controller_parts.specs.Words.{IsFromSource, IsCarriedWord};
+ghost use Rattle.controller_parts.specs.Words.{IsCarriedWord, IsFromSource, IsReadableFrame};
 
 use crate::station::station_word;
 use crate::switch::switch_word;
@@ -15,8 +15,9 @@ use std::alloc::Global;
 /// station.
 ///
 /// Every link has CCM, the switch's SCCP, and a station's RSL. A body that its codec refuses says
-/// nothing. It is refused where memory runs out.
-#[tactic(auto, unfolding(controller_model::specs::Reading::word_of))]
+/// nothing. It is refused where memory runs out, which it does only where no fault of the body's
+/// is there.
+#[tactic(auto, unfolding(controller_model::specs::Reading::word_of), using(crate::proofs::Readable::switch_frame_readable, crate::proofs::Readable::station_frame_readable))]
 pub fn read_word(alloc: Global, source: u16, frame: &Frame) -> Result<Word, Memory>
     // What is answered is what the frame says.
     ensures word { IfOk result (λ word. word ≡ word_of source frame.now) }
@@ -24,6 +25,8 @@ pub fn read_word(alloc: Global, source: u16, frame: &Frame) -> Result<Word, Memo
     ensures carried { IfOk result IsCarriedWord }
     // A station speaks of its own channels and requests, the switch of connections.
     ensures comes { IfOk result (IsFromSource source) }
+    // Memory runs out only for a body that its codec doesn't refuse.
+    ensures memory { IfErr result (λ _. IsReadableFrame source frame.now) }
 {
     let body = frame.body.as_slice();
     if frame.stream == CCM_STREAM {

@@ -1,10 +1,12 @@
 // SPDX-License-Identifier: MIT OR Apache-2.0
-ghost use Rattle.std.specs.Prelude.{◌≡◌, length, IfOk, Ok};
+ghost use Rattle.std.specs.Prelude.{◌≡◌, length, IfErr, IfOk, Ok};
 ghost use Rattle.conn_rules.specs.declared.input.Input.TheVariants as inputs;
 ghost use Rattle.controller_model.specs.declared.word.Word.TheVariants.{OnChannel};
 ghost use Rattle.controller_model.specs.Reading as reading;
 ghost use Rattle.controller_model.specs.Reports.{report_reading};
+ghost use Rattle.controller_parts.specs.Words.{IsReadable};
 ghost use Rattle.dtap_codec.specs.declared.report.TheConstants.{REPORT_LENGTH};
+ghost use Rattle.dtap_codec.specs.declared.rr_fault.RrFault.TheVariants as layer3;
 ghost use Rattle.dtap_codec.specs.RrReading.{rr_reading};
 
 use conn_messages::{Change, Place};
@@ -15,8 +17,11 @@ use octets::Memory;
 use std::alloc::Global;
 
 /// How a change of channel went.
+#[tactic(auto, using(crate::proofs::Readable::is_readable))]
 pub(crate) fn change_word(alloc: Global, at: &Place, l3: &[u8]) -> Result<Word, Memory>
-    ensures { IfOk result (λ word. word ≡ reading.change_word at.now (rr_reading l3.now)) }
+    ensures word { IfOk result
+        (λ word. word ≡ reading.change_word at.now (rr_reading l3.now)) }
+    ensures memory { IfErr result (λ _. IsReadable layer3.Memory (rr_reading l3.now)) }
 {
     match RrMessage::read(alloc, l3) {
         Ok(message) => Ok(change_in(at, &message)),
@@ -64,9 +69,11 @@ fn failed(at: &Place, change: Change, cause: RrCause) -> Word
 }
 
 /// The report in a message, where it has a valid one, which came with this number.
+#[tactic(auto, using(crate::proofs::Readable::is_readable))]
 pub(crate) fn report_word(alloc: Global, at: &Place, number: u8, l3: &[u8]) -> Result<Word, Memory>
-    ensures { IfOk result
+    ensures word { IfOk result
         (λ word. word ≡ reading.report_word at.now number (rr_reading l3.now)) }
+    ensures memory { IfErr result (λ _. IsReadable layer3.Memory (rr_reading l3.now)) }
 {
     match RrMessage::read(alloc, l3) {
         Ok(RrMessage::MeasurementReport { value }) => Ok(valid_word(at, number, &value)),

@@ -1,9 +1,11 @@
 // SPDX-License-Identifier: MIT OR Apache-2.0
-ghost use Rattle.std.specs.Prelude.{◌≡◌, ◌≢◌, option_map, IfOk};
+ghost use Rattle.std.specs.Prelude.{◌≡◌, ◌≢◌, option_map, IfErr, IfOk};
 ghost use Rattle.conn_messages.specs.declared.parameters.TheConstants.{SWITCH_LINK};
 ghost use Rattle.controller_model.specs.Controller.{place_at as channel_at};
 ghost use Rattle.controller_parts.specs.Words.{IsFromSource, IsCarriedWord, CarriesNoLayer3};
+ghost use Rattle.controller_parts.specs.Words.{HasReadableLayer3, IsReadable, IsReadableReport};
 ghost use Rattle.controller_model.specs.Reading as reading;
+ghost use Rattle.rsl_codec.specs.declared.fault.RslFault.TheVariants as radio;
 ghost use Rattle.rsl_codec.specs.RslReading.{rsl_reading};
 ghost use Rattle.rsl_codec.specs.declared.rsl.Rsl.TheVariants as rsl;
 
@@ -30,12 +32,14 @@ const SACCH: u8 = 1;
 
 /// What a station says in this body of a frame. The report of a MEASUREMENT RESULT of which
 /// `read_measurement` answers is read in place; of any other message what it carries is copied.
+#[tactic(auto, using(crate::proofs::Readable::measured_readable))]
 pub(crate) fn station_word(alloc: Global, station: u16, body: &[u8]) -> Result<Word, Memory>
     requires { station ≢ SWITCH_LINK }
     ensures word { IfOk result
         (λ word. word ≡ reading.station_word station (rsl_reading body.now)) }
     ensures carried { IfOk result IsCarriedWord }
     ensures comes { IfOk result (IsFromSource station) }
+    ensures memory { IfErr result (λ _. IsReadable radio.Memory (rsl_reading body.now)) }
 {
     match read_measurement(body) {
         Some(measured) => measured_word(alloc, station, measured),
@@ -44,12 +48,14 @@ pub(crate) fn station_word(alloc: Global, station: u16, body: &[u8]) -> Result<W
 }
 
 // What any message says.
+#[tactic(auto, using(crate::proofs::Readable::is_readable, crate::proofs::Readable::message_readable))]
 fn any_word(alloc: Global, station: u16, body: &[u8]) -> Result<Word, Memory>
     requires { station ≢ SWITCH_LINK }
     ensures word { IfOk result
         (λ word. word ≡ reading.station_word station (rsl_reading body.now)) }
     ensures carried { IfOk result IsCarriedWord }
     ensures comes { IfOk result (IsFromSource station) }
+    ensures memory { IfErr result (λ _. IsReadable radio.Memory (rsl_reading body.now)) }
 {
     match Rsl::read(alloc, body) {
         Ok(message) => rsl_word(alloc, station, message),
@@ -60,7 +66,8 @@ fn any_word(alloc: Global, station: u16, body: &[u8]) -> Result<Word, Memory>
 
 // What a message says: its layer 3 message, where that goes on, isn't copied again.
 fn rsl_word(alloc: Global, station: u16, message: Rsl) -> Result<Word, Memory>
-    ensures { IfOk result (λ word. word ≡ reading.rsl_word station message) }
+    ensures word { IfOk result (λ word. word ≡ reading.rsl_word station message) }
+    ensures memory { IfErr result (λ _. HasReadableLayer3 message) }
 {
     match message {
         Rsl::DataIndication(data) => data_word(alloc, station, data),
@@ -74,7 +81,8 @@ fn rsl_word(alloc: Global, station: u16, message: Rsl) -> Result<Word, Memory>
 // What a message says of which no part goes on.
 fn told_word(alloc: Global, station: u16, message: &Rsl) -> Result<Word, Memory>
     requires { CarriesNoLayer3 message.now }
-    ensures { IfOk result (λ word. word ≡ reading.rsl_word station message.now) }
+    ensures word { IfOk result (λ word. word ≡ reading.rsl_word station message.now) }
+    ensures memory { IfErr result (λ _. HasReadableLayer3 message.now) }
 {
     Ok(match message {
         Rsl::ChannelRequired(request) => Word::Asks(request.reference, request.access_delay.0),
@@ -134,8 +142,9 @@ fn error_word(station: u16, error: &ErrorReport) -> Word
 
 // DATA INDICATION: DTAP, or a message of radio resource management.
 fn data_word(alloc: Global, station: u16, data: Data) -> Result<Word, Memory>
-    ensures { IfOk result
+    ensures word { IfOk result
         (λ word. word ≡ reading.rsl_word station (rsl.DataIndication «data»)) }
+    ensures memory { IfErr result (λ _. HasReadableLayer3 (rsl.DataIndication «data»)) }
 {
     let at = &place_at(station, data.channel);
     match (is_dtap(data.l3.as_slice()), sapi_of(data.link)) {
@@ -157,8 +166,9 @@ fn data_word(alloc: Global, station: u16, data: Data) -> Result<Word, Memory>
 
 // MEASUREMENT RESULT, perhaps with a report of the mobile.
 fn result_word(alloc: Global, station: u16, measured: &MeasurementResult) -> Result<Word, Memory>
-    ensures { IfOk result
+    ensures word { IfOk result
         (λ word. word ≡ reading.rsl_word station (rsl.MeasurementResult measured.now)) }
+    ensures memory { IfErr result (λ _. HasReadableLayer3 (rsl.MeasurementResult measured.now)) }
 {
     let l3 = measured.l3.as_ref().map(|l3| l3.as_slice());
     measured_word(alloc, station, (measured.channel, measured.number, l3))
@@ -170,9 +180,11 @@ fn measured_word(
     station: u16,
     measured: (ChanNo, MeasurementNumber, Option<&[u8]>),
 ) -> Result<Word, Memory>
-    ensures { IfOk result (λ word. word ≡ reading.result_word
+    ensures word { IfOk result (λ word. word ≡ reading.result_word
         (channel_at station measured.entry.0) measured.entry.1.0
         (option_map (λ l. l.now) measured.entry.2)) }
+    ensures memory { IfErr result
+        (λ _. IsReadableReport (option_map (λ l. l.now) measured.entry.2)) }
 {
     let (channel, number, l3) = measured;
     match l3 {

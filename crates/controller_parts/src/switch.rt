@@ -1,9 +1,10 @@
 // SPDX-License-Identifier: MIT OR Apache-2.0
-ghost use Rattle.std.specs.Prelude.{◌≡◌, IfOk, Ok};
+ghost use Rattle.std.specs.Prelude.{◌≡◌, IfErr, IfOk, Ok};
+ghost use Rattle.bssmap_codec.specs.declared.fault.InterfaceFault.TheVariants as interface;
 ghost use Rattle.bssmap_codec.specs.BssapReading.{bssap_reading};
 ghost use Rattle.bssmap_codec.specs.SccpReading.{sccp_reading};
 ghost use Rattle.controller_model.specs.Reading as reading;
-ghost use Rattle.controller_parts.specs.Words.{IsCarriedWord};
+ghost use Rattle.controller_parts.specs.Words.{IsCarriedWord, IsReadable, IsReadableSccp};
 
 use crate::dtap::dlci_sapi;
 use bssmap_codec::{Bssap, Bssmap, InterfaceFault, Sccp, read_bssap, read_data_form, read_sccp};
@@ -13,9 +14,11 @@ use octets::Memory;
 use std::alloc::Global;
 
 /// What the switch says in this body of a frame. The data of DT1 aren't copied apart.
+#[tactic(auto, using(crate::proofs::Readable::form_readable, crate::proofs::Readable::other_readable, crate::proofs::Readable::sccp_readable))]
 pub(crate) fn switch_word(alloc: Global, body: &[u8]) -> Result<Word, Memory>
     ensures word { IfOk result (λ word. word ≡ reading.switch_word (sccp_reading body.now)) }
     ensures carried { IfOk result IsCarriedWord }
+    ensures memory { IfErr result (λ _. IsReadableSccp (sccp_reading body.now)) }
 {
     if let Some((number, user)) = read_data_form(body) {
         return bssap_word(alloc, number, user);
@@ -30,6 +33,7 @@ pub(crate) fn switch_word(alloc: Global, body: &[u8]) -> Result<Word, Memory>
 fn sccp_word(alloc: Global, message: Sccp) -> Result<Word, Memory>
     ensures word { IfOk result (λ word. word ≡ reading.switch_word (Ok message)) }
     ensures carried { IfOk result IsCarriedWord }
+    ensures memory { IfErr result (λ _. IsReadableSccp (Ok message)) }
 {
     Ok(match message {
         Sccp::ConnectionConfirm {
@@ -51,10 +55,13 @@ fn sccp_word(alloc: Global, message: Sccp) -> Result<Word, Memory>
 }
 
 // The user data for the connection with this number.
+#[tactic(auto, using(crate::proofs::Readable::is_readable))]
 fn bssap_word(alloc: Global, number: u32, user: &[u8]) -> Result<Word, Memory>
     ensures word { IfOk result
         (λ word. word ≡ reading.bssap_word number (bssap_reading user.now)) }
     ensures carried { IfOk result IsCarriedWord }
+    ensures memory { IfErr result
+        (λ _. IsReadable interface.Memory (bssap_reading user.now)) }
 {
     match read_bssap(alloc, user) {
         Ok(message) => Ok(bssap_in(number, message)),

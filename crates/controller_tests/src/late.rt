@@ -158,7 +158,7 @@ const FAILS: &[Exchange] = &[
 ];
 
 /// CLEAR COMMAND after HANDOVER COMMAND: nothing is relayed any more.
-const IS_CLEARED: &[Exchange] = &[
+pub(crate) const IS_CLEARED: &[Exchange] = &[
     (
         Comes(0, "06000001000106000420040109"),
         &[
@@ -190,7 +190,7 @@ const IS_CLEARED: &[Exchange] = &[
 ];
 
 /// A channel that is released, freed, and taken by another mobile.
-const IS_RELEASED: &[Exchange] = &[
+pub(crate) const IS_RELEASED: &[Exchange] = &[
     (
         Comes(0, "06000001000106000420040109"),
         &[

@@ -79,10 +79,15 @@ fn sixteen_messages_wait_for_the_switch_and_no_more(rt: HostRuntime) -> Result<(
     lives_ignoring(&rt, parts.as_slice(), 0)
 }
 
+/// 32 messages of the switch wait for the new channel, and one more ends the connection.
+pub(crate) fn thirty_three_down(alloc: Global) -> Result<Vec<&'static [Exchange<'static>]>, Fail> {
+    let first: [&[Exchange]; 2] = [ACCESS, COMMANDED];
+    parts_of(alloc, &first, WAITS_DOWN, 32, ONE_MORE_DOWN)
+}
+
 #[test]
 fn thirty_two_messages_wait_for_the_channel_and_no_more(rt: HostRuntime) -> Result<(), Fail> {
-    let first: [&[Exchange]; 2] = [ACCESS, COMMANDED];
-    let parts = parts_of(rt.alloc(), &first, WAITS_DOWN, 32, ONE_MORE_DOWN)?;
+    let parts = thirty_three_down(rt.alloc())?;
     lives_ignoring(&rt, parts.as_slice(), 0)
 }
 

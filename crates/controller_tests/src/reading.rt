@@ -88,10 +88,11 @@ fn put(alloc: Global, lines: &[Line]) -> Result<Outputs, Fail> {
     Ok(outputs)
 }
 
-/// DTAP of SAPI 3 to the switch, and of SAPI 0 to the mobile.
+/// DTAP of SAPI 3 to the switch, and of SAPI 0 to the mobile; then RLC, which has no message.
 const PASSED: &[Line] = &[
     (0, "068000010001050183020901"),
     (1, "0201014102000b00028302"),
+    (0, "05800001000001"),
 ];
 
 #[test]

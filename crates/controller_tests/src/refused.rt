@@ -1,5 +1,8 @@
 // SPDX-License-Identifier: MIT OR Apache-2.0
+use crate::exchanges::Event::Comes;
 use crate::exchanges::{Exchange, are, lines_of, opened, step_of, two_cells};
+use crate::late::{IS_CLEARED, IS_RELEASED};
+use crate::limits::thirty_three_down;
 use crate::parts::{ACCESS, COMMANDED, EXPIRES_AND_BREAKS, LIFE};
 use controller::{Controller, Item, Outputs, Step};
 use octets::Memory;
@@ -75,13 +78,19 @@ impl Life {
         Ok(())
     }
 
-    /// Plays these parts of a life, and asserts what the controller has put. Where memory ran out
-    /// on the way, that is told; with ample memory it doesn't come.
-    fn ends(&mut self, rt: &(impl Abort + AllocGlobal), parts: &[&[Exchange]]) -> Result<(), Fail> {
+    /// Plays these parts of a life, and asserts what the controller has put, and how often it
+    /// ignored something. Where memory ran out on the way, that is told; with ample memory it
+    /// doesn't come.
+    fn ends(
+        &mut self,
+        rt: &(impl Abort + AllocGlobal),
+        parts: &[&[Exchange]],
+        ignored: u64,
+    ) -> Result<(), Fail> {
         self.plays_all(rt, parts)?;
         let lines = lines_of(rt.alloc(), parts)?;
         are(rt, &self.outputs, lines.as_slice())?;
-        assert!(rt; self.controller.ignored() == 0);
+        assert!(rt; self.controller.ignored() == ignored);
         if self.refusals > 0 {
             return Err(Fail::new("the controller wanted memory, and lived on"));
         }
@@ -89,18 +98,128 @@ impl Life {
     }
 }
 
-/// Plays these parts of a life.
-fn lives(rt: &(impl Abort + AllocGlobal), parts: &[&[Exchange]]) -> Result<(), Fail> {
+/// Plays these parts of a life, in which something is ignored so often.
+fn lives(rt: &(impl Abort + AllocGlobal), parts: &[&[Exchange]], ignored: u64) -> Result<(), Fail> {
     let mut life = begun(rt)?;
-    life.ends(rt, parts)
+    life.ends(rt, parts, ignored)
 }
+
+/// An assignment while another one goes on waits, and a third is refused. The only other channel
+/// for speech serves then, so that the one that waited is refused, too.
+const WAITS_IN_VAIN: &[Exchange] = &[
+    (
+        Comes(0, "060000010001080006010b03010801"),
+        &[(1, "0821010a0301060400010801")],
+    ),
+    (Comes(0, "060000010001080006010b03010801"), &[]),
+    (
+        Comes(0, "060000010001080006010b03010801"),
+        &[(0, "06800001000106000403040160")],
+    ),
+    (
+        Comes(1, "0822010a080000"),
+        &[(1, "0301014102000b0006062e0a201400")],
+    ),
+    (
+        Comes(1, "0302010a02000b0003062900"),
+        &[
+            (0, "068000010001050003021500"),
+            (1, "082e0141"),
+            (0, "06800001000106000403040121"),
+        ],
+    ),
+    (Comes(1, "08330141"), &[]),
+];
+
+/// An assignment during a handover waits, a second is refused, and the one that waited begins in the
+/// new cell.
+const WAITS_AND_BEGINS: &[Exchange] = &[
+    (Comes(0, "060000010001080006010b03010801"), &[]),
+    (
+        Comes(0, "060000010001080006010b03010801"),
+        &[(0, "06800001000106000403040160")],
+    ),
+    (
+        Comes(2, "0302014102000b0003062c00"),
+        &[
+            (0, "06800001000110000e1704010c05080000f11000010002"),
+            (1, "082e0141"),
+            (2, "0821010a0301060400010801"),
+        ],
+    ),
+    (Comes(1, "08330141"), &[]),
+];
+
+/// Reports that decide for no handover: a neighbour that is too weak, none, bad quality once, and
+/// one that isn't valid, which is ignored.
+const STAYS: &[Exchange] = &[
+    (
+        Comes(
+            1,
+            "082801411b05190314140004000b0012061514140056024000000000000000000000",
+        ),
+        &[],
+    ),
+    (
+        Comes(
+            1,
+            "082801411b05190314140004000b00120615141401d7024000000000000000000000",
+        ),
+        &[],
+    ),
+    (
+        Comes(
+            1,
+            "082801411b04190314140004000b0012061514145057024000000000000000000000",
+        ),
+        &[],
+    ),
+    (
+        Comes(
+            1,
+            "082801411b05190314140004000b0012061514540057024000000000000000000000",
+        ),
+        &[],
+    ),
+];
 
 #[test]
 fn a_life_that_wants_memory_goes_on(rt: HostRuntime) -> Result<(), Fail> {
-    lives(&rt, LIFE)
+    lives(&rt, LIFE, 0)
 }
 
 #[test]
 fn an_expiry_and_a_break_that_want_memory_come_again(rt: HostRuntime) -> Result<(), Fail> {
-    lives(&rt, &[ACCESS, COMMANDED, EXPIRES_AND_BREAKS])
+    lives(&rt, &[ACCESS, COMMANDED, EXPIRES_AND_BREAKS], 0)
+}
+
+#[test]
+fn a_clear_within_a_handover_that_wants_memory_comes_again(rt: HostRuntime) -> Result<(), Fail> {
+    lives(&rt, &[ACCESS, COMMANDED, IS_CLEARED], 16)
+}
+
+#[test]
+fn a_mobile_that_asks_while_a_channel_is_released_asks_again(rt: HostRuntime) -> Result<(), Fail> {
+    lives(&rt, &[ACCESS, IS_RELEASED], 13)
+}
+
+#[test]
+fn messages_that_wait_and_one_too_many_come_again(rt: HostRuntime) -> Result<(), Fail> {
+    let parts = thirty_three_down(rt.alloc())?;
+    lives(&rt, parts.as_slice(), 0)
+}
+
+#[test]
+fn assignments_that_wait_come_again(rt: HostRuntime) -> Result<(), Fail> {
+    lives(&rt, &[ACCESS, WAITS_IN_VAIN], 0)
+}
+
+#[test]
+fn an_assignment_that_waits_for_a_handover_comes_again(rt: HostRuntime) -> Result<(), Fail> {
+    lives(&rt, &[ACCESS, COMMANDED, WAITS_AND_BEGINS], 0)
+}
+
+#[test]
+fn reports_that_decide_nothing_come_again(rt: HostRuntime) -> Result<(), Fail> {
+    lives(&rt, &[ACCESS, STAYS], 1)
 }

@@ -1,14 +1,19 @@
 -- SPDX-License-Identifier: MIT OR Apache-2.0
 -- The call worker from state to state.
-use Rattle.std.proofs.Common.{◌≡◌, ℕ, ◌+◌, nat_lt, List, [], ◌++◌, length, Result, Ok, Err, refl, sym, ap, ◌∙◌, subst, append-nil, append_assoc, arith}
+use Rattle.std.proofs.Common.{◌≡◌, ℕ, ◌+◌, nat_lt, List, [], ◌∷◌, ◌++◌, length, Result, Ok, Err, refl, sym, ap, ◌∙◌, subst, append-nil, append_assoc, arith}
 use Rattle.std.specs.Prelude.{MatchResult}
 use Rattle.std.proofs.lemmas.Bool.{false≢true}
 use Rattle.std.specs.Result.{IsErr}
 use lib.ListN.{get_elem?}
 use Rattle.controller_worker.specs.Advancing.{Fits, Advances, AdvancesAlone, Extends, AdvancesPartly, State, ended_of, mark_at}
-use Rattle.controller_worker.specs.Moves.{Part, parts_of, steps_of, taken_of}
+use Rattle.controller_worker.specs.Moves.{Move, Part, takes, ticks, adds, refuses, down_of, parts_of, steps_of, taken_of}
+use Rattle.controller_worker.specs.Stopping.{IsStepOf, StopsAt}
 use Rattle.controller_worker.specs.Steps.{AreOfLinks, over, ticked, whats_of}
 use Rattle.controller_worker.specs.Taking.{HasTaken}
+use Rattle.controller.specs.Wanting.{MayWantMemory}
+use Rattle.controller_model.specs.declared.step.Step.{Step}
+use Rattle.controller_model.specs.declared.step.Step.TheVariants.{Take, Tick}
+use Rattle.controller_model.specs.Controller.{Controller}
 use Rattle.controller_worker.proofs.Histories.{next_both, of_links_both, parts_both, steps_both, taken_of_both, ticked_both, whats_both}
 use Rattle.ruled_relay.specs.declared.item.Item.{Item}
 use Rattle.ruled_relay.specs.Outbox.{PutterView}
@@ -42,9 +47,9 @@ on_both a b c link xs ys p q r f g = record {
 
 -- ---- the whole
 
-goes_on : (first last both : List Item) (a b c : State) (f : Advances first a b) (g : Advances last b c)
+course_on : (first last both : List Item) (a b c : State) (f : Advances first a b) (g : Advances last b c)
     → (taken_of f.moves ++ first) ++ (taken_of g.moves ++ last) ≡ (taken_of f.moves ++ taken_of g.moves) ++ both → Advances both a c
-goes_on first last both a b c f g items = record {
+course_on first last both a b c f g items = record {
   moves = f.moves ++ g.moves;
   controller =
       g.controller ∙ ap (λ d. (over d (steps_of g.moves)).next) f.controller ∙ sym (next_both a.controller (steps_of f.moves) (steps_of g.moves))
@@ -72,31 +77,49 @@ goes_on first last both a b c f g items = record {
       );
 }
 
-pub goes_both : (last : List Item) (a b c : State) → Advances [] a b → Advances last b c → Advances last a c
-goes_both last a b c f g =
-    goes_on [] last last a b c f g
+pub course_both : (last : List Item) (a b c : State) → Advances [] a b → Advances last b c → Advances last a c
+course_both last a b c f g =
+    course_on [] last last a b c f g
     (ap (λ is. is ++ (taken_of g.moves ++ last)) (append-nil (taken_of f.moves)) ∙ sym (append_assoc (taken_of f.moves) (taken_of g.moves) last))
 
--- no item was taken in the second part
+-- where no step is done no item is taken
+none_taken : (moves : List Move) → steps_of moves ≡ [] → taken_of moves ≡ []
+none_taken [] none = refl
+none_taken (takes item ∷ moves) none = let some : Take item ∷ steps_of moves ≡ [] = none in absurd cc
+none_taken (ticks ms ∷ moves) none = let some : Tick ms ∷ steps_of moves ≡ [] = none in absurd cc
+none_taken (adds link ∷ moves) none = let some : Take (down_of link) ∷ steps_of moves ≡ [] = none in absurd cc
+none_taken (refuses link ∷ moves) none = none_taken moves none
+
+-- no step was done in the second part
 pub part_both_alone : (a b c : State) → AdvancesPartly a b → AdvancesAlone b c → AdvancesPartly a c
-part_both_alone a b c (last, one, f) (g, none) =
-    let ts : List Item = taken_of f.moves in (
+part_both_alone a b c (last, one, f, stops) (g, still) =
+    let ts : List Item = taken_of f.moves in
+    let none = none_taken g.moves still in (
       last,
       one,
-      goes_on last [] last a b c f g
+      course_on last [] last a b c f g
           (ap (λ is. (ts ++ last) ++ (is ++ [])) none ∙ append-nil (ts ++ last) ∙ ap (λ is. is ++ last) (sym (append-nil ts) ∙ ap (λ is. ts ++ is) (sym none))),
+      subst (λ d. StopsAt last d) (sym (g.controller ∙ ap (λ ss. (over b.controller ss).next) still)) stops,
     )
 
 pub alone_both : (a b c : State) → AdvancesAlone a b → AdvancesAlone b c → AdvancesAlone a c
-unfolding goes_both goes_on
+unfolding course_both course_on
 alone_both a b c (f, none) (g, nothing) =
-    (goes_both [] a b c f g, taken_of_both f.moves g.moves ∙ ap (λ is. is ++ taken_of g.moves) none ∙ nothing)
+    (course_both [] a b c f g, steps_both f.moves g.moves ∙ ap (λ ss. ss ++ steps_of g.moves) none ∙ nothing)
 
-pub goes_both_part : (a b c : State) → Advances [] a b → AdvancesPartly b c → AdvancesPartly a c
-goes_both_part a b c f g = (g.0, g.1, goes_both g.0 a b c f g.2)
+pub course_both_part : (a b c : State) → Advances [] a b → AdvancesPartly b c → AdvancesPartly a c
+course_both_part a b c f g = (g.0, g.1, course_both g.0 a b c f g.2, g.3)
 
-pub part_of_goes : (a b : State) → Advances [] a b → AdvancesPartly a b
-part_of_goes a b f = ([], omega arith, f)
+pub part_of_course : (a b : State) → Advances [] a b → StopsAt [] b.controller → AdvancesPartly a b
+part_of_course a b f stops = ([], omega arith, f, stops)
+
+-- a step of no item that was taken
+pub stops_alone : (s : Step) (c : Controller) → MayWantMemory s c → IsStepOf [] s → StopsAt [] c
+stops_alone s c wants of_none = record {
+  step = s;
+  wants = wants;
+  which = of_none;
+}
 
 -- nothing was put, and no move made
 pub on_still : (old new : State) (link : ℕ) (p : PutterView) → new.ended ≡ old.ended → mark_at new.marks link ≡ mark_at old.marks link → Extends old new link [] p p
@@ -107,9 +130,9 @@ on_still old new link p ended mark = record {
       (subst (λ m. Fits (ended_of old link) p m link (past ++ [])) (sym mark) (subst (λ ps. Fits (ended_of old link) p (mark_at old.marks link) link ps) (sym (append-nil past)) f));
 }
 
-pub goes_still : (last : List Item) (old new : State) → new.controller ≡ old.controller → new.putters ≡ old.putters → new.ended ≡ old.ended
+pub course_still : (last : List Item) (old new : State) → new.controller ≡ old.controller → new.putters ≡ old.putters → new.ended ≡ old.ended
     → ((link : ℕ) → mark_at new.marks link ≡ mark_at old.marks link) → HasTaken old.desk last new.desk → new.told + old.gathered ≡ old.told + new.gathered → Advances last old new
-goes_still last old new controller putters ended marks desk time = record {
+course_still last old new controller putters ended marks desk time = record {
   moves = [];
   controller = controller;
   desk = desk;
@@ -120,19 +143,19 @@ goes_still last old new controller putters ended marks desk time = record {
   links = λ link p here. (p, ap (λ ps. get_elem? ps link) (sym putters) ∙ here, on_still old new link p ended (marks link));
 }
 
-pub goes_none : (s : State) → Advances [] s s
-goes_none s = goes_still [] s s refl refl refl (λ link. refl) (taken_none s.desk) refl
+pub course_none : (s : State) → Advances [] s s
+course_none s = course_still [] s s refl refl refl (λ link. refl) (taken_none s.desk) refl
 
 pub alone_none : (s : State) → AdvancesAlone s s
-unfolding goes_none goes_still
-alone_none s = (goes_none s, refl)
+unfolding course_none course_still
+alone_none s = (course_none s, refl)
 
 -- ---- calls that may run out of memory
 
 module _ {X E : Type 0} where
   pub by_both : (r : Result X E) (a b c : State) → Advances [] a b → MatchResult r (λ _. Advances [] b c) (λ _. AdvancesPartly b c) → MatchResult r (λ _. Advances [] a c) (λ _. AdvancesPartly a c)
-  by_both (Ok x) a b c f g = goes_both [] a b c f g
-  by_both (Err e) a b c f g = goes_both_part a b c f g
+  by_both (Ok x) a b c f g = course_both [] a b c f g
+  by_both (Err e) a b c f g = course_both_part a b c f g
 
   pub by_err : (r : Result X E) (a b : State) → IsErr r → AdvancesPartly a b → MatchResult r (λ _. Advances [] a b) (λ _. AdvancesPartly a b)
   by_err (Ok x) a b is f = absurd (false≢true is)

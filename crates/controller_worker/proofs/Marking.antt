@@ -34,8 +34,8 @@ ends_both a b c f g = record {
 on_ends : (a b c : State) (link : ℕ) (parts : List Part) (p q r : PutterView) → Extends a b link parts p q → Extends b c link [] q r → Extends a c link parts p r
 on_ends a b c link parts p q r f g = subst (λ ps. Extends a c link ps p r) (append-nil parts) (on_both a b c link parts [] p q r f g)
 
-pub goes_ends : (last : List Item) (a b c : State) → Advances last a b → Ends b c → Advances last a c
-goes_ends last a b c f g = record {
+pub course_ends : (last : List Item) (a b c : State) → Advances last a b → Ends b c → Advances last a c
+course_ends last a b c f g = record {
   moves = f.moves;
   controller = ap (λ s. s.controller) g.kept ∙ f.controller;
   desk = subst (λ d. HasTaken a.desk (taken_of f.moves ++ last) d) (sym (ap (λ s. s.desk) g.kept)) f.desk;
@@ -50,8 +50,8 @@ goes_ends last a b c f g = record {
 }
 
 pub alone_ends : (a b c : State) → AdvancesAlone a b → Ends b c → AdvancesAlone a c
-unfolding goes_ends
-alone_ends a b c f g = (goes_ends [] a b c f.0 g, f.1)
+unfolding course_ends
+alone_ends a b c f g = (course_ends [] a b c f.0 g, f.1)
 
 -- one outbox gets its mark
 fits_marked : (p q : PutterView) (m : Mark) (link : ℕ) (past : List Part) → PutsEnd p true q → m.waiting ≡ [] → Fits false p m link past → Fits true q m link (past ++ [])
@@ -114,5 +114,5 @@ finishes_ends a b f e = record {
 }
 
 pub finishes_on : (a b : State) → Finishes a → Advances [] a b → IsSettled b → b.gathered < TICK_MS → Finishes b
-finishes_on a b f goes settled gathered =
-    record { settled = settled; down = λ link h. goes.down link (f.down link (let n = goes.count in omega arith)); gathered = gathered }
+finishes_on a b f course settled gathered =
+    record { settled = settled; down = λ link h. course.down link (f.down link (let n = course.count in omega arith)); gathered = gathered }

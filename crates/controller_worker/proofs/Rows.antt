@@ -1,11 +1,17 @@
 -- SPDX-License-Identifier: MIT OR Apache-2.0
 -- What the definitions say of literal steps and lines.
-use Rattle.std.proofs.Common.{◌≡◌, ℕ, ◌+◌, true, false, List, [], ◌∷◌, ◌++◌, replicate, refl, arith, inl, inr, zero, suc}
+use Rattle.std.proofs.Common.{◌≡◌, ℕ, ◌+◌, true, false, List, [], ◌∷◌, ◌++◌, replicate, refl, subst, arith, inl, inr, zero, suc}
 use Rattle.atomic_table.specs.Seated.{TableId}
-use Rattle.controller_worker.specs.declared.limits.TheConstants.{TICK_MS}
+use Rattle.controller_worker.specs.declared.limits.TheConstants.{MAX_REFUSALS, MAX_WAITING, TICK_MS}
 use Rattle.controller_worker.specs.Links.{HasDown, is_given_up, lines}
 use Rattle.controller_worker.specs.Moves.{AreOther, IsElsewhere, IsRefused, IsSent, Move, Part, takes, ticks, adds, refuses, frames_in, refusals_in, refusing_of, steps_of, taken_of, times}
 use Rattle.controller_worker.specs.Steps.{frames_to, items_of, ticked, whats_of}
+use Rattle.controller_worker.specs.Stopping.{IsStepOf, StopsAt}
+use Rattle.controller.specs.Wanting.{MayWantFrame, MayWantMemory, MayWantWhat}
+use Rattle.controller_model.specs.Controller.{Controller, new_controller}
+use Rattle.controller_model.specs.declared.word.Word.TheVariants.{Nothing, Ping}
+use Rattle.controller_model.proofs.Lives.{usual_settings}
+use Rattle.controller_model.proofs.OnLiterals.{on_literals}
 use Rattle.conn_messages.specs.declared.out.Out.{Out}
 use Rattle.controller_model.specs.declared.step.Step.{Step}
 use Rattle.controller_model.specs.declared.step.Step.TheVariants.{Take, Tick}
@@ -33,6 +39,13 @@ some_steps = Take (of_frame 1 10) ∷ Tick 3000 ∷ Take (of_frame 0 20) ∷ Tak
 -- a tick is due once this many milliseconds have gathered
 hundred_milliseconds : TICK_MS ≡ 100
 hundred_milliseconds = refl
+
+-- an outbox is given up after so many refusals in a row, and so many frames wait for it at most
+thousand_refusals : MAX_REFUSALS ≡ 1000
+thousand_refusals = refl
+
+waiting_frames : MAX_WAITING ≡ 1024
+waiting_frames = refl
 
 time_of_steps : ticked some_steps ≡ 3099
 time_of_steps = refl
@@ -153,3 +166,32 @@ own_refusal_is_not_elsewhere (other, differs, inr e) = differs (let same : other
 
 down_taken : HasDown (whats.Frame (frame 10) ∷ whats.Down ∷ whats.Frame (frame 11) ∷ [])
 down_taken = (whats.Frame (frame 10) ∷ [], whats.Frame (frame 11) ∷ [], refl)
+
+-- ---- the step at which it ran out of memory
+
+abbrev resting : Controller
+resting = new_controller usual_settings
+
+-- PING and PONG of a station
+abbrev of_control : ℕ → Item
+of_control octet = record { source = 1; what = whats.Frame (record { stream = 0xfe; body = octet ∷ [] }) }
+
+at_ping : StopsAt (of_control 0x00 ∷ []) resting
+unfolding on_literals
+at_ping = record { step = Take (of_control 0x00); wants = (refl, inl refl); which = refl }
+
+pong_wants : MayWantFrame 1 (record { stream = 0xfe; body = 0x01 ∷ [] }) → ⊥
+unfolding on_literals
+pong_wants (inl said) = let same : Nothing ≡ Ping = said in absurd cc
+pong_wants (inr readable) = readable
+
+not_at_pong : StopsAt (of_control 0x01 ∷ []) resting → ⊥
+not_at_pong stops = pong_wants (subst (λ s. MayWantMemory s resting) stops.which stops.wants).1
+
+alone_wants : (s : Step) → IsStepOf [] s → MayWantMemory s resting → ⊥
+alone_wants (Tick ms) which wants = wants refl
+alone_wants (Take item) which wants = subst (λ w. MayWantWhat item.source w resting) which wants.1 refl
+
+-- without a connection it stops at no tick and at no added Down
+not_alone : StopsAt [] resting → ⊥
+not_alone stops = alone_wants stops.step stops.which stops.wants

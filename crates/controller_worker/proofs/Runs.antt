@@ -7,6 +7,7 @@ use mathlib.Core.Option.{some}
 use lib.ListN.{get_elem?}
 use Rattle.controller_worker.specs.declared.mark.Mark.{Mark}
 use Rattle.controller_worker.specs.Call.{AreNew, IsNew, Parts, Runs, Serves}
+use Rattle.controller_worker.specs.Stopping.{StopsAt}
 use Rattle.controller_worker.specs.Advancing.{Finishes, Fits, Advances, AdvancesAlone, Extends, AdvancesPartly, IsSettled, State, ended_of, mark_at, unmarked}
 use Rattle.controller_worker.specs.Links.{HasDown, is_given_up}
 use Rattle.controller_worker.specs.Moves.{IsSent, Move, Part, parts_of, taken_of}
@@ -60,20 +61,20 @@ serves : (fault : Option IoFault) (old new : State) (link : ℕ) (moves : List M
     → IsNew p → mark_at old.marks link ≡ unmarked → old.ended ≡ 0 → get_elem? new.putters link ≡ some q → new.ended ≡ length new.putters
     → (fault ≡ None → Finishes new) → Extends old new link (parts_of link old.controller moves) p q
     → Serves fault old.controller moves link p q
-serves fault old new link moves p q is_new none unended here ended finishes goes =
+serves fault old new link moves p q is_new none unended here ended finishes course =
     let parts : List Part = parts_of link old.controller moves in
     let room : link < length new.putters = within new.putters link q here in
     let no : nat_lt link 0 ≡ false = grind (arith, nat_tests) in
     let before : Fits (ended_of old link) p (mark_at old.marks link) link [] =
     subst (λ (n : ℕ). Fits (nat_lt link n) p (mark_at old.marks link) link []) (sym unended)
     (subst (λ m. Fits (nat_lt link 0) p m link []) (sym none) (subst (λ b. Fits b p unmarked link []) (sym no) (fits_new link p is_new))) in
-    let f = goes.fits [] before in
+    let f = course.fits [] before in
     let m : Mark = mark_at new.marks link in
     let all : ended_of new link ≡ true = grind (arith, nat_tests) in
     let c = subst (λ b. Fits b q m link parts) all f in
     let which : IsSent (is_given_up q) m.added link parts c.sent =
     subst (λ fs. IsSent (is_given_up q) m.added link parts fs) (ap (λ fs. c.sent ++ fs) (c.none.0 refl) ∙ append-nil c.sent) c.which in record {
-      queue = goes.queue;
+      queue = course.queue;
       sent = c.sent;
       put = c.put;
       added = m.added;
@@ -83,37 +84,39 @@ serves fault old new link moves p q is_new none unended here ended finishes goes
     }
 
 pub runs : (fault : Option IoFault) (last : List Item) (old new : State) (n : ℕ) → AreNew old.putters → old.marks ≡ replicate n unmarked → old.ended ≡ 0 → old.gathered ≡ 0 → Advances last old new
-    → new.ended ≡ length new.putters → length last ≤ 1 → (fault ≡ None → last ≡ []) → (fault ≡ None → Finishes new) → Runs fault (parts_given old) (parts_given new)
-runs fault last old new n fresh none unended start goes ended one no_last finishes = record {
-  moves = goes.moves;
-  controller = goes.controller;
+    → new.ended ≡ length new.putters → length last ≤ 1 → (fault ≡ None → last ≡ []) → ((fault ≡ None → ⊥) → StopsAt last new.controller) → (fault ≡ None → Finishes new)
+    → Runs fault (parts_given old) (parts_given new)
+runs fault last old new n fresh none unended start course ended one no_last stops finishes = record {
+  moves = course.moves;
+  controller = course.controller;
   last = last;
-  desk = goes.desk;
+  desk = course.desk;
   one = one;
   none = no_last;
+  stops = stops;
   gathered = new.gathered;
-  told = let t = goes.time in omega arith;
+  told = let t = course.time in omega arith;
   tick = λ no. (finishes no).gathered;
-  count = goes.count;
-  of_links = goes.of_links;
+  count = course.count;
+  of_links = course.of_links;
   links = λ link q here.
-      let p = goes.links link q here in (
+      let p = course.links link q here in (
         p.0,
         p.1,
-        serves fault old new link goes.moves p.0 q (fresh link p.0 p.1) (ap (λ ms. mark_at ms link) none ∙ mark_of_new n link) unended here ended finishes p.2,
+        serves fault old new link course.moves p.0 q (fresh link p.0 p.1) (ap (λ ms. mark_at ms link) none ∙ mark_of_new n link) unended here ended finishes p.2,
       );
 }
 
 pub runs_whole : (old new : State) (n : ℕ) → AreNew old.putters → old.marks ≡ replicate n unmarked → old.ended ≡ 0 → old.gathered ≡ 0 → Advances [] old new → Finishes new → new.ended ≡ length new.putters
     → Runs None (parts_given old) (parts_given new)
-runs_whole old new n fresh none unended start goes finishes ended =
-    runs None [] old new n fresh none unended start goes ended (omega arith) (λ no. refl) (λ no. finishes)
+runs_whole old new n fresh none unended start course finishes ended =
+    runs None [] old new n fresh none unended start course ended (omega arith) (λ no. refl) (λ some. absurd (some refl)) (λ no. finishes)
 
 no_fault : (fault : IoFault) → Some fault ≡ None → ⊥
 no_fault fault e = cc
 
 pub runs_part : (fault : IoFault) (old mid new : State) (n : ℕ) → AreNew old.putters → old.marks ≡ replicate n unmarked → old.ended ≡ 0 → old.gathered ≡ 0 → AdvancesPartly old mid → AdvancesAlone mid new
     → new.ended ≡ length new.putters → Runs (Some fault) (parts_given old) (parts_given new)
-runs_part fault old mid new n fresh none unended start goes ends ended =
-    let p = part_both_alone old mid new goes ends in
-    runs (Some fault) p.0 old new n fresh none unended start p.2 ended p.1 (λ no. absurd (no_fault fault no)) (λ no. absurd (no_fault fault no))
+runs_part fault old mid new n fresh none unended start course ends ended =
+    let p = part_both_alone old mid new course ends in
+    runs (Some fault) p.0 old new n fresh none unended start p.2 ended p.1 (λ no. absurd (no_fault fault no)) (λ some. p.3) (λ no. absurd (no_fault fault no))

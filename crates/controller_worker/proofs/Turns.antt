@@ -9,12 +9,13 @@ use lib.ListN.{get_elem?}
 use Rattle.atomic_table.proofs.Lists.{at_index, at_set}
 use Rattle.controller_worker.specs.declared.limits.TheConstants.{MAX_REFUSALS}
 use Rattle.controller_worker.specs.declared.mark.Mark.{Mark}
+use Rattle.controller.specs.Wanting.{MayWantMemory}
 use Rattle.controller_worker.specs.Advancing.{AreSent, DoesStep, Fits, Advances, AdvancesAlone, AdvancesPartly, IsCounted, IsPending, IsSettled, Sends, SendsAll, State, StayOpen, IsValid, end_mark, ended_of, mark_at, noted, unmarked, with_added}
 use Rattle.controller_worker.specs.Links.{HasDown, is_given_up, lines}
 use Rattle.controller_worker.specs.Moves.{AreElsewhere, AreOther, IsElsewhere, IsOther, IsRefused, IsSent, Part, takes, ticks, adds, refuses, down_of, frames_in, refusals_in, steps_of, taken_in, times}
 use Rattle.controller_worker.specs.Steps.{AreOfLinks, frames_to, over, ticked, whats_of}
 use Rattle.controller_worker.specs.Taking.{HasTaken}
-use Rattle.controller_worker.proofs.Courses.{goes_still, taken_none}
+use Rattle.controller_worker.proofs.Courses.{course_still, taken_none}
 use Rattle.controller_worker.proofs.Histories.{all_both_parts, elsewhere_tried, frames_in_both, frames_tried, last_tried, other_tried, parts_tried, refusals, refusals_in_both, refusals_tried, same_or, steps_tried, taken_in_both, taken_tried, tried}
 use Rattle.controller_worker.proofs.Outputs.{all_none, elsewhere, there_now}
 use Rattle.controller_worker.proofs.Resting.{rests}
@@ -266,12 +267,12 @@ one_step s tries = ap (λ (ss : List Step). s ∷ ss) (steps_tried tries)
 
 -- ---- refusals alone
 
-pub goes_tried : (old : State) (putters : List PutterView) (ms : List Mark) (tries : List ℕ) → SendsAll old.putters old.marks [] tries putters ms
+pub course_tried : (old : State) (putters : List PutterView) (ms : List Mark) (tries : List ℕ) → SendsAll old.putters old.marks [] tries putters ms
     → AdvancesAlone old (record old { putters = putters; marks = ms })
-goes_tried old putters ms tries sent =
+course_tried old putters ms tries sent =
     let new : State = record old { putters = putters; marks = ms } in
     let none = steps_tried tries in
-    let goes : Advances [] old new = record {
+    let course : Advances [] old new = record {
       moves = tried tries;
       controller = ap (λ (ss : List Step). (over old.controller ss).next) (sym none);
       desk = subst (λ is. HasTaken old.desk (is ++ []) old.desk) (sym (taken_tried tries)) (taken_none old.desk);
@@ -296,14 +297,14 @@ goes_tried old putters ms tries sent =
                   (λ h. down_more (taken_in link past) (taken_in link more) (f.down (sym (ap (λ y. y.down) (sent.kept link)) ∙ h))));
             },
           );
-    } in (goes, taken_tried tries)
+    } in (course, steps_tried tries)
 
 -- ---- steps
 
-pub goes_ticked : (old : State) (c : Controller) (putters : List PutterView) (kept : List Mark) (tries : List ℕ) (ms gathered : ℕ) → IsSettled old
+pub course_ticked : (old : State) (c : Controller) (putters : List PutterView) (kept : List Mark) (tries : List ℕ) (ms gathered : ℕ) → IsSettled old
     → c ≡ (words.step old.controller (Tick ms)).next → SendsAll old.putters old.marks (words.step old.controller (Tick ms)).outs tries putters kept
     → (0 < old.ended → (words.step old.controller (Tick ms)).outs ≡ []) → gathered + ms ≡ old.gathered → Advances [] old (stepped_to old c putters kept gathered)
-goes_ticked old c putters kept tries ms gathered settled next sent quiet time =
+course_ticked old c putters kept tries ms gathered settled next sent quiet time =
     let s : Step = Tick ms in
     let one : List Step = s ∷ [] in
     let after : Controller = (words.step old.controller s).next in
@@ -337,11 +338,11 @@ goes_ticked old c putters kept tries ms gathered settled next sent quiet time =
           );
     }
 
-pub goes_added : (old : State) (c : Controller) (putters : List PutterView) (kept : List Mark) (tries : List ℕ) (source : ℕ) → c ≡ (words.step old.controller (Take (down_of source))).next
+pub course_added : (old : State) (c : Controller) (putters : List PutterView) (kept : List Mark) (tries : List ℕ) (source : ℕ) → c ≡ (words.step old.controller (Take (down_of source))).next
     → SendsAll old.putters old.marks (words.step old.controller (Take (down_of source))).outs tries putters kept
     → (0 < old.ended → (words.step old.controller (Take (down_of source))).outs ≡ []) → IsPending old source → source < length kept
     → Advances [] old (stepped_to old c putters (with_added source kept) old.gathered)
-goes_added old c putters kept tries source next sent quiet pending room =
+course_added old c putters kept tries source next sent quiet pending room =
     let s : Step = Take (down_of source) in
     let after : Controller = (words.step old.controller s).next in
     let outs : List Out = (words.step old.controller s).outs in
@@ -420,12 +421,12 @@ none_taken : (link : ℕ) (tries : List ℕ) (ws : List What) → ws ++ taken_in
 none_taken link [] ws = append-nil ws
 none_taken link (at ∷ tries) ws = none_taken link tries ws
 
-pub goes_taken : (old : State) (desk : Row) (c : Controller) (putters : List PutterView) (kept : List Mark) (tries : List ℕ) (item : Item) (b : Bool) → IsSettled old
+pub course_taken : (old : State) (desk : Row) (c : Controller) (putters : List PutterView) (kept : List Mark) (tries : List ℕ) (item : Item) (b : Bool) → IsSettled old
     → queues_of desk ≡ queues_of old.desk → TakesItem old.desk item desk → c ≡ (words.step old.controller (Take item)).next
     → SendsAll old.putters old.marks (words.step old.controller (Take item)).outs tries putters kept → (0 < old.ended → (words.step old.controller (Take item)).outs ≡ [])
     → (b ≡ true → item.what ≡ whats.Down) → item.source < length kept → item.source < length old.putters
     → Advances [] old (record (stepped_to old c putters (noted b item.source kept) old.gathered) { desk = desk })
-goes_taken old desk c putters kept tries item b settled queues taken next sent quiet is_down room known =
+course_taken old desk c putters kept tries item b settled queues taken next sent quiet is_down room known =
     let s : Step = Take item in
     let after : Controller = (words.step old.controller s).next in
     let outs : List Out = (words.step old.controller s).outs in record {
@@ -474,20 +475,20 @@ goes_taken old desk c putters kept tries item b settled queues taken next sent q
 
 -- ---- what holds between calls
 
-pub stands_on : (s : Step) (old new : State) → IsValid old → DoesStep s old new → IsValid new
-stands_on s old new stands does =
+pub valid_on : (s : Step) (old new : State) → IsValid old → DoesStep s old new → IsValid new
+valid_on s old new valid does =
     let d : new.desk ≡ old.desk = ap (λ y. y.desk) does.kept in
     let e : new.ended ≡ old.ended = ap (λ y. y.ended) does.kept in record {
-      sources = ap (λ r. length r) d ∙ stands.sources ∙ sym does.sent.count;
-      marks = does.sent.marks ∙ stands.marks ∙ sym does.sent.count;
-      rest = λ h. ap (λ c. is_at_rest c) does.controller ∙ (rests old.controller s (stands.rest (omega arith))).1;
+      sources = ap (λ r. length r) d ∙ valid.sources ∙ sym does.sent.count;
+      marks = does.sent.marks ∙ valid.marks ∙ sym does.sent.count;
+      rest = λ h. ap (λ c. is_at_rest c) does.controller ∙ (rests old.controller s (valid.rest (omega arith))).1;
     }
 
 -- ---- a step
 
 pub does_nothing : (s : Step) (old : State) (c : Controller) (before outs : List Out) → IsValid old → before ≡ [] → c ≡ (words.step old.controller s).next → outs ≡ before ++ (words.step old.controller s).outs
     → outs ≡ [] → DoesStep s old (record old { controller = c })
-does_nothing s old c before outs stands first next put none =
+does_nothing s old c before outs valid first next put none =
     let nothing : (words.step old.controller s).outs ≡ [] = sym (put ∙ ap (λ b. b ++ (words.step old.controller s).outs) first) ∙ none in
     record {
       controller = next;
@@ -500,12 +501,12 @@ does_nothing s old c before outs stands first next put none =
 pub does_sent : (s : Step) (old new : State) (c : Controller) (before outs : List Out) (tries : List ℕ) → IsValid old → before ≡ [] → c ≡ (words.step old.controller s).next
     → outs ≡ before ++ (words.step old.controller s).outs → SendsAll old.putters old.marks outs tries new.putters new.marks
     → new ≡ record old { controller = c; putters = new.putters; marks = new.marks } → DoesStep s old new
-does_sent s old new c before outs tries stands first next put sent is =
+does_sent s old new c before outs tries valid first next put sent is =
     let all : outs ≡ (words.step old.controller s).outs = put ∙ ap (λ b. b ++ (words.step old.controller s).outs) first in record {
       controller = ap (λ y. y.controller) is ∙ next;
       tries = tries;
       sent = subst (λ os. SendsAll old.putters old.marks os tries new.putters new.marks) all sent;
-      quiet = λ h. (rests old.controller s (stands.rest h)).0;
+      quiet = λ h. (rests old.controller s (valid.rest h)).0;
       kept = is ∙ ap (λ k. record old { controller = k; putters = new.putters; marks = new.marks }) (sym (ap (λ y. y.controller) is));
     }
 
@@ -514,26 +515,35 @@ does_sent s old new c before outs tries stands first next put sent is =
 pub step_ticked : (old mid : State) (ms gathered : ℕ) → IsSettled old → DoesStep (Tick ms) old mid → gathered + ms ≡ mid.gathered → Advances [] old (record mid { gathered = gathered })
 step_ticked old mid ms gathered settled does time =
     subst (λ (y : State). Advances [] old (record y { gathered = gathered })) (sym does.kept)
-    (goes_ticked old mid.controller mid.putters mid.marks does.tries ms gathered settled does.controller does.sent does.quiet (time ∙ ap (λ y. y.gathered) does.kept))
+    (course_ticked old mid.controller mid.putters mid.marks does.tries ms gathered settled does.controller does.sent does.quiet (time ∙ ap (λ y. y.gathered) does.kept))
 
 pub step_added : (old mid : State) (source : ℕ) → DoesStep (Take (record { source = source; what = whats.Down })) old mid → IsPending old source → IsValid old
     → Advances [] old (record mid { marks = with_added source mid.marks })
-step_added old mid source does pending stands =
+step_added old mid source does pending valid =
     subst (λ (y : State). Advances [] old (record y { marks = with_added source mid.marks })) (sym does.kept)
-    (goes_added old mid.controller mid.putters mid.marks does.tries source does.controller does.sent does.quiet pending
-    (let h = pending.there in let e = stands.marks in let k = does.sent.marks in omega arith))
+    (course_added old mid.controller mid.putters mid.marks does.tries source does.controller does.sent does.quiet pending
+    (let h = pending.there in let e = valid.marks in let k = does.sent.marks in omega arith))
 
 pub step_taken : (old : State) (desk : Row) (mid : State) (item : Item) (b : Bool) → IsSettled old → queues_of desk ≡ queues_of old.desk → TakesItem old.desk item desk
     → DoesStep (Take item) (record old { desk = desk }) mid → (b ≡ true → item.what ≡ whats.Down) → item.source < length mid.marks → item.source < length old.putters
     → Advances [] old (record mid { marks = noted b item.source mid.marks })
 step_taken old desk mid item b settled queues taken does is_down room known =
     subst (λ (y : State). Advances [] old (record y { marks = noted b item.source mid.marks })) (sym does.kept)
-    (goes_taken old desk mid.controller mid.putters mid.marks does.tries item b settled queues taken does.controller does.sent does.quiet is_down room known)
+    (course_taken old desk mid.controller mid.putters mid.marks does.tries item b settled queues taken does.controller does.sent does.quiet is_down room known)
 
 -- an item was taken whose step ran out of memory
-pub goes_lost : (old : State) (desk : Row) (item : Item) → queues_of desk ≡ queues_of old.desk → TakesItem old.desk item desk → AdvancesPartly old (record old { desk = desk })
-goes_lost old desk item queues taken =
-    (item ∷ [], omega arith, goes_still (item ∷ []) old (record old { desk = desk }) refl refl refl (λ link. refl) (took_one old.desk desk item queues taken) refl)
+pub course_lost : (old : State) (desk : Row) (item : Item) → queues_of desk ≡ queues_of old.desk → TakesItem old.desk item desk → MayWantMemory (Take item) old.controller
+    → AdvancesPartly old (record old { desk = desk })
+course_lost old desk item queues taken wants = (
+  item ∷ [],
+  omega arith,
+  course_still (item ∷ []) old (record old { desk = desk }) refl refl refl (λ link. refl) (took_one old.desk desk item queues taken) refl,
+  record {
+    step = Take item;
+    wants = wants;
+    which = refl;
+  },
+)
 
 -- No outbox was given up at an item's step: what was settled is so.
 pub settled_taken : (s : Step) (old : State) (desk : Row) (mid : State) (b : Bool) (at : ℕ) (ms : List Mark) → IsSettled old → DoesStep s (record old { desk = desk }) mid
@@ -566,8 +576,8 @@ same_putter ps at p q e f = some-injective p q (sym e ∙ f)
 
 pub is_pending : (s : State) (link at at' : ℕ) (p : PutterView) (m : Mark) → IsValid s → at ≡ link → at' ≡ link → link < length s.putters → p ≡ get_or s.putters at p → m ≡ get_or s.marks at' m
     → (is_given_up p && not m.added) ≡ true → IsPending s link
-is_pending s link at at' p m stands is is' room putter mark pends =
-    let e = stands.marks in
+is_pending s link at at' p m valid is is' room putter mark pends =
+    let e = valid.marks in
     let h = and_true (is_given_up p) m.added pends in
     let marked : mark_at s.marks link ≡ m = sym (ap (λ i. mark_at s.marks i) is') ∙ mark_here s.marks at' m (omega arith) mark in
     let here : get_elem? s.putters at ≡ some p = at_index s.putters at p (omega arith) putter in record {
@@ -578,8 +588,8 @@ is_pending s link at at' p m stands is is' room putter mark pends =
 
 pub not_pending : (s : State) (link at at' : ℕ) (p : PutterView) (m : Mark) → IsValid s → at ≡ link → at' ≡ link → link < length s.putters → p ≡ get_or s.putters at p → m ≡ get_or s.marks at' m
     → (is_given_up p && not m.added) ≡ false → IsSettledTo link s → IsSettledTo (link + 1) s
-not_pending s link at at' p m stands is is' room putter mark pends so_far k q there below up =
-    let e = stands.marks in
+not_pending s link at at' p m valid is is' room putter mark pends so_far k q there below up =
+    let e = valid.marks in
     ⊎_elim
     (λ (h : k ≡ link).
     let here : get_elem? s.putters at ≡ some p = at_index s.putters at p (omega arith) putter in
@@ -593,39 +603,39 @@ all_settled s n all so_far link p here up = so_far link p here (let h = within s
 
 -- ---- the same, as the code has it
 
-pub stands_marked : (s : State) (ms : List Mark) → IsValid s → length ms ≡ length s.marks → IsValid (record s { marks = ms })
-stands_marked s ms stands same = record { sources = stands.sources; marks = same ∙ stands.marks; rest = stands.rest }
+pub valid_marked : (s : State) (ms : List Mark) → IsValid s → length ms ≡ length s.marks → IsValid (record s { marks = ms })
+valid_marked s ms valid same = record { sources = valid.sources; marks = same ∙ valid.marks; rest = valid.rest }
 
 pub length_added : (source : ℕ) (ms : List Mark) → length (with_added source ms) ≡ length ms
 length_added source ms = length_set ms source (record (mark_at ms source) { added = true })
 
 pub code_added : (old mid : State) (source at : ℕ) (ms : List Mark) → DoesStep (Take (record { source = source; what = whats.Down })) old mid → IsPending old source → IsValid old → at ≡ source
     → ms ≡ with_added at mid.marks → Advances [] old (record mid { marks = ms })
-code_added old mid source at ms does pending stands is marks =
-    subst (λ y. Advances [] old (record mid { marks = y })) (sym (marks ∙ ap (λ i. with_added i mid.marks) is)) (step_added old mid source does pending stands)
+code_added old mid source at ms does pending valid is marks =
+    subst (λ y. Advances [] old (record mid { marks = y })) (sym (marks ∙ ap (λ i. with_added i mid.marks) is)) (step_added old mid source does pending valid)
 
 pub code_taken : (old : State) (desk : Row) (mid : State) (item : Item) (b : Bool) (at : ℕ) (ms : List Mark) → IsSettled old → queues_of desk ≡ queues_of old.desk → TakesItem old.desk item desk
     → DoesStep (Take item) (record old { desk = desk }) mid → (b ≡ true → item.what ≡ whats.Down) → IsValid old → at ≡ item.source → ms ≡ noted b at mid.marks
     → Advances [] old (record mid { marks = ms })
-code_taken old desk mid item b at ms settled queues taken does is_down stands is marks =
+code_taken old desk mid item b at ms settled queues taken does is_down valid is marks =
     let room = within old.desk item.source taken.0 taken.1 in
-    let e = stands.sources in
-    let f = stands.marks in
+    let e = valid.sources in
+    let f = valid.marks in
     let m = does.sent.marks in
     subst (λ y. Advances [] old (record mid { marks = y })) (sym (marks ∙ ap (λ i. noted b i mid.marks) is))
     (step_taken old desk mid item b settled queues taken does is_down (omega arith) (omega arith))
 
 pub room_for : (old : State) (desk : Row) (mid : State) (item : Item) → TakesItem old.desk item desk → DoesStep (Take item) (record old { desk = desk }) mid → IsValid old
     → item.source < length mid.marks
-room_for old desk mid item taken does stands =
+room_for old desk mid item taken does valid =
     let room = within old.desk item.source taken.0 taken.1 in
-    let e = stands.sources in
-    let f = stands.marks in
+    let e = valid.sources in
+    let f = valid.marks in
     let m : length mid.marks ≡ length old.marks = does.sent.marks in omega arith
 
-pub stands_taken : (old : State) (desk : Row) (item : Item) → TakesItem old.desk item desk → IsValid old → IsValid (record old { desk = desk })
-stands_taken old desk item taken stands = record {
-  sources = ap (λ r. length r) taken.2 ∙ length_set old.desk item.source _ ∙ stands.sources;
-  marks = stands.marks;
-  rest = stands.rest;
+pub valid_taken : (old : State) (desk : Row) (item : Item) → TakesItem old.desk item desk → IsValid old → IsValid (record old { desk = desk })
+valid_taken old desk item taken valid = record {
+  sources = ap (λ r. length r) taken.2 ∙ length_set old.desk item.source _ ∙ valid.sources;
+  marks = valid.marks;
+  rest = valid.rest;
 }

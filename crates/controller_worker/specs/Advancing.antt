@@ -12,6 +12,7 @@ use Rattle.controller_worker.specs.Links.{HasDown, is_given_up, lines}
 use Rattle.controller_worker.specs.Moves.{IsSent, Move, Part, parts_of, refusals_in, steps_of}
 use Rattle.controller_worker.specs.Moves.{taken_in, taken_of, times}
 use Rattle.controller_worker.specs.Steps.{AreOfLinks, frames_to, over, ticked}
+use Rattle.controller_worker.specs.Stopping.{StopsAt}
 use Rattle.controller_worker.specs.Taking.{HasTaken}
 use Rattle.conn_messages.specs.declared.out.Out.{Out}
 use Rattle.controller_model.specs.declared.step.Step.{Step}
@@ -39,7 +40,8 @@ IsCounted most p = (p.refused ≤ most) × (p.refusals ≤ most)
 -- by whether the outbox was given up before and is now. What was sent and what waits are all; or
 -- what was sent are those before the one that was refused so often, and none waits; or nothing is
 -- tried.
-abbrev pub AreSent : Bool → Bool → List Frame → List Frame → List Frame → List Frame → ℕ → Type 0
+abbrev pub AreSent : Bool → Bool → List Frame → List Frame → List Frame → List Frame → ℕ
+    → Type 0
 AreSent false false waited came sent waiting refusals = sent ++ waiting ≡ waited ++ came
 AreSent false true waited came sent waiting refusals =
     (refused : Frame) × (rest : List Frame) × (waited ++ came ≡ sent ++ refused ∷ rest)
@@ -57,8 +59,10 @@ pub record Sends (old : PutterView) (waited came : List Frame) (refusals : ℕ)
   pub which : AreSent (is_given_up old) (is_given_up new) waited came sent waiting refusals
   pub counted : (before : ℕ) → IsCounted before old → IsCounted (before + refusals) new
 
-abbrev pub SendsSome : PutterView → List Frame → List Frame → PutterView → List Frame → Type 0
-SendsSome old waited came new waiting = (refusals : ℕ) × Sends old waited came refusals new waiting
+abbrev pub SendsSome : PutterView → List Frame → List Frame → PutterView → List Frame
+    → Type 0
+SendsSome old waited came new waiting =
+    (refusals : ℕ) × Sends old waited came refusals new waiting
 
 -- each outbox that is given up was so before
 abbrev pub StayOpen : List PutterView → List PutterView → Type 0
@@ -73,8 +77,8 @@ mark_at ms link = slice_index_or ms link unmarked
 
 -- Each output came to its link's outbox, behind what waited; these outboxes refused a frame, in
 -- this order.
-pub record SendsAll (old : List PutterView) (before : List Mark) (outs : List Out) (tries : List ℕ)
-    (new : List PutterView) (after : List Mark) : Type 0 where
+pub record SendsAll (old : List PutterView) (before : List Mark) (outs : List Out)
+    (tries : List ℕ) (new : List PutterView) (after : List Mark) : Type 0 where
   pub count : length new ≡ length old
   pub marks : length after ≡ length before
   pub kept : (link : ℕ) → mark_at after link
@@ -161,14 +165,16 @@ pub record Advances (last : List Item) (old new : State) : Type 0 where
 -- the same up to a step that ran out of memory
 abbrev pub AdvancesPartly : State → State → Type 0
 AdvancesPartly old new = (last : List Item) × (length last ≤ 1) × Advances last old new
+    × StopsAt last new.controller
 
--- the same, where no item is taken
+-- the same, where no step is done
 abbrev pub AdvancesAlone : State → State → Type 0
-AdvancesAlone old new = (goes : Advances [] old new) × (taken_of goes.moves ≡ [])
+AdvancesAlone old new = (course : Advances [] old new) × (steps_of course.moves ≡ [])
 
 -- from one state to a later one, or up to a step that ran out of memory
-abbrev pub GoesOrStops : {X E : Type 0} → Result X E → State → State → Type 0
-GoesOrStops result old new = MatchResult result (λ _. Advances [] old new) (λ _. AdvancesPartly old new)
+abbrev pub AdvancesBy : {X E : Type 0} → Result X E → State → State → Type 0
+AdvancesBy result old new =
+    MatchResult result (λ _. Advances [] old new) (λ _. AdvancesPartly old new)
 
 -- ---- what holds between calls
 

@@ -12,6 +12,7 @@ use Rattle.controller_worker.specs.Advancing.{unmarked}
 use Rattle.controller_worker.specs.Links.{HasDown, is_given_up, lines}
 use Rattle.controller_worker.specs.Moves.{IsSent, Move, parts_of, steps_of, taken_of}
 use Rattle.controller_worker.specs.Steps.{AreOfLinks, over, ticked, whats_of}
+use Rattle.controller_worker.specs.Stopping.{StopsAt}
 use Rattle.controller_worker.specs.Taking.{HasTaken}
 use Rattle.controller_model.specs.Controller.{Controller}
 use Rattle.ipa_framing.specs.declared.frame.Frame.{Frame}
@@ -63,9 +64,9 @@ relayed_parts told r = record {
 }
 
 -- A run of the call worker, which ended with this fault or with none. The items of the moves are
--- those that were taken, but for one at most, the last, whose step ran out of memory. The item of
--- each step is of a link. The ticks are what the clock answered; less than a tick is left without a
--- fault.
+-- those that were taken, but for one at most, the last, whose step ran out of memory. With a fault
+-- it ended at a step that may want memory. The item of each step is of a link. The ticks are what
+-- the clock answered; less than a tick is left without a fault.
 pub record Runs (fault : Option IoFault) (old new : Parts) : Type 0 where
   pub moves : List Move
   pub controller : new.controller ≡ (over old.controller (steps_of moves)).next
@@ -73,6 +74,7 @@ pub record Runs (fault : Option IoFault) (old new : Parts) : Type 0 where
   pub desk : HasTaken old.desk (taken_of moves ++ last) new.desk
   pub one : length last ≤ 1
   pub none : fault ≡ None → last ≡ []
+  pub stops : (fault ≡ None → ⊥) → StopsAt last new.controller
   pub gathered : ℕ
   pub told : new.told ≡ old.told + ticked (steps_of moves) + gathered
   pub tick : fault ≡ None → gathered < TICK_MS

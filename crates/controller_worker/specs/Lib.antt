@@ -5,4 +5,5 @@ pub mod Links
 pub mod Moves
 pub mod Seen
 pub mod Steps
+pub mod Stopping
 pub mod Taking

@@ -2,7 +2,7 @@
 ghost use Rattle.std.specs.Prelude.{◌≡◌, ◌<◌, ◌↔◌, length, IsTrue, OnOk, replicate};
 ghost use Rattle.std.specs.Prelude.{vec_len};
 ghost use Rattle.controller_worker.specs.Call.{AreNew, AreUnmarked, IsMemory, Runs, relayed_parts};
-ghost use Rattle.controller_worker.specs.Advancing.{AreAllDown, Finishes, GoesOrStops, IsSettled};
+ghost use Rattle.controller_worker.specs.Advancing.{AreAllDown, Finishes, AdvancesBy, IsSettled};
 ghost use Rattle.controller_worker.specs.Advancing.{IsValid, unmarked};
 ghost use Rattle.controller_worker.specs.Seen.{seen};
 
@@ -31,11 +31,11 @@ pub struct HasRelayed<K> {
 
 /// Relays until each link has ended: takes the items of all links, and the time that the clock
 /// tells, and puts what the controller puts into the links' outboxes, the switch's first. It ends
-/// when a `Down` of each link was taken, or with `Memory`, the only fault; then it puts `End` into
-/// each outbox.
+/// when a `Down` of each link was taken, or with `Memory`, the only fault, at a step that may want
+/// memory; then it puts `End` into each outbox. No frame ends it that its codec refuses.
 ///
 /// What a full outbox refuses waits in a list of its link, 1,024 frames at most, and what comes
-/// behind it too. The outbox is tried again once a millisecond, while the worker goes on with the
+/// behind it too. The outbox is tried again once a millisecond, while the worker serves the
 /// other links; of a link whose list is full no item is taken. Only where the list of a link is
 /// full and another link gives a frame for it, the worker waits for it.
 ///
@@ -101,7 +101,7 @@ impl<K: Clock> CallWorker<K> {
         requires sources { length self.old.desk ≡ vec_len self.old.putters }
         requires start { (self.old.marks.items ≡ replicate (vec_len self.old.putters) unmarked)
             × (self.old.ended ≡ 0) × (self.old.gathered ≡ 0) }
-        ensures goes { GoesOrStops result (seen K.told self.old) (seen K.told self.new) }
+        ensures course { AdvancesBy result (seen K.told self.old) (seen K.told self.new) }
         ensures marks { length self.new.marks.items ≡ length self.new.putters.items }
         ensures finishes { OnOk result (Finishes (seen K.told self.new)) }
         ensures ended { OnOk result (self.new.ended ≡ vec_len self.new.putters) }
@@ -112,11 +112,11 @@ impl<K: Clock> CallWorker<K> {
 
     // Until a `Down` of each link was taken, and no frame waits.
     fn take_all<R: Wait>(&mut self, rt: &R) -> Result<(), Memory>
-        requires stands { IsValid (seen K.told self.old) }
+        requires valid { IsValid (seen K.told self.old) }
         requires settled { IsSettled (seen K.told self.old) }
         requires gathered { self.old.gathered < TICK_MS }
-        ensures stands { IsValid (seen K.told self.new) }
-        ensures goes { GoesOrStops result (seen K.told self.old) (seen K.told self.new) }
+        ensures valid { IsValid (seen K.told self.new) }
+        ensures course { AdvancesBy result (seen K.told self.old) (seen K.told self.new) }
         ensures finishes { OnOk result (Finishes (seen K.told self.new)) }
     {
         for _ in rt.forever() {
@@ -145,11 +145,11 @@ impl<K: Clock> CallWorker<K> {
     // Until something is there to be taken, or a tick is due; but while frames wait for an outbox
     // that is tried again.
     fn rest<R: Wait>(&mut self, rt: &R) -> Result<(), Memory>
-        requires stands { IsValid (seen K.told self.old) }
+        requires valid { IsValid (seen K.told self.old) }
         requires settled { IsSettled (seen K.told self.old) }
         requires gathered { self.old.gathered < TICK_MS }
-        ensures stands { IsValid (seen K.told self.new) }
-        ensures goes { GoesOrStops result (seen K.told self.old) (seen K.told self.new) }
+        ensures valid { IsValid (seen K.told self.new) }
+        ensures course { AdvancesBy result (seen K.told self.old) (seen K.told self.new) }
         ensures settled { OnOk result (IsSettled (seen K.told self.new)) }
         ensures gathered { OnOk result (self.new.gathered < TICK_MS) }
     {

@@ -1,7 +1,7 @@
 // SPDX-License-Identifier: MIT OR Apache-2.0
 //! The mark behind the last frame, put into each outbox.
 ghost use Rattle.std.specs.Prelude.{◌≡◌, length, OnOk, vec_len};
-ghost use Rattle.controller_worker.specs.Advancing.{AdvancesAlone, Ends, Finishes, GoesOrStops};
+ghost use Rattle.controller_worker.specs.Advancing.{AdvancesAlone, Ends, Finishes, AdvancesBy};
 ghost use Rattle.controller_worker.specs.Advancing.{PutsEnd, IsValid};
 ghost use Rattle.controller_worker.specs.Seen.{seen};
 
@@ -16,9 +16,9 @@ impl<K: Clock> CallWorker<K> {
     /// Puts the mark into each outbox. While one refuses it time is passed on and items are taken,
     /// as long as nothing can come of them.
     pub(crate) fn end_meanwhile<R: Wait>(&mut self, rt: &R) -> Result<(), Memory>
-        requires stands { IsValid (seen K.told self.old) }
+        requires valid { IsValid (seen K.told self.old) }
         requires finishes { Finishes (seen K.told self.old) }
-        ensures goes { GoesOrStops result (seen K.told self.old) (seen K.told self.new) }
+        ensures course { AdvancesBy result (seen K.told self.old) (seen K.told self.new) }
         ensures marks { length self.new.marks.items ≡ length self.new.putters.items }
         ensures finishes { OnOk result (Finishes (seen K.told self.new)) }
         ensures ended { OnOk result (self.new.ended ≡ vec_len self.new.putters) }
@@ -42,7 +42,7 @@ impl<K: Clock> CallWorker<K> {
         requires finishes { Finishes (seen K.told self.old) }
         ensures sources { length self.new.desk ≡ length self.new.putters.items }
         ensures marks { length self.new.marks.items ≡ length self.new.putters.items }
-        ensures goes { GoesOrStops result (seen K.told self.old) (seen K.told self.new) }
+        ensures course { AdvancesBy result (seen K.told self.old) (seen K.told self.new) }
         ensures finishes { OnOk result (Finishes (seen K.told self.new)) }
     {
         if !self.controller.is_at_rest() {
@@ -57,7 +57,7 @@ impl<K: Clock> CallWorker<K> {
     /// Puts what waits, and then the mark, into each outbox, and does no step meanwhile.
     pub(crate) fn end_alone<R: Wait>(&mut self, rt: &R)
         requires { length self.old.marks.items ≡ length self.old.putters.items }
-        ensures goes { AdvancesAlone (seen K.told self.old) (seen K.told self.new) }
+        ensures course { AdvancesAlone (seen K.told self.old) (seen K.told self.new) }
         ensures ended { self.new.ended ≡ vec_len self.new.putters }
     {
         let mut pauses = Pauses::new();

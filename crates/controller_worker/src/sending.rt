@@ -27,7 +27,9 @@ pub(crate) struct Sent {
 
 impl Sent {
     fn and(self, other: Sent) -> Sent
-        ensures { result.gives_up ≡ false → (self.gives_up ≡ false) × (other.gives_up ≡ false) }
+        ensures waits { result.waits ≡ false → (self.waits ≡ false) × (other.waits ≡ false) }
+        ensures gives_up { result.gives_up ≡ false
+            → (self.gives_up ≡ false) × (other.gives_up ≡ false) }
     {
         Sent {
             waits: self.waits || other.waits,
@@ -37,7 +39,7 @@ impl Sent {
 }
 
 /// Puts each output into its link's outbox, in order, or lets it wait, and leaves none of them.
-/// What goes to no link is dropped.
+/// What is for no link is dropped.
 pub(crate) fn send_all<R: Wait>(
     rt: &R,
     putters: &mut Vec<Putter>,
@@ -116,6 +118,8 @@ fn send<R: Wait>(rt: &R, putter: &mut Putter, waiting: &mut Waiting, frame: Fram
 fn make_room<R: Wait>(rt: &R, putter: &mut Putter, waiting: &mut Waiting)
     ensures sends { SendsSome putter.old waiting.old [] putter.new waiting.new }
     ensures room { given_up putter.new ≡ false → length waiting.new < MAX_WAITING }
+    ensures none { length waiting.old < MAX_WAITING
+        → (waiting.new ≡ waiting.old) × (putter.new ≡ putter.old) }
 {
     let mut pauses = Pauses::new();
     for _ in rt.forever() {

@@ -1,7 +1,8 @@
 // SPDX-License-Identifier: MIT OR Apache-2.0
 //! A step of the controller that the clock is shown.
-ghost use Rattle.std.specs.Prelude.{◌≡◌, [], OnOk, OnErr};
+ghost use Rattle.std.specs.Prelude.{◌≡◌, [], IfErr, OnOk, OnErr};
 ghost use Rattle.controller.specs.Doing.{Turns};
+ghost use Rattle.controller.specs.Wanting.{MayWantMemory};
 ghost use Rattle.controller_model.specs.Life as words;
 ghost use Rattle.controller_worker.specs.Seen.{seen};
 
@@ -19,6 +20,7 @@ impl<K: Clock> CallWorker<K> {
         ensures kept { OnOk result (seen K.told self.new
             ≡ record (seen K.told self.old) { controller = self.new.controller }) }
         ensures err { OnErr result (seen K.told self.new ≡ seen K.told self.old) }
+        ensures memory { IfErr result (λ _. MayWantMemory step self.old.controller) }
     {
         self.outputs.clear();
         self.controller.run_shown(&step, &mut self.outputs)?;

@@ -1,7 +1,7 @@
 // SPDX-License-Identifier: MIT OR Apache-2.0
 //! What waits for full outboxes, tried again once a millisecond.
 ghost use Rattle.std.specs.Prelude.{◌≡◌, ◌<◌, length, OnOk};
-ghost use Rattle.controller_worker.specs.Advancing.{AdvancesAlone, GoesOrStops, IsSettled, IsValid};
+ghost use Rattle.controller_worker.specs.Advancing.{AdvancesAlone, AdvancesBy, IsSettled, IsValid};
 ghost use Rattle.controller_worker.specs.Seen.{seen};
 
 use crate::clock::Clock;
@@ -18,11 +18,11 @@ impl<K: Clock> CallWorker<K> {
     /// millisecond, until an item is there and was taken, none waits, or it is time to ask the
     /// clock.
     pub(crate) fn wait_for_room<R: Wait>(&mut self, rt: &R) -> Result<(), Memory>
-        requires stands { IsValid (seen K.told self.old) }
+        requires valid { IsValid (seen K.told self.old) }
         requires settled { IsSettled (seen K.told self.old) }
         requires gathered { self.old.gathered < TICK_MS }
-        ensures stands { IsValid (seen K.told self.new) }
-        ensures goes { GoesOrStops result (seen K.told self.old) (seen K.told self.new) }
+        ensures valid { IsValid (seen K.told self.new) }
+        ensures course { AdvancesBy result (seen K.told self.old) (seen K.told self.new) }
         ensures settled { OnOk result (IsSettled (seen K.told self.new)) }
         ensures gathered { OnOk result (self.new.gathered < TICK_MS) }
     {
@@ -45,10 +45,10 @@ impl<K: Clock> CallWorker<K> {
 
     /// Tries each outbox for which frames wait, if a millisecond has passed since that was done.
     pub(crate) fn try_if_due<R: Wait>(&mut self, rt: &R) -> Result<(), Memory>
-        requires stands { IsValid (seen K.told self.old) }
+        requires valid { IsValid (seen K.told self.old) }
         requires settled { IsSettled (seen K.told self.old) }
-        ensures stands { IsValid (seen K.told self.new) }
-        ensures goes { GoesOrStops result (seen K.told self.old) (seen K.told self.new) }
+        ensures valid { IsValid (seen K.told self.new) }
+        ensures course { AdvancesBy result (seen K.told self.old) (seen K.told self.new) }
         ensures settled { OnOk result (IsSettled (seen K.told self.new)) }
         ensures gathered { self.new.gathered ≡ self.old.gathered }
     {
@@ -61,9 +61,9 @@ impl<K: Clock> CallWorker<K> {
     // Puts what waits, as far as it can be put. Where an outbox is given up its link's `Down` is
     // next.
     fn try_outboxes<R: Wait>(&mut self, rt: &R) -> Result<(), Memory>
-        requires stands { IsValid (seen K.told self.old) }
-        ensures stands { IsValid (seen K.told self.new) }
-        ensures goes { GoesOrStops result (seen K.told self.old) (seen K.told self.new) }
+        requires valid { IsValid (seen K.told self.old) }
+        ensures valid { IsValid (seen K.told self.new) }
+        ensures course { AdvancesBy result (seen K.told self.old) (seen K.told self.new) }
         ensures settled { OnOk result (IsSettled (seen K.told self.new)) }
         ensures gathered { self.new.gathered ≡ self.old.gathered }
     {
@@ -74,7 +74,7 @@ impl<K: Clock> CallWorker<K> {
     /// Puts what waits, as far as it can be put, and does no step.
     pub(crate) fn put_waiting<R: Wait>(&mut self, rt: &R)
         requires { length self.old.marks.items ≡ length self.old.putters.items }
-        ensures goes { AdvancesAlone (seen K.told self.old) (seen K.told self.new) }
+        ensures course { AdvancesAlone (seen K.told self.old) (seen K.told self.new) }
         ensures same { seen K.told self.new ≡ record (seen K.told self.old) {
           putters = self.new.putters.items;
           marks = self.new.marks.items;

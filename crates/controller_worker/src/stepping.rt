@@ -3,8 +3,9 @@
 //! that was given up.
 ghost use Rattle.std.specs.Prelude.{◌≡◌, ℕ, ◌+◌, ◌<◌, ◌^◌, ◌↔◌, List, [], length, min};
 ghost use Rattle.std.specs.Prelude.{IsTrue, MatchOption, false};
-ghost use Rattle.std.specs.Prelude.{IfOk, OnOk, OnErr, vec_len};
-ghost use Rattle.controller_worker.specs.Advancing.{DoesStep, Advances, GoesOrStops, IsPending};
+ghost use Rattle.std.specs.Prelude.{IfErr, IfOk, OnOk, OnErr, vec_len};
+ghost use Rattle.controller.specs.Wanting.{MayWantMemory};
+ghost use Rattle.controller_worker.specs.Advancing.{DoesStep, Advances, AdvancesBy, IsPending};
 ghost use Rattle.controller_worker.specs.Advancing.{IsSettled};
 ghost use Rattle.controller_worker.specs.Advancing.{SendsAll, StayOpen, IsValid, noted, pends};
 ghost use Rattle.controller_worker.specs.Advancing.{with_added};
@@ -26,11 +27,11 @@ impl<K: Clock> CallWorker<K> {
     /// Asks the clock, passes on what has gathered once that is a tick, tries the full outboxes
     /// once a millisecond has passed, and takes an item, if there is one. Says whether there was.
     pub(crate) fn turn<R: Wait>(&mut self, rt: &R) -> Result<bool, Memory>
-        requires stands { IsValid (seen K.told self.old) }
+        requires valid { IsValid (seen K.told self.old) }
         requires settled { IsSettled (seen K.told self.old) }
         requires gathered { self.old.gathered < TICK_MS }
-        ensures stands { IsValid (seen K.told self.new) }
-        ensures goes { GoesOrStops result (seen K.told self.old) (seen K.told self.new) }
+        ensures valid { IsValid (seen K.told self.new) }
+        ensures course { AdvancesBy result (seen K.told self.old) (seen K.told self.new) }
         ensures settled { OnOk result (IsSettled (seen K.told self.new)) }
         ensures gathered { OnOk result (self.new.gathered < TICK_MS) }
     {
@@ -41,11 +42,11 @@ impl<K: Clock> CallWorker<K> {
 
     // In two ticks where it is over a `u32`.
     fn pass_time<R: Wait>(&mut self, rt: &R) -> Result<(), Memory>
-        requires stands { IsValid (seen K.told self.old) }
+        requires valid { IsValid (seen K.told self.old) }
         requires settled { IsSettled (seen K.told self.old) }
         requires gathered { self.old.gathered < TICK_MS }
-        ensures stands { IsValid (seen K.told self.new) }
-        ensures goes { GoesOrStops result (seen K.told self.old) (seen K.told self.new) }
+        ensures valid { IsValid (seen K.told self.new) }
+        ensures course { AdvancesBy result (seen K.told self.old) (seen K.told self.new) }
         ensures settled { OnOk result (IsSettled (seen K.told self.new)) }
         ensures gathered { OnOk result (self.new.gathered < TICK_MS) }
     {
@@ -62,12 +63,13 @@ impl<K: Clock> CallWorker<K> {
 
     fn ask_clock(&mut self)
         requires { self.old.gathered < TICK_MS }
-        ensures goes { Advances [] (seen K.told self.old) (seen K.told self.new) }
+        ensures course { Advances [] (seen K.told self.old) (seen K.told self.new) }
         ensures same { seen K.told self.new ≡ record (seen K.told self.old) {
           told = K.told self.new.clock;
           gathered = self.new.gathered;
         } }
         ensures gathered { self.new.gathered < TICK_MS + 2 ^ 32 }
+        ensures napped { self.new.has_napped ≡ false }
     {
         let ms = self.clock.elapsed();
         self.gathered += u64::from(ms);
@@ -77,10 +79,10 @@ impl<K: Clock> CallWorker<K> {
 
     // Passes on as much of what has gathered as a tick can.
     fn tick<R: Wait>(&mut self, rt: &R) -> Result<(), Memory>
-        requires stands { IsValid (seen K.told self.old) }
+        requires valid { IsValid (seen K.told self.old) }
         requires settled { IsSettled (seen K.told self.old) }
-        ensures stands { IsValid (seen K.told self.new) }
-        ensures goes { GoesOrStops result (seen K.told self.old) (seen K.told self.new) }
+        ensures valid { IsValid (seen K.told self.new) }
+        ensures course { AdvancesBy result (seen K.told self.old) (seen K.told self.new) }
         ensures settled { OnOk result (IsSettled (seen K.told self.new)) }
         ensures gathered { OnOk result
             (self.new.gathered + min self.old.gathered 4294967295 ≡ self.old.gathered) }
@@ -93,10 +95,10 @@ impl<K: Clock> CallWorker<K> {
 
     /// Takes an item, if there is one, and says whether there was.
     pub(crate) fn take<R: Wait>(&mut self, rt: &R) -> Result<bool, Memory>
-        requires stands { IsValid (seen K.told self.old) }
+        requires valid { IsValid (seen K.told self.old) }
         requires settled { IsSettled (seen K.told self.old) }
-        ensures stands { IsValid (seen K.told self.new) }
-        ensures goes { GoesOrStops result (seen K.told self.old) (seen K.told self.new) }
+        ensures valid { IsValid (seen K.told self.new) }
+        ensures course { AdvancesBy result (seen K.told self.old) (seen K.told self.new) }
         ensures settled { OnOk result (IsSettled (seen K.told self.new)) }
         ensures gathered { self.new.gathered ≡ self.old.gathered }
     {
@@ -115,10 +117,10 @@ impl<K: Clock> CallWorker<K> {
 
     // Adds the `Down`s that are to be added, where an outbox may have been given up.
     fn settle<R: Wait>(&mut self, rt: &R, gives_up: bool) -> Result<(), Memory>
-        requires stands { IsValid (seen K.told self.old) }
+        requires valid { IsValid (seen K.told self.old) }
         requires settled { gives_up ≡ false → IsSettled (seen K.told self.old) }
-        ensures stands { IsValid (seen K.told self.new) }
-        ensures goes { GoesOrStops result (seen K.told self.old) (seen K.told self.new) }
+        ensures valid { IsValid (seen K.told self.new) }
+        ensures course { AdvancesBy result (seen K.told self.old) (seen K.told self.new) }
         ensures settled { OnOk result (IsSettled (seen K.told self.new)) }
         ensures gathered { self.new.gathered ≡ self.old.gathered }
     {
@@ -131,9 +133,9 @@ impl<K: Clock> CallWorker<K> {
     /// Of each link whose outbox was given up and whose `Down` wasn't added yet, the `Down` is the
     /// next step. Its writer is told, so that it shuts the link once it has written what waits.
     pub(crate) fn add_downs<R: Wait>(&mut self, rt: &R) -> Result<(), Memory>
-        requires stands { IsValid (seen K.told self.old) }
-        ensures stands { IsValid (seen K.told self.new) }
-        ensures goes { GoesOrStops result (seen K.told self.old) (seen K.told self.new) }
+        requires valid { IsValid (seen K.told self.old) }
+        ensures valid { IsValid (seen K.told self.new) }
+        ensures course { AdvancesBy result (seen K.told self.old) (seen K.told self.new) }
         ensures settled { OnOk result (IsSettled (seen K.told self.new)) }
         ensures gathered { self.new.gathered ≡ self.old.gathered }
     {
@@ -173,7 +175,8 @@ impl<K: Clock> CallWorker<K> {
         ensures stay { IfOk result (λ gives_up. gives_up ≡ false
             → StayOpen self.old.putters.items self.new.putters.items) }
         ensures err { OnErr result (seen K.told self.new ≡ seen K.told self.old) }
-        ensures stands { IsValid (seen K.told self.new) }
+        ensures memory { IfErr result (λ _. MayWantMemory step self.old.controller) }
+        ensures valid { IsValid (seen K.told self.new) }
     {
         self.step_shown(step)?;
         if self.outputs.is_empty() {

@@ -50,7 +50,7 @@ fn put_names(stream: u8, said: &Said, line: &mut Vec<u8>) -> Result<(), Memory>
     Ok(())
 }
 
-/// Appends the column of what a frame says beside its name: the tab stands in place of the first
+/// Appends the column of what a frame says beside its name: the tab is in place of the first
 /// space.
 fn put_said(said: &Said, line: &mut Vec<u8>) -> Result<(), Failure>
     ensures { OnOk result (line.new.items ≡ line.old.items

@@ -1,6 +1,6 @@
 -- SPDX-License-Identifier: MIT OR Apache-2.0
 -- Definitions against literal reports and settings.
-use Rattle.std.proofs.Common.{◌≡◌, ◌≢◌, ℕ, ◌<◌, ◌≤◌, true, false, List, [], ◌∷◌, replicate, Some, None, refl, sym, subst, arith, inl, inr}
+use Rattle.std.proofs.Common.{◌≡◌, ◌≢◌, ℕ, ◌<◌, ◌≤◌, true, false, true≢false, List, [], ◌∷◌, replicate, Some, None, refl, sym, subst, arith, inl, inr}
 use Rattle.std.proofs.lemmas.Bool.{cases_lt}
 use Rattle.dtap_codec.specs.declared.report.Neighbour.{Neighbour}
 use Rattle.dtap_codec.specs.declared.report.Report.{Report}
@@ -10,7 +10,7 @@ use Rattle.ho_decision.specs.declared.decision.Decision.TheVariants.{Stay, Move}
 use Rattle.ho_decision.specs.Average.{last, serving_average, neighbour_average, quality, level_in}
 use Rattle.ho_decision.specs.Decision.{is_bad, is_due, bound, average_at, Decides, IsOther}
 use Rattle.ho_decision.specs.Settings.{Settings, settings_of, IsAllowed, others, other_arfcns}
-use Rattle.ho_decision.specs.State.{new_state, after_report}
+use Rattle.ho_decision.specs.State.{new_state, after_report, IsCompared}
 
 abbrev cell : ℕ → ℕ → Cell
 cell arfcn bsic = record { arfcn = arfcn; bsic = bsic }
@@ -197,6 +197,19 @@ nothing_received = refl
 
 little_received : is_due two (alone 0 0 ∷ alone 2 0 ∷ []) 0 ≡ false
 little_received = refl
+
+-- with one report more
+compared : IsCompared (new_state two) (alone 20 0) 5
+compared = (refl, refl)
+
+not_compared_yet : IsCompared (new_state two) (alone 20 0) 4 → ⊥
+not_compared_yet is = true≢false (sym is.1)
+
+not_compared_where_invalid : IsCompared (new_state two) (record (alone 20 0) { valid = false }) 5 → ⊥
+not_compared_where_invalid is = true≢false (sym is.0)
+
+two_bad_and_one_more : IsCompared (record (new_state two) { reports = alone 20 5 ∷ alone 20 5 ∷ [] }) (alone 20 5) 0
+two_bad_and_one_more = (refl, refl)
 
 -- ---- decisions
 

@@ -1,12 +1,12 @@
 -- SPDX-License-Identifier: MIT OR Apache-2.0
 -- What averages keep.
-use Rattle.std.specs.Prelude.{ℕ, List, [], ◌∷◌, ◌++◌, if◌then◌else◌}
+use Rattle.std.specs.Prelude.{◌≡◌, ℕ, true, List, [], ◌∷◌, ◌++◌, if◌then◌else◌}
 use Rattle.dtap_codec.specs.declared.report.Report.{Report}
 use Rattle.ho_decision.specs.declared.settings.TheConstants.{MAX_WINDOW}
 use Rattle.ho_decision.specs.Settings.{Settings}
 use Rattle.ho_decision.specs.declared.decision.Decision.{Decision}
 use Rattle.ho_decision.specs.Average.{last}
-use Rattle.ho_decision.specs.Decision.{Decides}
+use Rattle.ho_decision.specs.Decision.{Decides, is_due}
 
 -- the settings, the last valid reports, as many as the widest window has, the oldest first, and the
 -- number of the last one, 0 before the first
@@ -31,3 +31,8 @@ after_report state report number =
 -- what is decided over the reports that are kept
 abbrev pub DecidesFor : State → Decision → Type 0
 DecidesFor state decision = Decides state.settings state.reports state.number decision
+
+-- once this valid report is added with its number, the levels are compared
+abbrev pub IsCompared : State → Report → ℕ → Type 0
+IsCompared state report number =
+    (report.valid ≡ true) × (is_due state.settings (state.reports ++ report ∷ []) number ≡ true)

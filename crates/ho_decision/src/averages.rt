@@ -1,9 +1,9 @@
 // SPDX-License-Identifier: MIT OR Apache-2.0
-ghost use Rattle.std.specs.Prelude.{ℕ, ◌≡◌, ◌==◌, ◌<◌, ◌∷◌, ◌++◌, [], false, length, count_by, IfOk, List};
+ghost use Rattle.std.specs.Prelude.{ℕ, ◌≡◌, ◌==◌, ◌<◌, ◌∷◌, ◌++◌, [], false, length, count_by, IfErr, IfOk, List};
 ghost use Rattle.dtap_codec.specs.declared.report.Report.{Report as ReportValue};
 ghost use Rattle.ho_decision.specs.Average.{quality, last, serving_average};
 ghost use Rattle.ho_decision.specs.Decision.{Decides, average_at, is_bad, is_due};
-ghost use Rattle.ho_decision.specs.State.{DecidesFor};
+ghost use Rattle.ho_decision.specs.State.{DecidesFor, IsCompared};
 ghost use Rattle.ho_decision.specs.Heard.{AreHeard};
 ghost use Rattle.ho_decision.specs.Settings.{IsAllowed};
 ghost use Rattle.ho_decision.specs.declared.decision.TheConstants.{QUALITY_WINDOW};
@@ -149,8 +149,9 @@ impl Averages {
         number: u8,
     ) -> Result<Decision, Memory>
         requires { settings.now ≡ self.now.settings }
-        ensures { IfOk result (λ decision. DecidesFor
+        ensures decides { IfOk result (λ decision. DecidesFor
             (after_report self.now report.now number) decision) }
+        ensures memory { IfErr result (λ _. IsCompared self.now report.now number) }
     {
         if !report.valid {
             return Ok(self.decide(settings));

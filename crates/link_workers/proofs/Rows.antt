@@ -13,11 +13,14 @@ use Rattle.ruled_relay.specs.declared.item.What.TheVariants.{Frame as GivenFrame
 use Rattle.ruled_relay.specs.declared.outbox.Line.TheVariants.{Frame as FrameLine, End}
 use Rattle.ruled_relay.specs.Inbox.{PassView}
 use Rattle.ruled_relay.specs.Outbox.{TakerView}
+use Rattle.std.specs.IoError.{error_kind}
+use Rattle.std.specs.declared.io.ErrorKind.TheVariants.{WouldBlock}
+use Rattle.std.specs.declared.io.Error.{Error}
 use Rattle.link_workers.specs.declared.fault.IoFault.TheVariants.{ReadFailed, WriteFailed, FrameFault, Memory, GateShut, GivenUp}
 use Rattle.link_workers.specs.declared.link_reads.TheConstants.{MOST_READS}
 use Rattle.link_workers.specs.declared.link_reads.LinkReads.{LinkReads}
 use Rattle.link_workers.specs.declared.unread.UnreadLink.TheVariants.{Endless, Refused}
-use Rattle.link_workers.specs.declared.writing.Wrote.TheVariants.{Octets}
+use Rattle.link_workers.specs.declared.writing.Wrote.TheVariants.{Octets, Interrupted}
 use Rattle.link_workers.specs.Faults.{fault_of_frame, fault_of_reply}
 use Rattle.link_workers.specs.Gates.{HasLet, LetsAll}
 use Rattle.link_workers.specs.Unread.{IsUnread, fault_for}
@@ -140,6 +143,12 @@ sixteen_reads = record { made = 16 }
 sixteen_are_too_few : IsUnread (Endless sixteen_reads) → ⊥
 sixteen_are_too_few bad = omega (arith, bad)
 
+abbrev all_but_one : LinkReads
+all_but_one = record { made = 1099511627775 }
+
+one_too_few : IsUnread (Endless all_but_one) → ⊥
+one_too_few bad = omega (arith, bad)
+
 refusal_is_no_failed_read : IsUnread (Refused ReadFailed) → ⊥
 refusal_is_no_failed_read bad = bad refl
 
@@ -172,6 +181,10 @@ no_writer_reads bad = bad
 
 takes_one : WritesOnce (Some []) (Some (0x07 ∷ [])) (hex "07 08") (Ok (Octets 1))
 takes_one = (omega arith, omega arith, refl)
+
+-- a write that waited too long has failed
+timed_out : (error : Error) → error_kind error ≡ WouldBlock → WritesOnce (Some []) (Some []) (hex "07 08") (Ok (Interrupted error)) → ⊥
+timed_out error is bad = cc (is, bad.0)
 
 takes_none : WritesOnce (Some []) (Some []) (hex "07 08") (Ok (Octets 0)) → ⊥
 takes_none bad = omega (arith, bad.0)

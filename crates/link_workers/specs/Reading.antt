@@ -47,7 +47,7 @@ abbrev pub shutting : ℕ → IoFault → ℕ
 shutting limit GateShut = limit
 shutting limit _ = 0
 
--- What stands behind the frames that were put, by why no more were: nothing whole, a frame that is
+-- What is behind the frames that were put, by why no more were: nothing whole, a frame that is
 -- too long, or anything.
 abbrev pub StopsBefore : IoFault → List ℕ → Type 0
 StopsBefore ReadFailed rest = IsPartial rest
@@ -56,7 +56,7 @@ StopsBefore Memory rest = Unit {0}
 StopsBefore GateShut rest = Unit {0}
 StopsBefore _ rest = ⊥
 
--- Without a fault nothing whole stands there, and no octet is left to be read.
+-- Without a fault nothing whole is there, and no octet is left to be read.
 abbrev pub Ends : Option IoFault → List ℕ → Option (List ℕ) → Type 0
 Ends None rest now = IsPartial rest × IsAtEnd now
 Ends (Some fault) rest now = StopsBefore fault rest

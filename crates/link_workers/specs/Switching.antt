@@ -45,7 +45,7 @@ reply_frame reply = record { stream = SCCP_STREAM; body = sccp_text reply }
 abbrev pub replies_text : List Sccp → List ℕ
 replies_text replies = frames_text (map reply_frame replies)
 
--- What stands behind the frames that were answered, by why no more were. Without a fault nothing
+-- What is behind the frames that were answered, by why no more were. Without a fault nothing
 -- whole does, and no octet is left to be read.
 abbrev pub Stops : Option IoFault → List ℕ → Option (List ℕ) → Type 0
 Stops None rest now = IsPartial rest × IsAtEnd now

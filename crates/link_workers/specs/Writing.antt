@@ -78,7 +78,7 @@ abbrev pub end_if : Bool → List Line
 end_if true = End ∷ []
 end_if false = []
 
--- Frames were taken and their octets appended, and the mark was taken where it stood behind them. A
+-- Frames were taken and their octets appended, and the mark was taken where it was behind them. A
 -- frame that is refused was taken all the same.
 abbrev pub Gathers : TakerView → TakerView → List ℕ → List ℕ → Result Bool IoFault
     → Type 0

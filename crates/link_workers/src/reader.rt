@@ -36,7 +36,7 @@ pub struct HasRead<I, G> {
 /// `ReadFailed`: a read failed, other than by an interruption, or there were 2^40 reads.
 /// `FrameFault`: a frame has a body of more than 2,048 octets. `Memory`: there was none for a
 /// frame. `GateShut`: the gate refused an item `limit` times in a row; where that item was `Down`,
-/// it stands in place of an earlier fault. `Down` is put all the same, and the gate isn't asked
+/// it takes the place of an earlier fault. `Down` is put all the same, and the gate isn't asked
 /// again.
 pub fn serve_reader<I: Read, G: Gate, R: Wait>(
     rt: &R,

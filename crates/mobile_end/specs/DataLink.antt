@@ -41,13 +41,13 @@ to_be_taken link = option_to_list (offered_message link.air) ++ link.waiting
 abbrev pub outstanding_messages : DataLinkState → List (List ℕ)
 outstanding_messages link = option_to_list (message_in link.air) ++ link.waiting
 
--- The link on another channel: the control message stands in the air, and behind it waits what
+-- The link on another channel: the control message is in the air, and behind it waits what
 -- wasn't acknowledged, without control messages of an earlier channel.
 abbrev pub after_resume : DataLinkState → List ℕ → DataLinkState
 after_resume link control =
     record { waiting = without_control (outstanding_messages link); air = Given control }
 
--- a message that wasn't acknowledged stands in the air again
+-- a message that wasn't acknowledged is in the air again
 abbrev pub air_after_repeat : Air → Air
 air_after_repeat Empty = Empty
 air_after_repeat (Given message) = Given message

@@ -16,7 +16,7 @@ use std::alloc::Global;
 use std::collections::VecDeque;
 use std::marker::Model;
 
-/// The data link of one SAPI (TS 44.006): what stands in the air, and what waits behind it.
+/// The data link of one SAPI (TS 44.006): what is in the air, and what waits behind it.
 #[derive(Drop)]
 pub(crate) struct DataLink {
     waiting: VecDeque<Octets>,
@@ -80,7 +80,7 @@ impl DataLink {
         self.air.ack()
     }
 
-    /// Takes the link to another channel: the control message stands in the air, and behind it what
+    /// Takes the link to another channel: the control message is in the air, and behind it what
     /// wasn't acknowledged waits again, without control messages of an earlier channel.
     pub(crate) fn resume(&mut self, control: Vec<u8>) -> Result<(), Memory>
         ensures ok { OnOk result (self.new ≡ after_resume self.old control.items) }
@@ -97,7 +97,7 @@ impl DataLink {
         Ok(())
     }
 
-    /// Takes the link to another channel, where the message that wasn't acknowledged stands in the
+    /// Takes the link to another channel, where the message that wasn't acknowledged is in the
     /// air again.
     pub(crate) fn repeat(&mut self)
         ensures { self.new ≡ after_repeat self.old }

@@ -171,7 +171,7 @@ impl MobileEnd {
         Ok(())
     }
 
-    /// What stands in the air on this SAPI, once, for the station to take; an empty air first takes
+    /// What is in the air on this SAPI, once, for the station to take; an empty air first takes
     /// the next message that waits. Before `connect` it is refused as `NotConnected`; between two
     /// channels there is none. It takes no memory.
     pub fn frame(&mut self, sapi: Sapi) -> Result<Option<&[u8]>, MobileFault>

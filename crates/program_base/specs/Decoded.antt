@@ -86,7 +86,7 @@ pub record PrintsFrames (line : Frame → List ℕ) (held left : FramerState)
   pub printed : Appends old new (frame_lines line frames)
 
 -- The octets begin with frames, and known contents grew by a beginning of their lines. Where a
--- frame that is too long was the reason to stop, it stands behind them, and their lines are
+-- frame that is too long was the reason to stop, it is behind them, and their lines are
 -- written.
 pub record StopsAmong (line : Frame → List ℕ) (octets : List ℕ) (stop : Stop)
     (old new : Option (List ℕ)) : Type 0 where

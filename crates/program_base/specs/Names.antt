@@ -38,7 +38,7 @@ rsl_message_name (messages.MeasurementResult _) = codes "MEASUREMENT RESULT"
 rsl_message_name (messages.RfChannelRelease _) = codes "RF CHANNEL RELEASE"
 rsl_message_name (messages.RfChannelReleaseAck _) = codes "RF CHANNEL RELEASE ACK"
 
--- octets that are no such message, by the fault that stands first; no reading runs out of memory,
+-- octets that are no such message, by the fault that is first; no reading runs out of memory,
 -- so S5 and A6 are never printed
 abbrev pub rsl_fault_name : RslFault → List ℕ
 rsl_fault_name faults.Short = codes "fault S1"
@@ -70,7 +70,7 @@ sccp_message_name (connection.Released _ _) = codes "RLSD"
 sccp_message_name (connection.ReleaseComplete _ _) = codes "RLC"
 sccp_message_name (connection.DataForm1 _ _) = codes "DT1"
 
--- octets that are no such message, by the fault that stands first
+-- octets that are no such message, by the fault that is first
 abbrev pub sccp_fault_name : InterfaceFault → List ℕ
 sccp_fault_name interface.Short = codes "fault A1"
 sccp_fault_name interface.UnknownType = codes "fault A2"

@@ -1,5 +1,5 @@
 -- SPDX-License-Identifier: MIT OR Apache-2.0
--- Reading a script line word by word, as a function of its words. The grammar of lines stands in
+-- Reading a script line word by word, as a function of its words. The grammar of lines is in
 -- Script.
 use Rattle.std.specs.Prelude.{◌≡◌, ℕ, ◌-◌, ◌&&◌, ◌==◌, Bool, find, length, slice_index}
 use Rattle.std.specs.Prelude.{Option, Some, None, IsSome, Result, Ok, Err}

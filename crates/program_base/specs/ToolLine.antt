@@ -33,7 +33,7 @@ chart_option = record (new_rule (codes "chart")) {
 abbrev pub capture_option : Rule
 capture_option = record (new_rule (codes "capture")) { long = Some (codes "capture") }
 
--- `trace --config FILE [--strict] [--chart[=FORM]] [--capture FILE]`: what stands behind `trace`
+-- `trace --config FILE [--strict] [--chart[=FORM]] [--capture FILE]`: what is behind `trace`
 abbrev pub trace_command : App
 trace_command =
     with_rule
@@ -44,7 +44,7 @@ trace_command =
     chart_option)
     capture_option
 
--- `decode --long`: what stands behind `decode`
+-- `decode --long`: what is behind `decode`
 abbrev pub long_command : App
 long_command = with_rule (tool_program (codes "bsc decode")) (flag (codes "long"))
 
@@ -71,7 +71,7 @@ behind_decode (word ∷ next ∷ words) =
     if bytes_eq word (codes "decode") && bytes_eq next (codes "--long") then Some (next ∷ words)
     else None
 
--- what stands behind `trace`, or else behind `decode`, asks for this tool
+-- what is behind `trace`, or else behind `decode`, asks for this tool
 abbrev pub IsToolBy : Tool → Option (List Text) → Option (List Text) → Type 0
 IsToolBy tool (Some options) long =
     (fault_of trace_command options ≡ []) × IsTrace tool (matches_of trace_command options)

@@ -129,7 +129,7 @@ pub(crate) fn kind_in(word: &[u8]) -> Result<Kind, BadEvent>
     }
 }
 
-/// Reads what stands behind the word `upper`.
+/// Reads what is behind the word `upper`.
 #[tactic(auto, unfolding(crate::specs::ScriptReading::upper_at))]
 fn upper(alloc: Global, mut words: Words<'_>) -> Result<Event, LineFault>
     ensures { GivesEvent result (upper_at words.entry) }
@@ -146,7 +146,7 @@ fn upper(alloc: Global, mut words: Words<'_>) -> Result<Event, LineFault>
     })
 }
 
-/// Reads what stands behind the word `connect`.
+/// Reads what is behind the word `connect`.
 #[tactic(auto, unfolding(crate::specs::ScriptReading::connect_at))]
 fn connect(alloc: Global, cells: u16, mut words: Words<'_>) -> Result<Event, LineFault>
     ensures { GivesEvent result (connect_at cells words.entry) }
@@ -165,7 +165,7 @@ fn connect(alloc: Global, cells: u16, mut words: Words<'_>) -> Result<Event, Lin
     })
 }
 
-/// Reads what stands behind the word `report`.
+/// Reads what is behind the word `report`.
 #[tactic(auto, unfolding(crate::specs::ScriptReading::report_at))]
 fn report(alloc: Global, mut words: Words<'_>) -> Result<Event, LineFault>
     ensures { GivesEvent result (report_at words.entry) }
@@ -177,7 +177,7 @@ fn report(alloc: Global, mut words: Words<'_>) -> Result<Event, LineFault>
     Ok(Event::Report { mobile, report })
 }
 
-/// Reads what stands behind the word `dtap`.
+/// Reads what is behind the word `dtap`.
 #[tactic(auto, unfolding(crate::specs::ScriptReading::dtap_at))]
 fn dtap(alloc: Global, mut words: Words<'_>) -> Result<Event, LineFault>
     ensures { GivesEvent result (dtap_at words.entry) }
@@ -194,7 +194,7 @@ fn dtap(alloc: Global, mut words: Words<'_>) -> Result<Event, LineFault>
     }))
 }
 
-/// Reads what stands behind the word `switchdoes`.
+/// Reads what is behind the word `switchdoes`.
 #[tactic(auto, unfolding(crate::specs::ScriptReading::switch_does_at))]
 fn switch_does(alloc: Global, mut words: Words<'_>) -> Result<Event, LineFault>
     ensures { GivesEvent result (switch_does_at words.entry) }
@@ -253,7 +253,7 @@ fn last_number(mut words: Words<'_>) -> Result<u32, BadEvent>
     Ok(number)
 }
 
-/// Reads what stands behind the first word of a line of this kind.
+/// Reads what is behind the first word of a line of this kind.
 #[tactic(auto, unfolding(crate::specs::ScriptReading::event_at))]
 fn arguments(alloc: Global, cells: u16, kind: Kind, words: Words<'_>) -> Result<Event, LineFault>
     ensures { GivesEvent result (event_at cells kind words.entry) }

@@ -1,4 +1,5 @@
 -- SPDX-License-Identifier: MIT OR Apache-2.0
+pub mod Among
 pub mod Ends
 pub mod Inbox
 pub mod Left

@@ -1,6 +1,7 @@
 // SPDX-License-Identifier: MIT OR Apache-2.0
 ghost use Rattle.std.specs.Prelude.{◌≤◌, ◌<◌, IfSome, MatchOption};
 ghost use Rattle.ruled_relay.specs.Signs.{HasNoneSet, IsFirstSet};
+ghost use Rattle.ruled_relay.specs.Among.{HasNoneFrom};
 
 use crate::sources::{Sources, WIDTH, bit_of};
 use octets::Memory;
@@ -95,7 +96,10 @@ impl Bell {
 
     /// The first source from one on, up to another, whose sign is raised or that is one of these.
     pub(crate) fn first_raised(&self, others: &Sources, from: u16, to: u16) -> Option<u16>
-        ensures { IfSome result (λ source. (from ≤ source) × (source < to)) }
+        ensures within { IfSome result (λ source. (from ≤ source) × (source < to)) }
+        // None of these is passed over: not before it, nor where there is none.
+        ensures first { MatchOption result (HasNoneFrom from to others.now.words.items)
+            (λ source. HasNoneFrom from source others.now.words.items) }
     {
         let from = usize::from(from);
         let to = usize::from(to);

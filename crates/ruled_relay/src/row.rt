@@ -1,9 +1,11 @@
 // SPDX-License-Identifier: MIT OR Apache-2.0
 //! A row of queues, one for each source.
 ghost use Rattle.std.specs.Prelude.{◌≡◌, ◌<◌, ◌≤◌, true, None, vec_len};
+ghost use Rattle.std.specs.Prelude.{IfSome, MatchOption};
 ghost use Rattle.ruled_relay.specs.Row.{AreDrained, EachMayTake, HasAt, JoinsAt, TakesAmong};
 ghost use Rattle.ruled_relay.specs.Row.{TakesAt, TakesInTurn, TakesOne};
 ghost use Rattle.ruled_relay.specs.Rule.{putting};
+ghost use Rattle.ruled_relay.specs.Among.{HasNoneFrom, IsAmong, OthersStay, among};
 
 use crate::bell::Bell;
 use crate::end::End;
@@ -42,8 +44,8 @@ pub(crate) fn take_among<R: Wait>(
 }
 
 /// Takes the first item of a source that a sign or an earlier look leads to. It is among those that
-/// may have more until a look finds nothing. Its sign is lowered before the look: what is put behind
-/// the look raises it again.
+/// may have more until a look finds nothing. Its sign is lowered before the look: what is put
+/// behind the look raises it again.
 fn take_raised<R: Wait>(
     rt: &R,
     bell: &Bell,
@@ -53,7 +55,11 @@ fn take_raised<R: Wait>(
 ) -> Option<Item>
     requires within { source < vec_len ends.old }
     requires takes { EachMayTake ends.old.items }
-    ensures { TakesAt source ends.old.items result ends.new.items }
+    ensures takes { TakesAt source ends.old.items result ends.new.items }
+    // It is among those that may have more exactly where it had an item.
+    ensures more { MatchOption result (among more.new.words.items source ≡ 0)
+        (λ _. IsAmong source more.new.words.items) }
+    ensures others { OthersStay source more.old.words.items more.new.words.items }
 {
     bell.lower(source);
     more.insert(source);
@@ -76,7 +82,11 @@ fn take_among_raised<R: Wait>(
 ) -> Option<Item>
     requires within { to ≤ vec_len ends.old }
     requires takes { EachMayTake ends.old.items }
-    ensures { TakesOne to ends.old.items result ends.new.items }
+    ensures takes { TakesOne to ends.old.items result ends.new.items }
+    // None that may have more is passed over: of those before the item's none is left that may.
+    ensures asked { MatchOption result (HasNoneFrom from to more.new.words.items)
+        (λ item. HasNoneFrom from item.source more.new.words.items) }
+    ensures more { IfSome result (λ item. IsAmong item.source more.new.words.items) }
 {
     let mut next = from;
     while let Some(source) = bell.first_raised(more, next, to) {
@@ -88,8 +98,8 @@ fn take_among_raised<R: Wait>(
     None
 }
 
-/// Asks the sources that signs and earlier looks lead to, in turn, beginning with one of them, until
-/// one has an item. That none of these has one says nothing of the others.
+/// Asks the sources that signs and earlier looks lead to, in turn, beginning with one of them,
+/// until one has an item. That none of these has one says nothing of the others.
 fn take_signed<R: Wait>(
     rt: &R,
     bell: &Bell,
@@ -100,7 +110,8 @@ fn take_signed<R: Wait>(
 ) -> Option<Item>
     requires within { (turn ≤ sources) × (sources ≤ vec_len ends.old) }
     requires takes { EachMayTake ends.old.items }
-    ensures { TakesOne sources ends.old.items result ends.new.items }
+    ensures takes { TakesOne sources ends.old.items result ends.new.items }
+    ensures more { IfSome result (λ item. IsAmong item.source more.new.words.items) }
 {
     match take_among_raised(rt, bell, more, ends, turn, sources) {
         Some(item) => Some(item),
@@ -127,9 +138,10 @@ fn take_unsigned<R: Wait>(
     }
 }
 
-/// Takes an item, if a source has one: of the sources that signs and earlier looks lead to, in turn,
-/// beginning with one of them; or, where these have none, of all sources in turn. There is none only
-/// where each source was asked and had none. A source whose item nothing led to may have more.
+/// Takes an item, if a source has one: of the sources that signs and earlier looks lead to, in
+/// turn, beginning with one of them; or, where these have none, of all sources in turn. There is
+/// none only where each source was asked and had none. A source whose item nothing led to may have
+/// more.
 pub(crate) fn take_in_turn<R: Wait>(
     rt: &R,
     bell: &Bell,
@@ -142,6 +154,8 @@ pub(crate) fn take_in_turn<R: Wait>(
     requires takes { EachMayTake ends.old.items }
     ensures one { TakesOne sources ends.old.items result ends.new.items }
     ensures none { result ≡ None → AreDrained sources ends.old.items }
+    // The source of the item may have more.
+    ensures more { IfSome result (λ item. IsAmong item.source more.new.words.items) }
 {
     if let Some(item) = take_signed(rt, bell, more, ends, turn, sources) {
         return Some(item);

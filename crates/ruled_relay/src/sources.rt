@@ -1,4 +1,7 @@
 // SPDX-License-Identifier: MIT OR Apache-2.0
+ghost use Rattle.std.specs.Prelude.{◌≡◌, ◌%◌, ◌^◌, ◌*◌, slice_index_or};
+ghost use Rattle.ruled_relay.specs.Among.{IsAmong, OthersStay, among};
+
 use octets::Memory;
 use std::alloc::Global;
 
@@ -23,21 +26,29 @@ impl Sources {
     }
 
     /// With this source, where there is room for it.
-    pub(crate) fn insert(&mut self, source: u16) {
+    pub(crate) fn insert(&mut self, source: u16)
+        ensures in_it { IsAmong source self.new.words.items }
+        ensures others { OthersStay source self.old.words.items self.new.words.items }
+    {
         if let Some(word) = self.words.get_mut(usize::from(source) / WIDTH) {
             *word |= bit_of(source);
         }
     }
 
     /// Without this source.
-    pub(crate) fn remove(&mut self, source: u16) {
+    pub(crate) fn remove(&mut self, source: u16)
+        ensures out { among self.new.words.items source ≡ 0 }
+        ensures others { OthersStay source self.old.words.items self.new.words.items }
+    {
         if let Some(word) = self.words.get_mut(usize::from(source) / WIDTH) {
             *word &= !bit_of(source);
         }
     }
 
     /// The bits of the sources from 64 times this place on.
-    pub(crate) fn word(&self, place: usize) -> u64 {
+    pub(crate) fn word(&self, place: usize) -> u64
+        ensures { result ≡ slice_index_or self.now.words.items place 0 }
+    {
         match self.words.get(place) {
             Some(word) => *word,
             None => 0,
@@ -46,6 +57,8 @@ impl Sources {
 }
 
 /// The bit of a source in its word.
-pub(crate) fn bit_of(source: u16) -> u64 {
+pub(crate) fn bit_of(source: u16) -> u64
+    ensures { result ≡ 1 * 2 ^ (source % 64) % 2 ^ 64 }
+{
     1 << (usize::from(source) % WIDTH)
 }

@@ -121,7 +121,7 @@ impl<R: std::time::Clock> Gate for Held<R> {
     }
 }
 
-/// A clock that stands still.
+/// A clock that never moves.
 #[derive(Clone, Copy)]
 pub(crate) struct Still;
 

@@ -63,8 +63,8 @@ pub record HasCarried (start : Controller) (moves : List Move) (limit number : �
   pub asks : AsksGate reading limit frames old.refused new.refused
   -- what was taken of it are these frames and then `Down`
   pub items : whats_of number (taken_of moves) ≡ given frames ++ Down ∷ []
-  -- all frames that the controller put for it were sent; where its outbox was given up, those before
-  -- the refused one, and its `Down` was added as the next move
+  -- all frames that the controller put for it were sent; where its outbox was given up, those
+  -- before the refused one, and its `Down` was added as the next move
   pub sent : List Frame
   pub which : IsSent given_up given_up number (parts_of number start moves) sent
   -- the octets of what was sent were written; with a fault of the writer a beginning of them

@@ -25,7 +25,7 @@ use Rattle.station_io.specs.Links.{Ended, LinkView}
 
 -- ---- the frames of octets
 
--- the frame at the front, where one stands whole there, and those behind it
+-- the frame at the front, where one is whole there, and those behind it
 abbrev pub from_front : (List ℕ → List Frame) → Result (Option FrontFrame) FrameFault → List Frame
 from_front behind (Ok (Some front)) = frame front.0 front.1 ∷ behind front.2
 from_front behind _ = []
@@ -35,7 +35,7 @@ abbrev pub first_frames : ℕ → List ℕ → List Frame
 first_frames zero octets = []
 first_frames (suc most) octets = from_front (first_frames most) (front_of octets)
 
--- those that stand whole at the front, one behind the other; each has three octets at least, so
+-- those that are whole at the front, one behind the other; each has three octets at least, so
 -- there are no more than there are octets
 abbrev pub frames_in : List ℕ → List Frame
 frames_in octets = first_frames (length octets) octets

@@ -3,7 +3,7 @@
 //! and the call worker. All are started before the first begins, and each gives back what it
 //! promised.
 //!
-//! The workers stand in crates of their own, and are given out here too.
+//! The workers have crates of their own, and are given out here too.
 #![tactic(auto)]
 
 pub use controller_worker::{Clock, HasRelayed, Marks, call_worker};

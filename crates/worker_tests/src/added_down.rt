@@ -16,7 +16,8 @@ const ESTABLISH_INDICATION: Text<'_> = (
 
 /// The station's last frame comes once its outbox was given up: the clock is asked before each of two
 /// items, and then after 300 tries at most. With the `Down` that is added as the next step its
-/// connection is gone, so the switch gets no CR.
+/// connection is gone, so the switch gets no CR. The switch's `Down` comes once both were taken, since
+/// it would end the connection too.
 #[test]
 fn no_item_is_taken_before_the_down_that_is_added(rt: HostRuntime) {
     let alloc = rt.alloc();
@@ -31,6 +32,7 @@ fn no_item_is_taken_before_the_down_that_is_added(rt: HostRuntime) {
     let links = thread::spawn(&rt, move || {
         await_asked(&rt, &asked, 10);
         put_all(&rt, alloc, &mut station.pass, &[ESTABLISH_INDICATION]);
+        await_asked(&rt, &asked, 16);
         put_all(&rt, alloc, &mut switch.pass, &[]);
         assert!(rt;
             gives(&rt, &mut station.taker, &[ACTIVATION]),

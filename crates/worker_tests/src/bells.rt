@@ -39,7 +39,7 @@ fn a_desk_waits_until_a_pass_rings(rt: HostRuntime) {
     assert!(rt; since(&rt, begin).as_secs() < LONG);
 }
 
-/// Puts the mark that stands behind the last frame.
+/// Puts the mark that is behind the last frame.
 fn put_end<R: Abort + Wait>(rt: &R, putter: &mut Putter) {
     assert!(rt; putter.put(rt, Line::End).is_ok());
 }

@@ -15,6 +15,7 @@ pub(crate) enum Call<'a> {
     /// It gives these octets, or takes so many at most.
     Octets(&'a [u8]),
     Interrupted,
+    TimedOut,
     Failed,
 }
 
@@ -44,6 +45,7 @@ impl Read for Source<'_> {
                 octets.read(buf)
             }
             Call::Interrupted => Err(io::Error::from(ErrorKind::Interrupted)),
+            Call::TimedOut => Err(io::Error::from(ErrorKind::TimedOut)),
             Call::Failed => Err(io::Error::from(ErrorKind::ConnectionReset)),
         }
     }

@@ -12,7 +12,7 @@ use std::sync::atomic::{AtomicU64, Ordering};
 use std::sync::{Arc, Wait};
 use std::test::Fail;
 use std::thread;
-use std::time::{Clock, Duration};
+use std::time::{Clock, Duration, Instant};
 
 const OPEN: Shut = Shut {
     left: 0,
@@ -125,6 +125,12 @@ const FAILS_AFTER_A_FRAME: Reading<'_> = Reading {
     ..WORKS
 };
 
+/// A read that timed out, as one does whose cable was cut, has failed.
+const TIMES_OUT_AFTER_A_FRAME: Reading<'_> = Reading {
+    calls: &[Call::Octets(PING), Call::TimedOut, Call::Octets(PING)],
+    ..FAILS_AFTER_A_FRAME
+};
+
 const GIVES_TOO_LONG_A_FRAME: Reading<'_> = Reading {
     calls: &[
         Call::Octets(PING),
@@ -164,9 +170,10 @@ const GATE_OPENS_AT_DOWN: Reading<'_> = Reading {
     ..GATE_SHUT_AT_DOWN
 };
 
-const READINGS: [Reading<'_>; 6] = [
+const READINGS: [Reading<'_>; 7] = [
     WORKS,
     FAILS_AFTER_A_FRAME,
+    TIMES_OUT_AFTER_A_FRAME,
     GIVES_TOO_LONG_A_FRAME,
     GATE_ALWAYS_REFUSES,
     GATE_SHUT_AT_DOWN,
@@ -189,6 +196,17 @@ fn a_reader_puts_what_was_whole_and_its_device_is_told(rt: HostRuntime) -> Resul
     for (place, reading) in READINGS.iter().enumerate() {
         assert!(rt; ends_so(&rt, rt.alloc(), reading)?, "reading {place}");
     }
+    Ok(())
+}
+
+/// A gate that is shut for long is asked again after a pause each time, a millisecond but for the
+/// first sixteen.
+#[test]
+fn a_gate_that_refuses_is_asked_again_after_a_pause(rt: HostRuntime) -> Result<(), Fail> {
+    let begin = Instant::now(&rt)?;
+    let ended = read(&rt, rt.alloc(), &[Call::Octets(PING)], 316, 10_000)?;
+    assert!(rt; ended.asked == 318 && ended.fault.is_none());
+    assert!(rt; begin.elapsed(&rt)?.as_millis() >= 300);
     Ok(())
 }
 

@@ -10,7 +10,7 @@ use Rattle.world_model.specs.Relay.{broken}
 use Rattle.world_model.specs.World.{Actors, is_up}
 use Rattle.world.specs.declared.world.Scene.{Scene}
 use Rattle.world.specs.declared.world.Scene.TheVariants.{Fixed, Controlled}
-use Rattle.world.specs.Beside.{ComesToTheSame, is_beside, is_up_in, stands_beside}
+use Rattle.world.specs.Beside.{ComesToTheSame, is_beside, is_up_in, is_up_and_beside}
 use Rattle.world.specs.World.{after}
 use Rattle.world.specs.WorldState.{WorldState}
 use Rattle.world.proofs.Cut.{broken-cut, cut}
@@ -52,7 +52,7 @@ still_up : (o : Option Actors) (w : Actors) (source : ℕ) → is_up_in (unwrap_
 still_up None w source up = up
 still_up (Some v) w source up = up
 
-by_scene : (scene : Scene) (untaken : ℕ) (failed : Bool) (event : Event) (source : ℕ) → stands_beside scene event source ≡ true
+by_scene : (scene : Scene) (untaken : ℕ) (failed : Bool) (event : Event) (source : ℕ) → is_up_and_beside scene event source ≡ true
     → is_up_in (after (record { scene = scene; not_taken = untaken; failed = failed }) event).scene source ≡ true
     → ComesToTheSame (record { scene = scene; not_taken = untaken; failed = failed }) event source
 by_scene (Fixed world) untaken failed event source stands still = absurd cc
@@ -61,6 +61,6 @@ by_scene (Controlled w) untaken failed event source stands still =
     (still_up (event_after w event) w source still)
     (event_beside source w event (and_right (is_up w source) (is_beside w event source) stands))
 
-pub beside_same : (world : WorldState) (event : Event) (source : ℕ) → stands_beside world.scene event source ≡ true
+pub beside_same : (world : WorldState) (event : Event) (source : ℕ) → is_up_and_beside world.scene event source ≡ true
     → is_up_in (after world event).scene source ≡ true → ComesToTheSame world event source
 beside_same world event source stands still = by_scene world.scene world.not_taken world.failed event source stands still

@@ -55,9 +55,9 @@ is_up_in (Fixed world) source = false
 is_up_in (Controlled w) source = is_up w source
 
 -- the link is up, and its break is asked for beside the event
-abbrev pub stands_beside : Scene → Event → ℕ → Bool
-stands_beside (Fixed world) event source = false
-stands_beside (Controlled w) event source = is_up w source && is_beside w event source
+abbrev pub is_up_and_beside : Scene → Event → ℕ → Bool
+is_up_and_beside (Fixed world) event source = false
+is_up_and_beside (Controlled w) event source = is_up w source && is_beside w event source
 
 -- the break of the link and then the event make what the event and then the break make
 abbrev pub ComesToTheSame : WorldState → Event → ℕ → Type 0

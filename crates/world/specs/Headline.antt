@@ -51,7 +51,7 @@ pub record QueuesKeepOrder (begin : Scene) (events : List Event) (scene : Scene)
   -- what was taken is the beginning of what was put
   pub first_out : (queue : Queue)
       → IsPrefix (all_messages_taken begin events queue) (all_messages_put begin events queue)
-  -- and what stands there is the rest, unless its link broke
+  -- and what is there is the rest, unless its link broke
   pub left : (queue : Queue) → is_kept scene queue ≡ true
       → all_messages_put begin events queue ≡
       all_messages_taken begin events queue ++ messages_left scene queue

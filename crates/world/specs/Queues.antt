@@ -26,7 +26,7 @@ pub data Queue : Type 0 where
   outbox : ℕ → Queue
   inbox : ℕ → Queue
 
--- what stands in a queue: in the fixed world messages, else what the controller put for a link, and
+-- what is in a queue: in the fixed world messages, else what the controller put for a link, and
 -- what comes to it
 pub data Queued : Type 0 where
   message : List ℕ → Queued
@@ -77,7 +77,7 @@ abbrev pub messages_taken : Scene → Event → Queue → List Queued
 messages_taken (Fixed world) event queue = in_switch_outbox queue (fixed_messages_taken world event)
 messages_taken (Controlled w) event queue = controlled_taken w event queue
 
--- what stands in a queue
+-- what is in a queue
 abbrev pub messages_left : Scene → Queue → List Queued
 messages_left (Fixed world) queue = in_switch_outbox queue world.outbox
 messages_left (Controlled w) queue = controlled_left w queue

@@ -5,7 +5,7 @@ ghost use Rattle.dtap_codec.specs.Number.{count_of};
 ghost use Rattle.settings.specs.Parameters.{Parameters};
 ghost use Rattle.world_model.specs.declared.event.Event.{Event as WorldEvent};
 ghost use Rattle.world_model.specs.Takes.{Takes};
-ghost use Rattle.world.specs.Beside.{ComesToTheSame, is_up_in, stands_beside};
+ghost use Rattle.world.specs.Beside.{ComesToTheSame, is_up_in, is_up_and_beside};
 ghost use Rattle.world.specs.WorldState.{WorldState};
 ghost use Rattle.world.specs.World.{fixed_world, controlled_world};
 ghost use Rattle.world.specs.World.{scene_after, after, after_all, broken};
@@ -147,7 +147,7 @@ impl World {
     pub fn step(&mut self, event: Event) -> Result<bool, Memory>
         ensures ok { OnOk result (self.new ≡ after self.old event) }
         ensures taken { IfOk result (λ taken. taken ≡ is_some (scene_after self.old.scene event)) }
-        ensures stands { OnOk result (self.old.failed ≡ false) }
+        ensures unfailed { OnOk result (self.old.failed ≡ false) }
         ensures failed { OnErr result (self.new.failed ≡ true) }
         ensures memory { OnErr result
             (self.old.failed ≡ false → IsSome (scene_after self.old.scene event)) }
@@ -185,7 +185,7 @@ impl World {
             → self.old ≡ after_all (controlled_world settings) before
             → QueuesKeepOrder (controlled_world settings).scene (before ++ events.now)
             self.new.scene) }
-        ensures stands { OnOk result (self.old.failed ≡ false) }
+        ensures unfailed { OnOk result (self.old.failed ≡ false) }
         ensures failed { OnErr result (self.new.failed ≡ true) }
     {
         if self.failed {
@@ -208,14 +208,14 @@ impl World {
         ensures memory { OnErr result
             (self.old.failed ≡ false → IsSome (scene_after self.old.scene event.now)) }
     {
-        let stands = self.stands_beside(event, source);
+        let beside = self.is_up_and_beside(event, source);
         self.act(event)?;
-        Ok(stands && self.is_up(source))
+        Ok(beside && self.is_up(source))
     }
 
     // Whether the link of a source is up, and the event is beside its break.
-    fn stands_beside(&self, event: &Event, source: u16) -> bool
-        ensures { result ≡ stands_beside self.now.scene event.now source }
+    fn is_up_and_beside(&self, event: &Event, source: u16) -> bool
+        ensures { result ≡ is_up_and_beside self.now.scene event.now source }
     {
         match &self.scene {
             Scene::Fixed(_) => false,
@@ -238,7 +238,7 @@ impl World {
         ensures ok { OnOk result (self.new ≡ after self.old event.now) }
         ensures taken { IfOk result (λ taken.
             taken ≡ is_some (scene_after self.old.scene event.now)) }
-        ensures stands { OnOk result (self.old.failed ≡ false) }
+        ensures unfailed { OnOk result (self.old.failed ≡ false) }
         ensures failed { OnErr result (self.new.failed ≡ true) }
         ensures memory { OnErr result
             (self.old.failed ≡ false → IsSome (scene_after self.old.scene event.now)) }

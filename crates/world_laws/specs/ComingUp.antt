@@ -1,5 +1,5 @@
 -- SPDX-License-Identifier: MIT OR Apache-2.0
--- What is on its way up from a channel: what its station made and what stands in the inbox.
+-- What is on its way up from a channel: what its station made and what is in the inbox.
 use Rattle.std.specs.Prelude.{ℕ, ◌==◌, if◌then◌else◌, List, [], ◌∷◌, ◌++◌}
 use Rattle.std.specs.Prelude.{Option, Some, None}
 use Rattle.std.specs.List.{flat_map}
@@ -48,7 +48,7 @@ brings_in at item = brings_by at item.source item.what
 abbrev pub made_of : ℕ → List Rsl → List Brought
 made_of channel messages = flat_map (brings channel) messages
 
--- what stands in the inbox comes first
+-- what is in the inbox comes first
 abbrev pub coming_up : Actors → Place → List Brought
 coming_up w at =
     flat_map (brings_in at) w.inbox ++ made_of at.number (base_of w at.station).messages

@@ -1,5 +1,5 @@
 -- SPDX-License-Identifier: MIT OR Apache-2.0
--- The line-up of a connection in the world: what its mobile sent, where it stands on its way to the
+-- The line-up of a connection in the world: what its mobile sent, where it is on its way to the
 -- switch.
 use Rattle.std.specs.Prelude.{ℕ, ◌+◌, ◌==◌, ◌&&◌, not, Bool, true, false}
 use Rattle.std.specs.Prelude.{if◌then◌else◌, List, []}

@@ -15,7 +15,7 @@ use Rattle.world_laws.specs.LineUps.{is_ended, commanded_target}
 abbrev pub AreLayer3 : List (List ℕ) → Type 0
 AreLayer3 messages = AllByRecursion IsLayer3 messages
 
--- An empty message, which is none, stands for what is missing.
+-- An empty message, which is none, is in place of what is missing.
 abbrev pub mark : Bool → List (List ℕ)
 mark true = [] ∷ []
 mark false = []

@@ -23,8 +23,8 @@ all_given station w [] = []
 all_given station w (event ∷ events) =
     given station w event ++ all_given station (actors_after w event) events
 
--- What a station gave of a channel, and what it made and has not given, stands in tenures: no
--- ESTABLISH INDICATION and no DATA INDICATION of the channel stands outside the stretch from an
+-- What a station gave of a channel, and what it made and has not given, is in tenures: no
+-- ESTABLISH INDICATION and no DATA INDICATION of the channel is outside the stretch from an
 -- ACTIVATION ACK to the RELEASE ACK after it.
 abbrev pub IsHonest : ℕ → Actors → List Event → Type 0
 IsHonest station begin events =

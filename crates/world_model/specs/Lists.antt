@@ -1,5 +1,5 @@
 -- SPDX-License-Identifier: MIT OR Apache-2.0
--- Words on lists: the first of a list, and what stands behind it.
+-- Words on lists: the first of a list, and what is behind it.
 use Rattle.std.specs.Prelude.{List, [], ◌∷◌, Option, Some, None}
 
 abbrev pub first_in : {X : Type 0} → List X → Option X

@@ -38,7 +38,7 @@ use Rattle.world_model.specs.World.{is_active_at, tenure_at}
 abbrev pub rsl_in : Frame → Option Rsl
 rsl_in frame = if frame.stream == RSL_STREAM then result_ok (rsl_reading frame.body) else None
 
--- ---- CHANNEL ACTIVATION begins a tenure, in which everything is new; an active channel it leaves as it is
+-- ---- CHANNEL ACTIVATION begins a tenure, in which everything is new; an active channel is left
 
 abbrev pub new_tenure : Spot → Spot
 new_tenure spot = record { tenure = spot.tenure + 1; sapi_three_up = false; air = []; reports = 0 }
@@ -52,7 +52,7 @@ activated_unless None at w =
 abbrev pub activated : Place → Actors → Actors
 activated at w = activated_unless (refusal_of_activate (base_of w at.station) at.number) at w
 
--- ---- IMMEDIATE ASSIGNMENT: the mobile that its request reference names is on the channel, if it is asking
+-- ---- IMMEDIATE ASSIGNMENT: the mobile that its request reference names is on the channel, if asking
 -- an octet that is no channel number (TS 48.058 9.3.1) assigns nothing
 
 abbrev pub assigned_from : Seat → Tenure → Mobile → Actors → Actors
@@ -77,7 +77,7 @@ aired at message w =
     if is_active_at w at then with_spot at
     (record (spot_at w at) { air = (spot_at w at).air ++ message ∷ [] }) w else w
 
--- ---- ESTABLISH REQUEST: the data link of SAPI 3 is confirmed where the mobile on the channel accepts it
+-- ---- ESTABLISH REQUEST: SAPI 3 is confirmed where the mobile on the channel accepts it
 
 abbrev pub is_same : Tenure → Tenure → Bool
 is_same one other =

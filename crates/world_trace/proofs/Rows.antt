@@ -12,12 +12,17 @@ use Rattle.world_model.proofs.Worlds.{after_all, on_literals}
 use Rattle.world_trace.specs.declared.cause.Cause.TheVariants as causes
 use Rattle.world_trace.specs.declared.crossing.End.TheVariants.{Switch, Station, Controller}
 use Rattle.world_trace.specs.declared.crossing.Passage.TheVariants.{Made, Sent, Got}
+use Rattle.world_trace.specs.declared.made.TheConstants.{SOURCE_LIMIT}
 use Rattle.world_trace.specs.Causes.{refusal}
 use Rattle.world_trace.specs.Crossings.{crossings}
 use Rattle.world_trace.specs.Makings.{made_at}
 
 abbrev asking : World
 asking = after_all (new_world usual_settings) (Connect 1 1 (hex "05 24 71") true ∷ [])
+
+-- more sources than settings have links
+sources_at_most : SOURCE_LIMIT ≡ 256
+sources_at_most = refl
 
 -- what a station makes crosses no link yet
 making : crossings (new_world usual_settings).actors (Connect 1 1 (hex "05 24 71") true) ≡ []

@@ -34,14 +34,14 @@ pub record AreMarks (w : Actors) (event : Event) (marks : Marks) : Type 0 where
   pub outboxes : (link : ℕ) → link < length marks.outboxes.items
       → slice_index marks.outboxes.items link ≡ length (outbox_of w link)
 
--- what stands in the outboxes of the links below a number behind these marks
+-- what is in the outboxes of the links below a number behind these marks
 abbrev pub behind_below : ℕ → List ℕ → Actors → List Crossing
 behind_below zero marks w = []
 behind_below (suc link) marks w =
     behind_below link marks w
     ++ map (down Sent) (drop (slice_index marks link) (outbox_of w link))
 
--- what stands in all queues behind the marks
+-- what is in all queues behind the marks
 abbrev pub behind : Marks → Actors → List Crossing
 behind marks w =
     flat_map (up Sent) (drop marks.inbox w.inbox)

@@ -106,17 +106,17 @@ is_live _ = false
 -- ---- held messages
 
 -- a frame is put on a station's link, or on the switch's
-abbrev pub goes_by : Way → Passage → End → Bool
-goes_by Down Sent (Station number) = true
-goes_by Up Sent Switch = true
-goes_by way passage to = false
+abbrev pub is_sent_by : Way → Passage → End → Bool
+is_sent_by Down Sent (Station number) = true
+is_sent_by Up Sent Switch = true
+is_sent_by way passage to = false
 
-abbrev pub goes : Way → Crossing → Bool
-goes way crossing = goes_by way crossing.passage crossing.to
+abbrev pub is_sent : Way → Crossing → Bool
+is_sent way crossing = is_sent_by way crossing.passage crossing.to
 
 abbrev pub is_put : Way → List Crossing → Bool
 is_put way [] = false
-is_put way (crossing ∷ others) = if goes way crossing then true else is_put way others
+is_put way (crossing ∷ others) = if is_sent way crossing then true else is_put way others
 
 abbrev pub puts_of : List Crossing → Puts
 puts_of crossings = record { down = is_put Down crossings; up = is_put Up crossings }

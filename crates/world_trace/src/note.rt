@@ -2,7 +2,7 @@
 ghost use Rattle.std.specs.Prelude.{◌≡◌, ◌∷◌, ◌++◌, [], IfOk, List, OnOk, drop, slice_get};
 ghost use Rattle.std.specs.Prelude.{option_map};
 ghost use Rattle.world_trace.specs.declared.sight.Sight.{Sight as SightState};
-ghost use Rattle.world_trace.specs.Notes.{absent, change_of, down_notes, goes, hold_notes};
+ghost use Rattle.world_trace.specs.Notes.{absent, change_of, down_notes, is_sent, hold_notes};
 ghost use Rattle.world_trace.specs.Notes.{is_live, is_put, puts_of};
 ghost use Rattle.world_trace.specs.Turns.{is_unchanged};
 ghost use Rattle.world_trace.specs.Notes.{notes_between, order, phase_notes, same, step_notes};
@@ -86,7 +86,7 @@ fn is_put(way: Way, crossings: &[Crossing]) -> bool
     ensures { result ≡ is_put way crossings.now }
 {
     for crossing in crossings {
-        if goes(way, crossing) {
+        if is_sent(way, crossing) {
             return true;
         }
     }
@@ -94,8 +94,8 @@ fn is_put(way: Way, crossings: &[Crossing]) -> bool
 }
 
 /// Whether a frame is put on a station's link, or on the switch's.
-fn goes(way: Way, crossing: &Crossing) -> bool
-    ensures { result ≡ goes way crossing.now }
+fn is_sent(way: Way, crossing: &Crossing) -> bool
+    ensures { result ≡ is_sent way crossing.now }
 {
     match (way, crossing.passage, crossing.to) {
         (Way::Down, Passage::Sent, End::Station(_)) => true,

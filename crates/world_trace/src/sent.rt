@@ -38,7 +38,7 @@ impl Marks {
         })
     }
 
-    /// Notes what stands in the queues behind the marks.
+    /// Notes what is in the queues behind the marks.
     pub(crate) fn note_behind(
         &self,
         alloc: Global,

@@ -26,7 +26,7 @@ pub data IsHereOrGone (here : Seat) : Seat → Type 0 where
   remains : IsHereOrGone here here
   left : IsHereOrGone here gone
 
--- Where a change of channel stands: of COMMANDs on their way down there is at most one, and of
+-- How far a change of channel is: of COMMANDs on their way down there is at most one, and of
 -- COMPLETE and FAILURE on their way up at most one. The initial message may be of radio resource
 -- management too, so that nothing is said of the controls of the serving channel and of the link
 -- while it is still to come. The numbers are: commands on their way to the mobile; controls of the

@@ -20,7 +20,8 @@ pub data BreakStep : LineUp → LineUp → Type 0 where
         serving = lost t items;
         is_intact = false;
       })
-  breaks_target : (l : LineUp) (t : LineTenure) (items dropped : List Item) → IsHereOrGone on_target l.seat →
+  breaks_target : (l : LineUp) (t : LineTenure) (items dropped : List Item)
+      → IsHereOrGone on_target l.seat →
       BreakStep (record l {
         target =
             with_items t (items ++ dropped);

@@ -1,5 +1,5 @@
 -- SPDX-License-Identifier: MIT OR Apache-2.0
--- The line-up of one connection: where the mobile's messages of SAPI 0 stand on their way to the
+-- The line-up of one connection: where the mobile's messages of SAPI 0 are on their way to the
 -- switch.
 use Rattle.std.specs.Prelude.{ℕ, Bool, false, List, [], ◌∷◌, ◌++◌, filter, length}
 use Rattle.std.specs.Prelude.{if◌then◌else◌}

@@ -1,5 +1,5 @@
 -- SPDX-License-Identifier: MIT OR Apache-2.0
--- In each run: where each connection stands, and how the places of its mobile's messages rise, from
+-- In each run: where each connection is, and how the places of its mobile's messages rise, from
 -- the switch down to the mobile.
 use Rattle.std.specs.Prelude.{◌≡◌, ◌⊎◌, ℕ, ◌≤◌, true, if◌then◌else◌}
 use Rattle.std.specs.Prelude.{length, List, [], ◌++◌, Option}
@@ -19,7 +19,7 @@ use Rattle.world_laws.specs.Order.OctetEvents.{AreOctetEvents}
 use Rattle.world_laws.specs.Order.Openers.{first_served}
 use Rattle.world_laws.specs.Order.Standing.{Standing}
 
--- ---- where each number stands
+-- ---- where each number is
 
 -- whatever happened, of each number that the controller gives to connections
 abbrev pub AllNumbersStand : Parameters → List Event → Type 0

@@ -54,7 +54,7 @@ pub record Facts (settings : Parameters) : Type 0 where
 
 -- ---- from the one to the other
 
--- each number stands
+-- each number is somewhere
 abbrev pub NumbersStand : Parameters → List Event → Type 0
 NumbersStand settings events =
     (number : ℕ) → Facts settings → AreAllowed settings → TookOctets settings events → 1 ≤ number

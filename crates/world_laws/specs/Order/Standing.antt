@@ -1,5 +1,5 @@
 -- SPDX-License-Identifier: MIT OR Apache-2.0
--- Where a connection of a run stands, from before its number is given until nothing more of it
+-- Where a connection of a run is, from before its number is given until nothing more of it
 -- comes.
 use Rattle.std.specs.Prelude.{◌≡◌, ℕ, ◌≤◌, ◌<◌, true, false, List, [], Option}
 use Rattle.std.specs.Prelude.{Some, None}

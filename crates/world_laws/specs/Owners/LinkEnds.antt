@@ -29,14 +29,14 @@ LinksOfChannelsAreUp settings events =
 abbrev pub down_of : ℕ → Item
 down_of source = record { source = source; what = whats.Down }
 
--- nothing of the source stands behind the end of its link
+-- nothing of the source is behind the end of its link
 abbrev pub EndsWithDown : ℕ → List Item → Type 0
 EndsWithDown source [] = Unit {0}
 EndsWithDown source (item ∷ items) = (item ≡ down_of source → of_source source items ≡ []) × EndsWithDown source items
 
 -- What comes of a source, and what it made, once its link broke:
 pub record EndsOnce (w : Actors) (source : ℕ) : Type 0 where
-  -- the end of the link is the last that stands in the inbox, which isn't there while the link is
+  -- the end of the link is the last that is in the inbox, which isn't there while the link is
   -- up
   pub last : EndsWithDown source w.inbox
   pub none_yet : is_up w source ≡ true → AllByRecursion (λ item. item ≢ down_of source) w.inbox
@@ -44,7 +44,7 @@ pub record EndsOnce (w : Actors) (source : ℕ) : Type 0 where
   pub switch_made : source ≡ SWITCH_LINK → is_up w source ≡ false → w.switch_made ≡ []
   pub station_made : source ≢ SWITCH_LINK → is_up w source ≡ false
       → (base_of w source).messages ≡ []
-  -- once the controller learned of it, it is down, and nothing of the source stands in the inbox
+  -- once the controller learned of it, it is down, and nothing of the source is in the inbox
   pub broke : hears w.controller source ≡ false → is_up w source ≡ false
   pub over : hears w.controller source ≡ false → of_source source w.inbox ≡ []
 

@@ -22,7 +22,7 @@ abbrev pub requests_in : ℕ → List Rsl → ℕ
 requests_in mobile [] = 0
 requests_in mobile (m ∷ ms) = (if is_request_of mobile m then 1 else 0) + requests_in mobile ms
 
--- what stands in the inbox, and what stations made
+-- what is in the inbox, and what stations made
 abbrev pub said_in : List Item → List Rsl
 said_in items = flat_map (λ item. said_by item.what) items
 

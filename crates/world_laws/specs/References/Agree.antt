@@ -43,7 +43,8 @@ AsksOnce number (_ ∷ rest) = ⊥
 -- it was put
 abbrev pub IsAddressedTo : ℕ → Bool → Read → Type 0
 IsAddressedTo reference over nothing = Unit {0}
-IsAddressedTo reference over (carries destination message) = (over ≡ false) × (destination ≡ reference)
+IsAddressedTo reference over (carries destination message) =
+    (over ≡ false) × (destination ≡ reference)
 IsAddressedTo reference over (tells destination) = (over ≡ false) × (destination ≡ reference)
 IsAddressedTo reference over (clears destination) = (over ≡ false) × (destination ≡ reference)
 IsAddressedTo reference over _ = ⊥
@@ -89,7 +90,7 @@ abbrev pub is_over : Stage → Bool
 is_over Ended = true
 is_over _ = false
 
--- the first connection of this peer stands at this place
+-- the first connection of this peer is at this place
 abbrev pub IsFirstAt : ℕ → ℕ → Connection → List Connection → Type 0
 IsFirstAt number place c [] = ⊥
 IsFirstAt number zero c (x ∷ xs) = (x ≡ c) × (x.peer ≡ number)

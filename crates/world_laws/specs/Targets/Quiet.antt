@@ -33,7 +33,7 @@ FreeChannelsAreQuiet settings events =
 
 -- ---- what keeps it so
 
--- each command that waits for a station stands where its channel is active
+-- each command that waits for a station is where its channel is active
 abbrev pub StandWithin : ℕ → Bool → List OutboxEntry → Type 0
 StandWithin channel active [] = Unit {0}
 StandWithin channel active (entry ∷ entries) =
@@ -44,7 +44,7 @@ StandWithin channel active (entry ∷ entries) =
 abbrev pub is_ending : Actors → Place → Bool
 is_ending w at = list_any is_release_ack (acknowledgements_up w at)
 
--- A channel is settled: its commands stand in its tenures; while it isn't active nothing stands in
+-- A channel is settled: its commands are in its tenures; while it isn't active nothing is in
 -- the air; it isn't active where it is free, nor where its end is on its way; and of a free one
 -- nothing comes.
 pub record IsSettled (w : Actors) (at : Place) : Type 0 where

@@ -29,10 +29,10 @@ returns-clause-runs g c =
     elim c.match-relay.branch [
       | in-Ok w ↦
           same_run g.K.Clock.told start c.match-relay.fault None c.match-relay.worker c.relay.new.self w.fault-is w.worker-is
-          (runs_whole start (seen g.K.Clock.told c.relay.new.self) (vec_len c.args.putters) c.requires.new c.requires.marks refl refl w.in-Ok.ensures.goes w.in-Ok.ensures.finishes
+          (runs_whole start (seen g.K.Clock.told c.relay.new.self) (vec_len c.args.putters) c.requires.new c.requires.marks refl refl w.in-Ok.ensures.course w.in-Ok.ensures.finishes
           (let e = w.in-Ok.ensures.ended in omega (arith, c.relay.new.self.putters.ok.0)))
       | in-Err w ↦
           same_run g.K.Clock.told start c.match-relay.fault (Some faults.Memory) c.match-relay.worker w.end_alone.new.self w.fault-is w.worker-is
-          (runs_part faults.Memory start (seen g.K.Clock.told c.relay.new.self) (seen g.K.Clock.told w.end_alone.new.self) (vec_len c.args.putters) c.requires.new c.requires.marks refl refl w.in-Err.ensures.goes
-          w.end_alone.ensures.goes (let e = w.end_alone.ensures.ended in omega (arith, w.end_alone.new.self.putters.ok.0)))
+          (runs_part faults.Memory start (seen g.K.Clock.told c.relay.new.self) (seen g.K.Clock.told w.end_alone.new.self) (vec_len c.args.putters) c.requires.new c.requires.marks refl refl w.in-Err.ensures.course
+          w.end_alone.ensures.course (let e = w.end_alone.ensures.ended in omega (arith, w.end_alone.new.self.putters.ok.0)))
     ]

@@ -23,7 +23,7 @@ pub returns-clause-ok : goal.returns-clause-ok
 returns-clause-ok c =
     let old = c.args.self.now in
     let decides : c.in_ok-decision.decision ≡ decision_with c.args.number c.args.report.now (entry_of old c.args.connection) =
-    c.in_ok-decision.ensures ∙ ap (λ (v : Controller). decision_with c.args.number c.args.report.now (entry_of v c.args.connection)) c.self.view_is in
+    c.in_ok-decision.ensures.decision ∙ ap (λ (v : Controller). decision_with c.args.number c.args.report.now (entry_of v c.args.connection)) c.self.view_is in
     let same = c.self-2.view_is ∙ c.in_ok-follow_decision.ensures.ok.0 in
     let behind : added c.args.connection c.args.number c.args.report.now (decided_in c.in_ok-decision.decision old (entry_of old c.args.connection)) ≡ _ =
     ap (λ d. added c.args.connection c.args.number c.args.report.now (decided_in d old (entry_of old c.args.connection))) decides

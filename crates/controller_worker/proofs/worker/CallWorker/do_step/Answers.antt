@@ -3,7 +3,7 @@ use Rattle.std.proofs.Common.{[], ◌∙◌, refl, sym, ap, subst, length}
 use Rattle.controller_worker.specs.Advancing.{DoesStep, SendsAll, State, StayOpen}
 use Rattle.controller_worker.specs.Seen.{seen}
 use Rattle.controller_worker.proofs.Outputs.{open_none}
-use Rattle.controller_worker.proofs.Turns.{does_nothing, does_sent, stands_on}
+use Rattle.controller_worker.proofs.Turns.{does_nothing, does_sent, valid_on}
 use Rattle.controller_worker.proofs.worker.CallWorker.do_step.Goals as goal
 
 pub returns-clause-ok : goal.returns-clause-ok
@@ -22,8 +22,8 @@ send-requires g c =
 pub returns-clause-stay : goal.returns-clause-stay
 returns-clause-stay g c = λ h. subst (λ (s : State). StayOpen s.putters c.send.new.self.putters.items) c.in_ok-step_shown.ensures.kept (c.send.ensures.stay h)
 
-pub returns-clause-stands : goal.returns-clause-stands
-returns-clause-stands g c = stands_on c.args.step (seen g.K.Clock.told c.args.self.now) (seen g.K.Clock.told c.send.new.self) c.requires (returns-clause-ok g c)
+pub returns-clause-valid : goal.returns-clause-valid
+returns-clause-valid g c = valid_on c.args.step (seen g.K.Clock.told c.args.self.now) (seen g.K.Clock.told c.send.new.self) c.requires (returns-clause-ok g c)
 
 pub returns-then-is_empty-clause-ok : goal.returns-then-is_empty-clause-ok
 returns-then-is_empty-clause-ok g c =
@@ -36,6 +36,6 @@ returns-then-is_empty-clause-stay g c =
     λ h.
     subst (λ (s : State). StayOpen c.args.self.now.putters.items s.putters) (sym (c.put_none.ensures ∙ c.in_ok-step_shown.ensures.kept)) (open_none c.args.self.now.putters.items)
 
-pub returns-then-is_empty-clause-stands : goal.returns-then-is_empty-clause-stands
-returns-then-is_empty-clause-stands g c =
-    stands_on c.args.step (seen g.K.Clock.told c.args.self.now) (seen g.K.Clock.told c.put_none.new.self) c.requires (returns-then-is_empty-clause-ok g c)
+pub returns-then-is_empty-clause-valid : goal.returns-then-is_empty-clause-valid
+returns-then-is_empty-clause-valid g c =
+    valid_on c.args.step (seen g.K.Clock.told c.args.self.now) (seen g.K.Clock.told c.put_none.new.self) c.requires (returns-then-is_empty-clause-ok g c)
