@@ -103,7 +103,7 @@ pub record IsData (octets : List ℕ) (destination : ℕ) (user : List ℕ) : Ty
   pub points : Points rest part
   pub counted : IsCounted part user
 
--- what stands behind the type
+-- what is behind the type
 abbrev pub IsContent : List ℕ → Sccp → Type 0
 IsContent octets (ConnectionRequest source user) = IsRequest octets source user
 IsContent octets (ConnectionConfirm destination source) = IsFixedPair octets destination source

@@ -101,7 +101,7 @@ data_form_at octets = do
   user ← data_behind_at segmenting.0 segmenting.1 pointer.0
   Ok (DataForm1 destination.0 user.0)
 
--- what stands behind the type
+-- what is behind the type
 abbrev pub content_at : SccpType → List ℕ → Result Sccp InterfaceFault
 content_at kinds.ConnectionRequest octets = request_at octets
 content_at kinds.ConnectionConfirm octets =

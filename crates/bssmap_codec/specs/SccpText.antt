@@ -26,7 +26,7 @@ options_text None = NO_PART ∷ CALLED_ADDRESS
 options_text (Some user) =
     OPTIONS_POINTER ∷ (CALLED_ADDRESS ++ USER_DATA ∷ (counted_text user ++ END_OF_OPTIONS ∷ []))
 
--- what stands behind the type
+-- what is behind the type
 abbrev pub content_text : Sccp → List ℕ
 content_text (ConnectionRequest source user) =
     reference_text source ++ PROTOCOL_CLASS ∷ ADDRESS_POINTER ∷ options_text user

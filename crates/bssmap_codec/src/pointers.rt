@@ -48,7 +48,7 @@ fn option(octets: &[u8]) -> Result<Option<Found<'_>>, InterfaceFault>
     }))
 }
 
-/// The value of the first option that carries user data; what stands behind it isn't looked at.
+/// The value of the first option that carries user data; what is behind it isn't looked at.
 fn data(options: &[u8]) -> Result<Option<&[u8]>, InterfaceFault>
     ensures { result_map (option_map (λ d. d.now)) result ≡ data_in options.now }
 {

@@ -129,7 +129,7 @@ fn read(alloc: Global, octets: &[u8]) -> Result<Sccp, InterfaceFault>
     read_content(alloc, kind, rest)
 }
 
-// What stands behind the type.
+// What is behind the type.
 fn read_content(alloc: Global, kind: SccpType, octets: &[u8]) -> Result<Sccp, InterfaceFault>
     ensures { Gives OutOfMemory (λ v. v) result (reading.content_at kind octets.now) }
 {
@@ -301,7 +301,7 @@ fn text_of(alloc: Global, message: &Sccp) -> Result<Vec<u8>, Memory>
     Ok(text)
 }
 
-// What stands behind the type.
+// What is behind the type.
 fn put_content(text: &mut Vec<u8>, message: &Sccp) -> Result<(), Memory>
     requires { sccp_write_fault message.now ≡ None }
     ensures { OnOk result (text.new.items ≡ text.old.items ++ content_text message.now) }

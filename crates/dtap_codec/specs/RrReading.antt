@@ -89,7 +89,7 @@ measurement_report_at octets = do
   value ← split_at Short REPORT_LENGTH octets
   Ok (MeasurementReport value.0)
 
--- a message behind its type; an IMMEDIATE ASSIGNMENT stands behind a pseudo length alone
+-- a message behind its type; an IMMEDIATE ASSIGNMENT is behind a pseudo length alone
 abbrev pub content_at : RrType → List ℕ → Result RrMessage RrFault
 content_at types.HandoverCommand octets = handover_command_at octets
 content_at types.AssignmentCommand octets = assignment_command_at octets

@@ -20,7 +20,7 @@ front_text kind =
     if kind == IMMEDIATE_ASSIGNMENT then PSEUDO_LENGTH ∷ RADIO_RESOURCE ∷ kind ∷ []
     else RADIO_RESOURCE ∷ kind ∷ []
 
--- what stands behind the type
+-- what is behind the type
 abbrev pub content_text : RrMessage → List ℕ
 content_text (HandoverCommand cell channel reference) =
     cell_text cell ++ (channel_text 0 channel ++ reference ∷ HIGHEST_POWER ∷ [])

@@ -367,7 +367,7 @@ fn put_front(text: &mut Vec<u8>, kind: RrType) -> Result<(), Memory>
     Ok(())
 }
 
-// Appends what stands behind the type.
+// Appends what is behind the type.
 fn put_content(text: &mut Vec<u8>, message: &RrMessage) -> Result<(), Memory>
     ensures { OnOk result (text.new.items ≡ text.old.items ++ content_text message.now) }
 {

@@ -2,7 +2,7 @@
 ghost use Rattle.std.specs.Prelude.{◌≡◌};
 ghost use Rattle.dtap_codec.specs.RrType.{rr_octet, rr_type};
 
-/// The pseudo length that stands before an IMMEDIATE ASSIGNMENT (TS 44.018 clause 10.5.2.19).
+/// The pseudo length before an IMMEDIATE ASSIGNMENT (TS 44.018 clause 10.5.2.19).
 pub const PSEUDO_LENGTH: u8 = 0x2d;
 
 /// The type of a message of radio resource management, with its octet (TS 44.018 clause 10.4).
@@ -15,7 +15,7 @@ pub enum RrType {
     AssignmentComplete = 0x29,
     AssignmentFailure = 0x2f,
     ChannelRelease = 0x0d,
-    /// It stands behind a pseudo length, and no other type does.
+    /// It is behind a pseudo length, and no other type is.
     ImmediateAssignment = 0x3f,
     MeasurementReport = 0x15,
     PagingResponse = 0x27,

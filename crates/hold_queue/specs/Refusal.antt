@@ -17,10 +17,10 @@ abbrev pub RefusesAt : ℕ → ℕ → List ℕ → HoldFault → Type 0
 RefusesAt held limit message (Full back) = (back.items ≡ message) × (held ≡ limit)
 RefusesAt held limit message (Memory back) = (back.items ≡ message) × (held < limit)
 
--- the refusal of a hold, whose limit stands over both SAPIs
+-- the refusal of a hold, whose limit is for both SAPIs
 abbrev pub HandsBack : HoldState → List ℕ → HoldFault → Type 0
 HandsBack hold = RefusesAt (count hold) hold.limit
 
--- the refusal of a chain, whose limit stands over all tenures and both SAPIs
+-- the refusal of a chain, whose limit is for all tenures and both SAPIs
 abbrev pub ChainHandsBack : ChainState → List ℕ → HoldFault → Type 0
 ChainHandsBack chain = RefusesAt (chain_count chain) chain.limit

@@ -18,7 +18,7 @@ use std::marker::Model;
 pub const TENURE_LIMIT: usize = 4;
 
 /// The messages that a connection holds where its channel changed more than once: a list of
-/// tenures, the oldest first. A tenure has one queue for each SAPI. One limit stands over all
+/// tenures, the oldest first. A tenure has one queue for each SAPI. One limit is for all
 /// tenures and both SAPIs.
 #[derive(Drop)]
 pub struct Chain {

@@ -25,11 +25,11 @@ Feeds old piece (Ok _) new =
 Feeds old piece (Err TooLong) new = (old.failed ≡ true) × (new ≡ old)
 Feeds old piece (Err Memory) new = (old.failed ≡ false) × (new ≡ old)
 
--- a frame stands whole at the front, and the rest behind it
+-- a frame is whole at the front, and the rest behind it
 abbrev pub BeginsWith : List ℕ → Frame → List ℕ → Type 0
 BeginsWith octets f rest = IsFrame f × (octets ≡ frame_text f ++ rest)
 
--- The next frame is taken where it stands whole at the front, nothing where it was only started,
+-- The next frame is taken where it is whole at the front, nothing where it was only started,
 -- and a length that is too long is refused. Memory is wanted for a whole frame alone.
 abbrev pub Takes : FramerState → Result (Option Frame) FrameFault → FramerState → Type 0
 Takes old (Ok (Some f)) new = BeginsWith old.octets f new.octets × (new.failed ≡ old.failed)

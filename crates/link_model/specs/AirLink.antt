@@ -1,5 +1,5 @@
 -- SPDX-License-Identifier: MIT OR Apache-2.0
--- One acknowledged link: at most one message stands in the air (TS 44.006).
+-- One acknowledged link: at most one message is in the air (TS 44.006).
 use Rattle.std.specs.Prelude.{ℕ, Bool, true, false, Option, Some, None, Result, Ok, Err, List}
 use Rattle.link_model.specs.declared.air_link.Air.{Air}
 use Rattle.link_model.specs.declared.air_link.Air.TheVariants.{Empty, Given, Reached}

@@ -11,7 +11,7 @@ use octets::Octets;
 use std::marker::Model;
 use std::mem;
 
-/// What stands in the air on one acknowledged link: at most one message, which the station takes
+/// What is in the air on one acknowledged link: at most one message, which the station takes
 /// once and then acknowledges.
 #[derive(Drop)]
 pub enum Air {
@@ -45,14 +45,14 @@ impl AirLink {
         AirLink { air: Air::Empty }
     }
 
-    /// Whether nothing stands in the air.
+    /// Whether nothing is in the air.
     pub fn is_empty(&self) -> bool
         ensures { result ≡ is_empty self.now }
     {
         matches!(&self.air, Air::Empty)
     }
 
-    /// Gives a message to the link. It is handed back, and nothing changes, where one stands in the
+    /// Gives a message to the link. It is handed back, and nothing changes, where one is in the
     /// air already.
     pub fn give(&mut self, message: Vec<u8>) -> Result<(), Vec<u8>>
         ensures answer { result_map_both (λ _. tt) (λ message. message.items) result

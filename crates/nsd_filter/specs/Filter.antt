@@ -1,5 +1,5 @@
 -- SPDX-License-Identifier: MIT OR Apache-2.0
--- What a filter keeps, and which counts of accepted messages it stands for.
+-- What a filter keeps, and which counts of accepted messages it is for.
 use Rattle.std.specs.Prelude.{◌≡◌, ℕ, ◌%◌, Option, option_map}
 
 -- how many numbers there are, and the number of the next message, or None after a gap

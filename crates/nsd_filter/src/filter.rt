@@ -50,7 +50,7 @@ impl Filter {
     pub fn judge(&mut self, number: u8) -> Verdict
         requires { number < self.old.modulus }
 
-        // The verdict is right for each number of accepted messages that this state stands for.
+        // The verdict is right for each number of accepted messages that this state is for.
         ensures verdict { (progress : Option ℕ) → IsStateOf self.old progress →
             result ≡ judgement self.old.modulus progress number }
         ensures after { (progress : Option ℕ) → IsStateOf self.old progress →

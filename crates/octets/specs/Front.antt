@@ -1,5 +1,5 @@
 -- SPDX-License-Identifier: MIT OR Apache-2.0
--- What stands at the front of octets, with the octets behind it; a fault where they end before it
+-- What is at the front of octets, with the octets behind it; a fault where they end before it
 -- does.
 use Rattle.std.specs.Prelude.{ℕ, nat_lt, if◌then◌else◌, List, [], ◌∷◌, length, take}
 use Rattle.std.specs.Prelude.{drop, Result}

@@ -1,5 +1,5 @@
 // SPDX-License-Identifier: MIT OR Apache-2.0
-//! What every crate of the relay stands on: the octets of a message, and the fault of calls that
+//! What every crate of the relay rests on: the octets of a message, and the fault of calls that
 //! can only run out of memory.
 #![tactic(auto)]
 

@@ -1,5 +1,5 @@
 -- SPDX-License-Identifier: MIT OR Apache-2.0
--- Reading a message as a function of its octets, with the fault that stands first.
+-- Reading a message as a function of its octets, with the fault that is first.
 use Rattle.std.specs.Prelude.{ℕ, ◌+◌, ◌*◌, Bool, List, [], ◌∷◌, length, Option}
 use Rattle.std.specs.Prelude.{Some, None}
 use Rattle.std.specs.Prelude.{option_map, Result, Ok, Err, nat_lt, if◌then◌else◌}

@@ -35,7 +35,7 @@ rsl_text v = rsl_discriminator (type_of v) ∷ rsl_octet (type_of v) ∷ rsl_fie
 
 -- ---- refused
 
--- its value whose length stands in one octet: no message has two
+-- its value whose length is given in one octet: no message has two
 abbrev pub value_of : Rsl → Option (List ℕ)
 value_of (ErrorIndication m) = option_map (λ c. c.0) m.cause
 value_of (ImmediateAssignCommand m) = Some m.information

@@ -55,7 +55,7 @@ is_transparent DataRequest = true
 is_transparent DataIndication = true
 is_transparent _ = false
 
--- the message discriminator of a message type, by the group that it stands in
+-- the message discriminator of a message type, by the group that it is in
 abbrev pub discriminator_by : Bool → ℕ → ℕ
 discriminator_by true octet = RADIO_LINK_TRANSPARENT
 discriminator_by false octet =

@@ -181,7 +181,7 @@ impl Rsl {
         }
     }
 
-    /// The value whose length stands in one octet; no message has two.
+    /// The value whose length is given in one octet; no message has two.
     fn value(&self) -> Option<&Octets>
         ensures { option_map (λ o. o.now) result ≡ value_of self.now }
     {

@@ -19,11 +19,11 @@ module _ {A : Type 0} where
   ChangesAt at old new F =
       (e : A) × (d : A) × (get_elem? old at ≡ some e) × (new ≡ slice_set old at d) × F e d
 
-  -- this holds of what stands at each place of a range
+  -- this holds of what is at each place of a range
   abbrev pub EachAmong : ℕ → ℕ → List A → (A → Type 0) → Type 0
   EachAmong from to row F = (at : ℕ) (e : A) → from ≤ at → at < to → get_elem? row at ≡ some e → F e
 
-  -- this holds of what stands at each place
+  -- this holds of what is at each place
   abbrev pub EachAt : List A → (ℕ → A → Type 0) → Type 0
   EachAt row F = (at : ℕ) (e : A) → get_elem? row at ≡ some e → F at e
 

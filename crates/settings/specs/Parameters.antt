@@ -115,7 +115,7 @@ pub record AreCells (cells : List CellParameters) : Type 0 where
   pub count : (1 ≤ length cells) × (length cells ≤ 32)
   pub each : All IsCell cells
 
--- ---- what stands once
+-- ---- what may be there once
 
 -- no two of these are the same
 abbrev pub all_differ : {X : Type 0} → (X → X → Bool) → List X → Bool

@@ -16,7 +16,7 @@ abbrev pub FindsKey : {X Y : Type 0} → Result X Finding → (X → Y) → Rule
 FindsKey result seen rule value ms =
     Finds result seen (value (by_rule rule ms)) (key_fault rule ms)
 
--- a value of a kind that stands at a key
+-- a value of a kind at a key
 abbrev pub FindsValue : {X Y : Type 0} → Result X Finding → (X → Y) → Key → Kind
     → (Option Data → Y) → Data → Type 0
 FindsValue result seen key kind value d =
@@ -28,7 +28,7 @@ abbrev pub FindsTable : {X Y : Type 0} → Result X Finding → (X → Y) → Ke
 FindsTable result seen key rules value ms =
     Finds result seen (value ms) (table_fault key rules ms)
 
--- what stands at the key of a table that has to be there
+-- what is at the key of a table that has to be there
 abbrev pub FindsRequired : {X Y : Type 0} → Result X Finding → (X → Y) → Key → List Rule
     → (Members → Y) → Option Data → Type 0
 FindsRequired result seen key rules value held =

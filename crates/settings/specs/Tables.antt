@@ -57,7 +57,7 @@ numbers_in (item d ds) = number_in (Some d) ∷ numbers_in ds
 abbrev pub at_key : Key → Members → Option Data
 at_key key ms = get_member (name_of key) ms
 
--- what stands at the key of a rule, else its default
+-- what is at the key of a rule, else its default
 abbrev pub by_rule : Rule → Members → Option Data
 by_rule rule ms = option_or (at_key rule.key ms) rule.default
 
@@ -141,7 +141,7 @@ repeated_fault cells =
 abbrev pub the_tables : List Key
 the_tables = keys.Network ∷ keys.Switch ∷ keys.Timers ∷ keys.Handover ∷ keys.Cell ∷ []
 
--- the first fault: a table that isn't known, the tables in their order, what stands twice
+-- the first fault: a table that isn't known, the tables in their order, what is there twice
 abbrev pub first_fault : Members → Option SettingsFault
 first_fault ms =
     first_refusal (unknown_fault None the_tables ms)

@@ -22,7 +22,7 @@ pub enum SettingsFault {
     /// A value that the key can't have.
     #[error("bad value {0}")]
     BadValue(Key),
-    /// A value that may stand once stands twice.
+    /// A value that may be there once is there twice.
     #[error("repeated {0}")]
     Repeated(Key),
     /// There was no memory.
