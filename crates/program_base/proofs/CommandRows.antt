@@ -3,19 +3,25 @@
 -- tests/statuses: the model that `clap` brings with it doesn't compute.
 use Rattle.std.specs.Prelude.{◌≡◌, None, Some, [], ◌∷◌, codes, map}
 use Rattle.std.proofs.Common.{refl}
+use Rattle.clap.specs.declared.error.Error.{Error as Complaint}
+use Rattle.program_base.specs.declared.no_task.NoTask.TheVariants.{Refused}
+use Rattle.program_base.specs.declared.no_task.NoTask.TheVariants.{Memory as NoMemory}
 use Rattle.program_base.specs.declared.words.Task.TheVariants.{Decode, Replay}
 use Rattle.program_base.specs.declared.words.TaskFault.TheVariants.{Words, Memory}
 use Rattle.program_base.specs.CommandLine.{IsTask}
 use Rattle.program_base.specs.declared.usage.Page.TheVariants as pages
 use Rattle.program_base.specs.Pages.{page_named, page_of}
 use Rattle.program_base.specs.ToolLine.{behind_decode}
-use Rattle.program_base.specs.WordStatus.{status_of_words}
+use Rattle.program_base.specs.WordStatus.{status_of_words, task_fault}
 
 wrong_words : status_of_words Words ≡ 2
 wrong_words = refl
 
 no_memory : status_of_words Memory ≡ 3
 no_memory = refl
+
+no_tasks : (complaint : Complaint) → map task_fault (Refused complaint ∷ NoMemory ∷ []) ≡ Words ∷ Memory ∷ []
+no_tasks complaint = refl
 
 decode : IsTask Decode (Some (codes "decode", []))
 unfolding IsTask

@@ -35,6 +35,9 @@ unread_streams = refl
 failed_read_of_a_stream : (error : Error) → error_kind error ≡ kinds.BrokenPipe → stop_unread (unread.Device error) ≡ Failed Device
 failed_read_of_a_stream error is = ap (λ (kind : ErrorKind). Failed (failure_of kind)) is
 
+stream_read_without_memory : (error : Error) → error_kind error ≡ kinds.OutOfMemory → stop_unread (unread.Device error) ≡ Failed Memory
+stream_read_without_memory error is = ap (λ (kind : ErrorKind). Failed (failure_of kind)) is
+
 -- ---- frames
 
 abbrev line : ℕ → List ℕ → List ℕ

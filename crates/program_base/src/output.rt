@@ -48,15 +48,40 @@ fn put_rest<W: Write>(output: &mut W, octets: &[u8], first: io::Result<usize>) -
 pub fn put_joined<W: Write>(output: &mut W, octets: &[u8], sizes: &[usize]) -> io::Result<()>
     ensures { Puts result (W.contents output.old) (W.contents output.new) octets.now }
 {
-    match put_at_once(output, octets)? {
-        Taken::All => Ok(()),
-        Taken::Nothing(failure) => {
-            put_apart(output, octets, sizes)?;
-            match failure {
-                None => Ok(()),
-                Some(error) => Err(error),
-            }
-        }
+    if octets.is_empty() {
+        return Ok(());
+    }
+    // as in `put`
+    let first = output.write(octets);
+    match first {
+        Ok(taken) if taken == octets.len() => Ok(()),
+        _ => put_parts(output, octets, sizes, first),
+    }
+}
+
+/// Writes what a first write left of a text that is joined of parts.
+#[cold]
+fn put_parts<W: Write>(
+    output: &mut W,
+    octets: &[u8],
+    sizes: &[usize],
+    first: io::Result<usize>,
+) -> io::Result<()>
+    requires { IfOk first (λ count. count ≤ length octets.now) }
+    ensures ok { IfOk first (λ count.
+        Puts result (W.contents output.old) (W.contents output.new) (drop count octets.now)) }
+    ensures err { OnErr first
+        (Puts result (W.contents output.old) (W.contents output.new) octets.now) }
+{
+    let failure = match first {
+        Ok(0) => io::Error::from(ErrorKind::WriteZero),
+        Ok(count) => return put_all(output, &octets[count..]),
+        Err(error) => error,
+    };
+    put_apart(output, octets, sizes)?;
+    match failure.kind() {
+        ErrorKind::Interrupted => Ok(()),
+        _ => Err(failure),
     }
 }
 

@@ -138,6 +138,7 @@ impl<'a, W: Write> WatchedOutput<'a, W> {
 }
 
 impl<W: Write> Write for WatchedOutput<'_, W> {
+    #[inline]
     fn write(&mut self, octets: &[u8]) -> io::Result<usize> {
         match self.output.write(octets) {
             Ok(count) => {

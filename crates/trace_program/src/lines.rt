@@ -11,14 +11,23 @@ ghost use Rattle.trace_program.specs.TraceLines.{outcome_text};
 
 use crate::notes::write_notes;
 use crate::words::{cause_text, fate_tab, tab_passage};
-use arrayvec::ArrayVec;
+use arrayvec::{ArrayVec, CapacityError};
 use dtap_codec::Modulus;
 use frame_words::{write_digits_line, write_joined, write_said};
 use itoa::Buffer;
-use program_base::{Failure, Taken, put, put_at_once};
+use program_base::{Failure, Taken, put, put_at_once, put_joined};
 use std::alloc::Global;
 use std::io::Write;
 use world_trace::{Cause, Crossing, End, EventTrace, Fate};
+
+/// The columns between the number of an event and its line in the script.
+const SCRIPT_COLUMNS: &[u8] = b"\tscript\tworld\t";
+
+/// The columns behind the line of an event that was taken.
+const TAKEN_COLUMNS: &[u8] = b"\ttaken\t\n";
+
+/// The octets of the longest line of an event that is put together before it is written.
+const LINE_LIMIT: usize = 160;
 
 /// The octets of the longest end of a link, with the tab behind it.
 const END_LIMIT: usize = 14;
@@ -49,6 +58,7 @@ pub(crate) fn write_event<W: Write>(
     write_notes(number, trace.notes.as_slice(), output)
 }
 
+/// Writes the line of an event: its number, its line in the script, and whether it was taken.
 fn write_event_line<W: Write>(
     number: u64,
     line: &[u8],
@@ -61,8 +71,45 @@ fn write_event_line<W: Write>(
 {
     let mut digits = Buffer::new();
     let digits = digits.format(number).as_bytes();
-    write_joined(digits, b"\tscript\tworld\t", line, output)?;
-    write_outcome(refusal, output)
+    match refusal {
+        None => write_taken(digits, line, output),
+        Some(_) => {
+            write_joined(digits, SCRIPT_COLUMNS, line, output)?;
+            write_outcome(refusal, output)
+        }
+    }
+}
+
+/// Writes the line of an event that was taken, in one piece where it isn't too long.
+fn write_taken<W: Write>(digits: &[u8], line: &[u8], output: &mut W) -> Result<(), Failure>
+    ensures text { OnOk result (Appends (W.contents output.old) (W.contents output.new)
+        (digits.now ++ codes "\tscript\tworld\t" ++ line.now ++ codes "\ttaken\t\n")) }
+    ensures err { IfErr result (λ failure. status_of failure ≡ 3) }
+{
+    let mut room = ArrayVec::new();
+    if gather_taken(digits, line, &mut room).is_ok() {
+        let sizes = [digits.len(), SCRIPT_COLUMNS.len(), line.len()];
+        put_joined(output, room.as_slice(), &sizes)?;
+        return Ok(());
+    }
+    write_joined(digits, SCRIPT_COLUMNS, line, output)?;
+    put(output, TAKEN_COLUMNS)?;
+    Ok(())
+}
+
+/// Appends it to what is in the room, where that takes it.
+fn gather_taken(
+    digits: &[u8],
+    line: &[u8],
+    room: &mut ArrayVec<u8, LINE_LIMIT>,
+) -> Result<(), CapacityError>
+    ensures { OnOk result (room.new.items ≡ room.old.items
+        ++ (digits.now ++ codes "\tscript\tworld\t" ++ line.now ++ codes "\ttaken\t\n")) }
+{
+    room.try_extend_from_slice(digits)?;
+    room.try_extend_from_slice(SCRIPT_COLUMNS)?;
+    room.try_extend_from_slice(line)?;
+    room.try_extend_from_slice(TAKEN_COLUMNS)
 }
 
 /// Writes whether an event was taken, behind its line.
@@ -72,7 +119,7 @@ fn write_outcome<W: Write>(refusal: Option<Cause>, output: &mut W) -> Result<(),
     ensures err { IfErr result (λ failure. status_of failure ≡ 3) }
 {
     match refusal {
-        None => put(output, b"\ttaken\t\n")?,
+        None => put(output, TAKEN_COLUMNS)?,
         Some(cause) => writeln!(output, "\tnot taken: {}\t", cause_text(cause))?,
     }
     Ok(())
