@@ -1,14 +1,5 @@
 // SPDX-License-Identifier: MIT OR Apache-2.0
 //! The jobs, over inputs that each seed makes anew.
-use crate::digest::Digest;
-use crate::draw::Draw;
-use crate::frames::capture;
-use crate::network::Plan;
-use crate::reading::Pieces;
-use crate::relaying::play;
-use crate::script::{Shape, fixed_script, script};
-use crate::settings_text::settings_text;
-use crate::stop::Stop;
 use bsc_program::replay;
 use frame_words::decode_long;
 use program_base::decode;
@@ -17,6 +8,9 @@ use std::io::{self, BufWriter};
 use std::sync::Wait;
 use trace_pictures::{Form, captured, drawn, whole_script};
 use trace_program::trace;
+use workload_inputs::{
+    Digest, Draw, Pieces, Plan, Shape, Stop, capture, fixed_script, play, script, settings_text,
+};
 
 /// What a user waits for.
 #[derive(Clone, Copy)]

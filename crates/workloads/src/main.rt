@@ -1,7 +1,7 @@
 // SPDX-License-Identifier: MIT OR Apache-2.0
-//! The jobs that users of `bsc` wait for, each over inputs that it makes, the same ones for the same
-//! seed. `workloads JOB SEED` does one and prints the digest of all its results; with no words a
-//! little of each is done. bench/workloads.txt has the jobs.
+//! The jobs that users of `bsc` wait for, each over inputs that are drawn anew, the same ones for
+//! the same seed. `workloads JOB SEED` does one and prints the digest of all its results; with no
+//! words a little of each is done. bench/workloads.txt has the jobs.
 #![tactic(auto)]
 
 use jobs::{Job, Size, done, job_of};
@@ -9,21 +9,9 @@ use std::env;
 use std::process::ExitCode;
 use std::rt::Runtime;
 use std::sync::Wait;
-use stop::Stop;
+use workload_inputs::Stop;
 
-mod calls;
-mod digest;
-mod draw;
-mod frames;
 mod jobs;
-mod lines;
-mod network;
-mod reading;
-mod relaying;
-mod report;
-mod script;
-mod settings_text;
-mod stop;
 
 /// The jobs by their names.
 const NAMES: [&str; 6] = ["relay", "calls", "replay", "breaks", "trace", "decode"];

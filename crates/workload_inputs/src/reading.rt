@@ -4,13 +4,14 @@ use std::io::{self, Read};
 
 /// Octets that are read in pieces of 64 KiB at most, or of one octet where they come slowly.
 #[derive(Drop)]
-pub(crate) struct Pieces<'a> {
+pub struct Pieces<'a> {
     octets: &'a [u8],
     size: usize,
 }
 
 impl<'a> Pieces<'a> {
-    pub(crate) fn new(octets: &'a [u8], size: usize) -> Pieces<'a> {
+    /// These octets, in pieces of this size at most.
+    pub fn new(octets: &'a [u8], size: usize) -> Pieces<'a> {
         Pieces { octets, size }
     }
 }

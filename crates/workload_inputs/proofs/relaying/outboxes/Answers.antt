@@ -1,6 +1,6 @@
 -- SPDX-License-Identifier: MIT OR Apache-2.0
-use Rattle.workloads.proofs.Outboxes.{one_more}
-use Rattle.workloads.proofs.relaying.outboxes.Goals as goal
+use Rattle.workload_inputs.proofs.Outboxes.{one_more}
+use Rattle.workload_inputs.proofs.relaying.outboxes.Goals as goal
 
 pub loop-preserved : goal.loop-preserved
 loop-preserved c =

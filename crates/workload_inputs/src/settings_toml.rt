@@ -4,7 +4,7 @@ use std::fmt::Write;
 
 /// The settings of cells, each with an ARFCN of its own, rising with the cells, and with all
 /// channels that SDCCH/8 has. Every so many reports the levels are compared.
-pub(crate) fn settings_text(alloc: Global, cells: u16, interval: u8) -> Result<String, AllocError> {
+pub fn settings_text(alloc: Global, cells: u16, interval: u8) -> Result<String, AllocError> {
     let mut text = String::new(alloc);
     text.push_str(
         "[network]\nmcc = \"001\"\nmnc = \"01\"\n[switch]\naddress = \"127.0.0.1:5000\"\n",

@@ -18,24 +18,24 @@ use std::sync::Wait;
 
 /// What happens in a network.
 #[derive(Clone, Copy)]
-pub(crate) struct Plan {
-    pub(crate) cells: u16,
+pub struct Plan {
+    pub cells: u16,
     /// How many of the first cells have mobiles, and how many each has.
-    pub(crate) busy: u16,
-    pub(crate) mobiles: u8,
+    pub busy: u16,
+    pub mobiles: u8,
     /// How often each mobile calls, and how often it sends or gets something in a call.
-    pub(crate) lives: u32,
-    pub(crate) talks: u32,
+    pub lives: u32,
+    pub talks: u32,
     /// Every how many reports the levels are compared.
-    pub(crate) interval: u8,
+    pub interval: u8,
     /// How many milliseconds pass between two turns.
-    pub(crate) ms: u32,
+    pub ms: u32,
     /// Whether most of what a mobile sends are measurement results.
-    pub(crate) reports: bool,
+    pub reports: bool,
     /// Whether a call is handed over once.
-    pub(crate) moves: bool,
+    pub moves: bool,
     /// Whether the switch's link breaks under the last calls.
-    pub(crate) breaks: bool,
+    pub breaks: bool,
 }
 
 /// How many calls do something in a turn.

@@ -5,7 +5,7 @@ use thiserror::Error;
 
 /// Why a job isn't done.
 #[derive(Debug, Clone, Copy, Error)]
-pub(crate) enum Stop {
+pub enum Stop {
     #[error("no such job or seed")]
     Words,
     #[error("out of memory")]

@@ -4,17 +4,18 @@ ghost use Rattle.std.specs.Prelude.{◌<◌, ◌≤◌};
 /// Numbers that look as if they were drawn, the same ones for the same seed (SplitMix64, by Steele,
 /// Lea and Flood).
 #[derive(Clone, Copy)]
-pub(crate) struct Draw {
+pub struct Draw {
     state: u64,
 }
 
 impl Draw {
-    pub(crate) fn new(seed: u64) -> Draw {
+    /// The numbers of a seed.
+    pub fn new(seed: u64) -> Draw {
         Draw { state: seed }
     }
 
     /// The next number.
-    pub(crate) fn next(&mut self) -> u64 {
+    pub fn next(&mut self) -> u64 {
         self.state = self.state.wrapping_add(0x9e37_79b9_7f4a_7c15);
         let mixed = (self.state ^ (self.state >> 30)).wrapping_mul(0xbf58_476d_1ce4_e5b9);
         let mixed = (mixed ^ (mixed >> 27)).wrapping_mul(0x94d0_49bb_1331_11eb);

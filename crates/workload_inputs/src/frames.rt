@@ -96,7 +96,7 @@ pub(crate) fn weaker(draw: &mut Draw, level: u8) -> [Neighbour; 6] {
 }
 
 /// The octets of a captured link: frames of all kinds, so many octets at least.
-pub(crate) fn capture(alloc: Global, size: usize, draw: &mut Draw) -> Result<Vec<u8>, Memory> {
+pub fn capture(alloc: Global, size: usize, draw: &mut Draw) -> Result<Vec<u8>, Memory> {
     let mut text = Vec::with_capacity(alloc, size)?;
     for _ in 0..size {
         put_any(&mut text, draw)?;

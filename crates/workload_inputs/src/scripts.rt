@@ -7,13 +7,14 @@ use crate::report::{Neighbour, place_of, report};
 use octets::Memory;
 use std::alloc::Global;
 
-/// A script.
+/// How large a script is.
 #[derive(Clone, Copy)]
-pub(crate) struct Shape {
-    pub(crate) cells: u16,
-    pub(crate) mobiles: u8,
+pub struct Shape {
+    /// How many cells its network has, and how many mobiles.
+    pub cells: u16,
+    pub mobiles: u8,
     /// How many lines it has at least.
-    pub(crate) lines: u32,
+    pub lines: u32,
 }
 
 /// A mobile; behind each block of lines nothing of it is under way.
@@ -23,8 +24,8 @@ struct Mobile {
     cell: u16,
 }
 
-/// The text of a script.
-pub(crate) fn script(alloc: Global, shape: Shape, draw: &mut Draw) -> Result<Vec<u8>, Memory> {
+/// The text of a script of a world with a controller.
+pub fn script(alloc: Global, shape: Shape, draw: &mut Draw) -> Result<Vec<u8>, Memory> {
     let mut lines = Lines::new(alloc);
     let mut mobiles = Vec::new(alloc);
     for number in 1..=shape.mobiles {
@@ -48,7 +49,7 @@ pub(crate) fn script(alloc: Global, shape: Shape, draw: &mut Draw) -> Result<Vec
 }
 
 /// A script of the fixed world, with so many lines at least.
-pub(crate) fn fixed_script(alloc: Global, count: u32, draw: &mut Draw) -> Result<Vec<u8>, Memory> {
+pub fn fixed_script(alloc: Global, count: u32, draw: &mut Draw) -> Result<Vec<u8>, Memory> {
     let mut lines = Lines::new(alloc);
     for _ in 0..count {
         speaks_to(&mut lines, 1, draw)?;

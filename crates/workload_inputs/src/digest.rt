@@ -3,30 +3,32 @@ use std::io::{self, Write};
 
 /// A digest of all octets that are written to it, whatever the pieces (FNV-1a, 64 bits).
 #[derive(Drop)]
-pub(crate) struct Digest {
+pub struct Digest {
     sum: u64,
 }
 
 impl Digest {
-    pub(crate) fn new() -> Digest {
+    /// The digest of no octets.
+    pub fn new() -> Digest {
         Digest {
             sum: 0xcbf2_9ce4_8422_2325,
         }
     }
 
     /// Takes octets in.
-    pub(crate) fn add(&mut self, octets: &[u8]) {
+    pub fn add(&mut self, octets: &[u8]) {
         for octet in octets {
             self.sum = (self.sum ^ u64::from(*octet)).wrapping_mul(0x0100_0000_01b3);
         }
     }
 
-    /// Takes a number in.
-    pub(crate) fn add_number(&mut self, number: u64) {
+    /// Takes a number in, as eight octets, the high one first.
+    pub fn add_number(&mut self, number: u64) {
         self.add(&number.to_be_bytes());
     }
 
-    pub(crate) fn sum(&self) -> u64 {
+    /// The digest of all that was taken in.
+    pub fn sum(&self) -> u64 {
         self.sum
     }
 }

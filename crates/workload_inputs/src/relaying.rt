@@ -5,7 +5,7 @@ ghost use Rattle.controller_worker.specs.Call.{AreNew};
 
 use crate::draw::Draw;
 use crate::network::{Field, Link, Network, Plan};
-use crate::settings_text::settings_text;
+use crate::settings_toml::settings_text;
 use crate::stop::Stop;
 use controller::Controller;
 use controller_worker::{Marks, call_worker};
@@ -20,7 +20,7 @@ const CAPACITY: usize = 1024;
 
 /// Plays a network, and gives the digest of all octets that the links of the controller carried,
 /// and of how many items it ignored.
-pub(crate) fn play<R: Wait>(rt: &R, alloc: Global, plan: Plan, draw: Draw) -> Result<u64, Stop> {
+pub fn play<R: Wait>(rt: &R, alloc: Global, plan: Plan, draw: Draw) -> Result<u64, Stop> {
     let text = settings_text(alloc, plan.cells, plan.interval)?;
     let Ok(settings) = Settings::read(alloc, text.as_str()) else {
         return Err(Stop::Refused);
