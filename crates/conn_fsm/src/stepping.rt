@@ -57,7 +57,6 @@ impl Machine {
                 self.on_assignment_request(is_speech, offer, outputs)
             }
             Input::CipherModeCommand => self.on_cipher_mode_command(outputs),
-            Input::HandoverPerformed => self.on_handover_performed(outputs),
             Input::ClearCommand => self.on_clear_command(outputs),
             planned => self.finish(&planned, outputs),
         }

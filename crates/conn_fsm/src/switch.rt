@@ -2,8 +2,7 @@
 ghost use Rattle.std.specs.Prelude.{◌≡◌, [], ◌∷◌, ◌++◌};
 ghost use Rattle.conn_rules.specs.declared.state.State.TheVariants.{Closed};
 ghost use Rattle.conn_rules.specs.Validity.{IsValid};
-ghost use Rattle.conn_rules.specs.Table.{on_cipher_mode_command};
-ghost use Rattle.conn_rules.specs.Table.{on_handover_performed, on_clear_command, on_confirm};
+ghost use Rattle.conn_rules.specs.Table.{on_cipher_mode_command, on_clear_command, on_confirm};
 ghost use Rattle.conn_rules.specs.Table.{on_refused, on_released};
 ghost use Rattle.conn_fsm.specs.Doing.{StepsOnOk, UnchangedOnErr};
 
@@ -91,21 +90,6 @@ impl Machine {
     /// CIPHER MODE COMMAND, which is rejected.
     pub(crate) fn on_cipher_mode_command(&mut self, outputs: &mut Outputs) -> Result<bool, Memory>
         ensures done { StepsOnOk result (on_cipher_mode_command self.old.state self.old)
-            self.old self.new outputs.old.outs outputs.new.outs }
-        ensures err { UnchangedOnErr result self.old self.new outputs.old.outs outputs.new.outs }
-    {
-        let state = self.state;
-        let State::Live(reference, _) = state else {
-            return Ok(false);
-        };
-        let message = cipher_mode_reject(self.alloc, reference)?;
-        self.put_one(&message, outputs)?;
-        Ok(true)
-    }
-
-    /// HANDOVER PERFORMED, which is rejected as CIPHER MODE COMMAND is.
-    pub(crate) fn on_handover_performed(&mut self, outputs: &mut Outputs) -> Result<bool, Memory>
-        ensures done { StepsOnOk result (on_handover_performed self.old.state self.old)
             self.old self.new outputs.old.outs outputs.new.outs }
         ensures err { UnchangedOnErr result self.old self.new outputs.old.outs outputs.new.outs }
     {

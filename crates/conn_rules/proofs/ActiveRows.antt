@@ -104,7 +104,6 @@ changes_begin : AreRows (
     ∷ offered (cell_1 0x0a) asked (inputs.AssignmentRequest false) (assignment_failure 0x25 ∷ []) asked
     ∷ case asked (inputs.AssignmentRequest false) (assignment_failure 0x25 ∷ []) asked
     ∷ case asked inputs.CipherModeCommand (cipher_mode_reject ∷ []) asked
-    ∷ case asked inputs.HandoverPerformed (cipher_mode_reject ∷ []) asked
     ∷ [])
 unfolding row_of out_of rsl_element_text
 changes_begin = refl
@@ -139,7 +138,6 @@ another_reference : AreRows (
     (channel_release 1 0x41 0x00 ∷ rf_channel_release 1 0x41 ∷ put 0 (hex "06 80 00 0f 00 01 03 00 01 21") ∷ [])
     (ended (Closed Complete) other)
     ∷ case other inputs.CipherModeCommand (put 0 (hex "06 80 00 0f 00 01 06 00 04 59 04 01 40") ∷ []) other
-    ∷ case other inputs.HandoverPerformed (put 0 (hex "06 80 00 0f 00 01 06 00 04 59 04 01 40") ∷ []) other
     ∷ case other request (put 0 (hex "06 80 00 0f 00 01 06 00 04 03 04 01 21") ∷ []) other
     ∷ offered (cell_2 0x41) other inputs.Move (put 2 (hex "08 21 01 41 03 02 06 04 00 03 01 00 09 00") ∷ [])
     (record other { state = Live 0x80000f (Preparing (target Handover (cell_2 0x41))); waited = 0 })

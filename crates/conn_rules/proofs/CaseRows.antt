@@ -218,7 +218,7 @@ all_on at = activations_on at ++ links_on at ++ dtap_on at ++ changes_on at ++ i
 abbrev pub commands : List Input
 commands =
     inputs.Downlink Zero (call 9) ∷ inputs.Downlink Three (text 9) ∷ inputs.AssignmentRequest true ∷ inputs.AssignmentRequest false
-    ∷ inputs.CipherModeCommand ∷ inputs.HandoverPerformed ∷ []
+    ∷ inputs.CipherModeCommand ∷ []
 
 abbrev pub answers : List Input
 answers = inputs.ConnectionConfirm 0x800001 ∷ inputs.ConnectionConfirm 0x80000f ∷ inputs.ConnectionRefused ∷ []

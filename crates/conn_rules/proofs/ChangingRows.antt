@@ -138,7 +138,6 @@ requests : AreRows (
     ∷ case moving (inputs.AssignmentRequest false) (assignment_failure 0x25 ∷ []) moving
     ∷ case (waiting moving) (inputs.AssignmentRequest false) (assignment_failure 0x25 ∷ []) (waiting moving)
     ∷ case (waiting moving) inputs.CipherModeCommand (cipher_mode_reject ∷ []) (waiting moving)
-    ∷ case (waiting moving) inputs.HandoverPerformed (cipher_mode_reject ∷ []) (waiting moving)
     ∷ [])
 unfolding row_of out_of rsl_element_text
 requests = refl

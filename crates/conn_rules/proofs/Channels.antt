@@ -10,7 +10,7 @@ use Rattle.conn_rules.proofs.Prelude.{tenure_at, drain_at, OfRow, target_in}
 use Rattle.conn_rules.specs.declared.input.Input.TheVariants as inputs
 use Rattle.conn_rules.specs.Roles.{KeepsChannels}
 use Rattle.conn_rules.specs.Steps.{Row, failing, begin, begin_waiting, after_waiting, hold_down, hold_short_message, short_message, link_down, hold_up, relay_held, leave, shifted, settled, settled_stage, resting_stage, resting, moved, hand_held, ask_for_held, done_at, may_begin}
-use Rattle.conn_rules.specs.Table.{row_of, row_if, serving_after, refuse, access, release, complete, failure, speech_request, release_in, dtap_in, dtap_on_target, on_activation_ack, on_activation_nack, on_establish_indication, on_establish_confirm, on_release_indication, on_error_indication, on_connection_failure, on_dtap, on_complete, on_failure, on_release_ack, on_move, on_confirm, on_refused, on_released, on_downlink, on_assignment_request, on_cipher_mode_command, on_handover_performed, on_clear_command, on_expiry, on_drain_expiry, on_station_down, on_switch_down}
+use Rattle.conn_rules.specs.Table.{row_of, row_if, serving_after, refuse, access, release, complete, failure, speech_request, release_in, dtap_in, dtap_on_target, on_activation_ack, on_activation_nack, on_establish_indication, on_establish_confirm, on_release_indication, on_error_indication, on_connection_failure, on_dtap, on_complete, on_failure, on_release_ack, on_move, on_confirm, on_refused, on_released, on_downlink, on_assignment_request, on_cipher_mode_command, on_clear_command, on_expiry, on_drain_expiry, on_station_down, on_switch_down}
 
 -- what holds of channels that serve, and what holds of targets
 module _ (P Q : Channel → Type 0) where
@@ -209,10 +209,6 @@ module _ (P Q : Channel → Type 0) where
   of_cipher_mode_command (Live reference stage) s n w = w
   of_cipher_mode_command _ s n w = tt
 
-  of_handover_performed : (state : State) (s : Connection) (n : ℕ) → IsWithin n s → OfRow (GoesWithin n) (on_handover_performed state s)
-  of_handover_performed (Live reference stage) s n w = w
-  of_handover_performed _ s n w = tt
-
   of_clear_command : (state : State) (s : Connection) (n : ℕ) → IsWithin n s → OfRow (GoesWithin n) (on_clear_command state s)
   of_clear_command (Live reference stage) s n w = (w.0, w.1, tt)
   of_clear_command (Closed (WasAsked reference)) s n w = (w.0, w.1, tt)
@@ -265,7 +261,6 @@ module _ (P Q : Channel → Type 0) where
   goes_within s (inputs.Downlink sapi message) offer n w t o = of_downlink s.state s sapi message n w
   goes_within s (inputs.AssignmentRequest is_speech) offer n w t o = of_assignment_request s.state s is_speech offer n w o
   goes_within s inputs.CipherModeCommand offer n w t o = of_cipher_mode_command s.state s n w
-  goes_within s inputs.HandoverPerformed offer n w t o = of_handover_performed s.state s n w
   goes_within s inputs.ClearCommand offer n w t o = of_clear_command s.state s n w
   goes_within s inputs.Expiry offer n w t o = of_expiry s.state s n w
   goes_within s inputs.DrainExpiry offer n w t o = of_drain_expiry s.state s n w

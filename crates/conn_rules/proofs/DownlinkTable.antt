@@ -9,7 +9,7 @@ use Rattle.conn_rules.proofs.Prelude.{WaitActivation, WaitEstablish, WaitConfirm
 use Rattle.conn_rules.proofs.Prelude.{is_at, drain_at, tenure_at, OfRow, IsOpen, IsChanging, Reference, Due, WasAsked, Complete, RrCause}
 use Rattle.conn_rules.specs.declared.input.Input.TheVariants as inputs
 use Rattle.conn_rules.specs.Steps.{Row, dropping, may_begin, tenure_outs, relay_held, done_at, leave, shifted, settled, settled_stage, resting_stage, resting, moved}
-use Rattle.conn_rules.specs.Table.{access, on_activation_ack, nack_outs, on_activation_nack, on_establish_indication, was_asked, on_establish_confirm, on_release_indication, on_error_indication, on_connection_failure, dtap_on_target, dtap_in, on_dtap, same_change, on_complete, failure_outs, on_failure, release, release_in, on_release_ack, on_move, on_confirm, on_refused, on_released, on_downlink, on_assignment_request, on_cipher_mode_command, on_handover_performed, on_clear_command, on_expiry, is_some_draining, on_drain_expiry, drains_at, targets, on_station_down, on_switch_down, row_of}
+use Rattle.conn_rules.specs.Table.{access, on_activation_ack, nack_outs, on_activation_nack, on_establish_indication, was_asked, on_establish_confirm, on_release_indication, on_error_indication, on_connection_failure, dtap_on_target, dtap_in, on_dtap, same_change, on_complete, failure_outs, on_failure, release, release_in, on_release_ack, on_move, on_confirm, on_refused, on_released, on_downlink, on_assignment_request, on_cipher_mode_command, on_clear_command, on_expiry, is_some_draining, on_drain_expiry, drains_at, targets, on_station_down, on_switch_down, row_of}
 use Rattle.conn_rules.proofs.StandingSteps.{of_row_row_if, in_stage, asked_for, none_held}
 use Rattle.conn_rules.proofs.DownlinkMessages.{AllByRecursion-append, IsQuiet, AreQuiet}
 use Rattle.conn_rules.proofs.DownlinkSteps.{Does, BringsNothing, are_parting_end, does_ending, does_failing, does_dropping, does_without, does_broken, does_begin, does_waiting, does_handing, does_hold_down, does_short_message, does_link_up, does_link_down, does_hold_up, does_changed}
@@ -236,10 +236,6 @@ cipher_mode_command_does : (state : State) (s : Connection) → s.state ≡ stat
 cipher_mode_command_does (Live reference stage) s is = passes tt (subst IsOpen (sym is) tt) (tt, tt) refl tt
 cipher_mode_command_does _ s is = tt
 
-handover_performed_does : (state : State) (s : Connection) → s.state ≡ state → OfRow (Does state s inputs.HandoverPerformed) (on_handover_performed state s)
-handover_performed_does (Live reference stage) s is = passes tt (subst IsOpen (sym is) tt) (tt, tt) refl tt
-handover_performed_does _ s is = tt
-
 clear_command_does : (state : State) (s : Connection) → OfRow (Does state s inputs.ClearCommand) (on_clear_command state s)
 clear_command_does (Live reference stage) s = does_ending (Live reference stage) s inputs.ClearCommand NORMAL_EVENT (clear_complete reference ∷ []) (emptied (Closed Complete) s) tt absurd (tt, tt)
 clear_command_does (Closed (WasAsked reference)) s = ends absurd (tt, tt) tt
@@ -302,7 +298,6 @@ Does-row s (inputs.Released source) offer = released_does s.state s source
 Does-row s (inputs.Downlink sapi message) offer = downlink_does s.state s sapi message refl
 Does-row s (inputs.AssignmentRequest is_speech) offer = assignment_request_does s.state s is_speech offer refl
 Does-row s inputs.CipherModeCommand offer = cipher_mode_command_does s.state s refl
-Does-row s inputs.HandoverPerformed offer = handover_performed_does s.state s refl
 Does-row s inputs.ClearCommand offer = clear_command_does s.state s
 Does-row s inputs.Expiry offer = expiry_does s.state s
 Does-row s inputs.DrainExpiry offer = drain_expiry_does s.state s

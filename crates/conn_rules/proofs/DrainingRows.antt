@@ -270,7 +270,6 @@ changes_begin : AreRows (
     ∷ offered (cell_1 0x0c) three (inputs.AssignmentRequest false) (assignment_failure 0x25 ∷ []) three
     ∷ case (waiting three) (inputs.AssignmentRequest false) (assignment_failure 0x25 ∷ []) (waiting three)
     ∷ case (waiting three) inputs.CipherModeCommand (cipher_mode_reject ∷ []) (waiting three)
-    ∷ case (waiting three) inputs.HandoverPerformed (cipher_mode_reject ∷ []) (waiting three)
     ∷ [])
 unfolding row_of out_of rsl_element_text
 changes_begin = refl

@@ -101,7 +101,6 @@ requests : AreRows (
     ∷ case moving (inputs.AssignmentRequest false) (assignment_failure 0x25 ∷ []) moving
     ∷ case (waiting moving) (inputs.AssignmentRequest false) (assignment_failure 0x25 ∷ []) (waiting moving)
     ∷ case (waiting moving) inputs.CipherModeCommand (cipher_mode_reject ∷ []) (waiting moving)
-    ∷ case (waiting moving) inputs.HandoverPerformed (cipher_mode_reject ∷ []) (waiting moving)
     ∷ [])
 unfolding row_of out_of rsl_element_text
 requests = refl
@@ -250,7 +249,6 @@ requests_beside : AreRows (
     ∷ offered (cell_2 0x0b) (waiting moves_on) request (assignment_failure 0x60 ∷ []) (waiting moves_on)
     ∷ case (waiting moves_on) (inputs.AssignmentRequest false) (assignment_failure 0x25 ∷ []) (waiting moves_on)
     ∷ case (waiting moves_on) inputs.CipherModeCommand (cipher_mode_reject ∷ []) (waiting moves_on)
-    ∷ case (waiting moves_on) inputs.HandoverPerformed (cipher_mode_reject ∷ []) (waiting moves_on)
     ∷ [])
 unfolding row_of out_of rsl_element_text
 requests_beside = refl

@@ -18,7 +18,7 @@ use Rattle.conn_rules.specs.Putting.{Using, IsPutOn, ArePutOn, PutsOnOwn, same_p
 use Rattle.conn_rules.proofs.RolesTable.{changes_roles_row}
 use Rattle.conn_rules.specs.Roles.{ChangesRolesBy, channels_in, channels_in_use, roles_of, target_role, to_stations}
 use Rattle.conn_rules.specs.Steps.{Row, row, ◌then◌, begin, begin_outs, begin_waiting, dropping, end_outs, failing, is_for_station, hold_down, hold_short_message, hold_up, leave, link_down, link_up, may_begin, moved, relay_held, resting, request_for, request_where, resting_stage, settled, settled_stage, shifted, short_message, tenure_outs, waiting_outs, without_station, done_at}
-use Rattle.conn_rules.specs.Table.{row_of, row_if, access, assign_immediately, command_to, complete, dtap_in, dtap_on_target, failure, refuse, release, release_in, speech_request, on_activation_ack, on_activation_nack, on_establish_indication, on_establish_confirm, on_release_indication, on_error_indication, on_connection_failure, on_dtap, on_complete, on_failure, on_release_ack, on_move, on_confirm, on_refused, on_released, on_downlink, on_assignment_request, on_cipher_mode_command, on_handover_performed, on_clear_command, on_expiry, on_drain_expiry, on_station_down, on_switch_down}
+use Rattle.conn_rules.specs.Table.{row_of, row_if, access, assign_immediately, command_to, complete, dtap_in, dtap_on_target, failure, refuse, release, release_in, speech_request, on_activation_ack, on_activation_nack, on_establish_indication, on_establish_confirm, on_release_indication, on_error_indication, on_connection_failure, on_dtap, on_complete, on_failure, on_release_ack, on_move, on_confirm, on_refused, on_released, on_downlink, on_assignment_request, on_cipher_mode_command, on_clear_command, on_expiry, on_drain_expiry, on_station_down, on_switch_down}
 
 abbrev at_channel : Channel → Place
 at_channel c = record { station = c.station; number = c.number }
@@ -384,10 +384,6 @@ module _ (uses : Using) where
   of_cipher_mode_command (Live reference stage) s = (tt, tt)
   of_cipher_mode_command _ s = tt
 
-  of_handover_performed : (state : State) (s : Connection) → OfRow Puts (on_handover_performed state s)
-  of_handover_performed (Live reference stage) s = (tt, tt)
-  of_handover_performed _ s = tt
-
   of_clear_command : (state : State) (s : Connection) → IsReady uses state s → OfRow Puts (on_clear_command state s)
   of_clear_command (Live reference stage) s k = of_end (Live reference stage) s NORMAL_EVENT (clear_complete reference ∷ []) k (λ now. (tt, tt))
   of_clear_command (Closed (WasAsked reference)) s k = (tt, tt)
@@ -438,7 +434,6 @@ module _ (uses : Using) where
   of_row s (inputs.Downlink sapi message) offer k = of_downlink s.state s sapi message k
   of_row s (inputs.AssignmentRequest is_speech) offer k = of_assignment_request s.state s is_speech offer
   of_row s inputs.CipherModeCommand offer k = of_cipher_mode_command s.state s
-  of_row s inputs.HandoverPerformed offer k = of_handover_performed s.state s
   of_row s inputs.ClearCommand offer k = of_clear_command s.state s k
   of_row s inputs.Expiry offer k = of_expiry s.state s k
   of_row s inputs.DrainExpiry offer k = of_drain_expiry s.state s k

@@ -13,7 +13,7 @@ use Rattle.conn_rules.proofs.Prelude.{completes}
 use Rattle.conn_rules.proofs.Prelude.{goes_back, refused, dismisses, IsOpen}
 use Rattle.conn_rules.specs.declared.input.Input.TheVariants as inputs
 use Rattle.conn_rules.specs.Steps.{Row, row, ◌then◌, end_outs, failing, dropping, without_station, may_begin, begin_outs, after_begin, begin, short_message, link_up, link_down, resting_stage, resting, moved}
-use Rattle.conn_rules.specs.Table.{access, on_activation_ack, on_activation_nack, on_establish_indication, was_asked, on_establish_confirm, on_release_indication, on_error_indication, on_connection_failure, dtap_on_target, dtap_in, on_dtap, same_change, on_complete, failure_outs, on_failure, release_in, on_release_ack, on_move, on_confirm, on_refused, on_released, on_downlink, on_assignment_request, on_cipher_mode_command, on_handover_performed, on_clear_command, on_expiry, is_some_draining, on_drain_expiry, drains_at, targets, on_station_down, on_switch_down, row_of}
+use Rattle.conn_rules.specs.Table.{access, on_activation_ack, on_activation_nack, on_establish_indication, was_asked, on_establish_confirm, on_release_indication, on_error_indication, on_connection_failure, dtap_on_target, dtap_in, on_dtap, same_change, on_complete, failure_outs, on_failure, release_in, on_release_ack, on_move, on_confirm, on_refused, on_released, on_downlink, on_assignment_request, on_cipher_mode_command, on_clear_command, on_expiry, is_some_draining, on_drain_expiry, drains_at, targets, on_station_down, on_switch_down, row_of}
 use Rattle.conn_rules.proofs.StandingSteps.{by_state}
 use Rattle.conn_rules.specs.Roles.{target_role, roles_of, orders, brought, change_by, is_to_station, step_by, leaves_at, end_messages, ChangesRoles, ChangesRolesBy, to_stations, those_that_go}
 use Rattle.conn_rules.proofs.DownlinkSteps.{failing_shut}
@@ -297,10 +297,6 @@ cipher_mode_command_roles : (state : State) (s : Connection) (offer : Option Cha
 cipher_mode_command_roles (Live reference stage) s offer is = same_roles reference stage s inputs.CipherModeCommand offer _ refl is refl refl (tt, tt)
 cipher_mode_command_roles _ s offer is = refl
 
-handover_performed_roles : (state : State) (s : Connection) (offer : Option Channel) → s.state ≡ state → ChangesRolesBy s inputs.HandoverPerformed offer (on_handover_performed state s)
-handover_performed_roles (Live reference stage) s offer is = same_roles reference stage s inputs.HandoverPerformed offer _ refl is refl refl (tt, tt)
-handover_performed_roles _ s offer is = refl
-
 clear_command_roles : (state : State) (s : Connection) (offer : Option Channel) → s.state ≡ state → ChangesRolesBy s inputs.ClearCommand offer (on_clear_command state s)
 clear_command_roles (Live reference stage) s offer is =
     ends_it (Live reference stage) s inputs.ClearCommand offer NORMAL_EVENT (clear_complete reference ∷ []) (emptied (Closed Complete) s) is tt absurd refl (λ _. refl)
@@ -370,7 +366,6 @@ changes_roles_row s (inputs.Released source) offer valid = released_roles s.stat
 changes_roles_row s (inputs.Downlink sapi message) offer valid = downlink_roles s.state s sapi message offer refl
 changes_roles_row s (inputs.AssignmentRequest is_speech) offer valid = assignment_request_roles s.state s is_speech offer refl
 changes_roles_row s inputs.CipherModeCommand offer valid = cipher_mode_command_roles s.state s offer refl
-changes_roles_row s inputs.HandoverPerformed offer valid = handover_performed_roles s.state s offer refl
 changes_roles_row s inputs.ClearCommand offer valid = clear_command_roles s.state s offer refl
 changes_roles_row s inputs.Expiry offer valid = expiry_roles s.state s offer refl
 changes_roles_row s inputs.DrainExpiry offer valid = drain_expiry_roles s.state s offer refl

@@ -18,7 +18,7 @@ use Rattle.conn_rules.proofs.Downlink.{of_row_so}
 use Rattle.conn_rules.proofs.DownlinkMessages.{AllByRecursion-append, AllByRecursion-filter}
 use Rattle.conn_rules.specs.declared.input.Input.TheVariants as inputs
 use Rattle.conn_rules.specs.Steps.{Row, row, ◌then◌, after_waiting, ask_for_held, begin, begin_outs, begin_waiting, done_at, dropping, end_outs, ending, failing, is_for_station, hand_held, hold_down, hold_short_message, hold_up, leave, link_down, link_up, may_begin, moved, relay_held, request_for, request_where, resting, resting_stage, settled, settled_stage, shifted, short_message, target_release, tenure_outs, waiting_outs, without_station}
-use Rattle.conn_rules.specs.Table.{row_if, access, complete, dtap_in, dtap_on_target, failure, failure_outs, nack_outs, on_activation_ack, on_activation_nack, on_assignment_request, on_cipher_mode_command, on_handover_performed, on_clear_command, on_complete, on_confirm, on_connection_failure, on_downlink, on_drain_expiry, on_dtap, on_error_indication, on_establish_confirm, on_establish_indication, on_expiry, on_failure, on_move, on_refused, on_release_ack, on_release_indication, on_released, on_station_down, on_switch_down, refuse, release, release_in, row_of, speech_request}
+use Rattle.conn_rules.specs.Table.{row_if, access, complete, dtap_in, dtap_on_target, failure, failure_outs, nack_outs, on_activation_ack, on_activation_nack, on_assignment_request, on_cipher_mode_command, on_clear_command, on_complete, on_confirm, on_connection_failure, on_downlink, on_drain_expiry, on_dtap, on_error_indication, on_establish_confirm, on_establish_indication, on_expiry, on_failure, on_move, on_refused, on_release_ack, on_release_indication, on_released, on_station_down, on_switch_down, refuse, release, release_in, row_of, speech_request}
 use Rattle.rsl_codec.specs.declared.values.ActivationType.{ActivationType}
 use Rattle.rsl_codec.specs.declared.values.HandoverReference.{HandoverReference}
 use Rattle.rsl_codec.specs.declared.values.RequestReference.{RequestReference}
@@ -472,10 +472,6 @@ module _ (k : Kinds) (P : Message → Type 0) (Q : State → RequestReference �
   of_cipher_mode_command (Live reference stage) knows = (before, (puts.refuses reference knows.own, tt))
   of_cipher_mode_command _ knows = tt
 
-  of_handover_performed : (state : State) → Knows k state → OfRow Is (on_handover_performed state s)
-  of_handover_performed (Live reference stage) knows = (before, (puts.refuses reference knows.own, tt))
-  of_handover_performed _ knows = tt
-
   of_clear_command : (state : State) → Knows k state → k.clears → OfRow Is (on_clear_command state s)
   of_clear_command (Live reference stage) knows may =
       let last : P (clear_complete reference) = puts.clears reference knows.own may in
@@ -531,7 +527,6 @@ module _ (k : Kinds) (P : Message → Type 0) (Q : State → RequestReference �
   row_puts (inputs.Downlink sapi message) brings = of_downlink s.state sapi message parts.state brings
   row_puts (inputs.AssignmentRequest is_speech) brings = of_assignment_request s.state is_speech parts.state
   row_puts inputs.CipherModeCommand brings = of_cipher_mode_command s.state parts.state
-  row_puts inputs.HandoverPerformed brings = of_handover_performed s.state parts.state
   row_puts inputs.ClearCommand brings = of_clear_command s.state parts.state brings
   row_puts inputs.Expiry brings = of_expiry s.state parts.state
   row_puts inputs.DrainExpiry brings = of_drain_expiry s.state parts.state

@@ -7,7 +7,7 @@ use Rattle.conn_rules.proofs.Prelude.{Down, Stage, Active, Preparing, Changing, 
 use Rattle.conn_rules.proofs.Prelude.{Live, Closed, Removed, Connection, enter, is_at, drain_at, tenure_at, IsValid, IsCarried, OfRow}
 use Rattle.conn_rules.specs.declared.input.Input.TheVariants as inputs
 use Rattle.conn_rules.specs.Steps.{Row, may_begin, begin}
-use Rattle.conn_rules.specs.Table.{access, on_activation_ack, on_activation_nack, on_establish_indication, was_asked, on_establish_confirm, on_release_indication, on_error_indication, on_connection_failure, dtap_on_target, dtap_in, on_dtap, same_change, on_complete, on_failure, release_in, on_release_ack, on_move, on_confirm, on_refused, on_released, on_downlink, speech_request, on_assignment_request, on_cipher_mode_command, on_handover_performed, on_clear_command, on_expiry, is_some_draining, on_drain_expiry, drains_at, targets, on_station_down, on_switch_down, row_of}
+use Rattle.conn_rules.specs.Table.{access, on_activation_ack, on_activation_nack, on_establish_indication, was_asked, on_establish_confirm, on_release_indication, on_error_indication, on_connection_failure, dtap_on_target, dtap_in, on_dtap, same_change, on_complete, on_failure, release_in, on_release_ack, on_move, on_confirm, on_refused, on_released, on_downlink, speech_request, on_assignment_request, on_cipher_mode_command, on_clear_command, on_expiry, is_some_draining, on_drain_expiry, drains_at, targets, on_station_down, on_switch_down, row_of}
 use Rattle.conn_rules.proofs.StandingSteps.{of_row_row_if, holds_of, valid_removed, valid_closed, valid_failing, valid_enter, by_state, alive, in_stage, valid_live, valid_but_of, valid_in_waiting, valid_begin, valid_link_up, valid_link_down, valid_hold_down, valid_short_message, valid_hold_up, valid_hold_first, valid_confirmed}
 use Rattle.conn_rules.proofs.StandingChanges.{valid_nack, valid_failure, valid_complete, valid_release}
 
@@ -160,10 +160,6 @@ cipher_mode_command_valid : (state : State) (s : Connection) → IsValid s → O
 cipher_mode_command_valid (Live reference stage) s valid = valid
 cipher_mode_command_valid _ s valid = tt
 
-handover_performed_valid : (state : State) (s : Connection) → IsValid s → OfRow Next (on_handover_performed state s)
-handover_performed_valid (Live reference stage) s valid = valid
-handover_performed_valid _ s valid = tt
-
 clear_command_valid : (state : State) (s : Connection) → s.state ≡ state → IsValid s → OfRow Next (on_clear_command state s)
 clear_command_valid (Live reference stage) s is valid = valid_closed Complete s (holds_of s valid)
 clear_command_valid (Closed (WasAsked reference)) s is valid = valid_enter (Closed Complete) s (by_state (Closed (WasAsked reference)) s is valid) valid
@@ -216,7 +212,6 @@ IsValid-row s (inputs.Released source) offer valid carried = released_valid s.st
 IsValid-row s (inputs.Downlink sapi message) offer valid carried = downlink_valid s.state s sapi message refl carried valid
 IsValid-row s (inputs.AssignmentRequest is_speech) offer valid carried = assignment_request_valid s.state s is_speech offer refl valid
 IsValid-row s inputs.CipherModeCommand offer valid carried = cipher_mode_command_valid s.state s valid
-IsValid-row s inputs.HandoverPerformed offer valid carried = handover_performed_valid s.state s valid
 IsValid-row s inputs.ClearCommand offer valid carried = clear_command_valid s.state s refl valid
 IsValid-row s inputs.Expiry offer valid carried = expiry_valid s.state s valid
 IsValid-row s inputs.DrainExpiry offer valid carried = drain_expiry_valid s.state s valid

@@ -9,7 +9,7 @@ use Rattle.conn_rules.proofs.Prelude.{WaitActivation, WaitEstablish, WaitConfirm
 use Rattle.conn_rules.proofs.Prelude.{IsValidState, FirstIsEmpty, Future, OfRow, IsOpen, relayed, still_of, still_to_relay, of_target}
 use Rattle.conn_rules.proofs.Prelude.{of_prepared}
 use Rattle.conn_rules.specs.Steps.{Row, row, ◌then◌, may_begin, begin_waiting, resting, resting_stage, moved, hold_down, hand_held, request_where, short_message, ask_for_held, link_up, link_down, done_at, leave, settled, settled_stage}
-use Rattle.conn_rules.specs.Table.{row_if, on_activation_ack, nack_outs, on_activation_nack, was_asked, on_establish_confirm, on_release_indication, on_error_indication, on_connection_failure, same_change, on_complete, failure_outs, on_failure, release, release_in, on_release_ack, on_move, on_confirm, on_refused, on_released, on_downlink, speech_request, on_assignment_request, on_cipher_mode_command, on_handover_performed, on_clear_command, on_expiry, is_some_draining, on_drain_expiry, drains_at, targets, on_station_down, on_switch_down}
+use Rattle.conn_rules.specs.Table.{row_if, on_activation_ack, nack_outs, on_activation_nack, was_asked, on_establish_confirm, on_release_indication, on_error_indication, on_connection_failure, same_change, on_complete, failure_outs, on_failure, release, release_in, on_release_ack, on_move, on_confirm, on_refused, on_released, on_downlink, speech_request, on_assignment_request, on_cipher_mode_command, on_clear_command, on_expiry, is_some_draining, on_drain_expiry, drains_at, targets, on_station_down, on_switch_down}
 use Rattle.conn_rules.proofs.UplinkPlaces.{drain_at_drains}
 use Rattle.conn_rules.proofs.UplinkSteps.{Gives, gives_then, gives_relay_held, gives_hand_held, gives_ask_for_held, gives_begin, begins_untargeted, gives_begin_waiting, resting_untargeted, gives_leave, leave-state, gives_settled, settled-valid}
 use Rattle.conn_rules.proofs.UplinkTenures.{done_still, moved_still}
@@ -208,10 +208,6 @@ assignment_request sapi future _ s is_speech offer = tt
 pub cipher_mode_command : (sapi : Sapi) (future : Future) (state : State) (s : Connection) → PassesOn sapi future (in_state state s) (on_cipher_mode_command state (in_state state s))
 cipher_mode_command sapi future (Live reference stage) s = λ kept. refl
 cipher_mode_command sapi future _ s = tt
-
-pub handover_performed : (sapi : Sapi) (future : Future) (state : State) (s : Connection) → PassesOn sapi future (in_state state s) (on_handover_performed state (in_state state s))
-handover_performed sapi future (Live reference stage) s = λ kept. refl
-handover_performed sapi future _ s = tt
 
 pub clear_command : (sapi : Sapi) (future : Future) (state : State) (s : Connection) → PassesOn sapi future (in_state state s) (on_clear_command state (in_state state s))
 clear_command sapi future (Live reference stage) s = λ kept. absurd kept

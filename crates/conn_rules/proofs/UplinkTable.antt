@@ -8,7 +8,7 @@ use Rattle.conn_rules.specs.Steps.{Row}
 use Rattle.conn_rules.specs.Streams.{Ends}
 use Rattle.conn_rules.specs.Table.{row_of}
 use Rattle.conn_rules.proofs.UplinkMessages.{establish_indication, dtap}
-use Rattle.conn_rules.proofs.UplinkRows.{Passes, PassesOn, activation_ack, activation_nack, establish_confirm, release_indication, error_indication, connection_failure, completed, failed, release_ack, move, confirmed, refused, released, downlink, assignment_request, cipher_mode_command, handover_performed, clear_command, expired, drain_expired, station_down, switch_down}
+use Rattle.conn_rules.proofs.UplinkRows.{Passes, PassesOn, activation_ack, activation_nack, establish_confirm, release_indication, error_indication, connection_failure, completed, failed, release_ack, move, confirmed, refused, released, downlink, assignment_request, cipher_mode_command, clear_command, expired, drain_expired, station_down, switch_down}
 
 -- inputs that bring none of the mobile's messages
 abbrev BringsNone : Input → Type 0
@@ -47,7 +47,6 @@ row_keeps s (inputs.Released source) offer sapi future valid apart ends = apart_
 row_keeps s (inputs.Downlink of message) offer sapi future valid apart ends = apart_from sapi future s (inputs.Downlink of message) _ tt (downlink sapi future s.state s of message)
 row_keeps s (inputs.AssignmentRequest is_speech) offer sapi future valid apart ends = apart_from sapi future s (inputs.AssignmentRequest is_speech) _ tt (assignment_request sapi future s.state s is_speech offer)
 row_keeps s inputs.CipherModeCommand offer sapi future valid apart ends = apart_from sapi future s inputs.CipherModeCommand _ tt (cipher_mode_command sapi future s.state s)
-row_keeps s inputs.HandoverPerformed offer sapi future valid apart ends = apart_from sapi future s inputs.HandoverPerformed _ tt (handover_performed sapi future s.state s)
 row_keeps s inputs.ClearCommand offer sapi future valid apart ends = apart_from sapi future s inputs.ClearCommand _ tt (clear_command sapi future s.state s)
 row_keeps s inputs.Expiry offer sapi future valid apart ends = apart_from sapi future s inputs.Expiry _ tt (expired sapi future s.state s)
 row_keeps s inputs.DrainExpiry offer sapi future valid apart ends = apart_from sapi future s inputs.DrainExpiry _ tt (drain_expired sapi future s.state s)

@@ -288,10 +288,6 @@ abbrev pub on_cipher_mode_command : State → Connection → Option Row
 on_cipher_mode_command (Live reference stage) s = Some (row (cipher_mode_reject reference ∷ []) s)
 on_cipher_mode_command _ s = None
 
-abbrev pub on_handover_performed : State → Connection → Option Row
-on_handover_performed (Live reference stage) s = Some (row (cipher_mode_reject reference ∷ []) s)
-on_handover_performed _ s = None
-
 abbrev pub on_clear_command : State → Connection → Option Row
 on_clear_command (Live reference stage) s =
     Some (ending (Live reference stage) s NORMAL_EVENT (Closed Complete)
@@ -378,7 +374,6 @@ row_of s (inputs.Downlink sapi message) offer = on_downlink s.state s sapi messa
 row_of s (inputs.AssignmentRequest is_speech) offer =
     on_assignment_request s.state s is_speech offer
 row_of s inputs.CipherModeCommand offer = on_cipher_mode_command s.state s
-row_of s inputs.HandoverPerformed offer = on_handover_performed s.state s
 row_of s inputs.ClearCommand offer = on_clear_command s.state s
 row_of s inputs.Expiry offer = on_expiry s.state s
 row_of s inputs.DrainExpiry offer = on_drain_expiry s.state s

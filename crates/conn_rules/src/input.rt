@@ -80,8 +80,6 @@ pub enum Input {
         is_speech: bool,
     },
     CipherModeCommand,
-    /// HANDOVER PERFORMED, which is of no use to a BSC.
-    HandoverPerformed,
     ClearCommand,
 
     // ---- of the controller itself

@@ -25,7 +25,6 @@ needs_no_offer s (inputs.Released source) offer never = refl
 needs_no_offer s (inputs.Downlink sapi message) offer never = refl
 needs_no_offer s (inputs.AssignmentRequest is_speech) offer never = absurd (cc)
 needs_no_offer s inputs.CipherModeCommand offer never = refl
-needs_no_offer s inputs.HandoverPerformed offer never = refl
 needs_no_offer s inputs.ClearCommand offer never = refl
 needs_no_offer s inputs.Expiry offer never = refl
 needs_no_offer s inputs.DrainExpiry offer never = refl

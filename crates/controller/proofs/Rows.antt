@@ -139,9 +139,9 @@ begins_or_ends_a_change = refl
 begins_with_nothing_else : map may_begin (inputs.ActivationAck (place_at 1 0x41) ∷ inputs.EstablishIndication (place_at 1 0x41) Zero None
     ∷ inputs.EstablishConfirm (place_at 1 0x41) Zero ∷ inputs.ReleaseIndication (place_at 1 0x41) Zero ∷ inputs.ErrorIndication (place_at 1 0x41) Zero
     ∷ inputs.ConnectionFailure (place_at 1 0x41) ∷ inputs.Dtap (place_at 1 0x41) Zero (5 ∷ []) ∷ inputs.ConnectionConfirm 0x800001 ∷ inputs.ConnectionRefused
-    ∷ inputs.Released 0x800001 ∷ inputs.Downlink Zero (5 ∷ []) ∷ inputs.CipherModeCommand ∷ inputs.HandoverPerformed ∷ inputs.ClearCommand ∷ inputs.Expiry ∷ inputs.DrainExpiry
+    ∷ inputs.Released 0x800001 ∷ inputs.Downlink Zero (5 ∷ []) ∷ inputs.CipherModeCommand ∷ inputs.ClearCommand ∷ inputs.Expiry ∷ inputs.DrainExpiry
     ∷ inputs.StationDown 1 ∷ inputs.SwitchDown ∷ [])
-    ≡ replicate 18 false
+    ≡ replicate 17 false
 begins_with_nothing_else = refl
 
 -- ---- whose activation is waited for: the access channel's, then the target's

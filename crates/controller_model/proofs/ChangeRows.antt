@@ -137,11 +137,6 @@ rejects_ciphering : played active (from_switch (hex "06 00 00 01 00 01 03 00 01 
 unfolding on_literals
 rejects_ciphering = refl
 
-rejects_a_handover_performed : played active (from_switch (hex "06 00 00 01 00 01 10 00 0e 17 04 01 0c 05 08 00 00 f1 10 00 01 00 02") ∷ [])
-    ≡ (put 0 (hex "06 80 00 01 00 01 06 00 04 59 04 01 40") ∷ []) ∷ []
-unfolding on_literals
-rejects_a_handover_performed = refl
-
 asks_again_for_short_messages : played assigning (from_switch (hex "06 00 00 01 00 01 05 01 03 02 09 01")
     ∷ from_station 1 (hex "03 02 01 0a 02 00 0b 00 03 06 29 00")
     ∷ from_station 1 (hex "02 05 01 0a 02 43") ∷ [])

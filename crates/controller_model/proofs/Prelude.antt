@@ -66,7 +66,6 @@ pub use Rattle.conn_rules.specs.Streams.{handed as handed_of, is_of, of_prepared
 pub use Rattle.conn_rules.specs.Streams.{without_rejected}
 pub use Rattle.conn_rules.specs.Table.{access, assign_immediately, command_to, complete, dtap_in, dtap_on_target, failure, failure_outs}
 pub use Rattle.conn_rules.specs.Table.{nack_outs, on_activation_ack, on_activation_nack, on_assignment_request, on_cipher_mode_command}
-pub use Rattle.conn_rules.specs.Table.{on_handover_performed}
 pub use Rattle.conn_rules.specs.Table.{on_clear_command, on_complete, on_confirm, on_connection_failure, on_downlink, on_drain_expiry}
 pub use Rattle.conn_rules.specs.Table.{on_dtap, on_error_indication, on_establish_confirm, on_establish_indication, on_expiry, on_failure}
 pub use Rattle.conn_rules.specs.Table.{on_move, on_refused, on_release_ack, on_release_indication, on_released, on_station_down}

@@ -120,8 +120,6 @@ management_word number (bssmap.AssignmentRequest channel_type) =
     OnConnection number (inputs.AssignmentRequest (is_speech_type channel_type.0))
 management_word number (bssmap.ClearCommand cause) = OnConnection number inputs.ClearCommand
 management_word number bssmap.CipherModeCommand = OnConnection number inputs.CipherModeCommand
-management_word number (bssmap.HandoverPerformed cause cell) =
-    OnConnection number inputs.HandoverPerformed
 management_word number _ = Nothing
 
 -- a DLCI has SAPI 0 or 3

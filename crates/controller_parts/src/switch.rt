@@ -91,7 +91,6 @@ fn management_word(number: u32, message: &Bssmap) -> Word
         },
         Bssmap::ClearCommand { .. } => Input::ClearCommand,
         Bssmap::CipherModeCommand => Input::CipherModeCommand,
-        Bssmap::HandoverPerformed { .. } => Input::HandoverPerformed,
         _ => return Word::Nothing,
     };
     Word::OnConnection(number, input)

@@ -36,11 +36,6 @@ pub(crate) const REJECTED: &[Exchange] = &[
         Comes(0, "06000001000103000153"),
         &[(0, "06800001000106000459040140")],
     ),
-    // HANDOVER PERFORMED: CIPHER MODE REJECT.
-    (
-        Comes(0, "06000001000110000e1704010c05080000f11000010002"),
-        &[(0, "06800001000106000459040140")],
-    ),
     // A short message: ESTABLISH REQUEST. RELEASE INDICATION: SAPI N REJECT, and the message is
     // dropped.
     (Comes(0, "060000010001050103020907"), &[(1, "020401410203")]),

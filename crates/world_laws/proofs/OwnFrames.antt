@@ -51,7 +51,6 @@ of_management : (source number : ℕ) (message : Bssmap) → ReadWord source Non
 of_management source number (bssmap.AssignmentRequest channel_type) = nothing_brought source _ tt (λ place. refl) (λ w. refl)
 of_management source number (bssmap.ClearCommand cause) = nothing_brought source _ tt (λ place. refl) (λ w. refl)
 of_management source number bssmap.CipherModeCommand = nothing_brought source _ tt (λ place. refl) (λ w. refl)
-of_management source number (bssmap.HandoverPerformed cause cell) = nothing_brought source _ tt (λ place. refl) (λ w. refl)
 of_management source number _ = tt
 
 of_bssap : (source number : ℕ) (r : Result Bssap InterfaceFault) → ReadWord source None (bssap_word number r)

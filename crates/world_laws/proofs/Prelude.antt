@@ -59,8 +59,7 @@ pub use Rattle.conn_rules.specs.Steps.{Row, done_at, dropping, row, without_stat
 pub use Rattle.conn_rules.specs.Streams.{AreApart, Future, IsApart, IsOpen, KeepsUplink, OfRow, from_input, is_dtap, relayed, undone}
 pub use Rattle.conn_rules.specs.Streams.{used_channels, Ends, IsFinal, first_at, of_prepared, of_target, still_of, still_to_relay}
 pub use Rattle.conn_rules.specs.Table.{access, assign_immediately, command_to, dtap_in, on_activation_ack, on_activation_nack}
-pub use Rattle.conn_rules.specs.Table.{on_assignment_request, on_cipher_mode_command}
-pub use Rattle.conn_rules.specs.Table.{on_handover_performed, on_clear_command, on_complete, on_confirm}
+pub use Rattle.conn_rules.specs.Table.{on_assignment_request, on_cipher_mode_command, on_clear_command, on_complete, on_confirm}
 pub use Rattle.conn_rules.specs.Table.{on_connection_failure, on_downlink, on_drain_expiry, on_dtap, on_error_indication}
 pub use Rattle.conn_rules.specs.Table.{on_establish_confirm, on_establish_indication, on_failure, on_move, on_refused, on_release_ack}
 pub use Rattle.conn_rules.specs.Table.{on_release_indication, on_released, on_station_down, on_switch_down, release_in, row_if, same_change}

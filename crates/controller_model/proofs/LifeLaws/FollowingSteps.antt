@@ -109,7 +109,6 @@ switch_tenures (inputs.Released source) put ts of = refl
 switch_tenures (inputs.Downlink sapi message) put ts of = refl
 switch_tenures (inputs.AssignmentRequest is_speech) put ts of = refl
 switch_tenures inputs.CipherModeCommand put ts of = refl
-switch_tenures inputs.HandoverPerformed put ts of = refl
 switch_tenures inputs.ClearCommand put ts of = refl
 switch_tenures _ put ts of = absurd of
 

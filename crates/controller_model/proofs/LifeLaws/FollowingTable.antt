@@ -7,8 +7,7 @@ use Rattle.controller_model.proofs.Prelude.{State, WaitActivation, WaitEstablish
 use Rattle.controller_model.proofs.Prelude.{emptied, enter, is_at, ChangesRoles, RemainsOpen, roles_of, step_by, goes_on, ends, had_ended}
 use Rattle.controller_model.proofs.Prelude.{IsValid, Row, row, dropping, without_station, AreApart, Future, IsOpen, OfRow, relayed, still_of}
 use Rattle.controller_model.proofs.Prelude.{used_channels, access, assign_immediately, on_activation_ack, on_activation_nack}
-use Rattle.controller_model.proofs.Prelude.{on_assignment_request, on_cipher_mode_command}
-use Rattle.controller_model.proofs.Prelude.{on_handover_performed, on_clear_command, on_complete, on_confirm}
+use Rattle.controller_model.proofs.Prelude.{on_assignment_request, on_cipher_mode_command, on_clear_command, on_complete, on_confirm}
 use Rattle.controller_model.proofs.Prelude.{on_connection_failure, on_downlink, on_drain_expiry, on_dtap, on_error_indication}
 use Rattle.controller_model.proofs.Prelude.{on_establish_confirm, on_establish_indication, on_expiry, on_failure, on_move, on_refused}
 use Rattle.controller_model.proofs.Prelude.{on_release_ack, on_release_indication, on_released, on_station_down, on_switch_down, release_in}
@@ -43,7 +42,6 @@ row_by state s (inputs.Released source) offer = on_released state s source
 row_by state s (inputs.Downlink sapi message) offer = on_downlink state s sapi message
 row_by state s (inputs.AssignmentRequest is_speech) offer = on_assignment_request state s is_speech offer
 row_by state s inputs.CipherModeCommand offer = on_cipher_mode_command state s
-row_by state s inputs.HandoverPerformed offer = on_handover_performed state s
 row_by state s inputs.ClearCommand offer = on_clear_command state s
 row_by state s inputs.Expiry offer = on_expiry state s
 row_by state s inputs.DrainExpiry offer = on_drain_expiry state s

@@ -55,7 +55,6 @@ switch_elsewhere (inputs.Released source) of = (tt, λ down. down)
 switch_elsewhere (inputs.Downlink sapi message) of = (tt, λ down. down)
 switch_elsewhere (inputs.AssignmentRequest is_speech) of = (tt, λ down. down)
 switch_elsewhere inputs.CipherModeCommand of = (tt, λ down. down)
-switch_elsewhere inputs.HandoverPerformed of = (tt, λ down. down)
 switch_elsewhere inputs.ClearCommand of = (tt, λ down. down)
 switch_elsewhere _ of = absurd of
 

@@ -67,7 +67,6 @@ by_changing reference target s here (inputs.ReleaseAck at) offer = of_release (d
 by_changing reference target s here (inputs.Downlink sapi message) offer = either (GoesOrEnds (inputs.Downlink sapi message)) (count s.down == s.down.limit) (failing (Live reference (Changing target)) s EQUIPMENT_FAILURE) (row [] (record s { down = with_messages s.down sapi (messages s.down sapi ++ message ∷ []) })) (inr refl) (inl here)
 by_changing reference target s here (inputs.AssignmentRequest is_speech) offer = of_request is_speech reference target offer s here
 by_changing reference target s here inputs.CipherModeCommand offer = inl here
-by_changing reference target s here inputs.HandoverPerformed offer = inl here
 by_changing reference target s here inputs.ClearCommand offer = inr refl
 by_changing reference target s here (inputs.Released source) offer = inr refl
 by_changing reference target s here inputs.Expiry offer = inr refl

@@ -13,7 +13,6 @@ use Rattle.controller_model.proofs.Prelude.{release_in, dtap_in, dtap_on_target,
 use Rattle.controller_model.proofs.Prelude.{on_establish_indication, on_establish_confirm, on_release_indication, on_error_indication}
 use Rattle.controller_model.proofs.Prelude.{on_connection_failure, on_dtap, on_complete, on_failure, on_release_ack, on_move, on_confirm}
 use Rattle.controller_model.proofs.Prelude.{on_refused, on_released, on_downlink, on_assignment_request, on_cipher_mode_command}
-use Rattle.controller_model.proofs.Prelude.{on_handover_performed}
 use Rattle.controller_model.proofs.Prelude.{on_clear_command, on_expiry, on_drain_expiry, on_station_down, on_switch_down, either}
 use Rattle.controller_model.proofs.Prelude.{where_fits, Sapi, Zero, Three, complete_layer3, chain_count, put_in, INITIAL_LIMIT, received_by}
 use Rattle.controller_model.proofs.Prelude.{requests, is_confirm, failing_shut}
@@ -217,10 +216,6 @@ of_cipher : (state : State) (s : Connection) → s.state ≡ state → OfRow (Ad
 of_cipher (Live reference stage) s is = λ there. live_from s reference stage is
 of_cipher _ s is = tt
 
-of_performed : (state : State) (s : Connection) → s.state ≡ state → OfRow (Advances state inputs.HandoverPerformed) (on_handover_performed state s)
-of_performed (Live reference stage) s is = λ there. live_from s reference stage is
-of_performed _ s is = tt
-
 of_clear : (state : State) (s : Connection) → OfRow (Advances state inputs.ClearCommand) (on_clear_command state s)
 of_clear (Live reference stage) s = λ there. absurd there
 of_clear (Closed (WasAsked reference)) s = λ there. absurd there
@@ -268,7 +263,6 @@ advances s (inputs.Released source) offer = of_released s.state s source
 advances s (inputs.Downlink sapi message) offer = of_downlink s.state s refl sapi message
 advances s (inputs.AssignmentRequest is_speech) offer = of_assignment_request s.state s refl is_speech offer
 advances s inputs.CipherModeCommand offer = of_cipher s.state s refl
-advances s inputs.HandoverPerformed offer = of_performed s.state s refl
 advances s inputs.ClearCommand offer = of_clear s.state s
 advances s inputs.Expiry offer = of_expiry s.state s
 advances s inputs.DrainExpiry offer = of_drain_expiry s.state s

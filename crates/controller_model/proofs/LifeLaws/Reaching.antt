@@ -16,8 +16,7 @@ use Rattle.controller_model.proofs.Prelude.{complete, failure, failure_outs, spe
 use Rattle.controller_model.proofs.Prelude.{on_activation_ack, on_activation_nack, on_establish_indication, on_establish_confirm}
 use Rattle.controller_model.proofs.Prelude.{on_release_indication, on_error_indication, on_connection_failure, on_dtap, on_complete}
 use Rattle.controller_model.proofs.Prelude.{on_failure, on_release_ack, on_move, on_confirm, on_refused, on_released, on_downlink}
-use Rattle.controller_model.proofs.Prelude.{on_assignment_request, on_cipher_mode_command}
-use Rattle.controller_model.proofs.Prelude.{on_handover_performed, on_clear_command, on_expiry, on_drain_expiry}
+use Rattle.controller_model.proofs.Prelude.{on_assignment_request, on_cipher_mode_command, on_clear_command, on_expiry, on_drain_expiry}
 use Rattle.controller_model.proofs.Prelude.{on_station_down, on_switch_down, either, where_fits, Sapi, Zero, Three, chain_count, put_in}
 use Rattle.controller_model.proofs.Prelude.{count, messages, with_messages, INITIAL_LIMIT, begin_outs, tenure_outs}
 use Rattle.conn_rules.specs.declared.input.Input.TheVariants as inputs
@@ -264,10 +263,6 @@ module _ (P : ℕ → Type 0) where
   of_cipher_mode_command (Live reference stage) s = λ _. (tt, tt)
   of_cipher_mode_command _ s = tt
 
-  of_handover_performed : (state : State) (s : Connection) → OfRow Reaching (on_handover_performed state s)
-  of_handover_performed (Live reference stage) s = λ _. (tt, tt)
-  of_handover_performed _ s = tt
-
   of_clear_command : (state : State) (s : Connection) → OfRow Reaching (on_clear_command state s)
   of_clear_command (Live reference stage) s = λ is_open. absurd is_open
   of_clear_command (Closed (WasAsked reference)) s = λ is_open. absurd is_open
@@ -315,7 +310,6 @@ module _ (P : ℕ → Type 0) where
   open_reaches s (inputs.Downlink sapi message) offer h t o = of_downlink s.state s sapi message h
   open_reaches s (inputs.AssignmentRequest is_speech) offer h t o = of_assignment_request s.state s is_speech offer o
   open_reaches s inputs.CipherModeCommand offer h t o = of_cipher_mode_command s.state s
-  open_reaches s inputs.HandoverPerformed offer h t o = of_handover_performed s.state s
   open_reaches s inputs.ClearCommand offer h t o = of_clear_command s.state s
   open_reaches s inputs.Expiry offer h t o = of_expiry s.state s
   open_reaches s inputs.DrainExpiry offer h t o = of_drain_expiry s.state s

@@ -38,7 +38,6 @@ IsOfSwitch (inputs.Released source) = Unit {0}
 IsOfSwitch (inputs.Downlink sapi message) = Unit {0}
 IsOfSwitch (inputs.AssignmentRequest is_speech) = Unit {0}
 IsOfSwitch inputs.CipherModeCommand = Unit {0}
-IsOfSwitch inputs.HandoverPerformed = Unit {0}
 IsOfSwitch inputs.ClearCommand = Unit {0}
 IsOfSwitch _ = ⊥
 
@@ -99,7 +98,6 @@ management_from : (source number : ℕ) (m : Bssmap) → source ≡ SWITCH_LINK 
 management_from source number (bssmap.AssignmentRequest channel_type) is = (is, tt)
 management_from source number (bssmap.ClearCommand cause) is = (is, tt)
 management_from source number bssmap.CipherModeCommand is = (is, tt)
-management_from source number (bssmap.HandoverPerformed cause cell) is = (is, tt)
 management_from source number _ is = tt
 
 bssap_from : (source number : ℕ) (r : Result Bssap InterfaceFault) → source ≡ SWITCH_LINK → IsFrom source (bssap_word number r)

@@ -8,8 +8,7 @@ use Rattle.world_laws.proofs.Prelude.{step_by, target_channels, target_role, wit
 use Rattle.world_laws.proofs.Prelude.{completes, goes_back, IsValid, Row, IsOpen, on_activation_ack, on_activation_nack}
 use Rattle.world_laws.proofs.Prelude.{on_establish_indication, on_establish_confirm, on_release_indication, on_error_indication}
 use Rattle.world_laws.proofs.Prelude.{on_connection_failure, on_dtap, on_complete, on_failure, on_release_ack, on_move, on_confirm}
-use Rattle.world_laws.proofs.Prelude.{on_refused, on_released, on_downlink, on_assignment_request, on_cipher_mode_command}
-use Rattle.world_laws.proofs.Prelude.{on_handover_performed, on_clear_command}
+use Rattle.world_laws.proofs.Prelude.{on_refused, on_released, on_downlink, on_assignment_request, on_cipher_mode_command, on_clear_command}
 use Rattle.world_laws.proofs.Prelude.{on_drain_expiry, on_station_down, on_switch_down, row_if, same_change, changes_of, if_is}
 use Rattle.conn_rules.specs.declared.input.Input.TheVariants as inputs
 use Rattle.conn_rules.specs.Table.{on_expiry, row_of}
@@ -161,7 +160,6 @@ row_first s (inputs.Released source) offer is = ap (λ (state : State). on_relea
 row_first s (inputs.Downlink sapi message) offer is = ap (λ (state : State). on_downlink state s sapi message) is
 row_first s (inputs.AssignmentRequest is_speech) offer is = ap (λ (state : State). on_assignment_request state s is_speech offer) is
 row_first s inputs.CipherModeCommand offer is = ap (λ (state : State). on_cipher_mode_command state s) is
-row_first s inputs.HandoverPerformed offer is = ap (λ (state : State). on_handover_performed state s) is
 row_first s inputs.ClearCommand offer is = ap (λ (state : State). on_clear_command state s) is
 row_first s inputs.Expiry offer is = ap (λ (state : State). on_expiry state s) is
 row_first s inputs.DrainExpiry offer is = ap (λ (state : State). on_drain_expiry state s) is

@@ -10,7 +10,6 @@ use Rattle.world_laws.proofs.Prelude.{assign_immediately, command_to, access, re
 use Rattle.world_laws.proofs.Prelude.{on_activation_nack, on_establish_indication, on_establish_confirm, on_release_indication, either}
 use Rattle.world_laws.proofs.Prelude.{on_error_indication, on_connection_failure, on_dtap, on_complete, on_failure, on_release_ack, on_move}
 use Rattle.world_laws.proofs.Prelude.{on_confirm, on_refused, on_released, on_downlink, on_assignment_request, on_cipher_mode_command}
-use Rattle.world_laws.proofs.Prelude.{on_handover_performed}
 use Rattle.world_laws.proofs.Prelude.{on_clear_command, on_drain_expiry, on_station_down, on_switch_down, Sapi, Zero, Three, INITIAL_LIMIT}
 use Rattle.world_laws.proofs.Prelude.{handing, is_for_station, begin, chain_count, put_in, count, messages, with_messages}
 use Rattle.conn_messages.specs.declared.causes.TheConstants.{ABNORMAL_RELEASE, BSS_NOT_EQUIPPED, EQUIPMENT_FAILURE, PROTOCOL_ERROR}
@@ -353,10 +352,6 @@ of_cipher_mode_command : (input : Input) (state : State) (s : Connection) → s.
 of_cipher_mode_command input (Live k stage) s is = named k s.state (cipher_mode_reject k ∷ []) (own_named k stage s is) (refl, tt)
 of_cipher_mode_command input _ s is = tt
 
-of_handover_performed : (input : Input) (state : State) (s : Connection) → s.state ≡ state → In input state (on_handover_performed state s)
-of_handover_performed input (Live k stage) s is = named k s.state (cipher_mode_reject k ∷ []) (own_named k stage s is) (refl, tt)
-of_handover_performed input _ s is = tt
-
 of_clear_command : (input : Input) (state : State) (s : Connection) → In input state (on_clear_command state s)
 of_clear_command input (Live k stage) s = record { first = end_outs (Live k stage) s.serving NORMAL_EVENT; is = refl; quiet = ends (Live k stage) s.serving NORMAL_EVENT }
 of_clear_command input (Closed (WasAsked k)) s = record { first = []; is = refl; quiet = tt }
@@ -412,7 +407,6 @@ named_row s (inputs.Released source) offer = of_releases (inputs.Released source
 named_row s (inputs.Downlink sapi message) offer = of_downlink (inputs.Downlink sapi message) s.state s sapi message refl
 named_row s (inputs.AssignmentRequest is_speech) offer = of_assignment_request (inputs.AssignmentRequest is_speech) s.state s is_speech offer refl
 named_row s inputs.CipherModeCommand offer = of_cipher_mode_command inputs.CipherModeCommand s.state s refl
-named_row s inputs.HandoverPerformed offer = of_handover_performed inputs.HandoverPerformed s.state s refl
 named_row s inputs.ClearCommand offer = of_clear_command inputs.ClearCommand s.state s
 named_row s inputs.Expiry offer = of_expiry inputs.Expiry s.state s
 named_row s inputs.DrainExpiry offer = of_drain_expiry inputs.DrainExpiry s.state s
