@@ -26,13 +26,16 @@ def settings(switch, cells, channels):
     return "\n".join(lines) + "\n"
 
 
-def connect(port, is_small):
-    """Connects as a cell's station. What lies in the kernel for those that are slow is little, and doesn't grow."""
+def connect(port, is_small, segment):
+    """Connects as a cell's station. What lies in the kernel for those that are slow is little, and doesn't grow. With segments of so
+    few octets bsc's socket keeps little for it, too."""
     end = time.monotonic() + 30
     while True:
         station = socket.socket()
         if is_small:
             station.setsockopt(socket.SOL_SOCKET, socket.SO_RCVBUF, 4096)
+        if segment:
+            station.setsockopt(socket.IPPROTO_TCP, socket.TCP_MAXSEG, segment)
         try:
             station.connect(("127.0.0.1", port))
             return station
@@ -46,7 +49,7 @@ def connect(port, is_small):
 class Run:
     """The program, with the links of a switch and of so many stations, each with these channels; these stations are slow."""
 
-    def __init__(self, work, cells, slow, channels=(0x41,)):
+    def __init__(self, work, cells, slow, channels=(0x41,), segment=None):
         self.log = os.path.join(work, "log")
         self.began = time.monotonic()
         server = socket.create_server(("127.0.0.1", 0))
@@ -59,7 +62,7 @@ class Run:
             self.process = subprocess.Popen([proved_program(), "run", "--config", file], stderr=log)
         self.switch = server.accept()[0]
         server.close()
-        self.stations = [None] + [connect(port, number in slow) for number, port in enumerate(ports, 1)]
+        self.stations = [None] + [connect(port, number in slow, segment) for number, port in enumerate(ports, 1)]
         for link in [self.switch] + self.stations[1:]:
             link.settimeout(PATIENCE)
             link.setsockopt(socket.IPPROTO_TCP, socket.TCP_NODELAY, 1)
